@@ -6,7 +6,7 @@ use Rattle.std.proofs.lemmas.Str.{encodes-chars}
 use Rattle.ob0_scan.specs.Refused.{AreFaults}
 use Rattle.ob0_scan.specs.Scanned.{Scanned, IsScan, IsScannable}
 use Rattle.ob0_scan.specs.declared.fault.Fault.{Fault}
-use Rattle.ob0_tree.specs.Lexeme.{Lexeme, EndOfText}
+use Rattle.ob0_tree.specs.Lexeme.{Terminal, EndOfText}
 use Rattle.ob0_tree.specs.Module.{ModuleOf, text_lexemes}
 use Rattle.ob0_tree.specs.Tree.{Tree, module_text}
 use Rattle.ob0_parse.specs.RefusedBy.{NoneBegins, RefusedBy}
@@ -17,7 +17,7 @@ use Rattle.ob0_tree.specs.Parsed.{Parsed, named_tree_of}
 use Rattle.ob0_types.specs.CheckedModules.{CheckedModule, IsChecked, IsWellTyped}
 use Rattle.ob0_types_rules.specs.WellTyped.{WellTyped}
 use Rattle.ob0_analysis.specs.Analysed.{IsModuleIn}
-use Rattle.ob0_analysis.specs.Diagnosed.{Complaint, IsTextOf, IsWellTypedModule, IsRefusalAt, Tells, TellsFaults, complaint_of}
+use Rattle.ob0_analysis.specs.Diagnosed.{Complaint, IsTextOf, IsWellTypedModule, IsRefusalAt, Reports, ReportsFaults, complaint_of}
 use Rattle.ob0_analysis.specs.Texts.{utf8}
 
 -- the bytes of a text's characters are its bytes
@@ -31,15 +31,15 @@ scannable : (text : List ℕ) → IsWellTypedModule text → IsScannable text
 scannable text w = subst IsScannable w.text_of.scan.of (w.text_of.scan.scan.short, (w.text_of.scan.scan.lexemes, w.text_of.scan.scan.lexed))
 
 pub finds_lexemes : (text : List ℕ) (faults : List Fault) (told : List Complaint) → (IsScannable text → ⊥) → AreFaults text faults → told ≡ map complaint_of faults
-    → ¬ IsWellTypedModule text × TellsFaults text told
+    → ¬ IsWellTypedModule text × ReportsFaults text told
 finds_lexemes text faults told bad are is =
     (λ w. bad (scannable text w), inl (record { unscannable = bad; faults = faults; of_text = are; all = is }))
 
 -- no tree is a module's where none begins so
 none : (s : Scanned) (i : ℕ) (tree : Tree (List ℕ) module_text) → NoneBegins s i → ModuleOf s tree → ⊥
 none s i tree h is =
-    let all : List (Lexeme (List ℕ)) = text_lexemes s ++ (EndOfText ∷ []) in
-    h tree (drop (i + 1) all) is.shallow (ap (λ (w : List (Lexeme (List ℕ))). w ++ (EndOfText ∷ [])) (sym is.spelled) ∙ sym (take-append-drop (i + 1) all))
+    let all : List (Terminal (List ℕ)) = text_lexemes s ++ (EndOfText ∷ []) in
+    h tree (drop (i + 1) all) is.shallow (ap (λ (w : List (Terminal (List ℕ))). w ++ (EndOfText ∷ [])) (sym is.spelled) ∙ sym (take-append-drop (i + 1) all))
 
 unformed : (s : Scanned) (i : ℕ) → OneScan → IsScan s → NoneBegins s i → IsWellTypedModule s.text → ⊥
 unformed s i one scan h w =
@@ -47,7 +47,7 @@ unformed s i one scan h w =
     none s i w.tree h (subst (λ (x : Scanned). ModuleOf x w.tree) same w.text_of.module_of)
 
 pub finds_parser : (s : Scanned) (refusal : ParseRefusal) (c : Complaint) → OneScan → IsScan s → RefusedBy s refusal → IsRefusalAt s refusal c
-    → ¬ IsWellTypedModule s.text × TellsFaults s.text (c ∷ [])
+    → ¬ IsWellTypedModule s.text × ReportsFaults s.text (c ∷ [])
 finds_parser s (Syntax i expected) c one scan by at =
     (unformed s i one scan by.1, inr (inl (record { scanned = s; scan = record { of = refl; scan = scan }; refusal = Syntax i expected; refused = by; complaint = c; says = at; alone = refl })))
 finds_parser s (TooDeep i) c one scan by at =
@@ -57,7 +57,7 @@ finds_parser s Memory c one scan by at = absurd at
 abbrev pub OneTree : Type 0
 OneTree = (text : Scanned) (a b : Tree (List ℕ) module_text) → ModuleOf text a → ModuleOf text b → a ≡ b
 
--- a text has one tree, so where that isn't well-typed the text is no well-typed module
+-- a text has one tree, so where that isn't well-typed the text isn't a well-typed module
 ill_typed : (s : Scanned) (tree : Tree (List ℕ) module_text) → OneScan → OneTree → IsScan s → ModuleOf s tree → (WellTyped tree → ⊥) → IsWellTypedModule s.text → ⊥
 ill_typed s tree one only scan is ill w =
     let same : w.text_of.scanned ≡ s = one w.text_of.scanned s w.text_of.scan.scan scan w.text_of.scan.of in
@@ -68,7 +68,7 @@ some_of [] some = absurd (some refl)
 some_of (f ∷ fs) some = omega arith
 
 pub finds_types : (c : CheckedModule) (told : List Complaint) → OneScan → OneTree → IsScan c.names.module_read.source → IsChecked c → (c.faults ≡ [] → ⊥) → told ≡ map complaint_of c.faults
-    → ¬ IsWellTypedModule c.names.module_read.source.text × TellsFaults c.names.module_read.source.text told
+    → ¬ IsWellTypedModule c.names.module_read.source.text × ReportsFaults c.names.module_read.source.text told
 finds_types c told one only scan checked bad is =
     let s : Scanned = c.names.module_read.source in
     let tree : Tree (List ℕ) module_text = named_tree_of c.names.module_read in
@@ -101,9 +101,9 @@ some_or_none : (faults : List Fault) → (faults ≡ []) ⊎ (faults ≡ [] → 
 some_or_none [] = inl refl
 some_or_none (f ∷ fs) = inr (λ e. absurd (omega (arith, ap length e)))
 
--- what is told of a module with a tree is nothing exactly where it is well-typed
+-- what is reported of a module with a tree is nothing exactly where it is well-typed
 pub tells_module : (c : CheckedModule) (told : List Complaint) → OneScan → OneTree → IsScan c.names.module_read.source → IsChecked c → told ≡ map complaint_of c.faults
-    → Tells c.names.module_read.source.text told
+    → Reports c.names.module_read.source.text told
 tells_module c told one only scan checked is =
     let m : Parsed = c.names.module_read in
     elim (some_or_none c.faults) [

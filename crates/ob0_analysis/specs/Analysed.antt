@@ -6,9 +6,9 @@ use Rattle.ob0_tree.specs.Parsed.{Parsed, IsParsed, named_tree_of}
 use Rattle.ob0_scope_rules.specs.Resolution.{Resolution}
 use Rattle.ob0_types_rules.specs.WellTyped.{WellTyped}
 use Rattle.ob0_types.specs.CheckedModules.{IsWellTyped}
-use Rattle.ob0_analysis.specs.Diagnosed.{IsWellTypedModule, TellsFaults, complaint_in}
-use Rattle.ob0_analysis.specs.declared.analysis.Asked.{Asked}
-use Rattle.ob0_analysis.specs.declared.analysis.Asked.TheVariants.{Answered, IllTyped}
+use Rattle.ob0_analysis.specs.Diagnosed.{IsWellTypedModule, ReportsFaults, complaint_in}
+use Rattle.ob0_analysis.specs.declared.analysis.Finding.{Finding}
+use Rattle.ob0_analysis.specs.declared.analysis.Finding.TheVariants.{Answered, IllTyped}
 
 -- the text is this module, which is well-typed
 pub record IsModuleIn (text : List ℕ) (names : Resolution) : Type 0 where
@@ -21,7 +21,7 @@ pub record IsReadAs (text : List ℕ) (m : Parsed) : Type 0 where
   pub parsed : IsParsed m
   pub well_typed : WellTyped (named_tree_of m)
 
--- an answer by the module of the text, or what is wrong where the text is no well-typed module
-abbrev pub Finds : {A : Type 0} → List ℕ → (Resolution → A → Type 0) → Asked A → Type 0
+-- an answer by the module of the text, or what is wrong where the text isn't a well-typed module
+abbrev pub Finds : {A : Type 0} → List ℕ → (Resolution → A → Type 0) → Finding A → Type 0
 Finds text answers (Answered answer) = (names : Resolution) × IsModuleIn text names × answers names answer
-Finds text answers (IllTyped told) = ¬ IsWellTypedModule text × TellsFaults text (map complaint_in told.items)
+Finds text answers (IllTyped told) = ¬ IsWellTypedModule text × ReportsFaults text (map complaint_in told.items)

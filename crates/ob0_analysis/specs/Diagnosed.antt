@@ -1,4 +1,4 @@
--- What is told of a text: nothing exactly where it is a well-typed module.
+-- What is reported of a text: nothing exactly where it is a well-typed module.
 -- Rule: docs/PROTOCOL.md, Publishing 3; docs/LANGUAGE.md, Lexemes 7, Syntax faults, Faults of scopes and types 1.
 use Rattle.std.specs.Prelude.{◌≡◌, ◌⊎◌, ◌≤◌, ◌<◌, ◌++◌, ◌∷◌, ℕ, List, [], Option, Some, None, map, length, slice_get, codes, string_bytes}
 use Rattle.ob0_scan.specs.CodeTexts.{code_name, code_message}
@@ -22,7 +22,7 @@ use Rattle.ob0_analysis.specs.declared.diagnoses.Diagnosis.{Diagnosis}
 
 -- The text is here the list of its bytes in UTF-8, and spans count these.
 
--- one thing that is told of a text: its code's name, the message and the place
+-- one thing that is reported of a text: its code's name, the message and the place
 pub record Complaint : Type 0 where
   pub code : List ℕ
   pub said : List ℕ
@@ -51,7 +51,7 @@ abbrev pub complaint_of : Fault → Complaint
 complaint_of fault = record { code = code_name fault.code; said = code_message fault.code; span = fault.span }
 
 -- all the faults of its lexemes, of which there are 1 to 100
-pub record TellsLexemes (text : List ℕ) (told : List Complaint) : Type 0 where
+pub record ReportsLexemes (text : List ℕ) (told : List Complaint) : Type 0 where
   pub unscannable : IsScannable text → ⊥
   pub faults : List Fault
   pub of_text : AreFaults text faults
@@ -83,7 +83,7 @@ IsRefusalAt s (TooDeep token) c = c ≡ too_deep (place_of s token)
 IsRefusalAt s Memory c = ⊥
 
 -- one complaint: the token at which the descent stops, and what it expects there
-pub record TellsParser (text : List ℕ) (told : List Complaint) : Type 0 where
+pub record ReportsParser (text : List ℕ) (told : List Complaint) : Type 0 where
   pub scanned : Scanned
   pub scan : IsScanOf text scanned
   pub refusal : ParseRefusal
@@ -95,7 +95,7 @@ pub record TellsParser (text : List ℕ) (told : List Complaint) : Type 0 where
 -- ---- a text with a tree that isn't well-typed
 
 -- the first hundred faults of its declarations, names and types, of which there is one at least
-pub record TellsTypes (text : List ℕ) (told : List Complaint) : Type 0 where
+pub record ReportsTypes (text : List ℕ) (told : List Complaint) : Type 0 where
   pub names : Resolution
   pub resolved : IsResolution names
   pub scan : IsScanOf text names.module_read.source
@@ -109,21 +109,21 @@ pub record TellsTypes (text : List ℕ) (told : List Complaint) : Type 0 where
 -- ---- every text
 
 -- what is wrong with the lexemes, or else with the tokens, or else with the names and types
-abbrev pub TellsFaults : List ℕ → List Complaint → Type 0
-TellsFaults text told = TellsLexemes text told ⊎ (TellsParser text told ⊎ TellsTypes text told)
+abbrev pub ReportsFaults : List ℕ → List Complaint → Type 0
+ReportsFaults text told = ReportsLexemes text told ⊎ (ReportsParser text told ⊎ ReportsTypes text told)
 
--- nothing is told exactly of a well-typed module
-abbrev pub Tells : List ℕ → List Complaint → Type 0
-Tells text told = (IsWellTypedModule text × (told ≡ [])) ⊎ (¬ IsWellTypedModule text × TellsFaults text told)
+-- nothing is reported exactly of a well-typed module
+abbrev pub Reports : List ℕ → List Complaint → Type 0
+Reports text told = (IsWellTypedModule text × (told ≡ [])) ⊎ (¬ IsWellTypedModule text × ReportsFaults text told)
 
 -- ---- what is kept for the next scan
 
 -- the text's tokens and comments; what was kept before, exactly where it has no lexemes or is too long
-abbrev pub Keeps : List ℕ → Option Scanned → Option Scanned → Type 0
-Keeps text before after = ((scanned : Scanned) × IsScanOf text scanned × (after ≡ Some scanned)) ⊎ ((IsScannable text → ⊥) × (after ≡ before))
+abbrev pub KeepsTokens : List ℕ → Option Scanned → Option Scanned → Type 0
+KeepsTokens text before after = ((scanned : Scanned) × IsScanOf text scanned × (after ≡ Some scanned)) ⊎ ((IsScannable text → ⊥) × (after ≡ before))
 
 -- ---- laws
 
--- What is told of the parser is determined by the text.
+-- What is reported of the parser is determined by the text.
 abbrev pub OneRefusal : Type 0
-OneRefusal = (text : List ℕ) (a b : List Complaint) → TellsParser text a → TellsParser text b → a ≡ b
+OneRefusal = (text : List ℕ) (a b : List Complaint) → ReportsParser text a → ReportsParser text b → a ≡ b

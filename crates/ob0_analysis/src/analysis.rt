@@ -30,7 +30,7 @@ pub trait Question {
 
 /// The answer of a well-typed module, or what is wrong with a text that is none.
 #[derive(Drop)]
-pub enum Asked<A> {
+pub enum Finding<A> {
     Answered(A),
     IllTyped(Vec<Diagnosis>),
 }
@@ -42,7 +42,7 @@ pub fn ask<Q: Question>(
     text: &str,
     kept: Option<&Tokens>,
     question: &Q,
-) -> Result<Asked<Q::Answer>, AllocError>
+) -> Result<Finding<Q::Answer>, AllocError>
     requires { Q.is_about question.now text.now }
     ensures { IfOk result (Finds text.now (Q.answers question.now)) }
 {
@@ -56,7 +56,7 @@ fn ask_text<Q: Question>(
     alloc: Global,
     text: &str,
     question: &Q,
-) -> Result<Asked<Q::Answer>, AllocError>
+) -> Result<Finding<Q::Answer>, AllocError>
     requires { Q.is_about question.now text.now }
     ensures { IfOk result (Finds text.now (Q.answers question.now)) }
 {
@@ -64,7 +64,7 @@ fn ask_text<Q: Question>(
         Ok(tokens) => ask_tokens(alloc, &tokens, question),
         Err(refusal) => match refusal {
             ScanRefusal::Faults(faults) => {
-                Ok(Asked::IllTyped(of_faults(alloc, faults.as_slice())?))
+                Ok(Finding::IllTyped(of_faults(alloc, faults.as_slice())?))
             }
             ScanRefusal::Memory => Err(AllocError),
         },
@@ -75,7 +75,7 @@ fn ask_tokens<Q: Question>(
     alloc: Global,
     tokens: &Tokens,
     question: &Q,
-) -> Result<Asked<Q::Answer>, AllocError>
+) -> Result<Finding<Q::Answer>, AllocError>
     requires { Q.is_about question.now tokens.now.text }
     ensures { IfOk result (Finds tokens.now.text (Q.answers question.now)) }
 {
@@ -87,7 +87,7 @@ fn ask_tokens<Q: Question>(
         Err(refusal) => {
             let mut told = Vec::new(alloc);
             told.push(of_refusal(alloc, tokens, refusal)?)?;
-            Ok(Asked::IllTyped(told))
+            Ok(Finding::IllTyped(told))
         }
     }
 }
@@ -96,7 +96,7 @@ fn ask_module<Q: Question>(
     alloc: Global,
     module: &Module<'_>,
     question: &Q,
-) -> Result<Asked<Q::Answer>, AllocError>
+) -> Result<Finding<Q::Answer>, AllocError>
     requires { Q.is_about question.now module.now.source.text }
     ensures { IfOk result (Finds module.now.source.text (Q.answers question.now)) }
 {
@@ -110,11 +110,11 @@ fn ask_module<Q: Question>(
         Some(module) => {
             // For the proof: what the contract of this call says.
             let _names = module.resolved();
-            Ok(Asked::Answered(question.answer(alloc, &module)?))
+            Ok(Finding::Answered(question.answer(alloc, &module)?))
         }
         None => {
             let faults = checked.faults();
-            Ok(Asked::IllTyped(of_faults(alloc, faults)?))
+            Ok(Finding::IllTyped(of_faults(alloc, faults)?))
         }
     }
 }

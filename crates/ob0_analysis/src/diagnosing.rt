@@ -1,7 +1,7 @@
 //! What is wrong with a text.
 
 ghost use Rattle.std.specs.Prelude.{◌≡◌, IfOk, OnOk, Some, map};
-ghost use Rattle.ob0_analysis.specs.Diagnosed.{Keeps, Tells, complaint_in};
+ghost use Rattle.ob0_analysis.specs.Diagnosed.{KeepsTokens, Reports, complaint_in};
 
 use crate::diagnoses::{Diagnosis, of_faults, of_refusal};
 use crate::differences::Difference;
@@ -13,11 +13,11 @@ use ob0_tree::Module;
 use ob0_types::faults_in;
 use std::alloc::{AllocError, Global};
 
-/// What is wrong with a text, which is nothing exactly for a well-typed module. Faults of its lexemes are told in text order, the
-/// first hundred, and then nothing else; a text that has lexemes and no tree is told by the one place at which the parser
-/// refuses it; of one with a tree the faults of names and types are told, the first hundred.
+/// What is wrong with a text, which is nothing exactly for a well-typed module. Faults of its lexemes are reported in text order, the
+/// first hundred, and then nothing else; a text that has lexemes and no tree is reported by the one place at which the parser
+/// refuses it; of one with a tree the faults of names and types are reported, the first hundred.
 pub fn diagnose(alloc: Global, text: &str) -> Result<Vec<Diagnosis>, AllocError>
-    ensures { IfOk result (λ list. Tells text.now (map complaint_in list.items)) }
+    ensures { IfOk result (λ list. Reports text.now (map complaint_in list.items)) }
 {
     diagnose_again(alloc, text, &mut None)
 }
@@ -29,11 +29,11 @@ pub fn diagnose_again(
     text: &str,
     kept: &mut Option<Tokens>,
 ) -> Result<Vec<Diagnosis>, AllocError>
-    ensures told { IfOk result (λ list. Tells text.now (map complaint_in list.items)) }
-    ensures keeps { OnOk result (Keeps text.now kept.old kept.new) }
+    ensures told { IfOk result (λ list. Reports text.now (map complaint_in list.items)) }
+    ensures keeps { OnOk result (KeepsTokens text.now kept.old kept.new) }
 {
     let Some(old) = kept.take() else {
-        return diagnose_anew(alloc, text, kept);
+        return diagnose_from_scratch(alloc, text, kept);
     };
     let change = Difference::between(old.text(), text);
     match rescan_in_place(alloc, old, text, change.from, change.removed, change.added) {
@@ -49,13 +49,13 @@ pub fn diagnose_again(
 }
 
 /// The same, where no tokens were kept.
-fn diagnose_anew(
+fn diagnose_from_scratch(
     alloc: Global,
     text: &str,
     kept: &mut Option<Tokens>,
 ) -> Result<Vec<Diagnosis>, AllocError>
-    ensures told { IfOk result (λ list. Tells text.now (map complaint_in list.items)) }
-    ensures keeps { OnOk result (Keeps text.now kept.old kept.new) }
+    ensures told { IfOk result (λ list. Reports text.now (map complaint_in list.items)) }
+    ensures keeps { OnOk result (KeepsTokens text.now kept.old kept.new) }
 {
     match scan(alloc, text) {
         Ok(tokens) => diagnose_kept(alloc, tokens, kept),
@@ -72,7 +72,7 @@ fn diagnose_kept(
     tokens: Tokens,
     kept: &mut Option<Tokens>,
 ) -> Result<Vec<Diagnosis>, AllocError>
-    ensures told { IfOk result (λ list. Tells tokens.text (map complaint_in list.items)) }
+    ensures told { IfOk result (λ list. Reports tokens.text (map complaint_in list.items)) }
     ensures keeps { OnOk result (kept.new ≡ Some tokens) }
 {
     let told = diagnose_tokens(alloc, &tokens)?;
@@ -81,7 +81,7 @@ fn diagnose_kept(
 }
 
 fn diagnose_tokens(alloc: Global, tokens: &Tokens) -> Result<Vec<Diagnosis>, AllocError>
-    ensures { IfOk result (λ list. Tells tokens.now.text (map complaint_in list.items)) }
+    ensures { IfOk result (λ list. Reports tokens.now.text (map complaint_in list.items)) }
 {
     one_scan();
     // For the proof: what the contract of this call says.
@@ -98,7 +98,7 @@ fn diagnose_tokens(alloc: Global, tokens: &Tokens) -> Result<Vec<Diagnosis>, All
 
 /// What is wrong with the names and types of a text that has a tree.
 fn diagnose_module(alloc: Global, module: &Module<'_>) -> Result<Vec<Diagnosis>, AllocError>
-    ensures { IfOk result (λ list. Tells «module».now.source.text (map complaint_in list.items)) }
+    ensures { IfOk result (λ list. Reports «module».now.source.text (map complaint_in list.items)) }
 {
     one_scan();
     one_tree();

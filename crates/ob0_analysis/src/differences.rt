@@ -13,12 +13,12 @@ pub(crate) struct Difference {
 }
 
 impl Difference {
-    /// What makes one text of another. What both have in common in front is left out of it, and then what both have in common behind.
+    /// What makes one text of another. What both have in common at the beginning is left out of it, and then what both have in common at the end.
     pub(crate) fn between(old: &str, new: &str) -> Difference
         ensures { IsReplaced old.now new.now result.from result.removed result.added }
     {
         let (old, new) = (old.as_bytes(), new.as_bytes());
-        let from = common_front(old, new);
+        let from = common_prefix(old, new);
         let behind = common_back(old, new, from);
         Difference {
             from,
@@ -31,18 +31,18 @@ impl Difference {
 /// So many bytes are compared together, as long as they are the same.
 const PIECE: usize = 256;
 
-/// How many bytes two texts have in common in front.
-fn common_front(a: &[u8], b: &[u8]) -> usize
+/// How many bytes two texts have in common at the beginning.
+fn common_prefix(a: &[u8], b: &[u8]) -> usize
     ensures in_a { result ≤ length a.now }
     ensures in_b { result ≤ length b.now }
     ensures same { take result a.now ≡ take result b.now }
 {
-    let known = further_in_front(a, b, 0, PIECE);
-    further_in_front(a, b, known, 1)
+    let known = longer_prefix(a, b, 0, PIECE);
+    longer_prefix(a, b, known, 1)
 }
 
-/// How many bytes two texts have in common in front, as far as they are found by pieces of this size behind those that are known.
-fn further_in_front(a: &[u8], b: &[u8], known: usize, size: usize) -> usize
+/// How many bytes two texts have in common at the beginning, as far as they are found by pieces of this size after those that are known.
+fn longer_prefix(a: &[u8], b: &[u8], known: usize, size: usize) -> usize
     requires some { 0 < size }
     requires in_a { known ≤ length a.now }
     requires in_b { known ≤ length b.now }
@@ -58,7 +58,7 @@ fn further_in_front(a: &[u8], b: &[u8], known: usize, size: usize) -> usize
     count
 }
 
-/// How many bytes two texts have in common behind, at byte `from` at most.
+/// How many bytes two texts have in common at the end, at byte `from` at most.
 fn common_back(a: &[u8], b: &[u8], from: usize) -> usize
     requires in_a { from ≤ length a.now }
     requires in_b { from ≤ length b.now }
@@ -67,13 +67,13 @@ fn common_back(a: &[u8], b: &[u8], from: usize) -> usize
     ensures same { drop (length a.now - result) a.now ≡ drop (length b.now - result) b.now }
 {
     let most = (a.len() - from).min(b.len() - from);
-    let known = further_behind(a, b, most, 0, PIECE);
-    further_behind(a, b, most, known, 1)
+    let known = longer_suffix(a, b, most, 0, PIECE);
+    longer_suffix(a, b, most, known, 1)
 }
 
-/// How many bytes two texts have in common behind, `most` at most, as far as they are found by pieces of this size before those
+/// How many bytes two texts have in common at the end, `most` at most, as far as they are found by pieces of this size before those
 /// that are known.
-fn further_behind(a: &[u8], b: &[u8], most: usize, known: usize, size: usize) -> usize
+fn longer_suffix(a: &[u8], b: &[u8], most: usize, known: usize, size: usize) -> usize
     requires some { 0 < size }
     requires in_a { most ≤ length a.now }
     requires in_b { most ≤ length b.now }
@@ -91,7 +91,7 @@ fn further_behind(a: &[u8], b: &[u8], most: usize, known: usize, size: usize) ->
     count
 }
 
-/// Whether a piece of this size lies behind both places, and is the same.
+/// Whether a piece of this size lies after both places, and is the same.
 fn is_same_piece(a: &[u8], b: &[u8], in_a: usize, in_b: usize, size: usize) -> bool
     ensures yes { result ≡ true → IsCommonPiece a.now b.now in_a in_b size }
 {

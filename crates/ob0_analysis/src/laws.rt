@@ -4,7 +4,7 @@ ghost use Rattle.ob0_analysis.specs.Diagnosed.{OneRefusal};
 
 use ob0_scan::laws::one_scan;
 
-/// What the parser refuses of a text, and what is told of it, is determined by the text.
+/// What the parser refuses of a text, and what is reported of it, is determined by the text.
 pub fn one_refusal()
     ensures { OneRefusal }
 {

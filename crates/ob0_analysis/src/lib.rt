@@ -8,7 +8,7 @@ mod diagnosing;
 mod differences;
 pub mod laws;
 
-pub use analysis::{Asked, Question, ask};
+pub use analysis::{Finding, Question, ask};
 pub use diagnoses::Diagnosis;
 pub use diagnosing::{diagnose, diagnose_again};
 pub use ob0_types::{WellTyped, declaring_field, field_at, field_tokens};

@@ -1,4 +1,4 @@
--- What is in sight agrees with an environment: after a binding, after types were added, and at the beginning.
+-- What is in scope agrees with an environment: after a binding, after types were added, and at the beginning.
 use Rattle.std.proofs.Common.{◌≡◌, ℕ, zero, suc, ◌<◌, ◌≤◌, Bool, true, false, ◌==◌, cond, List, [], ◌∷◌, ◌++◌, All, IfSome, ◌⊎◌, inl, inr, ◌≢◌, length, map, slice_get, get_or, Some, None, Option, option_and_then, sym, refl, ap, ◌∙◌, subst, arith, append_assoc, append-nil, length-append}
 use Rattle.std.proofs.lemmas.Bool.Decides.{eqb_tells}
 use Rattle.std.proofs.lemmas.List.{get_or_append_left}
@@ -15,19 +15,19 @@ use Rattle.ob0_types_table.specs.declared.known.Formal as formal
 use Rattle.ob0_types_table.specs.declared.known.Shadowed.{Shadowed}
 use Rattle.ob0_types_table.specs.declared.known.Object as declaration
 use Rattle.ob0_types_table.specs.declared.known.Object.TheVariants as kind
-use Rattle.ob0_types_table.specs.declared.known.Sight.{Sight}
-use Rattle.ob0_types_table.specs.declared.known.Sight.TheVariants as sight
+use Rattle.ob0_types_table.specs.declared.known.VisibleBinding.{VisibleBinding}
+use Rattle.ob0_types_table.specs.declared.known.VisibleBinding.TheVariants as sight
 use Rattle.ob0_checker.specs.Checking.{Agrees, Follows, Walking}
 use Rattle.ob0_types_rules.specs.Environments.{from_binding, newest, outermost}
 use Rattle.ob0_types_rules.specs.Expressions.{Object, a_constant, a_procedure, a_standard, a_type, a_variable, reads, writes, writes_line}
-use Rattle.ob0_types_table.specs.KnownTables.{AreTables, CanBePutBack, EntryIsMade, SightIsMade, Tables, before_all, in_sight_of, label_object, object_seen, predeclared, put_at, seen_entry, seen_in, seen_object, shapes_of}
+use Rattle.ob0_types_table.specs.KnownTables.{AreTables, CanBePutBack, EntryIsMade, BindingIsMade, Tables, before_all, visible_objects, label_object, object_seen, predeclared, put_at, seen_entry, seen_in, seen_object, shapes_of}
 use Rattle.ob0_types_table.specs.Tables.{IsMade, ObjectIsMade, formal_in, mode_of, object_in}
 use Rattle.ob0_types_rules.specs.WellTyped.{Signature, TypeEnvironment}
 use Rattle.ob0_types_rules.proofs.Bound.{newest-if}
 use Rattle.ob0_types_table.proofs.Sighted.{before_all-append, last_of}
 use Rattle.ob0_types_table.proofs.Tables.{ObjectIsMade-more, length-table, type_shape-more}
 
--- what an ordinal stands for, by the object in sight
+-- what an ordinal means, by the object in scope
 seen_entry-object : (shapes : List Shape) (e : Option Entry) → option_and_then (seen_entry shapes) e ≡ option_and_then (object_in shapes) (option_and_then object_seen e)
 seen_entry-object shapes None = refl
 seen_entry-object shapes (Some e) = refl
@@ -35,8 +35,8 @@ seen_entry-object shapes (Some e) = refl
 pub seen_in-object : (t : Tables) (k : ℕ) → seen_in t k ≡ option_and_then (object_in (shapes_of t)) (seen_object t k)
 seen_in-object t k = seen_entry-object (shapes_of t) (slice_get t.entries k)
 
--- what is in sight was made
-made_sight : (n : ℕ) (last : declaration.Object) (s : Sight) → ObjectIsMade n last → SightIsMade n s → IfSome (in_sight_of last s) (ObjectIsMade n)
+-- what is in scope was made
+made_sight : (n : ℕ) (last : declaration.Object) (s : VisibleBinding) → ObjectIsMade n last → BindingIsMade n s → IfSome (visible_objects last s) (ObjectIsMade n)
 made_sight n last sight.Nothing h made = tt
 made_sight n last sight.Last h made = h
 made_sight n last (sight.Earlier o) h made = made
@@ -65,7 +65,7 @@ objects-more : (shapes later : List Shape) (o : Option declaration.Object) → I
 objects-more shapes later None h = refl
 objects-more shapes later (Some o) h = object_in-more shapes later o h
 
--- the same is in sight, and types were added
+-- the same is in scope, and types were added
 pub seen_in-same : (t u : Tables) (later : List Shape) (k : ℕ) → AreTables t → seen_object u k ≡ seen_object t k → shapes_of u ≡ shapes_of t ++ later → seen_in u k ≡ seen_in t k
 seen_in-same t u later k h seen shapes =
     seen_in-object u k
@@ -195,7 +195,7 @@ follows_on u v w f g = record {
   );
 }
 
--- types were added, and the same is in sight
+-- types were added, and the same is in scope
 pub follows_more : (v w : Walking) (later : List Shape) → w.resolved ≡ v.resolved → shapes_of w.known ≡ shapes_of v.known ++ later → length v.known.shapes ≤ length w.known.shapes → w.bound ≡ v.bound → ((k : ℕ) → seen_object w.known k ≡ seen_object v.known k) → Follows v w
 follows_more v w later same shapes longer bound seen = record {
   same = same;

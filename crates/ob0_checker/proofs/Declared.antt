@@ -1,4 +1,4 @@
--- One declaration: behind its text, and behind its binding.
+-- One declaration: after its text, and after its binding.
 use Rattle.std.proofs.Common.{◌≡◌, ℕ, zero, suc, ◌+◌, ◌<◌, ◌≤◌, List, [], ◌∷◌, map, length, get_or, drop, IfSome, Some, None, Option, option_map, refl, sym, ap, ◌∙◌, subst, arith}
 use Rattle.std.proofs.lemmas.List.{drop_all, drop_more}
 use Rattle.ob0_tree.specs.declared.tree.Names as tree_names
@@ -63,7 +63,7 @@ constant_some w v x e found value is some b = record {
   next = omega (arith, b.next);
 }
 
--- behind the text of a type
+-- after the text of a type
 pub record Behind (w : Walking) (t : Tree ℕ written_type) (r : Option Typed) : Type 0 where
   pub value : (env : TypeEnvironment Label) → Agrees env w.known → option_map (λ (d : Typed). type_shape (shapes_of d.walk.known) d.of) r ≡ denoted (meanings as_labels env) w.next (in_labels w.resolved t)
   pub agrees : IfSome r (λ d. (env : TypeEnvironment Label) → Agrees env w.known → Agrees env d.walk.known)

@@ -3,7 +3,7 @@ use Rattle.std.proofs.Common.{◌≡◌, ℕ, suc, ◌+◌, ◌<◌, ◌≤◌, 
 use Rattle.std.proofs.lemmas.Bool.{and_parts, leb-true}
 use Rattle.std.proofs.lemmas.Option.{cond_some, none-some}
 use Rattle.ob0_tree.specs.declared.tree.ArrayType.{ArrayType}
-use Rattle.ob0_tree.specs.declared.tree.FieldList.{FieldList}
+use Rattle.ob0_tree.specs.declared.tree.FieldGroup.{FieldGroup}
 use Rattle.ob0_tree.specs.declared.tree.Fields as group
 use Rattle.ob0_tree.specs.Places.{value_at}
 use Rattle.ob0_tree.specs.Tree.{Tree, array_type, expression, named_type, record_type, written_type}
@@ -147,7 +147,7 @@ pub record_past_the_depth : (r : Resolution) (t : Tables) (around : ℕ) (gs : L
 record_past_the_depth r t around gs high = past_the_depth r t around (record_listed gs) (omega (arith, record-counted gs)) high
 
 -- one more group was found
-pub gathered_denotes : {r : Resolution} {before now later : Tables} {inside done : ℕ} {gs : List group.Fields} {found more_found : List Field} {of : TypeId} (g : group.Fields) (list : FieldList) → g ≡ group.Listed list
+pub gathered_denotes : {r : Resolution} {before now later : Tables} {inside done : ℕ} {gs : List group.Fields} {found more_found : List Field} {of : TypeId} (g : group.Fields) (list : FieldGroup) → g ≡ group.Listed list
     → Gathered r before now (length before.shapes + inside) gs done (length now.shapes + inside) found → done < length gs → g ≡ get_or gs done g
     → Denotes r now later inside (type_of list.written) (Some of) → AreAdded r (list.names.first ∷ list.names.more.items) of found more_found
     → Gathered r before later (length before.shapes + inside) gs (done + 1) (length later.shapes + inside) more_found
@@ -155,7 +155,7 @@ gathered_denotes {later = later} {inside = inside} {more_found = more_found} {of
     gathered_listed g list is_listed later (length later.shapes + inside) of more_found h less here d.grown d.made (sym d.value) (omega (arith, d.counted)) added
 
 -- a group's type is missed, and so is the record, which is deeper by one
-pub record_has_no_field : {r : Resolution} {s t u : Tables} {around done : ℕ} {fields : List Field} (gs : List group.Fields) (g : group.Fields) (list : FieldList) → g ≡ group.Listed list
+pub record_has_no_field : {r : Resolution} {s t u : Tables} {around done : ℕ} {fields : List Field} (gs : List group.Fields) (g : group.Fields) (list : FieldGroup) → g ≡ group.Listed list
     → Gathered r s t (length s.shapes + (around + 1)) gs done (length t.shapes + (around + 1)) fields → done < length gs → g ≡ get_or gs done g
     → Denotes r t u (around + 1) (type_of list.written) None → Denotes r s u around (record_listed gs) None
 record_has_no_field {r} {s} {t} {u} {around} {done} {fields} gs g list is_listed gathered less here d =
@@ -194,7 +194,7 @@ record_denotes {r} {s} {t} {u} {around} {k} {done} {fields} gs found number g al
       counted = counted_as (length u.shapes) (suc (length t.shapes)) (length s.shapes + constructors (record_listed gs)) found (omega (arith, counted_ends g all, record-counted gs)) counted;
     }
 
--- of a text that stands in no other, what is missed denotes nothing
+-- of a text that is in no other, what is missed denotes nothing
 pub denotes_alone : {r : Resolution} {t u : Tables} {text : Tree ℕ written_type} {found : Option TypeId} → Denotes r t u 0 text found → option_map (type_shape (shapes_of u)) found ≡ denoted (known_meaning t) (length t.shapes) (in_labels r text)
 denotes_alone {r} {t} {u} {text} {found} d = go found d.value ∙ ap (λ k. denoted (known_meaning t) k (in_labels r text)) (add-zero (length t.shapes)) where
   go : (o : Option TypeId) → IsFound (shapes_of u) 0 (constructors text) (denoted (known_meaning t) (length t.shapes + 0) (in_labels r text)) o → option_map (type_shape (shapes_of u)) o ≡ denoted (known_meaning t) (length t.shapes + 0) (in_labels r text)

@@ -82,7 +82,7 @@ module _ (meaning : Meanings Label Place (Unit {0})) where
   pub multiplied_values_chain : IsChain (λ x ts. given_value (evaluate_multipliers meaning [] x ts)) (value_multiplied meaning)
   multiplied_values_chain = record { ended = multiplied_ended; stepped = multiplied_stepped }
 
--- a name alone is worth its constant
+-- a name alone has the value its constant
 whole_value : (v : Option Value) → given_value (value_of {P = Unit {0}} [] (option_map a_constant v) >>= (λ w. gives [] >>= (λ steps. or_stuck (at_path steps w)))) ≡ v
 whole_value None = refl
 whole_value (Some v) = refl

@@ -21,7 +21,7 @@ use Rattle.ob0_types_rules.specs.WellTyped.{Signature, Typed, agree, argument_fi
 use Rattle.ob0_types_rules.proofs.AllFit.{IsEach, IsPairwise, and-assoc}
 use Rattle.ob0_values.specs.Values.{Shape}
 
--- what may be assigned to, by what its name stands for
+-- what may be assigned to, by what its name means
 at_object : {P : Type 0} (o : Option (Object Shape P)) (at : Shape → Option Shape) → elim o [ Some (a_variable s) ↦ at s | _ ↦ None ] ≡ option_and_then at (variable_of o)
 at_object None at = refl
 at_object (Some (a_type s)) at = refl
@@ -63,7 +63,7 @@ no_signature (Some (a_standard s)) = refl
 pub none_called : (o : Option (Object Shape Signature)) (only : Bool) → only ≡ true → None ≡ signature_of (where_only only o)
 none_called o only h = sym (ap (λ b. signature_of (where_only b o)) h ∙ no_signature o)
 
--- what a parameter asks for
+-- what a parameter requires
 pub placed_fits : (meaning : Typed Label) (shapes : List Shape) (f : formal.Formal) (e : Tree Label expression) → f.by_place ≡ true
     → argument_fits meaning (formal_in shapes f) e ≡ agree (Some (type_shape shapes f.of)) (variable_type meaning (designated e))
 unfolding argument_fits

@@ -1,7 +1,7 @@
 -- The fields of a record, gathered from its first group on, are those that its text denotes.
 use Rattle.std.proofs.Common.{◌≡◌, ℕ, suc, ◌+◌, ◌<◌, ◌≤◌, List, [], ◌∷◌, ◌++◌, All, map, length, get_or, drop, Option, Some, None, option_and_then, option_map, unwrap_or, refl, sym, ap, ◌∙◌, subst, arith, append_assoc, append-nil, add-zero, zero-add, add_assoc}
 use Rattle.std.proofs.lemmas.List.{drop_all, drop_more}
-use Rattle.ob0_tree.specs.declared.tree.FieldList.{FieldList}
+use Rattle.ob0_tree.specs.declared.tree.FieldGroup.{FieldGroup}
 use Rattle.ob0_tree.specs.declared.tree.Fields as group
 use Rattle.ob0_tree.specs.declared.tree.Names as tree_names
 use Rattle.ob0_tree.specs.Tree.{Tree, array_type, end, fields, further_fields, further_name, items, listed, mapped, more, named_type, names, no_fields, record_type, some_fields, then_fields, then_name, written_type}
@@ -36,7 +36,7 @@ grown-trans {s} {t} {u} g h = record {
   meaning = h.meaning ∙ g.meaning;
 }
 
--- fields behind fields
+-- fields after fields
 with_fields-joined : (xs : List _) (s : Shape) (later : FieldShapes) → with_fields xs s later ≡ joined (with_fields xs s no_field_shape) later
 with_fields-joined [] s later = refl
 with_fields-joined (x ∷ xs) s later = ap (next_field_shape x s) (with_fields-joined xs s later)
@@ -119,7 +119,7 @@ pub record-counted : (gs : List group.Fields) → constructors (record_listed gs
 record-counted [] = refl
 record-counted (g ∷ gs) = refl
 
--- the fields of the groups so far, behind which those of the groups left stand
+-- the fields of the groups so far, after which those of the groups left are
 pub record Gathered (r : Resolution) (before now : Tables) (k : ℕ) (gs : List group.Fields) (done behind : ℕ) (found : List Field) : Type 0 where
   pub grown : Grown before now
   pub made : All (λ f. IsMade (length now.shapes) f.of) found
@@ -170,7 +170,7 @@ fields-kept t u fs g made =
 made-kept : (n m : ℕ) (fs : List Field) → n ≤ m → All (λ f. IsMade n f.of) fs → All (λ f. IsMade m f.of) fs
 made-kept n m fs h made = λ k d less. IsMade-more n m (get_or fs k d).of h (made k d less)
 
-module _ {r : Resolution} {before now : Tables} {k : ℕ} {gs : List group.Fields} {done behind : ℕ} {found : List Field} (g : group.Fields) (list : FieldList) (is : g ≡ group.Listed list) where
+module _ {r : Resolution} {before now : Tables} {k : ℕ} {gs : List group.Fields} {done behind : ℕ} {found : List Field} (g : group.Fields) (list : FieldGroup) (is : g ≡ group.Listed list) where
   pub gathered_listed : (later : Tables) (next : ℕ) (t : TypeId) (more_found : List Field)
       → Gathered r before now k gs done behind found → done < length gs → g ≡ get_or gs done g
       → Grown now later → IsMade (length later.shapes) t → Some (type_shape (shapes_of later) t) ≡ denoted (known_meaning now) behind (in_labels r (type_of list.written)) → next ≡ behind + constructors (type_of list.written)

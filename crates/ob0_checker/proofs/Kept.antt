@@ -1,4 +1,4 @@
--- What was declared, in sight or not: the latest bindings on the way are what the table keeps.
+-- What was declared, in scope or not: the latest bindings on the way are what the table keeps.
 use Rattle.std.proofs.Common.{◌≡◌, ℕ, zero, suc, ◌+◌, ◌<◌, ◌≤◌, ◌==◌, cond, List, [], ◌∷◌, ◌++◌, All, IfSome, length, get_or, drop, slice_get, Some, None, Option, option_and_then, option_map, refl, sym, ap, ◌∙◌, subst, append_assoc, arith}
 use Rattle.std.proofs.lemmas.List.{drop_all}
 use Rattle.std.proofs.lemmas.List.Elements.{All-head, All-tail}

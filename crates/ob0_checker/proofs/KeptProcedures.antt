@@ -45,7 +45,7 @@ bind_typed-both : (ps qs : List (TypedParameter Label)) (env : TypeEnvironment L
 bind_typed-both [] qs env = refl
 bind_typed-both (p ∷ ps) qs env = bind_typed-both ps qs ((p.name, a_variable p.formal.shape) ∷ env)
 
--- parameters of one type, behind those before them
+-- parameters of one type, after those before them
 pub section_keeps : (h g : Heading) (s : Section) (d : Typed) → All (λ (p : Parameter). IsMade (length h.walk.known.shapes) p.formal.of) h.parameters → Behind h.walk (type_of s.written) (Some d)
     → ((all : TypeEnvironment Label) → Keeps all d.walk.known → Keeps (bind_names (names_listed (in_labels d.walk.resolved (names_of s.names))) (a_variable (type_shape (shapes_of d.walk.known) d.of)) all) g.walk.known)
     → Follows d.walk g.walk → g.walk.known.shapes ≡ d.walk.known.shapes
@@ -70,7 +70,7 @@ section_keeps h g s d made b bound follows shapes listed all keeps =
     ∙ ap (λ ps. bind_typed ps all) (sym whole))
     (bound before (b.keeps before keeps))
 
--- the procedure, behind its parameters
+-- the procedure, after its parameters
 pub heading_keeps : (w : Walking) (h : Heading) (v u : Walking) (p : Procedure) (signature : Vec formal.Formal Global) → h.walk.resolved ≡ w.resolved
     → signature.items ≡ map (λ (q : Parameter). q.formal) h.parameters → ((k : ℕ) → declared_in v.known k ≡ declared_in h.walk.known k) → v.known.shapes ≡ h.walk.known.shapes → v.resolved ≡ h.walk.resolved
     → Binding v u (out-Procedure p).name (kind.Procedure signature) → KeepsParameters w.known h → KeepsHeading w.known (procedure_name (in_labels w.resolved (procedure_of p))) (record { walk = u; parameters = h.parameters })

@@ -1,4 +1,4 @@
--- Blocks and procedures: back behind a procedure what was in sight is in sight again.
+-- Blocks and procedures: back after a procedure what was in scope is in scope again.
 use Rattle.std.proofs.Common.{◌≡◌, ℕ, ◌+◌, ◌<◌, ◌≤◌, Bool, true, false, ◌&&◌, cond, List, [], ◌∷◌, ◌++◌, map, length, get_or, is_some, Some, None, Option, option_and_then, refl, sym, ap, ◌∙◌, subst, arith}
 use Rattle.std.proofs.lemmas.List.{drop_all}
 use Rattle.std.specs.declared.vec.Vec.{Vec}
@@ -23,7 +23,7 @@ use Rattle.ob0_types_rules.specs.Expressions.{a_procedure}
 use Rattle.ob0_types_rules.specs.InLabels.{in_labels, label_in}
 use Rattle.ob0_types_table.specs.KnownTables.{AreTables, before_all, seen_object, shapes_of}
 use Rattle.ob0_types_table.specs.Tables.{formal_in}
-use Rattle.ob0_types_rules.specs.WellTyped.{TypeEnvironment, TypedParameter, bind_typed, block_fits, body_fits, declare_typed, heading, hold, procedure_fits, procedures_fit, typed_parameters}
+use Rattle.ob0_types_rules.specs.WellTyped.{TypeEnvironment, TypedParameter, bind_typed, block_fits, body_fits, declare_typed, heading, some_and, procedure_fits, procedures_fit, typed_parameters}
 use Rattle.ob0_values.specs.Values.{Shape}
 use Rattle.ob0_checker.proofs.Agreement.{agrees_same, follows_more, follows_on}
 use Rattle.ob0_types_rules.proofs.Counted.{counted_formals, counted_procedure, counted_types, counted_variables, sections_mapped, types_mapped, variables_mapped}
@@ -136,8 +136,8 @@ heading_some w h v u p signature tables d signed b bound =
       next = omega (arith, bound.next, b.next, d.next);
     })
 
--- one procedure, and those behind it
-hold_goes : {A : Type 0} (o : Option A) (B : A → Bool) (H : A → TypeEnvironment Label) (R : TypeEnvironment Label → Bool) (later : TypeEnvironment Label) → option_and_then (λ ps. cond (B ps) (Some (H ps)) None) o ≡ Some later → hold o (λ ps. B ps && R (H ps)) ≡ R later
+-- one procedure, and those after it
+hold_goes : {A : Type 0} (o : Option A) (B : A → Bool) (H : A → TypeEnvironment Label) (R : TypeEnvironment Label → Bool) (later : TypeEnvironment Label) → option_and_then (λ ps. cond (B ps) (Some (H ps)) None) o ≡ Some later → some_and o (λ ps. B ps && R (H ps)) ≡ R later
 hold_goes None B H R later e = cc e
 hold_goes (Some ps) B H R later e = go (B ps) (H ps) e
   where
@@ -145,7 +145,7 @@ hold_goes (Some ps) B H R later e = go (B ps) (H ps) e
     go true h e = let same : h ≡ later = cc e in ap R same
     go false h e = cc e
 
-hold_stops : {A : Type 0} (o : Option A) (B : A → Bool) (H : A → TypeEnvironment Label) (R : TypeEnvironment Label → Bool) → option_and_then (λ ps. cond (B ps) (Some (H ps)) None) o ≡ None → hold o (λ ps. B ps && R (H ps)) ≡ false
+hold_stops : {A : Type 0} (o : Option A) (B : A → Bool) (H : A → TypeEnvironment Label) (R : TypeEnvironment Label → Bool) → option_and_then (λ ps. cond (B ps) (Some (H ps)) None) o ≡ None → some_and o (λ ps. B ps && R (H ps)) ≡ false
 hold_stops None B H R e = refl
 hold_stops (Some ps) B H R e = go (B ps) (H ps) e
   where
@@ -237,12 +237,12 @@ procedure_fitting w v u z h p d tables bound follows next decides back =
 
 -- a block, by its declarations
 block-hold : (r : Resolution) (k : ℕ) (cs : Tree ℕ (maybe constants)) (ts : Tree ℕ (maybe type_names)) (vs : Tree ℕ (maybe variables)) (ps : Tree ℕ (items procedure)) (st : Tree ℕ (maybe body)) (env : TypeEnvironment Label)
-    → block_fits as_labels env k (in_labels r (has_body (declares cs ts vs ps) st)) ≡ hold (declare_block as_labels env k (in_labels r (has_body (declares cs ts vs ps) st))) (λ inner. procedures_left st r (k + types_constructors (section_types ts) + variables_constructors (section_variables vs)) ps inner)
+    → block_fits as_labels env k (in_labels r (has_body (declares cs ts vs ps) st)) ≡ some_and (declare_block as_labels env k (in_labels r (has_body (declares cs ts vs ps) st))) (λ inner. procedures_left st r (k + types_constructors (section_types ts) + variables_constructors (section_variables vs)) ps inner)
 unfolding block_fits
 block-hold r k cs ts vs ps st env =
     let f = label_in r in
     let g = value_at r.module_read.source in
-    λ i. hold (declare_block as_labels env k (in_labels r (has_body (declares cs ts vs ps) st)))
+    λ i. some_and (declare_block as_labels env k (in_labels r (has_body (declares cs ts vs ps) st)))
     (λ inner. procedures_left st r (k + (ap types_constructors (types_mapped f g ts) ∙ counted_types f g (section_types ts)) i + (ap variables_constructors (variables_mapped f g vs) ∙ counted_variables f g (section_variables vs)) i) ps inner)
 
 pub block_undeclared : (w : Walking) (n m : ℕ) (cs : Tree ℕ (maybe constants)) (ts : Tree ℕ (maybe type_names)) (vs : Tree ℕ (maybe variables)) (ps : Tree ℕ (items procedure)) (st : Tree ℕ (maybe body))
@@ -250,7 +250,7 @@ pub block_undeclared : (w : Walking) (n m : ℕ) (cs : Tree ℕ (maybe constants
     → Decides w m (λ env. block_fits as_labels env w.next (in_labels w.resolved (has_body (declares cs ts vs ps) st))) None
 block_undeclared w n m cs ts vs ps st d = record {
   decided = λ env agrees. sym (block-hold w.resolved w.next cs ts vs ps st env
-      ∙ ap (λ o. hold o (λ inner. procedures_left st w.resolved (w.next + types_constructors (section_types ts) + variables_constructors (section_variables vs)) ps inner)) (d.leaves env agrees));
+      ∙ ap (λ o. some_and o (λ inner. procedures_left st w.resolved (w.next + types_constructors (section_types ts) + variables_constructors (section_variables vs)) ps inner)) (d.leaves env agrees));
   follows = tt;
   next = tt;
 }
@@ -264,7 +264,7 @@ block_reduces w v cs ts vs ps st d env agrees =
       at.0,
       at.2,
       block-hold w.resolved w.next cs ts vs ps st env
-          ∙ ap (λ o. hold o (λ inner. procedures_left st w.resolved (w.next + types_constructors (section_types ts) + variables_constructors (section_variables vs)) ps inner)) at.1
+          ∙ ap (λ o. some_and o (λ inner. procedures_left st w.resolved (w.next + types_constructors (section_types ts) + variables_constructors (section_variables vs)) ps inner)) at.1
           ∙ (λ i. procedures_left st (sym d.follows.same i) (next i) ps at.0),
     )
 

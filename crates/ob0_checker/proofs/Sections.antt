@@ -40,7 +40,7 @@ parameters-follow w v ps f made =
     (λ i. map (parameter_in (f.same i) (f.shapes.1 i)) ps)
     ∙ parameters-more w.resolved (shapes_of w.known) f.shapes.0 ps (subst (λ n. All (λ (p : Parameter). IsMade n p.formal.of) ps) (sym (length-table w.known.shapes)) made)
 
--- the parameters that are put behind
+-- the parameters that are put after
 pub listed-parameters : (r : Resolution) (shapes : List Shape) (f : formal.Formal) (xs : List ℕ) → map (parameter_in r shapes) (map (λ n. record { name = n; formal = f }) xs) ≡ map (λ x. record { name = x; formal = formal_in shapes f }) (map (label_in r) xs)
 listed-parameters r shapes f [] = refl
 listed-parameters r shapes f (x ∷ xs) = ap (λ ys. record { name = label_in r x; formal = formal_in shapes f } ∷ ys) (listed-parameters r shapes f xs)
@@ -93,7 +93,7 @@ nothing_before (Some x) = refl
 pub typing_begins : (w : Walking) (xs : List Section) → Typing w xs (record { walk = w; parameters = [] }) 0
 typing_begins w xs = record { on = λ env agrees. (env, agrees, nothing_before _); follows = follows_itself w; next = refl }
 
--- one section, and those behind it
+-- one section, and those after it
 pub typed-more : (f : Tree Label section) (fs : Tree Label (items further_section)) (env : TypeEnvironment Label) (k : ℕ) → typed_parameters as_labels env k (more (then_section f) fs)
     ≡ option_and_then (λ s. option_map (λ rest. typed_section f s ++ rest) (typed_parameters as_labels (bind_names (section_names f) (a_variable s) env) (k + constructors (section_type f)) fs)) (denoted (meanings as_labels env) k (section_type f))
 unfolding typed_parameters

@@ -1,4 +1,4 @@
--- Loops of the walk over declarations: what is left, in the environment that agrees with what is in sight, gives what the whole gives.
+-- Loops of the walk over declarations: what is left, in the environment that agrees with what is in scope, gives what the whole gives.
 use Rattle.std.proofs.Common.{◌≡◌, ℕ, ◌+◌, ◌<◌, ◌≤◌, List, ◌∷◌, length, get_or, drop, Some, None, Option, option_and_then, option_map, refl, sym, ap, ◌∙◌, subst, arith}
 use Rattle.std.proofs.lemmas.List.{drop_all}
 use Rattle.ob0_tree.specs.Tree.{Tree, Item, constant, declares_constant, declares_type, declares_variable, end, expression, item, items, more, names, type_name, variable, written_type}

@@ -1,4 +1,4 @@
--- The walk over declarations: what is in sight at each place of a module is what its environment there says.
+-- The walk over declarations: what is in scope at each place of a module is what its environment there says.
 -- Rule: none; for contracts of the walk over declarations.
 use Rattle.std.specs.Prelude.{◌≡◌, ℕ, ◌+◌, ◌≤◌, Bool, List, ◌++◌, map, length, IfSome, is_some, Some, None, Option, option_map}
 use Rattle.ob0_tree.specs.Tree.{Tree, further_section, item, items, procedure, section}
@@ -17,15 +17,15 @@ use Rattle.ob0_types_rules.specs.Typing.{constructors, denoted}
 use Rattle.ob0_types_rules.specs.WellTyped.{TypeEnvironment, TypedParameter, bind_names, bind_typed, heading, section_mode, typed_parameters}
 use Rattle.ob0_values.specs.Values.{Shape}
 
--- what names stand for in an environment is what is in sight
+-- what names mean in an environment is what is in scope
 abbrev pub Agrees : TypeEnvironment Label → Tables → Type 0
 Agrees env t = meanings as_labels env ≡ known_meaning t
 
--- the latest bindings are what was declared last, in sight or not
+-- the latest bindings are what was declared last, in scope or not
 abbrev pub Keeps : TypeEnvironment Label → Tables → Type 0
 Keeps all t = (k : ℕ) → newest (from_binding as_labels all (declared k)) ≡ declared_in t k
 
--- A module on its way through the checker: what is known, the bindings by which it came in sight, and the ordinal of the
+-- A module on its way through the checker: what is known, the bindings by which it came in scope, and the ordinal of the
 -- next ARRAY or RECORD, which is how many have made a type.
 pub record Walking : Type 0 where
   pub resolved : Resolution
@@ -33,14 +33,14 @@ pub record Walking : Type 0 where
   pub bound : List Shadowed
   pub next : ℕ
 
--- farther on in the same module: types were added, and what is now in sight goes back to what was in sight
+-- farther on in the same module: types were added, and what is now in scope goes back to what was in scope
 pub record Follows (w v : Walking) : Type 0 where
   pub same : v.resolved ≡ w.resolved
   pub shapes : (later : List Shape) × (shapes_of v.known ≡ shapes_of w.known ++ later)
   pub longer : length w.known.shapes ≤ length v.known.shapes
   pub goes_back : (more : List Shadowed) × (v.bound ≡ w.bound ++ more) × ((k : ℕ) → before_all more (seen_object v.known) k ≡ seen_object w.known k)
 
--- declarations give an environment, which agrees with what is then in sight; or they give none, and the walk ends
+-- declarations give an environment, which agrees with what is then in scope; or they give none, and the walk ends
 abbrev pub Leaves : Option (TypeEnvironment Label) → Option Walking → Type 0
 Leaves given None = given ≡ None
 Leaves given (Some v) = (env : TypeEnvironment Label) × (given ≡ Some env) × Agrees env v.known
@@ -51,7 +51,7 @@ pub record Declares (w : Walking) (n : ℕ) (given : TypeEnvironment Label → O
   pub follows : IfSome r (Follows w)
   pub next : IfSome r (λ v. v.next ≡ w.next + n)
 
--- what is bound on the way is put before what was in sight, and before all that was declared
+-- what is bound on the way is put before what was in scope, and before all that was declared
 abbrev pub Grows : Walking → (TypeEnvironment Label → Option (TypeEnvironment Label)) → Walking → Type 0
 Grows w given v = (env : TypeEnvironment Label) → Agrees env w.known
     → (bound : TypeEnvironment Label) × (given env ≡ Some (bound ++ env)) × ((all : TypeEnvironment Label) → Keeps all w.known → Keeps (bound ++ all) v.known)
@@ -66,7 +66,7 @@ pub record Decides (w : Walking) (n : ℕ) (fits : TypeEnvironment Label → Boo
   pub follows : IfSome r (Follows w)
   pub next : IfSome r (λ v. v.next ≡ w.next + n)
 
--- the parameters of a heading so far, and the walk behind them
+-- the parameters of a heading so far, and the walk after them
 pub record Heading : Type 0 where
   pub walk : Walking
   pub parameters : List Parameter
@@ -83,7 +83,7 @@ parameters_in r t ps = map (parameter_in r (shapes_of t)) ps
 abbrev pub parameters_of : Heading → List (TypedParameter Label)
 parameters_of h = parameters_in h.walk.resolved h.walk.known h.parameters
 
--- parameters are what was declared last behind their sections; behind the heading it is the procedure
+-- parameters are what was declared last after their sections; after the heading it is the procedure
 abbrev pub KeepsParameters : Tables → Heading → Type 0
 KeepsParameters t h = (all : TypeEnvironment Label) → Keeps all t → Keeps (bind_typed (parameters_of h) all) h.walk.known
 
@@ -114,7 +114,7 @@ pub record DeclaresSections (w : Walking) (fs : Tree Label (items further_sectio
   pub follows : IfSome r (λ g. Follows w g.walk)
   pub next : IfSome r (λ g. g.walk.next ≡ w.next + formals_constructors fs)
 
--- behind a heading the procedure is in sight, and its parameters aren't yet
+-- after a heading the procedure is in scope, and its parameters aren't yet
 pub record DeclaresHeading (w : Walking) (p : Tree Label (item procedure)) (r : Option Heading) : Type 0 where
   pub typed : (env : TypeEnvironment Label) → Agrees env w.known → typed_parameters as_labels env w.next (procedure_formals p) ≡ option_map parameters_of r
   pub leaves : (env : TypeEnvironment Label) → Agrees env w.known → IfSome r (λ g. Agrees (heading (procedure_name p) (parameters_of g) env) g.walk.known)

@@ -1,4 +1,4 @@
--- What labels stand for, everywhere or in constant expressions alone, and the steps of a constant's evaluation.
+-- What labels mean, everywhere or in constant expressions alone, and the steps of a constant's evaluation.
 -- Rule: none; for contracts: docs/LANGUAGE.md, Types 6, is stated by ConstantValues of ob0_types_rules.
 use Rattle.std.specs.Prelude.{Bool, true, false, [], Option, option_map}
 use Rattle.ob0_tree.specs.Tree.{Tree, addend, adds, item, multiplier, multiplies}
@@ -10,7 +10,7 @@ use Rattle.ob0_types_rules.specs.Typing.{constant_of, constants_only, given_valu
 use Rattle.ob0_types_rules.specs.WellTyped.{Signature, Typed}
 use Rattle.ob0_values.specs.Values.{Place, Shape, Value}
 
--- in a constant expression names stand for constants alone
+-- in a constant expression names mean constants alone
 abbrev pub where_only : Bool → Option (Object Shape Signature) → Option (Object Shape Signature)
 where_only true o = option_map a_constant (constant_of o)
 where_only false o = o
@@ -19,11 +19,11 @@ where_only false o = o
 abbrev pub meaning_in : Tables → Bool → Typed Label
 meaning_in t only_constants = record { stands_for = λ x. where_only only_constants (label_object t x); written = label_text }
 
--- what names stand for where a constant expression is evaluated
+-- what names mean where a constant expression is evaluated
 abbrev pub constants_in : Tables → Meanings Label Place (Unit {0})
 constants_in t = constants_only (known_meaning t)
 
--- the value behind one more operand
+-- the value after one more operand
 abbrev pub value_added : Meanings Label Place (Unit {0}) → Value → Tree Label (item addend) → Option Value
 value_added meaning x (adds o t) = sum_value o (given_value (evaluate_term meaning [] t)) x
 

@@ -1,4 +1,4 @@
-//! Whether a module fits: its declarations, in text order, each in sight from its place on, and its statements. The walk
+//! Whether a module fits: its declarations, in text order, each in scope from its place on, and its statements. The walk
 //! ends at the first thing that doesn't fit.
 
 ghost use Rattle.std.specs.Prelude.{◌≡◌, ◌++◌, ◌∷◌, map, IfOk, IfSome, OnOk, is_some};
@@ -20,7 +20,7 @@ use ob0_types_table::{Formal, Known, Object, TypeId};
 use std::alloc::{AllocError, Global};
 use std::marker::Model;
 
-/// The parameters of a heading so far, and the walk behind them.
+/// The parameters of a heading so far, and the walk after them.
 #[derive(Drop)]
 struct Headed<'t> {
     walk: Walk<'t>,
@@ -60,7 +60,7 @@ impl<'t> Walk<'t> {
     ghost use Rattle.ob0_types_rules.specs.Typing.{constructors};
     ghost use Rattle.ob0_types_rules.specs.WellTyped.{TypeEnvironment, bind_names, bind_typed, block_fits, body_fits, declare_typed};
 
-    /// A constant is known behind its right side.
+    /// A constant is known after its right side.
     fn constant(self, c: &Constant) -> Result<Option<Walk<'t>>, AllocError>
         ensures declares { IfOk result (Declares self.entry 0 (λ env. declare_constants as_labels env (in_labels self.entry.resolved (more (constant_of c.now) end)))) }
         ensures grows { IfOk result (λ r. IfSome r (Grows self.entry (λ env. declare_constants as_labels env (in_labels self.entry.resolved (more (constant_of c.now) end))))) }
@@ -101,7 +101,7 @@ impl<'t> Walk<'t> {
         }
     }
 
-    /// A type is known behind its text.
+    /// A type is known after its text.
     fn type_declaration(self, d: &TypeDeclaration) -> Result<Option<Walk<'t>>, AllocError>
         ensures declares { IfOk result (Declares self.entry (constructors (type_of d.now.written)) (λ env. declare_types as_labels env self.entry.next (in_labels self.entry.resolved (more (type_declaration_of d.now) end)))) }
         ensures grows { IfOk result (λ r. IfSome r (Grows self.entry (λ env. declare_types as_labels env self.entry.next (in_labels self.entry.resolved (more (type_declaration_of d.now) end))))) }
@@ -209,7 +209,7 @@ impl<'t> Walk<'t> {
         walk.variables_of(&b.variables)
     }
 
-    /// The sections of formal parameters. Each parameter is in sight of the sections behind its own.
+    /// The sections of formal parameters. Each parameter is in scope of the sections after its own.
     fn sections(self, sections: &[Section]) -> Result<Option<Headed<'t>>, AllocError>
         ensures declares { IfOk result (DeclaresSections self.entry (in_labels self.entry.resolved (items_of further_section_of sections.now))) }
         ensures keeps { IfOk result (λ r. IfSome r (KeepsParameters self.entry.known)) }
@@ -237,7 +237,7 @@ impl<'t> Walk<'t> {
         }
     }
 
-    /// The heading of a procedure, behind which its name is in sight, and none of its parameters yet.
+    /// The heading of a procedure, after which its name is in scope, and none of its parameters yet.
     fn heading(self, p: &Procedure) -> Result<Option<Headed<'t>>, AllocError>
         ensures declares { IfOk result (DeclaresHeading self.entry (in_labels self.entry.resolved (procedure_of p.now))) }
         ensures keeps { IfOk result (λ r. IfSome r (KeepsHeading self.entry.known (procedure_name (in_labels self.entry.resolved (procedure_of p.now))))) }
@@ -270,7 +270,7 @@ impl<'t> Walk<'t> {
         Ok(walk)
     }
 
-    /// A procedure is in sight behind its heading, and so in its own body; its parameters and what it declares are in
+    /// A procedure is in scope after its heading, and so in its own body; its parameters and what it declares are in
     /// sight up to its end.
     #[cycle(blocks)]
     fn procedure(self, p: &Procedure) -> Result<Option<Walk<'t>>, AllocError>
@@ -361,7 +361,7 @@ impl<'t> Headed<'t> {
     }
 }
 
-/// Puts parameters of one type behind those before them.
+/// Puts parameters of one type after those before them.
 fn list(names: &NameList, formal: Formal, parameters: &mut Vec<Parameter>) -> Result<(), AllocError>
     ensures { OnOk result (parameters.new.items ≡ parameters.old.items ++ map (λ n. record { name = n; formal = formal }) (names.now.first ∷ names.now.more.items)) }
 {

@@ -1,4 +1,4 @@
-//! The types that texts of types denote. Each ARRAY and RECORD makes a type of its own, told from the others by its
+//! The types that texts of types denote. Each ARRAY and RECORD makes a type of its own, distinguished from the others by its
 //! ordinal in the text of the module: those before it have made theirs, but for those around it.
 
 ghost use Rattle.std.specs.Prelude.{◌≡◌, ℕ, ◌+◌, ◌<◌, ◌≤◌, ◌++◌, ◌∷◌, List, IfOk, IfSome, MatchOption, OnOk, length, option_and_then, option_map};
@@ -14,7 +14,7 @@ ghost use Rattle.ob0_values.specs.Values.{Shape};
 
 use crate::names::Names;
 use ob0_scope_rules::Resolved;
-use ob0_tree::{ArrayType, FieldList, Fields, RecordType, WrittenType};
+use ob0_tree::{ArrayType, FieldGroup, Fields, RecordType, WrittenType};
 use ob0_types_table::{Field, Known, MOST_DEPTH, MOST_SCALARS, TypeId};
 use ob0_values::Scalar;
 use std::alloc::{AllocError, Global};
@@ -58,7 +58,7 @@ pub(crate) fn denote<'t>(
     Ok(found)
 }
 
-/// The same for a text that stands in so many ARRAY and RECORD. None, too, where it is too deep in them.
+/// The same for a text that is in so many ARRAY and RECORD. None, too, where it is too deep in them.
 #[cycle(denoting)]
 fn denote_text<'t>(
     alloc: Global,
@@ -76,7 +76,7 @@ fn denote_text<'t>(
     }
 }
 
-/// The ordinal of an ARRAY or RECORD that stands in so many others, where it isn't too deep in them.
+/// The ordinal of an ARRAY or RECORD that is in so many others, where it isn't too deep in them.
 fn ordinal_in(known: &Known, around: usize) -> Option<usize>
     ensures { MatchOption result (100 ≤ around) (λ k. (k ≡ length known.now.shapes + around) × (around < 100)) }
 {
@@ -166,11 +166,11 @@ fn denote_record<'t>(
     Ok(made)
 }
 
-/// Puts the names of a list behind the fields so far, each of the same type.
+/// Puts the names of a list after the fields so far, each of the same type.
 fn add_fields<'t>(
     known: &Known<'t>,
     resolved: &Resolved<'t>,
-    list: &FieldList,
+    list: &FieldGroup,
     of: TypeId,
     fields: &mut Vec<Field<'t>>,
 ) -> Result<(), AllocError>

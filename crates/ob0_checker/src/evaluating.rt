@@ -1,5 +1,5 @@
 //! The value of a constant expression that has a type. An operand that settles an operation alone decides it, whatever
-//! the other is worth.
+//! the other has the value.
 
 ghost use Rattle.std.specs.Prelude.{◌≡◌, [], Some, option_and_then, option_map, pos};
 ghost use Rattle.ob0_tree.specs.View.{designator_of, expression_of, factor_of, simple_of, term_of};
@@ -11,7 +11,9 @@ ghost use Rattle.ob0_types_rules.specs.Typing.{given_value};
 use crate::names::Names;
 use ob0_tree::{Comparison, Designator, Expression, Factor, Simple, Term};
 use ob0_types_table::number_at;
-use ob0_types_table::operators::{added, complement, multiplied, related, with_sign};
+use ob0_types_table::operators::{
+    complement, value_of_product, value_of_relation, value_of_sum, with_sign,
+};
 use ob0_values::Scalar;
 
 impl<'a, 't> Names<'a, 't> {
@@ -46,7 +48,7 @@ impl<'a, 't> Names<'a, 't> {
             Some(compared) => {
                 let compared: &Comparison = compared;
                 let right = self.evaluate_simple(&compared.right);
-                related(compared.relation, left, right)
+                value_of_relation(compared.relation, left, right)
             }
         }
     }
@@ -57,7 +59,7 @@ impl<'a, 't> Names<'a, 't> {
     {
         let mut so_far = with_sign(s.sign, self.evaluate_term(&s.first));
         for addend in &s.more {
-            so_far = added(addend.operator, so_far, self.evaluate_term(&addend.term));
+            so_far = value_of_sum(addend.operator, so_far, self.evaluate_term(&addend.term));
         }
         so_far
     }
@@ -68,7 +70,7 @@ impl<'a, 't> Names<'a, 't> {
     {
         let mut so_far = self.evaluate_factor(&t.first);
         for multiplier in &t.more {
-            so_far = multiplied(
+            so_far = value_of_product(
                 multiplier.operator,
                 so_far,
                 self.evaluate_factor(&multiplier.factor),

@@ -1,4 +1,4 @@
-//! Which statements fit: each is asked for just what the language asks of it, and no fault is told.
+//! Which statements fit: each is required just what the language asks of it, and no fault is reported.
 
 ghost use Rattle.std.specs.Prelude.{◌≡◌, List, Some, map, option_map};
 ghost use Rattle.ob0_tree.specs.View.{assignment_of, call_of, elsifs_in, expression_of, if_of, sequence_in, statement_of};
@@ -41,7 +41,7 @@ fn standard_formals(standard: Standard) -> &'static [Formal]
 }
 
 impl<'a, 't> Names<'a, 't> {
-    /// The formal parameters of the procedure that a name stands for. In a constant expression no name stands for one.
+    /// The formal parameters of the procedure that a name means. In a constant expression no name means one.
     pub fn formals(&self, token: usize) -> Option<&'a [Formal]>
         ensures { option_map (λ fs. map (formal_in (shapes_of self.now.known.now)) fs.now) result ≡ signature_of ((meaning_in self.now.known.now self.now.only_constants).stands_for (label_in self.now.resolved.now token)) }
     {
@@ -58,7 +58,7 @@ impl<'a, 't> Names<'a, 't> {
         }
     }
 
-    /// The type of what may be assigned to. In a constant expression no name stands for a variable.
+    /// The type of what may be assigned to. In a constant expression no name means a variable.
     fn assigned_type(&self, d: &Designator) -> Option<TypeId>
         ensures { option_map (type_shape (shapes_of self.now.known.now)) result ≡ variable_type (meaning_in self.now.known.now self.now.only_constants) (Some (designator_in self.now.resolved.now d.now)) }
     {

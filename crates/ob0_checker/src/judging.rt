@@ -5,7 +5,9 @@ ghost use Rattle.ob0_tree.specs.View.{designator_of, expression_of, factor_of, s
 
 use crate::names::Names;
 use ob0_tree::{Comparison, Designator, Expression, Factor, Selector, Simple, Term};
-use ob0_types_table::{TypeId, added, complement, multiplied, related, with_sign};
+use ob0_types_table::{
+    TypeId, complement, type_of_product, type_of_relation, type_of_sum, with_sign,
+};
 
 impl<'a, 't> Names<'a, 't> {
     ghost use Rattle.ob0_types_table.specs.KnownTables.{label_object, shapes_of};
@@ -29,7 +31,7 @@ impl<'a, 't> Names<'a, 't> {
             Some(compared) => {
                 let compared: &Comparison = compared;
                 let right = self.type_of_simple(&compared.right);
-                related(compared.relation, left, right)
+                type_of_relation(compared.relation, left, right)
             }
         }
     }
@@ -41,7 +43,7 @@ impl<'a, 't> Names<'a, 't> {
     {
         let mut so_far = with_sign(s.sign, self.type_of_term(&s.first));
         for addend in &s.more {
-            so_far = added(addend.operator, so_far, self.type_of_term(&addend.term));
+            so_far = type_of_sum(addend.operator, so_far, self.type_of_term(&addend.term));
         }
         so_far
     }
@@ -53,7 +55,7 @@ impl<'a, 't> Names<'a, 't> {
     {
         let mut so_far = self.type_of_factor(&t.first);
         for multiplier in &t.more {
-            so_far = multiplied(
+            so_far = type_of_product(
                 multiplier.operator,
                 so_far,
                 self.type_of_factor(&multiplier.factor),

@@ -1,4 +1,4 @@
-//! What names stand for at a place.
+//! What names mean at a place.
 
 ghost use Rattle.std.specs.Prelude.{◌≡◌, Some, length, option_and_then, option_map, IfSome};
 ghost use Rattle.ob0_tree.specs.Places.{text_at};
@@ -7,8 +7,8 @@ use ob0_scope_rules::Resolved;
 use ob0_types_table::{Known, Object, TypeId, scalar_type, text_at};
 use ob0_values::Scalar;
 
-/// What names stand for: what is known, and which declaration each name is bound to. In a constant expression they
-/// stand for constants alone.
+/// What names mean: what is known, and which declaration each name is bound to. In a constant expression they
+/// mean constants alone.
 #[derive(Clone, Copy)]
 pub struct Names<'a, 't> {
     pub known: &'a Known<'t>,
@@ -27,7 +27,7 @@ impl<'a, 't> Names<'a, 't> {
     ghost use Rattle.ob0_types_rules.specs.Bindings.{variable_of};
     ghost use Rattle.ob0_values.specs.Scalars.{scalar_value};
 
-    /// What a name stands for.
+    /// What a name means.
     pub fn object(&self, token: usize) -> Option<&'a Object>
         ensures value { option_and_then (λ o. object_in (shapes_of self.now.known.now) o.now) result ≡ label_object self.now.known.now (label_in self.now.resolved.now token) }
         ensures made { IfSome result (λ o. ObjectIsMade (length self.now.known.now.shapes) o.now) }
@@ -36,7 +36,7 @@ impl<'a, 't> Names<'a, 't> {
         self.known.seen(ordinal)
     }
 
-    /// The type of the variable, parameter or constant that a name stands for.
+    /// The type of the variable, parameter or constant that a name means.
     pub fn value_type(&self, token: usize) -> Option<TypeId>
         ensures { option_map (type_shape (shapes_of self.now.known.now)) result ≡ object_type ((meaning_in self.now.known.now self.now.only_constants).stands_for (label_in self.now.resolved.now token)) }
     {
@@ -50,7 +50,7 @@ impl<'a, 't> Names<'a, 't> {
         }
     }
 
-    /// The value of the constant that a name stands for.
+    /// The value of the constant that a name means.
     pub fn constant(&self, token: usize) -> Option<Scalar>
         ensures { option_map scalar_value result ≡ constant_of (label_object self.now.known.now (label_in self.now.resolved.now token)) }
     {
@@ -64,7 +64,7 @@ impl<'a, 't> Names<'a, 't> {
         }
     }
 
-    /// The type that a name stands for.
+    /// The type that a name means.
     pub fn named_type(&self, token: usize) -> Option<TypeId>
         ensures value { option_map (type_shape (shapes_of self.now.known.now)) result ≡ type_of_name (label_object self.now.known.now (label_in self.now.resolved.now token)) }
         ensures made { IfSome result (λ t. IsMade (length self.now.known.now.shapes) t) }
@@ -79,7 +79,7 @@ impl<'a, 't> Names<'a, 't> {
         }
     }
 
-    /// The type of the variable or parameter that a name stands for.
+    /// The type of the variable or parameter that a name means.
     pub fn variable(&self, token: usize) -> Option<TypeId>
         ensures { option_map (type_shape (shapes_of self.now.known.now)) result ≡ variable_of (label_object self.now.known.now (label_in self.now.resolved.now token)) }
     {
@@ -100,7 +100,7 @@ impl<'a, 't> Names<'a, 't> {
         text_at(self.resolved.tokens(), token)
     }
 
-    /// How a field's name is written. Nothing where a declaration binds the name: that is no field's.
+    /// How a field's name is written. Nothing where a declaration binds the name: that isn't a field's.
     pub fn written(&self, token: usize) -> &'t str
         ensures { result.now ≡ label_text (label_in self.now.resolved.now token) }
     {

@@ -1,4 +1,4 @@
-//! A module on its way through the checker: what is known and in sight, and what was in sight before each binding.
+//! A module on its way through the checker: what is known and in scope, and what was in scope before each binding.
 
 use crate::denoting::denote;
 use ob0_scope_rules::Resolved;
@@ -14,7 +14,7 @@ pub struct Parameter {
     pub formal: Formal,
 }
 
-/// What is known behind some declarations, and the bindings by which it came in sight, oldest first.
+/// What is known after some declarations, and the bindings by which it came in scope, oldest first.
 #[derive(Drop)]
 pub(crate) struct Walk<'t> {
     pub(crate) alloc: Global,
@@ -39,7 +39,7 @@ impl<'t> Model for Walk<'t> {
     ghost invariant = { λ w. All (CanBePutBack w.known) w.bound.items };
 }
 
-/// A type, and the walk behind its text.
+/// A type, and the walk after its text.
 #[derive(Drop)]
 pub(crate) struct Typed<'t> {
     pub(crate) walk: Walk<'t>,
@@ -60,7 +60,7 @@ impl<'t> Walk<'t> {
     ghost use Rattle.ob0_scope_rules.specs.Names.{as_labels, Label};
     ghost use Rattle.ob0_values.specs.Values.{Shape};
 
-    /// The predeclared names alone are in sight.
+    /// The predeclared names alone are in scope.
     pub(crate) fn new(alloc: Global, resolved: &'t Resolved<'t>) -> Result<Walk<'t>, AllocError>
         ensures known { IfOk result (λ w. w.known ≡ predeclared) }
         ensures resolved { IfOk result (λ w. w.resolved ≡ resolved.now) }
@@ -114,7 +114,7 @@ impl<'t> Walk<'t> {
         self.bound.len()
     }
 
-    /// Puts back what was in sight after so many bindings.
+    /// Puts back what was in scope after so many bindings.
     pub(crate) fn back_to(self, mark: usize) -> Walk<'t>
         ensures seen { (first more : List Shadowed) → self.entry.bound ≡ first ++ more → mark ≡ length first → (result.bound ≡ first) × ((k : ℕ) → seen_object result.known k ≡ before_all more (seen_object self.entry.known) k) }
         ensures declared { (k : ℕ) → declared_in result.known k ≡ declared_in self.entry.known k }

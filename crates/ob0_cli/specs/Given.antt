@@ -15,8 +15,8 @@ use Rattle.ob0_cli.specs.declared.line.CommandFault.{CommandFault}
 use Rattle.ob0_cli.specs.declared.line.CommandFault.TheVariants.{Refused, Memory}
 
 -- a subcommand, with what was found for its arguments
-abbrev pub Found : Type 0
-Found = Option (Text × List Row)
+abbrev pub FoundCommand : Type 0
+FoundCommand = Option (Text × List Row)
 
 -- the number of an argument, given or by default
 abbrev pub IsNumber : Text → List Row → ℕ → Type 0
@@ -32,7 +32,7 @@ HoldsValues name rows (Rename file position new) = (name ≡ codes "rename") × 
     × IsNumber (codes "line") rows position.line × IsNumber (codes "column") rows position.character × (first_of (codes "name") rows ≡ Some new.now)
 
 -- the command that was found, with its values, is this command line
-abbrev pub IsReadFrom : Found → CommandLine → Type 0
+abbrev pub IsReadFrom : FoundCommand → CommandLine → Type 0
 IsReadFrom found line = (name : Text) × (rows : List Row) × (found ≡ Some (name, rows)) × HoldsValues name rows line
 
 -- the words have no fault, and the line is the one that they name
@@ -41,9 +41,9 @@ pub record Gives (words : List Text) (line : CommandLine) : Type 0 where
   pub read : IsReadFrom (subcommand_of ob0_app words) line
 
 -- a refusal is of the kind of the first fault that the words have, and never of the kind 'out of memory'
-abbrev pub Refuses : List Text → CommandFault → Type 0
-Refuses words (Refused error) = IsAmong (kind_of error) (fault_of ob0_app words) × ¬ (kind_of error ≡ OutOfMemory)
-Refuses words Memory = Unit {0}
+abbrev pub RefusesWords : List Text → CommandFault → Type 0
+RefusesWords words (Refused error) = IsAmong (kind_of error) (fault_of ob0_app words) × ¬ (kind_of error ≡ OutOfMemory)
+RefusesWords words Memory = Unit {0}
 
 -- ---- what the matches are known to have
 
@@ -70,5 +70,5 @@ NeedsAt name rows = (name ≡ codes "serve") ⊎ ((name ≡ codes "check") × Ha
     ⊎ ((name ≡ codes "rename") × HasText (codes "file") rows × HasPlace (codes "line") rows × HasPlace (codes "column") rows × HasText (codes "name") rows)
 
 -- each argument that a command needs is there
-abbrev pub HasNeeded : Found → Type 0
+abbrev pub HasNeeded : FoundCommand → Type 0
 HasNeeded found = (name : Text) × (rows : List Row) × (found ≡ Some (name, rows)) × NeedsAt name rows

@@ -2,20 +2,20 @@
 use Rattle.std.proofs.Common.{◌≡◌, ℕ, List, Option, Result, Ok, Err, Vec, Global, subst}
 use Rattle.std.specs.Str.{chars}
 use Rattle.ob0_text.specs.declared.edits.Edit.{Edit}
-use Rattle.ob0_text.specs.declared.positions.Position.{Position}
-use Rattle.ob0_text.specs.declared.positions.Unit.{Unit}
-use Rattle.ob0_text.specs.declared.positions.Unit.TheVariants.{Utf16}
+use Rattle.ob0_text.specs.declared.position_types.Position.{Position}
+use Rattle.ob0_text.specs.declared.position_types.Unit.{Unit}
+use Rattle.ob0_text.specs.declared.position_types.Unit.TheVariants.{Utf16}
 use Rattle.ob0_text.specs.declared.refusals.EditRefusal.{EditRefusal}
 use Rattle.ob0_rename.specs.InTexts.{FindsNewName}
-use Rattle.ob0_analysis.specs.declared.analysis.Asked.{Asked}
-use Rattle.ob0_analysis.specs.declared.analysis.Asked.TheVariants.{Answered}
+use Rattle.ob0_analysis.specs.declared.analysis.Finding.{Finding}
+use Rattle.ob0_analysis.specs.declared.analysis.Finding.TheVariants.{Answered}
 use Rattle.ob0_commands.specs.Renamed.{IsRefusal, PrintsEdited, PrintsRenamed, RefusesName}
 
 -- what was found in a store that holds the text
-pub found_in_text : (unit : Unit) (content text : List ℕ) (place : Position) (new : List ℕ) (found : Asked (Result (Vec Edit Global) EditRefusal)) (outcome : Result (Vec Edit Global) EditRefusal)
+pub found_in_text : (unit : Unit) (content text : List ℕ) (place : Position) (new : List ℕ) (found : Finding (Result (Vec Edit Global) EditRefusal)) (outcome : Result (Vec Edit Global) EditRefusal)
     → unit ≡ Utf16 → content ≡ chars text → found ≡ Answered outcome → FindsNewName unit content place new found → FindsNewName Utf16 (chars text) place new (Answered outcome)
 found_in_text unit content text place new found outcome counts holds is h =
-    let here : FindsNewName unit content place new (Answered outcome) = subst (λ (a : Asked (Result (Vec Edit Global) EditRefusal)). FindsNewName unit content place new a) is h in
+    let here : FindsNewName unit content place new (Answered outcome) = subst (λ (a : Finding (Result (Vec Edit Global) EditRefusal)). FindsNewName unit content place new a) is h in
     let in_unit : FindsNewName Utf16 content place new (Answered outcome) = subst (λ (u : Unit). FindsNewName u content place new (Answered outcome)) counts here in
     subst (λ (t : List ℕ). FindsNewName Utf16 t place new (Answered outcome)) holds in_unit
 

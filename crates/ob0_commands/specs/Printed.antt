@@ -8,18 +8,18 @@ use Rattle.ob0_run_rules.specs.Runs.{Written, line_out, number_out}
 use Rattle.ob0_run.specs.declared.running.End.{End}
 use Rattle.ob0_run.specs.declared.running.End.TheVariants as end
 use Rattle.ob0_scan.specs.Scanned.{max_text}
-use Rattle.ob0_analysis.specs.Diagnosed.{Complaint, IsWellTypedModule, TellsFaults}
+use Rattle.ob0_analysis.specs.Diagnosed.{Complaint, IsWellTypedModule, ReportsFaults}
 use Rattle.ob0_text.specs.Texts.{position_of}
 use Rattle.ob0_text.specs.Units.{width_of}
-use Rattle.ob0_text.specs.declared.positions.Position.{Position}
-use Rattle.ob0_text.specs.declared.positions.Unit.TheVariants.{Utf16}
-use Rattle.ob0_commands.specs.declared.faults.Fault.{Fault}
-use Rattle.ob0_commands.specs.declared.faults.Fault.TheVariants as fault
+use Rattle.ob0_text.specs.declared.position_types.Position.{Position}
+use Rattle.ob0_text.specs.declared.position_types.Unit.TheVariants.{Utf16}
+use Rattle.ob0_commands.specs.declared.faults.FileFault.{FileFault}
+use Rattle.ob0_commands.specs.declared.faults.FileFault.TheVariants as fault
 
 -- ---- faults
 
 -- the line on standard error that names a fault
-abbrev pub fault_line : Fault → List ℕ
+abbrev pub fault_line : FileFault → List ℕ
 fault_line fault.File = codes "fault: File\n"
 fault_line fault.Utf8 = codes "fault: Utf8\n"
 fault_line fault.Input = codes "fault: Input\n"
@@ -32,7 +32,7 @@ fault_line fault.Memory = codes "fault: Memory\n"
 abbrev pub line_at : Position → Complaint → List ℕ
 line_at p c = decimal p.line ++ (codes ":" ++ (decimal p.character ++ (codes ": " ++ (c.code ++ (codes ": " ++ (c.said ++ codes "\n"))))))
 
--- a line for each thing that is told, at these positions
+-- a line for each thing that is reported, at these positions
 abbrev pub lines_at : List Position → List Complaint → List ℕ
 lines_at [] cs = []
 lines_at (p ∷ ps) [] = []
@@ -48,11 +48,11 @@ complaint_lines text [] = []
 complaint_lines text (c ∷ cs) = complaint_line text c ++ complaint_lines text cs
 
 -- Known bytes grow by what is wrong with a file: one line where it has more bytes than a text may have, else a line for
--- each thing that is told of its text, which is no well-typed module.
-abbrev pub TellsWrong : List ℕ → Option (List ℕ) → Option (List ℕ) → Type 0
-TellsWrong file before after =
+-- each thing that is reported of its text, which isn't a well-typed module.
+abbrev pub PrintsFaults : List ℕ → Option (List ℕ) → Option (List ℕ) → Type 0
+PrintsFaults file before after =
     ((max_text < length file) × Appends before after (codes "0:0: TooLong: text too long\n"))
-    ⊎ ((told : List Complaint) × (¬ IsWellTypedModule file) × TellsFaults file told × Appends before after (complaint_lines file told))
+    ⊎ ((told : List Complaint) × (¬ IsWellTypedModule file) × ReportsFaults file told × Appends before after (complaint_lines file told))
 
 -- ---- runs
 

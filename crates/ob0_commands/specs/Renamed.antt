@@ -7,12 +7,12 @@ use Rattle.std.specs.Str.{chars}
 use Rattle.ob0_text.specs.Patches.{patched}
 use Rattle.ob0_text.specs.Units.{width_of}
 use Rattle.ob0_text.specs.declared.edits.Edit.{Edit}
-use Rattle.ob0_text.specs.declared.positions.Position.{Position}
-use Rattle.ob0_text.specs.declared.positions.Unit.{Unit}
-use Rattle.ob0_text.specs.declared.positions.Unit.TheVariants.{Utf16}
+use Rattle.ob0_text.specs.declared.position_types.Position.{Position}
+use Rattle.ob0_text.specs.declared.position_types.Unit.{Unit}
+use Rattle.ob0_text.specs.declared.position_types.Unit.TheVariants.{Utf16}
 use Rattle.ob0_text.specs.declared.refusals.EditRefusal.{EditRefusal}
 use Rattle.ob0_rename.specs.InTexts.{IsRefusedIn, RenamesIn}
-use Rattle.ob0_commands.specs.Printed.{TellsWrong}
+use Rattle.ob0_commands.specs.Printed.{PrintsFaults}
 
 -- known bytes grow by the text that edits make
 pub record PrintsPatched (unit : Unit) (content : List ℕ) (edits : List Edit) (before after : Option (List ℕ)) : Type 0 where
@@ -42,6 +42,6 @@ pub record RefusesName (file : List ℕ) (position : Position) (new : List ℕ) 
   pub refused : IsRefusedIn Utf16 (chars file) position new refusal
   pub nothing : after ≡ before
 
--- the name is refused, or it is told what is wrong with the file
+-- the name is refused, or it is reported what is wrong with the file
 abbrev pub PrintsNoName : List ℕ → Position → List ℕ → Option (List ℕ) → Option (List ℕ) → Type 0
-PrintsNoName file position new before after = TellsWrong file before after ⊎ RefusesName file position new before after
+PrintsNoName file position new before after = PrintsFaults file before after ⊎ RefusesName file position new before after

@@ -10,7 +10,7 @@ use Rattle.ob0_analysis.specs.Diagnosed.{IsTextOf}
 use Rattle.ob0_run.specs.Outcomes.{end_in}
 use Rattle.ob0_run.specs.declared.running.End.TheVariants as end
 use Rattle.ob0_commands.specs.Numbers.{WritesNumbers}
-use Rattle.ob0_commands.specs.Printed.{TellsWrong, output_text}
+use Rattle.ob0_commands.specs.Printed.{PrintsFaults, output_text}
 
 -- the text is a well-typed module, and this is its run
 pub record RunsAs (text : List ℕ) (input : List ℤ) (c t : ℕ) (r : Run) : Type 0 where
@@ -19,7 +19,7 @@ pub record RunsAs (text : List ℕ) (input : List ℤ) (c t : ℕ) (r : Run) : T
   pub well_typed : WellTyped tree
   pub is : r ≡ run tree input c t
 
--- known bytes grow by what a run of the file's module puts out, given the numbers that the known bytes of an input write
+-- known bytes grow by what a run of the file's module outputs, given the numbers that the known bytes of an input write
 pub record PrintsRun (file : List ℕ) (given : Option (List ℕ)) (c t : ℕ) (before after : Option (List ℕ)) (r : Run) : Type 0 where
   pub input : List ℤ
   pub written : IfSome given (λ text. WritesNumbers text input)
@@ -32,4 +32,4 @@ PrintsDone file given c t before after = (r : Run) × PrintsRun file given c t b
 
 -- a run that ends otherwise is printed, or what is wrong with the file
 abbrev pub PrintsOther : List ℕ → Option (List ℕ) → ℕ → ℕ → Option (List ℕ) → Option (List ℕ) → Type 0
-PrintsOther file given c t before after = TellsWrong file before after ⊎ ((r : Run) × PrintsRun file given c t before after r × (r.ending ≢ end_in end.Done))
+PrintsOther file given c t before after = PrintsFaults file before after ⊎ ((r : Run) × PrintsRun file given c t before after r × (r.ending ≢ end_in end.Done))

@@ -1,13 +1,13 @@
-//! Telling what is wrong with a file.
+//! Printing what is wrong with a file.
 
 ghost use Rattle.std.specs.Prelude.{◌≡◌, ◌<◌, ◌++◌, [], true, IfOk, IfNone, MatchOption, OnOk, IfErr, codes, length, map, string_bytes};
 ghost use Rattle.std.specs.Io.KnownBytes.{Appends};
-ghost use Rattle.ob0_commands.specs.Printed.{TellsWrong, complaint_lines, line_at, lines_at};
-ghost use Rattle.ob0_commands.specs.Statuses.{CanNotReport, IsOfOutput, IsStatus, StopsPrinting, StopsTelling};
+ghost use Rattle.ob0_commands.specs.Printed.{PrintsFaults, complaint_lines, line_at, lines_at};
+ghost use Rattle.ob0_commands.specs.Statuses.{CanNotReport, IsOfOutput, IsStatus, StopsPrinting, StopsPrintingFaults};
 ghost use Rattle.ob0_scan.specs.Scanned.{max_text};
-ghost use Rattle.ob0_analysis.specs.Diagnosed.{Tells, complaint_in};
+ghost use Rattle.ob0_analysis.specs.Diagnosed.{Reports, complaint_in};
 
-use crate::faults::{Fault, tell_fault};
+use crate::faults::{FileFault, print_fault};
 use crate::printing::{Output, print};
 use crate::reading::MAX_FILE;
 use ob0_analysis::{Diagnosis, diagnose};
@@ -19,9 +19,9 @@ use std::alloc::{AllocError, Global};
 /// status with which the program ends: 0 for a module with no diagnostic, 1 for diagnostics, 4 for bytes that are no
 /// UTF-8 or a failed write, 5 where memory runs out.
 pub fn check_text<O: Output, E: Output>(alloc: Global, file: &[u8], out: &mut O, err: &mut E) -> u8
-    ensures nothing { result ≡ 0 → Tells file.now [] }
+    ensures nothing { result ≡ 0 → Reports file.now [] }
     ensures quiet { result ≡ 0 → out.new ≡ out.old }
-    ensures told { result ≡ 1 → TellsWrong file.now (O.contents out.old) (O.contents out.new) }
+    ensures told { result ≡ 1 → PrintsFaults file.now (O.contents out.old) (O.contents out.new) }
     ensures flushed { result ≡ 1 → O.is_flushed out.new ≡ true }
     ensures statuses { IsStatus result }
     ensures unreported { result ≡ 4 → CanNotReport file.now (O.has_failed out.new) }
@@ -29,7 +29,7 @@ pub fn check_text<O: Output, E: Output>(alloc: Global, file: &[u8], out: &mut O,
     match check(alloc, file, out) {
         Ok(Some(_text)) => 0,
         Ok(None) => 1,
-        Err(fault) => tell_fault(fault, err),
+        Err(fault) => print_fault(fault, err),
     }
 }
 
@@ -39,10 +39,10 @@ pub fn check<'f, O: Output>(
     alloc: Global,
     file: &'f [u8],
     out: &mut O,
-) -> Result<Option<&'f str>, Fault>
-    ensures found { IfOk result (λ found. MatchOption found (TellsWrong file.entry.now (O.contents out.old) (O.contents out.new)) (λ text. (text.now ≡ file.entry.now) × Tells file.entry.now [] × (out.new ≡ out.old))) }
+) -> Result<Option<&'f str>, FileFault>
+    ensures found { IfOk result (λ found. MatchOption found (PrintsFaults file.entry.now (O.contents out.old) (O.contents out.new)) (λ text. (text.now ≡ file.entry.now) × Reports file.entry.now [] × (out.new ≡ out.old))) }
     ensures flushed { IfOk result (λ found. IfNone found (O.is_flushed out.new ≡ true)) }
-    ensures fault { IfErr result (StopsTelling file.entry.now) }
+    ensures fault { IfErr result (StopsPrintingFaults file.entry.now) }
     ensures failed { IfErr result (IsOfOutput (O.has_failed out.new)) }
 {
     let Some(text) = text_of(file, out)? else {
@@ -57,10 +57,10 @@ pub fn check<'f, O: Output>(
 }
 
 /// The text of a file that isn't too long; else that is printed.
-pub fn text_of<'f, O: Output>(file: &'f [u8], out: &mut O) -> Result<Option<&'f str>, Fault>
+pub fn text_of<'f, O: Output>(file: &'f [u8], out: &mut O) -> Result<Option<&'f str>, FileFault>
     ensures found { IfOk result (λ found. MatchOption found ((max_text < length file.entry.now) × Appends (O.contents out.old) (O.contents out.new) (codes "0:0: TooLong: text too long\n")) (λ text. (text.now ≡ file.entry.now) × (out.new ≡ out.old))) }
     ensures flushed { IfOk result (λ found. IfNone found (O.is_flushed out.new ≡ true)) }
-    ensures fault { IfErr result (StopsTelling file.entry.now) }
+    ensures fault { IfErr result (StopsPrintingFaults file.entry.now) }
     ensures failed { IfErr result (IsOfOutput (O.has_failed out.new)) }
 {
     if file.len() >= MAX_FILE {
@@ -69,7 +69,7 @@ pub fn text_of<'f, O: Output>(file: &'f [u8], out: &mut O) -> Result<Option<&'f 
     }
     match str::from_utf8(file) {
         Ok(text) => Ok(Some(text)),
-        Err(_) => Err(Fault::Utf8),
+        Err(_) => Err(FileFault::Utf8),
     }
 }
 
@@ -79,7 +79,7 @@ pub fn print_diagnoses<O: Output>(
     text: &str,
     told: &[Diagnosis],
     out: &mut O,
-) -> Result<(), Fault>
+) -> Result<(), FileFault>
     ensures printed { OnOk result (Appends (O.contents out.old) (O.contents out.new) (complaint_lines text.now (map complaint_in told.now))) }
     ensures flushed { OnOk result (O.is_flushed out.new ≡ true) }
     ensures fault { IfErr result StopsPrinting }

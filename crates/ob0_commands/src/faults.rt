@@ -1,4 +1,4 @@
-//! Why a command on a file gave up.
+//! Why a command on a file failed.
 
 ghost use Rattle.std.specs.Prelude.{◌≡◌, ◌≤◌};
 ghost use Rattle.ob0_commands.specs.Printed.{fault_line};
@@ -8,9 +8,9 @@ use crate::printing::{Output, print};
 use std::alloc::{AllocError, AllocFailed};
 use thiserror::Error;
 
-/// Why a command on a file gave up. Each is told by its name.
+/// Why a command on a file failed. Each is reported by its name.
 #[derive(Clone, Copy, Debug, Drop, PartialEq, Eq, Error)]
-pub enum Fault {
+pub enum FileFault {
     #[error("the file can't be read")]
     File,
     #[error("the file isn't UTF-8")]
@@ -23,55 +23,55 @@ pub enum Fault {
     Memory,
 }
 
-impl Fault {
+impl FileFault {
     /// The status with which the program ends.
     pub fn status(self) -> u8
         ensures status { result ≡ status_of self }
         ensures fails { 4 ≤ result }
     {
         match self {
-            Fault::Memory => 5,
-            Fault::File | Fault::Utf8 | Fault::Input | Fault::Write => 4,
+            FileFault::Memory => 5,
+            FileFault::File | FileFault::Utf8 | FileFault::Input | FileFault::Write => 4,
         }
     }
 
-    /// The line, with its ending, that tells the fault.
+    /// The line, with its ending, that names the fault.
     fn line(self) -> &'static str
         ensures { result.now ≡ fault_line self }
     {
         match self {
-            Fault::File => "fault: File\n",
-            Fault::Utf8 => "fault: Utf8\n",
-            Fault::Input => "fault: Input\n",
-            Fault::Write => "fault: Write\n",
-            Fault::Memory => "fault: Memory\n",
+            FileFault::File => "fault: File\n",
+            FileFault::Utf8 => "fault: Utf8\n",
+            FileFault::Input => "fault: Input\n",
+            FileFault::Write => "fault: Write\n",
+            FileFault::Memory => "fault: Memory\n",
         }
     }
 }
 
-impl From<AllocError> for Fault {
-    ghost use Rattle.ob0_commands.specs.declared.faults.Fault.TheVariants.{Memory};
+impl From<AllocError> for FileFault {
+    ghost use Rattle.ob0_commands.specs.declared.faults.FileFault.TheVariants.{Memory};
 
     ghost from_gives = { λ _ fault. fault ≡ Memory };
 
-    fn from(_error: AllocError) -> Fault {
-        Fault::Memory
+    fn from(_error: AllocError) -> FileFault {
+        FileFault::Memory
     }
 }
 
-impl<T: Drop> From<AllocFailed<T>> for Fault {
-    ghost use Rattle.ob0_commands.specs.declared.faults.Fault.TheVariants.{Memory};
+impl<T: Drop> From<AllocFailed<T>> for FileFault {
+    ghost use Rattle.ob0_commands.specs.declared.faults.FileFault.TheVariants.{Memory};
 
     ghost from_gives = { λ _ fault. fault ≡ Memory };
 
-    fn from(_error: AllocFailed<T>) -> Fault {
-        Fault::Memory
+    fn from(_error: AllocFailed<T>) -> FileFault {
+        FileFault::Memory
     }
 }
 
-/// Prints a fault to `err`, and answers the status with which the program ends. A fault that can't be told keeps its
+/// Prints a fault to `err`, and answers the status with which the program ends. A fault that can't be reported keeps its
 /// status.
-pub fn tell_fault<E: Output>(fault: Fault, err: &mut E) -> u8
+pub fn print_fault<E: Output>(fault: FileFault, err: &mut E) -> u8
     ensures status { result ≡ status_of fault }
     ensures fails { 4 ≤ result }
 {

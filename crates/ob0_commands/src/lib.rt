@@ -11,7 +11,7 @@ mod renaming;
 mod running;
 
 pub use checking::check_text;
-pub use faults::{Fault, tell_fault};
+pub use faults::{FileFault, print_fault};
 pub use printing::{Flushed, Output};
 pub use reading::{MAX_FILE, read_file};
 pub use renaming::rename_text;

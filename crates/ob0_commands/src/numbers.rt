@@ -5,22 +5,22 @@ ghost use Rattle.std.specs.List.{position_or_len};
 ghost use Rattle.ob0_scan.specs.Classes.{is_space};
 ghost use Rattle.ob0_commands.specs.Numbers.{WritesNumber, WritesNumbers};
 ghost use Rattle.ob0_commands.specs.Statuses.{StopsReading};
-ghost use Rattle.ob0_commands.specs.declared.faults.Fault.TheVariants as faults;
+ghost use Rattle.ob0_commands.specs.declared.faults.FileFault.TheVariants as faults;
 
-use crate::faults::Fault;
+use crate::faults::FileFault;
 use crate::reading::read_input;
 use std::alloc::{AllocError, Global};
 use std::io::Read;
 
 /// Reads the numbers of the input: whole numbers of 32 bits, digits with an optional `-` before them, between white space.
-pub fn read_numbers<R: Read>(alloc: Global, input: &mut R) -> Result<Vec<i32>, Fault>
+pub fn read_numbers<R: Read>(alloc: Global, input: &mut R) -> Result<Vec<i32>, FileFault>
     ensures numbers { IfOk result (λ numbers. IfSome (R.remaining input.old) (λ text. WritesNumbers text numbers.items)) }
     ensures fault { IfErr result (StopsReading faults.Input) }
 {
     let text = read_input(alloc, input)?;
     match numbers_in(alloc, text.as_slice())? {
         Some(numbers) => Ok(numbers),
-        None => Err(Fault::Input),
+        None => Err(FileFault::Input),
     }
 }
 
@@ -52,7 +52,7 @@ fn is_space(byte: u8) -> bool
     byte == b' ' || byte == b'\t' || byte == b'\n' || byte == b'\r'
 }
 
-/// How many bytes at the front are before the first white space.
+/// How many bytes at the beginning are before the first white space.
 fn word_len(bytes: &[u8]) -> usize
     ensures is { result ≡ position_or_len is_space bytes.now }
     ensures inside { result ≤ length bytes.now }

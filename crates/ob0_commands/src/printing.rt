@@ -3,10 +3,10 @@
 ghost use Rattle.std.specs.Prelude.{◌≡◌, ◌||◌, Bool, true, false, is_err, OnOk, OnErr, IfErr};
 ghost use Rattle.std.specs.Io.{WritesAtMost};
 ghost use Rattle.std.specs.Io.KnownBytes.{Appends, Keeps, WriteAppends};
-ghost use Rattle.ob0_commands.specs.declared.faults.Fault.TheVariants as faults;
+ghost use Rattle.ob0_commands.specs.declared.faults.FileFault.TheVariants as faults;
 ghost use Rattle.ob0_commands.specs.Outputs.{device_of, has_failed, has_flushed};
 
-use crate::faults::Fault;
+use crate::faults::FileFault;
 use std::io::{self, Write};
 
 /// A writer that knows whether it has been flushed since something was last written to it, and whether it has failed.
@@ -100,7 +100,7 @@ impl<W: Write> Output for Flushed<W> {
 }
 
 /// Writes all of a text, and flushes.
-pub fn print<W: Output>(out: &mut W, text: &str) -> Result<(), Fault>
+pub fn print<W: Output>(out: &mut W, text: &str) -> Result<(), FileFault>
     ensures printed { OnOk result (Appends (W.contents out.old) (W.contents out.new) text.now) }
     ensures flushed { OnOk result (W.is_flushed out.new ≡ true) }
     ensures fault { IfErr result (λ fault. fault ≡ faults.Write) }
@@ -108,10 +108,10 @@ pub fn print<W: Output>(out: &mut W, text: &str) -> Result<(), Fault>
 {
     match out.put_all(text.as_bytes()) {
         Ok(()) => {}
-        Err(_) => return Err(Fault::Write),
+        Err(_) => return Err(FileFault::Write),
     }
     match out.hand_on() {
         Ok(()) => Ok(()),
-        Err(_) => Err(Fault::Write),
+        Err(_) => Err(FileFault::Write),
     }
 }

@@ -3,19 +3,19 @@
 ghost use Rattle.std.specs.Prelude.{◌≡◌, ◌≤◌, true, IfOk, IfErr, OnOk};
 ghost use Rattle.ob0_commands.specs.Outputs.{IsHandedOn};
 ghost use Rattle.ob0_commands.specs.Renamed.{IsRefusal, PrintsEdited, PrintsNoName, PrintsRenamed};
-ghost use Rattle.ob0_commands.specs.Statuses.{CanNotReport, IsOfOutput, IsStatus, StopsPrinting, StopsTelling};
+ghost use Rattle.ob0_commands.specs.Statuses.{CanNotReport, IsOfOutput, IsStatus, StopsPrinting, StopsPrintingFaults};
 
 use crate::checking::{print_diagnoses, text_of};
-use crate::faults::{Fault, tell_fault};
+use crate::faults::{FileFault, print_fault};
 use crate::printing::{Output, print};
-use ob0_analysis::Asked;
+use ob0_analysis::Finding;
 use ob0_rename::rename_in;
 use ob0_text::{Edit, EditRefusal, Lines, Position, TextStore, patch};
 use std::alloc::Global;
 
 /// Prints to `out` a file's text with `new` in place of the name at a position, which counts lines and UTF-16 units from 0
-/// on. A refused name is told to `err` as `refused: TEXT`, and a file that is no well-typed module as by `check_text`. Answers
-/// the status with which the program ends: 0 for a text, 1 for a refusal or diagnostics, 4 for bytes that are no UTF-8 or a
+/// on. A refused name is reported to `err` as `refused: TEXT`, and a file that isn't a well-typed module as by `check_text`. Answers
+/// the status with which the program ends: 0 for a text, 1 for a refusal or diagnostics, 4 for bytes that aren't UTF-8 or a
 /// failed write, 5 where memory runs out.
 pub fn rename_text<O: Output, E: Output>(
     alloc: Global,
@@ -34,7 +34,7 @@ pub fn rename_text<O: Output, E: Output>(
 {
     match rename_file(alloc, file, position, new, out, err) {
         Ok(status) => status,
-        Err(fault) => tell_fault(fault, err),
+        Err(fault) => print_fault(fault, err),
     }
 }
 
@@ -45,13 +45,13 @@ fn rename_file<O: Output, E: Output>(
     new: &str,
     out: &mut O,
     err: &mut E,
-) -> Result<u8, Fault>
+) -> Result<u8, FileFault>
     ensures renamed { IfOk result (λ status. status ≡ 0 → PrintsRenamed file.now position new.now (O.contents out.old) (O.contents out.new)) }
     ensures other { IfOk result (λ status. status ≡ 1 → PrintsNoName file.now position new.now (O.contents out.old) (O.contents out.new)) }
     ensures flushed { IfOk result (λ status. status ≡ 0 → O.is_flushed out.new ≡ true) }
     ensures handed_on { IfOk result (λ status. status ≡ 1 → IsHandedOn (O.is_flushed out.new) out.old out.new) }
     ensures ends { IfOk result (λ status. status ≤ 1) }
-    ensures fault { IfErr result (StopsTelling file.now) }
+    ensures fault { IfErr result (StopsPrintingFaults file.now) }
     ensures failed { IfErr result (IsOfOutput (O.has_failed out.new)) }
 {
     let Some(text) = text_of(file, out)? else {
@@ -67,7 +67,7 @@ fn rename_in_text<O: Output, E: Output>(
     new: &str,
     out: &mut O,
     err: &mut E,
-) -> Result<u8, Fault>
+) -> Result<u8, FileFault>
     ensures renamed { IfOk result (λ status. status ≡ 0 → PrintsRenamed text.now position new.now (O.contents out.old) (O.contents out.new)) }
     ensures other { IfOk result (λ status. status ≡ 1 → PrintsNoName text.now position new.now (O.contents out.old) (O.contents out.new)) }
     ensures flushed { IfOk result (λ status. status ≡ 0 → O.is_flushed out.new ≡ true) }
@@ -78,8 +78,8 @@ fn rename_in_text<O: Output, E: Output>(
 {
     let store = Lines::from_str(alloc, text)?;
     match rename_in(alloc, &store, None, position, new)? {
-        Asked::Answered(outcome) => print_edited(alloc, &store, outcome, out, err),
-        Asked::IllTyped(told) => {
+        Finding::Answered(outcome) => print_edited(alloc, &store, outcome, out, err),
+        Finding::IllTyped(told) => {
             print_diagnoses(alloc, text, told.as_slice(), out)?;
             Ok(1)
         }
@@ -94,7 +94,7 @@ pub fn print_edited<T: TextStore, O: Output, E: Output>(
     edits: Result<Vec<Edit>, EditRefusal>,
     out: &mut O,
     err: &mut E,
-) -> Result<u8, Fault>
+) -> Result<u8, FileFault>
     ensures edited { IfOk result (λ status. status ≡ 0 → PrintsEdited (T.unit_of store.now) (T.content store.now) edits (O.contents out.old) (O.contents out.new)) }
     ensures refused { IfOk result (λ status. status ≡ 1 → IsRefusal edits × (out.new ≡ out.old)) }
     ensures flushed { IfOk result (λ status. status ≡ 0 → O.is_flushed out.new ≡ true) }
@@ -108,9 +108,9 @@ pub fn print_edited<T: TextStore, O: Output, E: Output>(
                 print(out, text.as_str())?;
                 Ok(0)
             }
-            Err(_) => Err(Fault::Memory),
+            Err(_) => Err(FileFault::Memory),
         },
-        Err(EditRefusal::Memory) => Err(Fault::Memory),
+        Err(EditRefusal::Memory) => Err(FileFault::Memory),
         Err(refusal) => {
             let text = refusal.text(alloc)?;
             let name = text.as_str();

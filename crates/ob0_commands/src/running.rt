@@ -1,21 +1,21 @@
-//! Running a file's module: its input, and what a run puts out.
+//! Running a file's module: its input, and what a run outputs.
 
 ghost use Rattle.std.specs.Prelude.{◌≡◌, ◌≤◌, ◌++◌, [], true, IfOk, IfErr, OnOk, option_map, string_bytes};
 ghost use Rattle.std.specs.Io.KnownBytes.{Appends};
 ghost use Rattle.ob0_tree.specs.Parsed.{named_tree_of};
 ghost use Rattle.ob0_run.specs.Outcomes.{run_of};
 ghost use Rattle.ob0_run_rules.specs.Runs.{run};
-ghost use Rattle.ob0_analysis.specs.Diagnosed.{Tells};
+ghost use Rattle.ob0_analysis.specs.Diagnosed.{Reports};
 ghost use Rattle.ob0_run.specs.States.{item_of, items_out};
 ghost use Rattle.ob0_commands.specs.Printed.{end_line, output_text, written_text};
 ghost use Rattle.ob0_commands.specs.Statuses.{StopsPrinting, status_at};
 ghost use Rattle.ob0_commands.specs.TextRuns.{PrintsDone, PrintsOther, RunsAs};
 
 use crate::checking::check;
-use crate::faults::{Fault, tell_fault};
+use crate::faults::{FileFault, print_fault};
 use crate::numbers::read_numbers;
 use crate::printing::{Output, print};
-use ob0_analysis::{Asked, Question, WellTyped, ask};
+use ob0_analysis::{Finding, Question, WellTyped, ask};
 use ob0_run::{End, Item, Outcome, run};
 use std::alloc::{AllocError, Global};
 use std::io::Read;
@@ -39,8 +39,8 @@ impl<'i> Question for RunOf<'i> {
 }
 
 /// Runs a file's module on the numbers of `input`, with at most `calls` calls open at a time and at most `turns` turns of
-/// each execution of a loop, and prints what it puts out to `out`, an end other than Done to `err` as `fault: NAME`. A file
-/// that isn't a module is told as by `check_text`, before the input is read. Answers the status with which the program
+/// each execution of a loop, and prints what it outputs to `out`, an end other than Done to `err` as `fault: NAME`. A file
+/// that isn't a module is reported as by `check_text`, before the input is read. Answers the status with which the program
 /// ends: 0 for Done, 1 for another end and for diagnostics, 4 and 5 as `check_text`, 4 also for an input that can't be read,
 /// is too long or is no list of numbers.
 pub fn run_text<R: Read, O: Output, E: Output>(
@@ -58,7 +58,7 @@ pub fn run_text<R: Read, O: Output, E: Output>(
 {
     match run_file(alloc, file, input, calls, turns, out, err) {
         Ok(status) => status,
-        Err(fault) => tell_fault(fault, err),
+        Err(fault) => print_fault(fault, err),
     }
 }
 
@@ -70,7 +70,7 @@ fn run_file<R: Read, O: Output, E: Output>(
     turns: u32,
     out: &mut O,
     err: &mut E,
-) -> Result<u8, Fault>
+) -> Result<u8, FileFault>
     ensures done { IfOk result (λ status. status ≡ 0 → PrintsDone file.now (R.remaining input.old) calls turns (O.contents out.old) (O.contents out.new)) }
     ensures other { IfOk result (λ status. status ≡ 1 → PrintsOther file.now (R.remaining input.old) calls turns (O.contents out.old) (O.contents out.new)) }
     ensures flushed { OnOk result (O.is_flushed out.new ≡ true) }
@@ -83,7 +83,7 @@ fn run_file<R: Read, O: Output, E: Output>(
     print_outcome(alloc, outcome.output.as_slice(), outcome.end, out, err)
 }
 
-/// The run of the module that a text is, of which nothing is told.
+/// The run of the module that a text is, of which nothing is reported.
 fn run_module(
     alloc: Global,
     text: &str,
@@ -91,7 +91,7 @@ fn run_module(
     calls: u32,
     turns: u32,
 ) -> Result<Outcome, AllocError>
-    requires { Tells text.now [] }
+    requires { Reports text.now [] }
     ensures { IfOk result (λ outcome. RunsAs text.now input.now calls turns (run_of outcome)) }
 {
     let question = RunOf {
@@ -100,12 +100,12 @@ fn run_module(
         turns,
     };
     match ask(alloc, text, None, &question)? {
-        Asked::Answered(outcome) => Ok(outcome),
-        Asked::IllTyped(_) => unreachable!(),
+        Finding::Answered(outcome) => Ok(outcome),
+        Finding::IllTyped(_) => unreachable!(),
     }
 }
 
-/// The line, with its ending, that tells an end other than `Done`.
+/// The line, with its ending, that names an end other than `Done`.
 fn line_of(end: End) -> Option<&'static str>
     ensures { option_map (λ line. line.now) result ≡ end_line end }
 {
@@ -120,7 +120,7 @@ fn line_of(end: End) -> Option<&'static str>
     }
 }
 
-/// Prints what a run put out to `out`, and an end other than `Done` to `err`. Answers the status with which the program
+/// Prints what a run output to `out`, and an end other than `Done` to `err`. Answers the status with which the program
 /// ends: 0 for `Done`, else 1.
 pub fn print_outcome<O: Output, E: Output>(
     alloc: Global,
@@ -128,7 +128,7 @@ pub fn print_outcome<O: Output, E: Output>(
     end: End,
     out: &mut O,
     err: &mut E,
-) -> Result<u8, Fault>
+) -> Result<u8, FileFault>
     ensures printed { OnOk result (Appends (O.contents out.old) (O.contents out.new) (output_text (items_out output.now))) }
     ensures flushed { OnOk result (O.is_flushed out.new ≡ true) }
     ensures status { IfOk result (λ status. status ≡ status_at end) }

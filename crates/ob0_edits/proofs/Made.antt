@@ -7,12 +7,12 @@ use Rattle.ob0_scan.specs.Scanned.{Word, Scanned, IsScan, IsRangeOf, tokens_from
 use Rattle.ob0_scan.proofs.Borders.{lexed_by_next_bytes}
 use Rattle.ob0_scan.proofs.Spans.{scan_words, scan_token_ranges}
 use Rattle.ob0_text.specs.declared.edits.Edit.{Edit}
-use Rattle.ob0_text.specs.declared.positions.Range.{Range}
-use Rattle.ob0_text.specs.declared.positions.Unit as counting
+use Rattle.ob0_text.specs.declared.position_types.Range.{Range}
+use Rattle.ob0_text.specs.declared.position_types.Unit as counting
 use Rattle.ob0_text.specs.Units.{width_of}
 use Rattle.ob0_text.specs.Patches.{Cut, cut_at, cuts_of, patched_by_cuts}
 use Rattle.ob0_edits.specs.Changed.{words_of, changed, at_each}
-use Rattle.ob0_edits.specs.Replaced.{AreNames, span_at, cut_of, with_text_at, StandsForName, parts, edit_at, LeavesWords}
+use Rattle.ob0_edits.specs.Replaced.{AreNames, span_at, cut_of, with_text_at, ReplacesName, parts, edit_at, LeavesWords}
 use Rattle.ob0_edits.specs.Ranges.{range_of}
 use Rattle.ob0_edits.proofs.Swaps.{Chain, AllClear, Swapped, swapped}
 use Rattle.ob0_edits.proofs.TextCuts.{AreSame, same_cut, patched_by_same}
@@ -21,7 +21,7 @@ use Rattle.ob0_edits.proofs.TextCuts.{AreSame, same_cut, patched_by_same}
 abbrev pub scan_of : List ℕ → List Lexeme → Scanned
 scan_of text ls = record { text = text; tokens = tokens_from 0 ls; comments = comments_from 0 ls }
 
-module _ (unit : counting.Unit) (s : Scanned) (scan : IsScan s) (new : List ℕ) (ws : List Word) (stands : StandsForName new ws) (good : IsUtf8 new) (places : List ℕ) (names : AreNames s.tokens 0 places) where
+module _ (unit : counting.Unit) (s : Scanned) (scan : IsScan s) (new : List ℕ) (ws : List Word) (stands : ReplacesName new ws) (good : IsUtf8 new) (places : List ℕ) (names : AreNames s.tokens 0 places) where
   result : Swapped s.text s.tokens new ws stands 0 0 scan.lexemes places
   result =
       let apart = (lexed_by_next_bytes s.text scan.lexemes).0 scan.lexed in

@@ -8,12 +8,12 @@ use Rattle.ob0_scan.specs.Scanned.{Word, Scanned, IsScan, IsRangeOf, max_text}
 use Rattle.ob0_scan.proofs.Borders.{lexed_by_next_bytes}
 use Rattle.ob0_scan.proofs.Spans.{scan_words, scan_token_ranges}
 use Rattle.ob0_text.specs.declared.edits.Edit.{Edit}
-use Rattle.ob0_text.specs.declared.positions.Range.{Range}
-use Rattle.ob0_text.specs.declared.positions.Unit as counting
+use Rattle.ob0_text.specs.declared.position_types.Range.{Range}
+use Rattle.ob0_text.specs.declared.position_types.Unit as counting
 use Rattle.ob0_text.specs.Units.{width_of}
 use Rattle.ob0_text.specs.Patches.{Cut, cut_at, cuts_of, patched_by_cuts}
 use Rattle.ob0_edits.specs.Changed.{words_of, changed, at_each}
-use Rattle.ob0_edits.specs.Replaced.{AreNames, span_at, cut_of, StandsForName, parts, edit_at, LeavesWords}
+use Rattle.ob0_edits.specs.Replaced.{AreNames, span_at, cut_of, ReplacesName, parts, edit_at, LeavesWords}
 use Rattle.ob0_edits.specs.Ranges.{range_of}
 use Rattle.ob0_edits.specs.Removed.{without, IsDeclaration, span_over, removal, without_text}
 use Rattle.ob0_edits.proofs.TextCuts.{AreSame, same_cut, patched_by_same}
@@ -24,7 +24,7 @@ pub lower : (tokens : List Token) (least low : ℕ) (places : List ℕ) → low 
 lower tokens least low [] h names = tt
 lower tokens least low (p ∷ ps) h names = (omega (arith, h, names.0), names.1, names.2, names.3)
 
-module _ (unit : counting.Unit) (s : Scanned) (scan : IsScan s) (new : List ℕ) (ws : List Word) (stands : StandsForName new ws) (good : IsUtf8 new) (first last : ℕ) (decl : IsDeclaration s.tokens first last) (places : List ℕ) (names : AreNames s.tokens (suc last) places) where
+module _ (unit : counting.Unit) (s : Scanned) (scan : IsScan s) (new : List ℕ) (ws : List Word) (stands : ReplacesName new ws) (good : IsUtf8 new) (first last : ℕ) (decl : IsDeclaration s.tokens first last) (places : List ℕ) (names : AreNames s.tokens (suc last) places) where
   all_names : AreNames s.tokens 0 places
   all_names = lower s.tokens (suc last) 0 places (omega arith) names
 

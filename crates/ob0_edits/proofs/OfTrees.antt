@@ -7,7 +7,7 @@ use Rattle.ob0_scan.specs.declared.lexeme.TokenKind.{TokenKind}
 use Rattle.ob0_scan.specs.declared.lexeme.TokenKind.TheVariants as token
 use Rattle.ob0_scan.specs.declared.lexeme.Token.{Token}
 use Rattle.ob0_scan.specs.Scanned.{Word, Scanned, read_in}
-use Rattle.ob0_tree.specs.Lexeme.{Lexeme, Name, Number, kind_lexeme, relabelled}
+use Rattle.ob0_tree.specs.Lexeme.{Terminal, Name, Number, kind_lexeme, relabelled}
 use Rattle.ob0_tree.specs.Places.{lexeme_of, value_of}
 use Rattle.ob0_edits.specs.Words.{word_lexeme}
 use Rattle.ob0_tree.specs.Tree.{Tree, factor, spell}
@@ -21,8 +21,8 @@ use Rattle.ob0_edits.specs.Written.{name_word}
 use Rattle.ob0_edits.specs.OfTrees.{placed, word_at, text_at, number_at, renamed_at, factor_at, RenamedWordsSpell, InlinedWordsSpell}
 
 -- what is true of each word with its number is true of all
-module _ (all : List Word) (ch : Changes) (f : Lexeme ℕ → List (Lexeme (List ℕ))) (each : (j : ℕ) → j < length all → f (lexeme_of j (word_at all j).kind) ≡ map word_lexeme (or_itself (word_at all j) (ch j))) where
-  pub joined_with : List (Lexeme ℕ) → List (Lexeme (List ℕ))
+module _ (all : List Word) (ch : Changes) (f : Terminal ℕ → List (Terminal (List ℕ))) (each : (j : ℕ) → j < length all → f (lexeme_of j (word_at all j).kind) ≡ map word_lexeme (or_itself (word_at all j) (ch j))) where
+  pub joined_with : List (Terminal ℕ) → List (Terminal (List ℕ))
   joined_with [] = []
   joined_with (x ∷ xs) = f x ++ joined_with xs
 
@@ -66,7 +66,7 @@ word_kind s k = of_list s.tokens k
     of_list (t ∷ ts) (suc k) = of_list ts k
 
 -- a token that stays, where others give way
-same_with : (w : Word) (c : ℕ → Option (List (Lexeme (List ℕ)))) (f : ℕ → List ℕ) (g : ℕ → ℕ) (j : ℕ) → c j ≡ None → f j ≡ w.text → g j ≡ value_of w.kind
+same_with : (w : Word) (c : ℕ → Option (List (Terminal (List ℕ)))) (f : ℕ → List ℕ) (g : ℕ → ℕ) (j : ℕ) → c j ≡ None → f j ≡ w.text → g j ≡ value_of w.kind
     → token_with c f g (lexeme_of j w.kind) ≡ word_lexeme w ∷ []
 same_with w c f g j none e h = by_kind w.kind h
   where
@@ -82,7 +82,7 @@ module _ (s : Scanned) (places : List ℕ) (names : AreNames s.tokens 0 places) 
 
   -- renaming
   module _ (new : List ℕ) where
-    named : Lexeme ℕ → List (Lexeme (List ℕ))
+    named : Terminal ℕ → List (Terminal (List ℕ))
     named x = relabelled (renamed_at (words_of s) places new) (number_at (words_of s)) x ∷ []
 
     each_renamed : (j : ℕ) → j < length (words_of s)
@@ -101,7 +101,7 @@ module _ (s : Scanned) (places : List ℕ) (names : AreNames s.tokens 0 places) 
             ap (λ x. x ∷ []) (same_token (word_at (words_of s) j) (renamed_at (words_of s) places new) (number_at (words_of s)) j (ap (λ b. if b then new else text_at (words_of s) j) e) refl)
             ∙ ap (λ b. map word_lexeme (or_itself (word_at (words_of s) j) (if b then Some (name_word new ∷ []) else None))) (sym e)
 
-    all_named : (xs : List (Lexeme ℕ)) → joined_with (words_of s) (at_each places (name_word new ∷ [])) named each_renamed xs ≡ map (relabelled (renamed_at (words_of s) places new) (number_at (words_of s))) xs
+    all_named : (xs : List (Terminal ℕ)) → joined_with (words_of s) (at_each places (name_word new ∷ [])) named each_renamed xs ≡ map (relabelled (renamed_at (words_of s) places new) (number_at (words_of s))) xs
     unfolding joined_with named
     all_named [] = refl
     all_named (x ∷ xs) = ap (λ t. relabelled (renamed_at (words_of s) places new) (number_at (words_of s)) x ∷ t) (all_named xs)
@@ -111,7 +111,7 @@ module _ (s : Scanned) (places : List ℕ) (names : AreNames s.tokens 0 places) 
 
   -- inlining
   module _ (v : Tree (List ℕ) factor) (vs : List Word) (same : map word_lexeme vs ≡ spell v) where
-    put : Lexeme ℕ → List (Lexeme (List ℕ))
+    put : Terminal ℕ → List (Terminal (List ℕ))
     put x = token_with (λ n. spelled (factor_at places v n)) (text_at (words_of s)) (number_at (words_of s)) x
 
     each_put : (j : ℕ) → j < length (words_of s)
@@ -130,7 +130,7 @@ module _ (s : Scanned) (places : List ℕ) (names : AreNames s.tokens 0 places) 
             same_with (word_at (words_of s) j) (λ n. spelled (factor_at places v n)) (text_at (words_of s)) (number_at (words_of s)) j (ap (λ b. spelled (if b then Some v else None)) e) refl refl
             ∙ ap (λ b. map word_lexeme (or_itself (word_at (words_of s) j) (if b then Some vs else None))) (sym e)
 
-    all_put : (xs : List (Lexeme ℕ)) → joined_with (words_of s) (at_each places vs) put each_put xs ≡ tokens_with (λ n. spelled (factor_at places v n)) (text_at (words_of s)) (number_at (words_of s)) xs
+    all_put : (xs : List (Terminal ℕ)) → joined_with (words_of s) (at_each places vs) put each_put xs ≡ tokens_with (λ n. spelled (factor_at places v n)) (text_at (words_of s)) (number_at (words_of s)) xs
     unfolding joined_with put
     all_put [] = refl
     all_put (x ∷ xs) = ap (λ t. token_with (λ n. spelled (factor_at places v n)) (text_at (words_of s)) (number_at (words_of s)) x ++ t) (all_put xs)

@@ -4,10 +4,10 @@ use Rattle.std.proofs.lemmas.List.{get_or-map, map_more, length-map}
 use Rattle.std.proofs.lemmas.Simd.{map-map}
 use Rattle.ob0_scan.specs.declared.lexeme.Span.{Span}
 use Rattle.ob0_scan.specs.declared.lexeme.Token.{Token}
-use Rattle.ob0_text.specs.declared.positions.Position.{Position}
-use Rattle.ob0_text.specs.declared.positions.Range.{Range}
+use Rattle.ob0_text.specs.declared.position_types.Position.{Position}
+use Rattle.ob0_text.specs.declared.position_types.Range.{Range}
 use Rattle.ob0_text.specs.Texts.{position_of}
-use Rattle.ob0_text.specs.declared.positions.Unit as counting
+use Rattle.ob0_text.specs.declared.position_types.Unit as counting
 use Rattle.ob0_text.specs.Units.{width_of}
 use Rattle.ob0_edits.specs.Replaced.{span_at, edit_at}
 use Rattle.ob0_edits.specs.Ranges.{range_of}

@@ -2,7 +2,7 @@
 -- Rule: docs/PROTOCOL.md, Requests on documents 9.
 use Rattle.std.specs.Prelude.{◌≡◌, ℕ, Option, Some, None, List, [], ◌∷◌}
 use Rattle.std.specs.List.{flat_map}
-use Rattle.ob0_tree.specs.Lexeme.{Lexeme, Name, Number, Mark, EndOfText}
+use Rattle.ob0_tree.specs.Lexeme.{Terminal, Name, Number, Mark, EndOfText}
 use Rattle.ob0_tree.specs.Tree.{Sort, factor, Tree, spell, none, one, end, more, compares, relates, sum, adds, product, multiplies, designator, integer, parenthesised, negation, field, index, empty, assigns, calls, branches, while_loop, repeat_loop, no_arguments, some_arguments, then_argument, runs, then_statement, elsif_branch, else_branch, listed, then_name, named_type, array_type, record_type, no_fields, some_fields, then_fields, no_formals, some_formals, value_section, variable_section, then_section, declares_constant, declares_constants, declares_type, declares_types, declares_variable, declares_variables, declares_procedure, declares, begins, has_body, is_module}
 
 -- a factor, or the name alone where there is none
@@ -125,22 +125,22 @@ ReplacesFactors c (has_body a0 a1) = ReplacesFactors c a0 × ReplacesFactors c a
 ReplacesFactors c (is_module a0 a1 a2) = (c a0 ≡ None) × ReplacesFactors c a1 × (c a2 ≡ None)
 
 -- what takes the place of a token: other tokens in place of a name for which there are some
-abbrev pub or_named : {M : Type 0} → M → Option (List (Lexeme M)) → List (Lexeme M)
+abbrev pub or_named : {M : Type 0} → M → Option (List (Terminal M)) → List (Terminal M)
 or_named name None = Name name ∷ []
 or_named name (Some others) = others
 
 -- a token with its name replaced, or renamed
-abbrev pub token_with : {N M : Type 0} → (N → Option (List (Lexeme M))) → (N → M) → (ℕ → ℕ) → Lexeme N → List (Lexeme M)
+abbrev pub token_with : {N M : Type 0} → (N → Option (List (Terminal M))) → (N → M) → (ℕ → ℕ) → Terminal N → List (Terminal M)
 token_with c f g (Name n) = or_named (f n) (c n)
 token_with c f g (Number n) = Number (g n) ∷ []
 token_with c f g (Mark k) = Mark k ∷ []
 token_with c f g EndOfText = EndOfText ∷ []
 
 -- tokens with some names replaced by other tokens, and the others renamed
-abbrev pub tokens_with : {N M : Type 0} → (N → Option (List (Lexeme M))) → (N → M) → (ℕ → ℕ) → List (Lexeme N) → List (Lexeme M)
+abbrev pub tokens_with : {N M : Type 0} → (N → Option (List (Terminal M))) → (N → M) → (ℕ → ℕ) → List (Terminal N) → List (Terminal M)
 tokens_with c f g xs = flat_map (token_with c f g) xs
 
 -- the tokens of the factor for a name
-abbrev pub spelled : {M : Type 0} → Option (Tree M factor) → Option (List (Lexeme M))
+abbrev pub spelled : {M : Type 0} → Option (Tree M factor) → Option (List (Terminal M))
 spelled None = None
 spelled (Some v) = Some (spell v)

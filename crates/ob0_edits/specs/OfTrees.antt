@@ -2,7 +2,7 @@
 -- Rule: none; for contracts of edit makers.
 use Rattle.std.specs.Prelude.{◌≡◌, ℕ, suc, if◌then◌else◌, Option, Some, None, List, [], ◌∷◌, map, slice_index_or}
 use Rattle.ob0_scan.specs.Scanned.{Word, Scanned}
-use Rattle.ob0_tree.specs.Lexeme.{Lexeme}
+use Rattle.ob0_tree.specs.Lexeme.{Terminal}
 use Rattle.ob0_tree.specs.Places.{lexeme_of, value_of}
 use Rattle.ob0_edits.specs.Words.{word_lexeme}
 use Rattle.ob0_tree.specs.Tree.{Tree, Sort, factor, spell, mapped}
@@ -12,7 +12,7 @@ use Rattle.ob0_edits.specs.Replaced.{AreNames}
 use Rattle.ob0_edits.specs.Written.{name_word}
 
 -- the words' tokens with the words' numbers in place of names and integers; the first has the number k
-abbrev pub placed : ℕ → List Word → List (Lexeme ℕ)
+abbrev pub placed : ℕ → List Word → List (Terminal ℕ)
 placed k [] = []
 placed k (w ∷ ws) = lexeme_of k w.kind ∷ placed (suc k) ws
 

@@ -2,7 +2,7 @@
 -- Rule: docs/PROTOCOL.md, Positions; LSP 3.17, Range.
 use Rattle.std.specs.Prelude.{ℕ, List}
 use Rattle.ob0_scan.specs.declared.lexeme.Span.{Span}
-use Rattle.ob0_text.specs.declared.positions.Range.{Range}
+use Rattle.ob0_text.specs.declared.position_types.Range.{Range}
 use Rattle.ob0_text.specs.Texts.{position_of}
 
 -- a span of bytes as a range of positions in units of this width

@@ -8,11 +8,11 @@ use Rattle.ob0_scan.specs.declared.lexeme.LexemeKind.{LexemeKind}
 use Rattle.ob0_scan.specs.declared.lexeme.Span.{Span}
 use Rattle.ob0_scan.specs.declared.lexeme.Token.{Token}
 use Rattle.ob0_scan.specs.Lexed.{Lexeme, joined}
-use Rattle.ob0_scan.specs.Ends.{goes_on, EndsBefore}
+use Rattle.ob0_scan.specs.Ends.{continues, EndsBefore}
 use Rattle.ob0_scan.specs.Scanned.{Word, words, Scanned, IsScan}
 use Rattle.ob0_text.specs.declared.edits.Edit.{Edit}
-use Rattle.ob0_text.specs.declared.positions.Range.{Range}
-use Rattle.ob0_text.specs.declared.positions.Unit as counting
+use Rattle.ob0_text.specs.declared.position_types.Range.{Range}
+use Rattle.ob0_text.specs.declared.position_types.Unit as counting
 use Rattle.ob0_text.specs.Units.{width_of}
 use Rattle.ob0_text.specs.Patches.{Cut, pieced, patched}
 use Rattle.ob0_edits.specs.Changed.{words_of}
@@ -51,12 +51,12 @@ AreApartBefore (l ∷ lexemes) byte = EndsBefore l (slice_index (joined lexemes 
 
 -- The text, which is read as these words, may be wherever an identifier is: what ends before a letter ends before
 -- its first byte, and its lexemes end before one another and before whatever an identifier ends before.
-pub record StandsForName (new : List ℕ) (ws : List Word) : Type 0 where
+pub record ReplacesName (new : List ℕ) (ws : List Word) : Type 0 where
   pub lexemes : List Lexeme
   pub whole : joined lexemes ≡ new
   pub read : words lexemes ≡ ws
   pub some : 0 < length new
-  pub front : (kind : LexemeKind) (letter : ℕ) → IsTrue (is_ascii_alphabetic letter) → goes_on kind letter ≡ false → goes_on kind (slice_index new 0) ≡ false
+  pub front : (kind : LexemeKind) (letter : ℕ) → IsTrue (is_ascii_alphabetic letter) → continues kind letter ≡ false → continues kind (slice_index new 0) ≡ false
   pub apart : (byte : ℕ) → is_ascii_alphanumeric byte ≡ false → AreApartBefore lexemes byte
 
 -- an edit as its range and the bytes of its text

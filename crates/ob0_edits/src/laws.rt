@@ -5,12 +5,12 @@ ghost use Rattle.std.specs.Str.{chars, IsUtf8};
 ghost use Rattle.ob0_scan.specs.Classes.{IsIdentifier};
 ghost use Rattle.ob0_scan.specs.Scanned.{Word, Scanned, IsScan, max_text};
 ghost use Rattle.ob0_text.specs.declared.edits.Edit.{Edit};
-ghost use Rattle.ob0_text.specs.declared.positions.Unit.{Unit};
+ghost use Rattle.ob0_text.specs.declared.position_types.Unit.{Unit};
 ghost use Rattle.ob0_edits.specs.Words.{word_lexeme};
 ghost use Rattle.ob0_tree.specs.Tree.{Tree, Sort, factor, spell, nesting};
 ghost use Rattle.ob0_edits.specs.Inlined.{inlined};
 ghost use Rattle.ob0_edits.specs.Changed.{words_of, changed, at_each};
-ghost use Rattle.ob0_edits.specs.Replaced.{AreNames, with_text_at, StandsForName, parts, edit_at, LeavesWords};
+ghost use Rattle.ob0_edits.specs.Replaced.{AreNames, with_text_at, ReplacesName, parts, edit_at, LeavesWords};
 ghost use Rattle.ob0_text.specs.Units.{width_of};
 ghost use Rattle.ob0_edits.specs.Ranges.{range_of};
 ghost use Rattle.ob0_edits.specs.Removed.{without, IsDeclaration, span_over, without_text};
@@ -19,19 +19,19 @@ ghost use Rattle.ob0_edits.specs.Factors.{number_factor, truth_factor};
 ghost use Rattle.ob0_edits.specs.OfTrees.{factor_at, RenamedWordsSpell, InlinedWordsSpell};
 
 /// An identifier may be wherever an identifier is.
-pub fn names_stand_for_names()
-    ensures { (new : List ℕ) → IsIdentifier new → StandsForName new (name_word new ∷ []) }
+pub fn names_replace_names()
+    ensures { (new : List ℕ) → IsIdentifier new → ReplacesName new (name_word new ∷ []) }
 {}
 
 /// So may the value of a constant, as it is written.
-pub fn values_stand_for_names()
-    ensures numbers { (z : ℤ) → IsInt32 z → StandsForName (number_text z) (number_words z) }
-    ensures truths { (b : Bool) → StandsForName (truth_text b) (truth_words b) }
+pub fn values_replace_names()
+    ensures numbers { (z : ℤ) → IsInt32 z → ReplacesName (number_text z) (number_words z) }
+    ensures truths { (b : Bool) → ReplacesName (truth_text b) (truth_words b) }
 {}
 
 /// Edits at the places of identifiers leave the words of the new text there and all others as they are.
 pub fn edits_leave_words()
-    ensures { (s : Scanned) → IsScan s → (places new : List ℕ) (ws : List Word) → AreNames s.tokens 0 places → IsUtf8 new → StandsForName new ws
+    ensures { (s : Scanned) → IsScan s → (places new : List ℕ) (ws : List Word) → AreNames s.tokens 0 places → IsUtf8 new → ReplacesName new ws
         → (unit : Unit) (edits : List Edit) → map parts edits ≡ map (edit_at unit (chars s.text) s.tokens new) places → length (with_text_at s places new) ≤ max_text
         → LeavesWords unit (chars s.text) edits (changed (at_each places ws) 0 (words_of s)) }
 {}
@@ -39,7 +39,7 @@ pub fn edits_leave_words()
 /// So do edits that also take out the declaration of a constant before these places, which leave no word of it.
 pub fn edits_leave_other_words()
     ensures { (s : Scanned) → IsScan s → (first last : ℕ) → IsDeclaration s.tokens first last → (places new : List ℕ) (ws : List Word) → AreNames s.tokens (suc last) places
-        → IsUtf8 new → StandsForName new ws
+        → IsUtf8 new → ReplacesName new ws
         → (unit : Unit) (edits : List Edit) → map parts edits ≡ (range_of (width_of unit) (chars s.text) (span_over s.tokens first last), []) ∷ map (edit_at unit (chars s.text) s.tokens new) places
         → length (without_text s first last places new) ≤ max_text
         → LeavesWords unit (chars s.text) edits (changed (without first last (at_each places ws)) 0 (words_of s)) }

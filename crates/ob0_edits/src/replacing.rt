@@ -5,7 +5,7 @@ ghost use Rattle.std.specs.Str.{chars};
 ghost use Rattle.ob0_scan.specs.Scanned.{Word, IsScan, IsRangeOf, max_text};
 ghost use Rattle.ob0_text.specs.declared.refusals.EditRefusal.TheVariants.{TooLong, Memory};
 ghost use Rattle.ob0_edits.specs.Changed.{words_of, changed, at_each};
-ghost use Rattle.ob0_edits.specs.Replaced.{AreNames, AreInOrder, cut_of, with_text_at, StandsForName, parts, edit_at, LeavesWords};
+ghost use Rattle.ob0_edits.specs.Replaced.{AreNames, AreInOrder, cut_of, with_text_at, ReplacesName, parts, edit_at, LeavesWords};
 ghost use Rattle.ob0_text.specs.Units.{width_of};
 ghost use Rattle.ob0_edits.specs.Ranges.{range_of};
 ghost use Rattle.ob0_text.specs.Patches.{pieced};
@@ -28,7 +28,7 @@ pub fn edits_for<T: TextStore>(
     requires names { AreNames tokens.now.tokens 0 places.now }
     ensures edits { IfOk result (λ edits. map parts edits.items ≡ map (edit_at (T.unit_of store.now) (T.content store.now) tokens.now.tokens new.now) places.now) }
     ensures short { IfOk result (λ edits. length (with_text_at tokens.now places.now new.now) ≤ max_text) }
-    ensures words { (ws : List Word) → StandsForName new.now ws
+    ensures words { (ws : List Word) → ReplacesName new.now ws
         → IfOk result (λ edits. LeavesWords (T.unit_of store.now) (T.content store.now) edits.items (changed (at_each places.now ws) 0 (words_of tokens.now))) }
     ensures too_long { IsErrOf result TooLong → max_text < length (with_text_at tokens.now places.now new.now) }
     ensures refusals { IfErr result (λ refusal. (refusal ≡ TooLong) ⊎ (refusal ≡ Memory)) }
@@ -59,7 +59,7 @@ pub fn edits_without<T: TextStore>(
     ensures edits { IfOk result (λ edits. map parts edits.items
         ≡ (range_of (width_of (T.unit_of store.now)) (T.content store.now) (span_over tokens.now.tokens first last), []) ∷ map (edit_at (T.unit_of store.now) (T.content store.now) tokens.now.tokens new.now) places.now) }
     ensures short { IfOk result (λ edits. length (without_text tokens.now first last places.now new.now) ≤ max_text) }
-    ensures words { (ws : List Word) → StandsForName new.now ws
+    ensures words { (ws : List Word) → ReplacesName new.now ws
         → IfOk result (λ edits. LeavesWords (T.unit_of store.now) (T.content store.now) edits.items (changed (without first last (at_each places.now ws)) 0 (words_of tokens.now))) }
     ensures too_long { IsErrOf result TooLong → max_text < length (without_text tokens.now first last places.now new.now) }
     ensures refusals { IfErr result (λ refusal. (refusal ≡ TooLong) ⊎ (refusal ≡ Memory)) }

@@ -4,7 +4,7 @@ use Rattle.std.proofs.lemmas.Bool.{le-ltb, lt-ltb}
 use Rattle.std.specs.List.{list_any, range_with_len}
 use Rattle.ob0_scan.specs.Scanned.{max_text}
 use Rattle.ob0_text.specs.declared.edits.Edit.{Edit}
-use Rattle.ob0_text.specs.declared.positions.Unit as counting
+use Rattle.ob0_text.specs.declared.position_types.Unit as counting
 use Rattle.ob0_text.specs.declared.refusals.EditRefusal.{EditRefusal}
 use Rattle.ob0_text.specs.declared.refusals.EditRefusal.TheVariants.{CommentInside, Memory, Shadowed, TooDeep, TooLong}
 use Rattle.ob0_text.specs.Units.{width_of}
@@ -18,16 +18,16 @@ use Rattle.ob0_scope_rules.specs.Occurrences.{bindings, binds, label_ordinal}
 use Rattle.ob0_scope_rules.specs.Resolution.{Resolution}
 use Rattle.ob0_scope_rules.specs.Scopes.{same_ordinal}
 use Rattle.ob0_scope.specs.declared.naming.Named as named
-use Rattle.ob0_scope.specs.Standing.{name_on}
+use Rattle.ob0_scope.specs.NamesAtPlaces.{name_on}
 use Rattle.ob0_types.specs.CheckedModules.{IsWellTyped}
-use Rattle.ob0_types_rules.specs.EditLaws.{ConstantsStandAlone, IsConstantWritten, IsScalar, IsShown}
+use Rattle.ob0_types_rules.specs.EditLaws.{ConstantsAreAlone, IsConstantWritten, IsScalar, IsPredeclaredTruth}
 use Rattle.ob0_run_rules.specs.EditLaws.{InliningEverywhereKeepsModules}
 use Rattle.ob0_values.specs.declared.scalar.Scalar.TheVariants as scalar
 use Rattle.ob0_values.specs.Scalars.{scalar_value}
-use Rattle.ob0_inline.specs.declared.constants.Constant.{Constant}
-use Rattle.ob0_inline.specs.Everywhere.{InlinesEverywhere, IsConstant, IsConstantAt, NoConstantAt, StandsAlone, any_hidden, has_comment, inlined_all, is_hidden, refusal_everywhere, text_without, uses_of}
+use Rattle.ob0_inline.specs.declared.constants.NamedConstant.{NamedConstant}
+use Rattle.ob0_inline.specs.Everywhere.{InlinesEverywhere, IsConstant, IsConstantAt, NoConstantAt, IsAlone, any_hidden, has_comment, inlined_all, is_hidden, refusal_everywhere, text_without, uses_of}
 use Rattle.ob0_inline.specs.Inlined.{LeavesModule}
-use Rattle.ob0_inline.specs.Uses.{is_shown}
+use Rattle.ob0_inline.specs.Uses.{is_predeclared_truth}
 use Rattle.ob0_inline.specs.Values.{value_factor, value_text}
 use Rattle.ob0_inline.proofs.AtUses.{literal_of, shown_is}
 
@@ -53,18 +53,18 @@ bound_inside [] k d e = absurd (cc)
 bound_inside (l ∷ ls) zero d e = omega arith
 bound_inside (l ∷ ls) (suc k) d e = let h = bound_inside ls k d e in omega (arith, h)
 
-module _ (m : Tree Name module_text) (c : Constant) (none : any_hidden m c ≡ false) where
-  shown_each : (k : ℕ) → binds m k ≡ Some c.ordinal → is_shown m k c.value ≡ true
+module _ (m : Tree Name module_text) (c : NamedConstant) (none : any_hidden m c ≡ false) where
+  shown_each : (k : ℕ) → binds m k ≡ Some c.ordinal → is_predeclared_truth m k c.value ≡ true
   shown_each k e =
       let here : is_hidden m c k ≡ false = ap (is_hidden m c) (let z : k ≡ 0 + k = omega arith in z) ∙ none_passes (is_hidden m c) 0 (length (bindings m)) k none (bound_inside (bindings m) k c.ordinal e) in
-      one (is_shown m k c.value) (sym (ap (λ o. same_ordinal o c.ordinal && not (is_shown m k c.value)) e ∙ ap (λ b. b && not (is_shown m k c.value)) (eq-eqb c.ordinal c.ordinal refl)) ∙ here)
+      one (is_predeclared_truth m k c.value) (sym (ap (λ o. same_ordinal o c.ordinal && not (is_predeclared_truth m k c.value)) e ∙ ap (λ b. b && not (is_predeclared_truth m k c.value)) (eq-eqb c.ordinal c.ordinal refl)) ∙ here)
     where
       one : (b : Bool) → not b ≡ false → b ≡ true
       one true e = refl
       one false e = absurd (true≢false e)
 
   -- at each use the literal is seen
-  pub all_seen : (k : ℕ) → binds m k ≡ Some c.ordinal → IsShown m k (scalar_value c.value)
+  pub all_seen : (k : ℕ) → binds m k ≡ Some c.ordinal → IsPredeclaredTruth m k (scalar_value c.value)
   all_seen k e = shown_is m k c.value (shown_each k e)
 
 -- a number is written without a name
@@ -76,13 +76,13 @@ none_of f (k ∷ ks) = one (f k) ∙ none_of f ks
     one true = refl
     one false = refl
 
-pub numbers_shown : (m : Tree Name module_text) (c : Constant) (n : ℤ) → c.value ≡ scalar.Number n → any_hidden m c ≡ false
+pub numbers_shown : (m : Tree Name module_text) (c : NamedConstant) (n : ℤ) → c.value ≡ scalar.Number n → any_hidden m c ≡ false
 numbers_shown m c n e =
-    (λ i. list_any (λ k. same_ordinal (binds m k) c.ordinal && not (is_shown m k (e i))) (range_with_len 0 (length (bindings m))))
+    (λ i. list_any (λ k. same_ordinal (binds m k) c.ordinal && not (is_predeclared_truth m k (e i))) (range_with_len 0 (length (bindings m))))
     ∙ none_of (λ k. same_ordinal (binds m k) c.ordinal) (range_with_len 0 (length (bindings m)))
 
 -- the constant of which a name was found
-pub constant_named : (m : Parsed) (offset : ℕ) (found : named.Named) → Some found ≡ name_on m offset → (o : Option Constant) → IsSomeAnd o (λ c. (c.ordinal ≡ found.ordinal) × IsConstant m c)
+pub constant_named : (m : Parsed) (offset : ℕ) (found : named.Named) → Some found ≡ name_on m offset → (o : Option NamedConstant) → IsSomeAnd o (λ c. (c.ordinal ≡ found.ordinal) × IsConstant m c)
     → MatchOption o (NoConstantAt m offset) (λ c. IsConstantAt m offset c)
 constant_named m offset found e None h = absurd h
 constant_named m offset found e (Some c) h =
@@ -90,7 +90,7 @@ constant_named m offset found e (Some c) h =
 
 -- the first refusal
 
-module _ (m : Parsed) (c : Constant) where
+module _ (m : Parsed) (c : NamedConstant) where
   pub too_long_there : max_text < length (text_without m c) → refusal_everywhere m c ≡ Some TooLong
   too_long_there h =
       ap (λ a. if a then Some TooLong else if nat_lt 100 (nesting (inlined_all m c)) then Some TooDeep else if any_hidden (named_tree_of m) c then Some Shadowed else if has_comment m c then Some CommentInside else None)
@@ -115,22 +115,22 @@ module _ (m : Parsed) (c : Constant) where
       ∙ (λ i. if e i then Some Shadowed else if f i then Some CommentInside else None))
 
 -- what is known of the edits of a constant, or of their refusal, by any reading of the module
-pub record Made (r : Resolution) (c : Constant) (unit : counting.Unit) (text : List ℕ) (edits : List Edit) : Type 0 where
+pub record Made (r : Resolution) (c : NamedConstant) (unit : counting.Unit) (text : List ℕ) (edits : List Edit) : Type 0 where
   pub edits_are : map parts edits ≡ (range_of (width_of unit) text (span_over r.module_read.source.tokens c.first c.last), []) ∷ map (edit_at unit text r.module_read.source.tokens (value_text c.value)) (uses_of r.module_read c.ordinal)
-  pub leaves : StandsAlone r.module_read c.ordinal → LeavesModule unit text edits (inlined_all r.module_read c)
+  pub leaves : IsAlone r.module_read c.ordinal → LeavesModule unit text edits (inlined_all r.module_read c)
   pub short : length (text_without r.module_read c) ≤ max_text
 
-pub record Refused (r : Resolution) (c : Constant) (refusal : EditRefusal) : Type 0 where
+pub record Refused (r : Resolution) (c : NamedConstant) (refusal : EditRefusal) : Type 0 where
   pub too_long : refusal ≡ TooLong → max_text < length (text_without r.module_read c)
-  pub too_deep : StandsAlone r.module_read c.ordinal → refusal ≡ TooDeep → 100 < nesting (inlined_all r.module_read c)
+  pub too_deep : IsAlone r.module_read c.ordinal → refusal ≡ TooDeep → 100 < nesting (inlined_all r.module_read c)
   pub deep_and_short : refusal ≡ TooDeep → length (text_without r.module_read c) ≤ max_text
   pub one_of : (refusal ≡ TooLong) ⊎ ((refusal ≡ TooDeep) ⊎ (refusal ≡ Memory))
 
-module _ (r : Resolution) (well : IsWellTyped r) (c : Constant) (constant : IsConstant r.module_read c) (law : ConstantsStandAlone) (scalar_so : IsScalar (scalar_value c.value)) where
+module _ (r : Resolution) (well : IsWellTyped r) (c : NamedConstant) (constant : IsConstant r.module_read c) (law : ConstantsAreAlone) (scalar_so : IsScalar (scalar_value c.value)) where
   written_there : IsConstantWritten (named_tree_of r.module_read) c.ordinal (scalar_value c.value) (value_factor c.value)
   written_there = record { value = constant.worth; scalar = scalar_so; literal = literal_of c.value }
 
-  pub alone_there : StandsAlone r.module_read c.ordinal
+  pub alone_there : IsAlone r.module_read c.ordinal
   unfolding written_there
   alone_there = law (named_tree_of r.module_read) c.ordinal (scalar_value c.value) (value_factor c.value) written_there well.well_typed
 

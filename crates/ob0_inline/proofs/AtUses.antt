@@ -4,7 +4,7 @@ use Rattle.std.proofs.lemmas.Bool.{le-ltb, lt-ltb}
 use Rattle.std.specs.List.{position_from}
 use Rattle.ob0_scan.specs.Scanned.{max_text}
 use Rattle.ob0_text.specs.declared.edits.Edit.{Edit}
-use Rattle.ob0_text.specs.declared.positions.Unit as counting
+use Rattle.ob0_text.specs.declared.position_types.Unit as counting
 use Rattle.ob0_text.specs.declared.refusals.EditRefusal.{EditRefusal}
 use Rattle.ob0_text.specs.declared.refusals.EditRefusal.TheVariants.{Memory, Shadowed, TooDeep, TooLong}
 use Rattle.ob0_tree.specs.Parsed.{Parsed, named_tree_of}
@@ -18,11 +18,11 @@ use Rattle.ob0_scope_rules.specs.Scopes.{same_ordinal}
 use Rattle.ob0_scope_rules.proofs.Bound.{bound_at}
 use Rattle.ob0_scope.specs.declared.naming.Named as named
 use Rattle.ob0_scope.specs.Listing.{is_name_on}
-use Rattle.ob0_scope.specs.Standing.{name_on}
+use Rattle.ob0_scope.specs.NamesAtPlaces.{name_on}
 use Rattle.ob0_scope.proofs.Placed.{name_found, named_so}
 use Rattle.ob0_types_rules.specs.ConstantValues.{value_of_constant}
 use Rattle.ob0_types.specs.CheckedModules.{IsWellTyped}
-use Rattle.ob0_types_rules.specs.EditLaws.{AreUsesOf, ConstantsStandAlone, IsConstantWritten, IsScalar, IsShown}
+use Rattle.ob0_types_rules.specs.EditLaws.{AreUsesOf, ConstantsAreAlone, IsConstantWritten, IsScalar, IsPredeclaredTruth}
 use Rattle.ob0_types_rules.specs.Written.{written_value}
 use Rattle.ob0_run_rules.specs.EditLaws.{InliningKeepsModules}
 use Rattle.ob0_values.specs.declared.scalar.Scalar.{Scalar}
@@ -30,8 +30,8 @@ use Rattle.ob0_values.specs.declared.scalar.Scalar.TheVariants as scalar
 use Rattle.ob0_values.specs.Scalars.{scalar_value}
 use Rattle.std.specs.Prelude.{pos, negsuc}
 use Rattle.ob0_inline.specs.declared.uses.Use.{Use}
-use Rattle.ob0_inline.specs.Inlined.{LeavesModule, StandAlone, inlined_at}
-use Rattle.ob0_inline.specs.Uses.{InlinesHere, IsUse, IsUseAt, inlined_here, is_shown, refusal_here}
+use Rattle.ob0_inline.specs.Inlined.{LeavesModule, AreAlone, inlined_at}
+use Rattle.ob0_inline.specs.Uses.{InlinesHere, IsUse, IsUseAt, inlined_here, is_predeclared_truth, refusal_here}
 use Rattle.ob0_inline.specs.Values.{value_factor, value_text}
 use Rattle.ob0_inline.proofs.UsesStand.{AreBound, inlined_by_number, inside, one_identifier, one_place, stand_alone, uses_are_identifiers, uses_ascend}
 
@@ -47,7 +47,7 @@ same_true : (o : Option ℕ) (d : ℕ) → same_ordinal o d ≡ true → o ≡ S
 same_true None d e = absurd (true≢false (sym e))
 same_true (Some j) d e = ap Some (eqb-true j d e)
 
-pub shown_is : (m : Tree Name module_text) (k : ℕ) (value : Scalar) → is_shown m k value ≡ true → IsShown m k (scalar_value value)
+pub shown_is : (m : Tree Name module_text) (k : ℕ) (value : Scalar) → is_predeclared_truth m k value ≡ true → IsPredeclaredTruth m k (scalar_value value)
 shown_is m k (scalar.Number n) e = tt
 shown_is m k (scalar.Truth true) e = same_true _ 2 e
 shown_is m k (scalar.Truth false) e = same_true _ 3 e
@@ -98,7 +98,7 @@ module _ (r : Resolution) (well : IsWellTyped r) (u : Use) (use_so : IsUse r.mod
   written : IsScalar (scalar_value u.value) → IsConstantWritten (named_tree_of r.module_read) u.constant (scalar_value u.value) (value_factor u.value)
   written fits_so = record { value = use_so.worth; scalar = fits_so; literal = literal_of u.value }
 
-  pub stands : ConstantsStandAlone → IsScalar (scalar_value u.value) → StandAlone r.module_read (u.token ∷ []) u.value
+  pub stands : ConstantsAreAlone → IsScalar (scalar_value u.value) → AreAlone r.module_read (u.token ∷ []) u.value
   stands law fits_so =
       stand_alone r well.resolved u.constant (value_factor u.value) (u.token ∷ []) are_bound
       (law (named_tree_of r.module_read) u.constant (scalar_value u.value) (value_factor u.value) (written fits_so) well.well_typed)
@@ -112,22 +112,22 @@ module _ (r : Resolution) (well : IsWellTyped r) (u : Use) (use_so : IsUse r.mod
       inlined_by_number r (u.token ∷ []) (only u.occurrence) (value_factor u.value) well.resolved
       (λ j i e. or_false (i == u.token) ∙ one_place 0 (length r.module_read.source.tokens) r.uses j u.occurrence i u.token (uses_ascend r well.resolved) e there)
 
-  shown_so : is_shown (named_tree_of r.module_read) u.occurrence u.value ≡ true → IsShown (named_tree_of r.module_read) u.occurrence (scalar_value u.value)
+  shown_so : is_predeclared_truth (named_tree_of r.module_read) u.occurrence u.value ≡ true → IsPredeclaredTruth (named_tree_of r.module_read) u.occurrence (scalar_value u.value)
   shown_so e = shown_is (named_tree_of r.module_read) u.occurrence u.value e
 
-  uses_so : is_shown (named_tree_of r.module_read) u.occurrence u.value ≡ true → AreUsesOf (named_tree_of r.module_read) u.constant (scalar_value u.value) (only u.occurrence)
+  uses_so : is_predeclared_truth (named_tree_of r.module_read) u.occurrence u.value ≡ true → AreUsesOf (named_tree_of r.module_read) u.constant (scalar_value u.value) (only u.occurrence)
   uses_so e =
       let m = named_tree_of r.module_read in
       record {
         bound = λ k h. ap (binds m) (eqb-true k u.occurrence h) ∙ use_so.bound;
-        seen = λ k h. subst (λ n. IsShown m n (scalar_value u.value)) (sym (eqb-true k u.occurrence h)) (shown_so e);
+        seen = λ k h. subst (λ n. IsPredeclaredTruth m n (scalar_value u.value)) (sym (eqb-true k u.occurrence h)) (shown_so e);
       }
 
   -- the edits that leave the inlined module
   pub inlines : InliningKeepsModules → IsScalar (scalar_value u.value) → (unit : counting.Unit) (text : List ℕ) (edits : List Edit)
       → map parts edits ≡ edit_at unit text r.module_read.source.tokens (value_text u.value) u.token ∷ []
       → LeavesModule unit text edits (inlined_at r.module_read (u.token ∷ []) u.value)
-      → is_shown (named_tree_of r.module_read) u.occurrence u.value ≡ true → InlinesHere unit text r.module_read u edits
+      → is_predeclared_truth (named_tree_of r.module_read) u.occurrence u.value ≡ true → InlinesHere unit text r.module_read u edits
   inlines law fits_so unit text edits made leaves shown =
       let kept = law (named_tree_of r.module_read) u.constant (scalar_value u.value) (value_factor u.value) (only u.occurrence) (written fits_so) (uses_so shown) well.well_typed in
       record { here = made; leaves = subst (LeavesModule unit text edits) inlined_is leaves; well_typed = kept.0; same_runs = kept.1 }
@@ -137,51 +137,51 @@ module _ (r : Resolution) (well : IsWellTyped r) (u : Use) (use_so : IsUse r.mod
 module _ (m : Parsed) (u : Use) where
   pub too_long_here : max_text < length (with_text_at m.source (u.token ∷ []) (value_text u.value)) → refusal_here m u ≡ Some TooLong
   too_long_here h =
-      ap (λ a. if a then Some TooLong else if nat_lt 100 (nesting (inlined_here m u)) then Some TooDeep else if is_shown (named_tree_of m) u.occurrence u.value then None else Some Shadowed)
+      ap (λ a. if a then Some TooLong else if nat_lt 100 (nesting (inlined_here m u)) then Some TooDeep else if is_predeclared_truth (named_tree_of m) u.occurrence u.value then None else Some Shadowed)
       (lt-ltb max_text (length (with_text_at m.source (u.token ∷ []) (value_text u.value))) h)
 
   short_here : length (with_text_at m.source (u.token ∷ []) (value_text u.value)) ≤ max_text
-      → refusal_here m u ≡ (if nat_lt 100 (nesting (inlined_here m u)) then Some TooDeep else if is_shown (named_tree_of m) u.occurrence u.value then None else Some Shadowed)
+      → refusal_here m u ≡ (if nat_lt 100 (nesting (inlined_here m u)) then Some TooDeep else if is_predeclared_truth (named_tree_of m) u.occurrence u.value then None else Some Shadowed)
   short_here h =
-      ap (λ a. if a then Some TooLong else if nat_lt 100 (nesting (inlined_here m u)) then Some TooDeep else if is_shown (named_tree_of m) u.occurrence u.value then None else Some Shadowed)
+      ap (λ a. if a then Some TooLong else if nat_lt 100 (nesting (inlined_here m u)) then Some TooDeep else if is_predeclared_truth (named_tree_of m) u.occurrence u.value then None else Some Shadowed)
       (le-ltb max_text (length (with_text_at m.source (u.token ∷ []) (value_text u.value))) h)
 
   pub too_deep_here : length (with_text_at m.source (u.token ∷ []) (value_text u.value)) ≤ max_text → 100 < nesting (inlined_here m u) → refusal_here m u ≡ Some TooDeep
   too_deep_here h d =
-      short_here h ∙ ap (λ a. if a then Some TooDeep else if is_shown (named_tree_of m) u.occurrence u.value then None else Some Shadowed) (lt-ltb 100 (nesting (inlined_here m u)) d)
+      short_here h ∙ ap (λ a. if a then Some TooDeep else if is_predeclared_truth (named_tree_of m) u.occurrence u.value then None else Some Shadowed) (lt-ltb 100 (nesting (inlined_here m u)) d)
 
   pub shown_here : length (with_text_at m.source (u.token ∷ []) (value_text u.value)) ≤ max_text → nesting (inlined_here m u) ≤ 100 → (shown : Bool)
-      → is_shown (named_tree_of m) u.occurrence u.value ≡ shown → refusal_here m u ≡ (if shown then None else Some Shadowed)
+      → is_predeclared_truth (named_tree_of m) u.occurrence u.value ≡ shown → refusal_here m u ≡ (if shown then None else Some Shadowed)
   shown_here h d shown e =
       short_here h
-      ∙ (ap (λ a. if a then Some TooDeep else if is_shown (named_tree_of m) u.occurrence u.value then None else Some Shadowed) (le-ltb 100 (nesting (inlined_here m u)) d)
+      ∙ (ap (λ a. if a then Some TooDeep else if is_predeclared_truth (named_tree_of m) u.occurrence u.value then None else Some Shadowed) (le-ltb 100 (nesting (inlined_here m u)) d)
       ∙ ap (λ a. if a then None else Some Shadowed) e)
 
 -- what is known of the edits of a use, or of their refusal, by any reading of the module
 pub record Made (r : Resolution) (u : Use) (unit : counting.Unit) (text : List ℕ) (edits : List Edit) : Type 0 where
   pub edits_are : map parts edits ≡ edit_at unit text r.module_read.source.tokens (value_text u.value) u.token ∷ []
-  pub leaves : StandAlone r.module_read (u.token ∷ []) u.value → LeavesModule unit text edits (inlined_at r.module_read (u.token ∷ []) u.value)
+  pub leaves : AreAlone r.module_read (u.token ∷ []) u.value → LeavesModule unit text edits (inlined_at r.module_read (u.token ∷ []) u.value)
   pub short : length (with_text_at r.module_read.source (u.token ∷ []) (value_text u.value)) ≤ max_text
 
 pub record Refused (r : Resolution) (u : Use) (refusal : EditRefusal) : Type 0 where
   pub too_long : refusal ≡ TooLong → max_text < length (with_text_at r.module_read.source (u.token ∷ []) (value_text u.value))
-  pub too_deep : StandAlone r.module_read (u.token ∷ []) u.value → refusal ≡ TooDeep → 100 < nesting (inlined_at r.module_read (u.token ∷ []) u.value)
+  pub too_deep : AreAlone r.module_read (u.token ∷ []) u.value → refusal ≡ TooDeep → 100 < nesting (inlined_at r.module_read (u.token ∷ []) u.value)
   pub deep_and_short : refusal ≡ TooDeep → length (with_text_at r.module_read.source (u.token ∷ []) (value_text u.value)) ≤ max_text
   pub one_of : (refusal ≡ TooLong) ⊎ ((refusal ≡ TooDeep) ⊎ (refusal ≡ Memory))
 
-module _ (r : Resolution) (well : IsWellTyped r) (u : Use) (use_so : IsUse r.module_read u) (law : ConstantsStandAlone) (scalar_so : IsScalar (scalar_value u.value)) where
+module _ (r : Resolution) (well : IsWellTyped r) (u : Use) (use_so : IsUse r.module_read u) (law : ConstantsAreAlone) (scalar_so : IsScalar (scalar_value u.value)) where
   pub low_here : (unit : counting.Unit) (text : List ℕ) (edits : List Edit) → Made r u unit text edits → nesting (inlined_here r.module_read u) ≤ 100
   low_here unit text edits h =
       subst (λ (t : Tree Name module_text). nesting t ≤ 100) (inlined_is r well u use_so) (h.leaves (stands r well u use_so law scalar_so)).module_of.shallow
 
-  pub answer_ok : InliningKeepsModules → (unit : counting.Unit) (text : List ℕ) (edits : List Edit) → Made r u unit text edits → is_shown (named_tree_of r.module_read) u.occurrence u.value ≡ true
+  pub answer_ok : InliningKeepsModules → (unit : counting.Unit) (text : List ℕ) (edits : List Edit) → Made r u unit text edits → is_predeclared_truth (named_tree_of r.module_read) u.occurrence u.value ≡ true
       → (refusal_here r.module_read u ≡ None) × InlinesHere unit text r.module_read u edits
   answer_ok keeps unit text edits h shown = (
     shown_here r.module_read u h.short (low_here unit text edits h) true shown,
     inlines r well u use_so keeps scalar_so unit text edits h.edits_are (h.leaves (stands r well u use_so law scalar_so)) shown,
   )
 
-  pub answer_shadowed : (unit : counting.Unit) (text : List ℕ) (edits : List Edit) → Made r u unit text edits → is_shown (named_tree_of r.module_read) u.occurrence u.value ≡ false
+  pub answer_shadowed : (unit : counting.Unit) (text : List ℕ) (edits : List Edit) → Made r u unit text edits → is_predeclared_truth (named_tree_of r.module_read) u.occurrence u.value ≡ false
       → refusal_here r.module_read u ≡ Some Shadowed
   answer_shadowed unit text edits h shown = shown_here r.module_read u h.short (low_here unit text edits h) false shown
 

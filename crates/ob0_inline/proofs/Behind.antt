@@ -4,7 +4,7 @@ use Rattle.ob0_scan.specs.declared.lexeme.Symbol.TheVariants as symbol
 use Rattle.ob0_scan.specs.declared.lexeme.TokenKind.{TokenKind}
 use Rattle.ob0_scan.specs.declared.lexeme.TokenKind.TheVariants as kind
 use Rattle.ob0_scan.specs.Scanned.{Word}
-use Rattle.ob0_tree.specs.Lexeme.{Lexeme, Mark}
+use Rattle.ob0_tree.specs.Lexeme.{Terminal, Mark}
 use Rattle.ob0_tree.specs.Lexeme as lexeme
 use Rattle.ob0_tree.specs.Parsed.{named_tree_of, tree_of}
 use Rattle.ob0_tree.specs.Places as leaf
@@ -107,18 +107,18 @@ not_in_front ordinals d zero i (x ∷ front) behind names low among e o =
 not_in_front ordinals d (suc j) i (x ∷ front) behind names low among e o = not_in_front ordinals d j i front behind names low.1 among e o
 
 -- after the last token of a declaration
-names_after : (d k : ℕ) (labels : List ℕ) (left : List (Lexeme ℕ)) (ws : List Word) (t : Taken d k labels (placed 0 ws) left) (i : ℕ) → is_among i (lexeme_names t.after) ≡ true → last_token t < i
+names_after : (d k : ℕ) (labels : List ℕ) (left : List (Terminal ℕ)) (ws : List Word) (t : Taken d k labels (placed 0 ws) left) (i : ℕ) → is_among i (lexeme_names t.after) ≡ true → last_token t < i
 names_after d k labels left ws t i e =
-    let front : List (Lexeme ℕ) = t.before ++ (Mark t.border ∷ []) in
-    let whole : List (Lexeme ℕ) = lexeme.Name t.name ∷ Mark (kind.Symbol symbol.Equal) ∷ (t.right ++ (Mark (kind.Symbol symbol.Semicolon) ∷ [])) in
+    let front : List (Terminal ℕ) = t.before ++ (Mark t.border ∷ []) in
+    let whole : List (Terminal ℕ) = lexeme.Name t.name ∷ Mark (kind.Symbol symbol.Equal) ∷ (t.right ++ (Mark (kind.Symbol symbol.Semicolon) ∷ [])) in
     let a = cut_words 0 ws (front ++ whole) t.after (t.whole_is ∙ sym (append_assoc front whole t.after)) in
     let n : length (front ++ whole) ≡ suc (last_token t) = length-append front whole ∙ (let z = length-append t.right (Mark (kind.Symbol symbol.Semicolon) ∷ []) in omega (arith, z)) in
-    let there = names_above i (0 + length a.first) a.rest (subst (λ (l : List (Lexeme ℕ)). is_among i (lexeme_names l) ≡ true) (sym a.behind_is) e) in
+    let there = names_above i (0 + length a.first) a.rest (subst (λ (l : List (Terminal ℕ)). is_among i (lexeme_names l) ≡ true) (sym a.behind_is) e) in
     let count = a.count in
     omega (arith, there, count, n)
 
 -- each occurrence that is bound to the constant follows its declaration
-pub uses_behind : (r : Resolution) → (d : ℕ) (labels : List ℕ) (left : List (Lexeme ℕ))
+pub uses_behind : (r : Resolution) → (d : ℕ) (labels : List ℕ) (left : List (Terminal ℕ))
     → (h : Late d 7 labels (placed 0 (words_of r.module_read.source)) left (occurrences (tree_of r.module_read)) (map (ordinal_in r.ordinals) (occurrences (tree_of r.module_read))))
     → (j i : ℕ) → slice_get (occurrences (tree_of r.module_read)) j ≡ Some i → ordinal_in r.ordinals i ≡ Some d → last_token h.taken < i
 uses_behind r d labels left h j i e o =

@@ -7,7 +7,7 @@ use Rattle.std.proofs.lemmas.Simd.{map-map}
 use Rattle.std.proofs.lemmas.Str.{encodes-chars}
 use Rattle.ob0_edits.specs.Changed.{words_of}
 use Rattle.ob0_edits.specs.Words.{word_lexeme}
-use Rattle.ob0_tree.specs.Lexeme.{Lexeme, EndOfText}
+use Rattle.ob0_tree.specs.Lexeme.{Terminal, EndOfText}
 use Rattle.ob0_scan.specs.Scanned.{Scanned, read_in}
 use Rattle.ob0_tree.specs.Module.{text_lexemes}
 use Rattle.ob0_tree.specs.Parsed.{Parsed, IsParsed, named_tree_of}
@@ -25,7 +25,7 @@ shallow_where_parsed s t spelled m source parsed =
 -- and where none begins with its tokens up to one of them the tree is deeper
 pub deep_where_refused : (s : Scanned) (t : Tree (List ℕ) module_text) → text_lexemes s ≡ spell t → (i : ℕ) → NoneBegins s i → nesting t ≤ 100 → ⊥
 deep_where_refused s t spelled i none low =
-    let all : List (Lexeme (List ℕ)) = text_lexemes s ++ (EndOfText ∷ []) in
+    let all : List (Terminal (List ℕ)) = text_lexemes s ++ (EndOfText ∷ []) in
     none t (drop (i + 1) all) low (ap (λ xs. xs ++ (EndOfText ∷ [])) (sym spelled) ∙ sym (take-append-drop (i + 1) all))
 
 pub shallow_is : (n : ℕ) → n ≤ 100 → true ≡ nat_le n 100

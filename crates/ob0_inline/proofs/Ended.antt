@@ -8,7 +8,7 @@ use Rattle.ob0_scan.specs.declared.lexeme.TokenKind.{TokenKind}
 use Rattle.ob0_scan.specs.declared.lexeme.TokenKind.TheVariants as kind
 use Rattle.ob0_scan.specs.Scanned.{Scanned, read_in}
 use Rattle.ob0_tree.specs.declared.tree.Role.TheVariants as role
-use Rattle.ob0_tree.specs.Lexeme.{Lexeme, Mark}
+use Rattle.ob0_tree.specs.Lexeme.{Terminal, Mark}
 use Rattle.ob0_tree.specs.Lexeme as lexeme
 use Rattle.ob0_tree.specs.Parsed.{Parsed, named_tree_of, tree_of}
 use Rattle.ob0_tree.specs.Places.{lexeme_of}
@@ -30,9 +30,9 @@ use Rattle.ob0_scope_rules.proofs.Peeling.{heads}
 use Rattle.ob0_types_rules.specs.ConstantValues.{value_of_constant}
 use Rattle.ob0_values.specs.Scalars.{scalar_value}
 use Rattle.ob0_values.specs.Values.{Value}
-use Rattle.ob0_inline.specs.declared.constants.Constant.{Constant}
+use Rattle.ob0_inline.specs.declared.constants.NamedConstant.{NamedConstant}
 use Rattle.ob0_inline.specs.Declarations.{is_semicolon}
-use Rattle.ob0_inline.specs.Everywhere.{IsConstant, StandsAlone, inlined_all, uses_of}
+use Rattle.ob0_inline.specs.Everywhere.{IsConstant, IsAlone, inlined_all, uses_of}
 use Rattle.ob0_inline.specs.Values.{value_factor, value_words}
 use Rattle.ob0_inline.proofs.EverywhereAt.{bound_tokens, late_here, uses_are_names, words_everywhere}
 use Rattle.ob0_inline.proofs.ModuleTexts.{spelled_by_words, value_spelled}
@@ -74,19 +74,19 @@ as_many_bindings r is =
 
 -- the first `;` among tokens
 
-not_end : (k : ℕ) (q : TokenKind) (x : Lexeme ℕ) (xs : List (Lexeme ℕ)) → lexeme_of k q ≡ x → NoEnd (x ∷ xs) → is_semicolon q ≡ false
+not_end : (k : ℕ) (q : TokenKind) (x : Terminal ℕ) (xs : List (Terminal ℕ)) → lexeme_of k q ≡ x → NoEnd (x ∷ xs) → is_semicolon q ≡ false
 not_end k kind.Identifier x xs e n = refl
 not_end k (kind.Reserved r) x xs e n = refl
 not_end k (kind.Integer v) x xs e n = refl
 not_end k (kind.Symbol s) x xs e n = (subst (λ y. NoEnd (y ∷ xs)) (sym e) n).0
 
-others_no_end : (x : Lexeme ℕ) (xs : List (Lexeme ℕ)) → NoEnd (x ∷ xs) → NoEnd xs
+others_no_end : (x : Terminal ℕ) (xs : List (Terminal ℕ)) → NoEnd (x ∷ xs) → NoEnd xs
 others_no_end (Mark k) xs n = n.1
 others_no_end (lexeme.Name i) xs n = n
 others_no_end (lexeme.Number i) xs n = n
 others_no_end lexeme.EndOfText xs n = n
 
-first_end : (text : List ℕ) (k j : ℕ) (ts : List Token) (xs ys : List (Lexeme ℕ)) → placed k (map (read_in text) ts) ≡ xs ++ (Mark (kind.Symbol symbol.Semicolon) ∷ ys) → NoEnd xs
+first_end : (text : List ℕ) (k j : ℕ) (ts : List Token) (xs ys : List (Terminal ℕ)) → placed k (map (read_in text) ts) ≡ xs ++ (Mark (kind.Symbol symbol.Semicolon) ∷ ys) → NoEnd xs
     → position_from (λ t. is_semicolon t.kind) j ts ≡ Some (j + length xs)
 first_end text k j [] [] ys e n = absurd (cc)
 first_end text k j [] (x ∷ xs) ys e n = absurd (cc)
@@ -98,7 +98,7 @@ first_end text k j (t ∷ ts) (x ∷ xs) ys e n =
     ∙ (first_end text (suc k) (j + 1) ts xs ys (heads e).1 (others_no_end x xs n) ∙ ap Some (let z : j + 1 + length xs ≡ j + suc (length xs) = omega arith in z))
 
 -- tokens without those before it
-behind_front : (text : List ℕ) (k : ℕ) (ts : List Token) (front rest : List (Lexeme ℕ)) → placed k (map (read_in text) ts) ≡ front ++ rest → placed (k + length front) (map (read_in text) (drop (length front) ts)) ≡ rest
+behind_front : (text : List ℕ) (k : ℕ) (ts : List Token) (front rest : List (Terminal ℕ)) → placed k (map (read_in text) ts) ≡ front ++ rest → placed (k + length front) (map (read_in text) (drop (length front) ts)) ≡ rest
 behind_front text k ts [] rest e = ap (λ n. placed n (map (read_in text) ts)) (let z : k + 0 ≡ k = omega arith in z) ∙ e
 behind_front text k [] (x ∷ front) rest e = absurd (cc)
 behind_front text k (t ∷ ts) (x ∷ front) rest e =
@@ -114,7 +114,7 @@ token_of : (labels : List ℕ) (d place : ℕ) → d ≡ 7 + place → token_dec
 token_of labels d place e =
     ap (λ b. if b then None else slice_get labels (d - 7)) (le-ltb d 7 (omega (arith, e))) ∙ ap (slice_get labels) (let z : d - 7 ≡ place = omega (arith, e) in z)
 
-module _ (m : Parsed) (d : ℕ) (left : List (Lexeme ℕ)) (t : Taken d 7 (block_declares (module_block (tree_of m))) (placed 0 (words_of m.source)) left) where
+module _ (m : Parsed) (d : ℕ) (left : List (Terminal ℕ)) (t : Taken d 7 (block_declares (module_block (tree_of m))) (placed 0 (words_of m.source)) left) where
   pub begins_there : token_declaring (declaring_only (identifiers role.Declaring (tree_of m))) d ≡ Some (first_token t)
   begins_there =
       let labels = block_declares (module_block (tree_of m)) in
@@ -123,12 +123,12 @@ module _ (m : Parsed) (d : ℕ) (left : List (Lexeme ℕ)) (t : Taken d 7 (block
 
   pub ends_there : position_from (λ x. is_semicolon x.kind) (first_token t) (drop (first_token t) m.source.tokens) ≡ Some (last_token t)
   ends_there =
-      let front : List (Lexeme ℕ) = t.before ++ (Mark t.border ∷ []) in
-      let inner : List (Lexeme ℕ) = lexeme.Name t.name ∷ Mark (kind.Symbol symbol.Equal) ∷ t.right in
-      let declaration : List (Lexeme ℕ) = lexeme.Name t.name ∷ Mark (kind.Symbol symbol.Equal) ∷ (t.right ++ (Mark (kind.Symbol symbol.Semicolon) ∷ [])) in
+      let front : List (Terminal ℕ) = t.before ++ (Mark t.border ∷ []) in
+      let inner : List (Terminal ℕ) = lexeme.Name t.name ∷ Mark (kind.Symbol symbol.Equal) ∷ t.right in
+      let declaration : List (Terminal ℕ) = lexeme.Name t.name ∷ Mark (kind.Symbol symbol.Equal) ∷ (t.right ++ (Mark (kind.Symbol symbol.Semicolon) ∷ [])) in
       let there = behind_front m.source.text 0 m.source.tokens front (declaration ++ t.after) t.whole_is in
       let regrouped : declaration ++ t.after ≡ inner ++ (Mark (kind.Symbol symbol.Semicolon) ∷ t.after) =
-      ap (λ (l : List (Lexeme ℕ)). lexeme.Name t.name ∷ Mark (kind.Symbol symbol.Equal) ∷ l) (append_assoc t.right (Mark (kind.Symbol symbol.Semicolon) ∷ []) t.after) in
+      ap (λ (l : List (Terminal ℕ)). lexeme.Name t.name ∷ Mark (kind.Symbol symbol.Equal) ∷ l) (append_assoc t.right (Mark (kind.Symbol symbol.Semicolon) ∷ []) t.after) in
       first_end m.source.text (0 + length front) (first_token t) (drop (length front) m.source.tokens) inner t.after (there ∙ regrouped) (refl, t.no_end)
       ∙ ap Some (let z : length front + suc (suc (length t.right)) ≡ length front + (2 + length t.right) = omega arith in z)
 
@@ -168,7 +168,7 @@ module _ (r : Resolution) (is : IsResolution r) (d : ℕ) (w : Value) (worth : v
       subst (AreNames r.module_read.source.tokens (suc end_token)) (uses_by_table r is d)
       (uses_are_names r is d w worth spelled declaration_at.inside)
 
-module _ (r : Resolution) (is : IsResolution r) (c : Constant) (constant : IsConstant r.module_read c) where
+module _ (r : Resolution) (is : IsResolution r) (c : NamedConstant) (constant : IsConstant r.module_read c) where
   first_is : name_token r is c.ordinal (scalar_value c.value) constant.worth ≡ c.first
   first_is = inside (sym (begins_at r is c.ordinal (scalar_value c.value) constant.worth) ∙ constant.begins)
 
@@ -187,7 +187,7 @@ module _ (r : Resolution) (is : IsResolution r) (c : Constant) (constant : IsCon
   are_uses = subst (λ n. AreNames r.module_read.source.tokens (suc n) (uses_of r.module_read c.ordinal)) last_is (names_at r is c.ordinal (scalar_value c.value) constant.worth)
 
   -- the words that are left spell the inlined module
-  pub left_spelled : StandsAlone r.module_read c.ordinal
+  pub left_spelled : IsAlone r.module_read c.ordinal
       → map word_lexeme (changed (without c.first c.last (at_each (uses_of r.module_read c.ordinal) (value_words c.value))) 0 (words_of r.module_read.source)) ≡ spell (inlined_all r.module_read c)
   left_spelled alone =
       let m = r.module_read in

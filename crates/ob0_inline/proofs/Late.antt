@@ -7,7 +7,7 @@ use Rattle.ob0_scan.specs.declared.lexeme.TokenKind.{TokenKind}
 use Rattle.ob0_scan.specs.declared.lexeme.TokenKind.TheVariants as kind
 use Rattle.ob0_tree.specs.declared.tree.Role.{Role}
 use Rattle.ob0_tree.specs.declared.tree.Role.TheVariants as role
-use Rattle.ob0_tree.specs.Lexeme.{Lexeme, Mark}
+use Rattle.ob0_tree.specs.Lexeme.{Terminal, Mark}
 use Rattle.ob0_tree.specs.Lexeme as lexeme
 use Rattle.ob0_tree.specs.Order.{names_only}
 use Rattle.ob0_tree.specs.Tree.{Sort, Tree, factor, block, body, constant, constants, declares, declares_constant, declares_constants, declares_procedure, end, formals, has_body, identifiers, is_module, item, items, maybe, module_text, more, none, occurrences, one, procedure, spell, type_names, variables}
@@ -77,7 +77,7 @@ occurrences_in t =
 
 -- A declaration taken out, and the occurrences with what they are bound to: those up to its end are bound to what was
 -- declared before it, and the others follow it.
-pub record Late (d k : ℕ) (labels : List ℕ) (whole left : List (Lexeme ℕ)) (occ : List ℕ) (bound : List (Option ℕ)) : Type 0 where
+pub record Late (d k : ℕ) (labels : List ℕ) (whole left : List (Terminal ℕ)) (occ : List ℕ) (bound : List (Option ℕ)) : Type 0 where
   pub taken : Taken d k labels whole left
   pub front : List ℕ
   pub behind : List ℕ
@@ -90,7 +90,7 @@ pub record Late (d k : ℕ) (labels : List ℕ) (whole left : List (Lexeme ℕ))
   pub among : AllIn behind (lexeme_names taken.after)
 
 -- the same tokens
-pub late_move : (d k : ℕ) (labels : List ℕ) (w w' l l' : List (Lexeme ℕ)) (occ : List ℕ) (bound : List (Option ℕ)) → w' ≡ w → l' ≡ l → Late d k labels w l occ bound → Late d k labels w' l' occ bound
+pub late_move : (d k : ℕ) (labels : List ℕ) (w w' l l' : List (Terminal ℕ)) (occ : List ℕ) (bound : List (Option ℕ)) → w' ≡ w → l' ≡ l → Late d k labels w l occ bound → Late d k labels w' l' occ bound
 late_move d k labels w w' l l' occ bound e f h =
     let t = h.taken in
     record {
@@ -107,7 +107,7 @@ late_move d k labels w w' l l' occ bound e f h =
     }
 
 -- among more declarations
-late_among : (d j k : ℕ) (labels others : List ℕ) (w l : List (Lexeme ℕ)) (occ : List ℕ) (bound : List (Option ℕ)) (h : Late d k labels w l occ bound) (place : ℕ) → d ≡ j + place → slice_get others place ≡ slice_get labels h.taken.place
+late_among : (d j k : ℕ) (labels others : List ℕ) (w l : List (Terminal ℕ)) (occ : List ℕ) (bound : List (Option ℕ)) (h : Late d k labels w l occ bound) (place : ℕ) → d ≡ j + place → slice_get others place ≡ slice_get labels h.taken.place
     → Late d j others w l occ bound
 late_among d j k labels others w l occ bound h place e g = record {
   taken = among_others d j k labels others w l h.taken place e g;
@@ -123,7 +123,7 @@ late_among d j k labels others w l occ bound h place e g = record {
 }
 
 -- after other tokens, and other occurrences
-late_before : (d k : ℕ) (labels : List ℕ) (zs w l : List (Lexeme ℕ)) (zo occ : List ℕ) (zb bound : List (Option ℕ)) → length zb ≡ length zo → AllLow d zb → Late d k labels w l occ bound
+late_before : (d k : ℕ) (labels : List ℕ) (zs w l : List (Terminal ℕ)) (zo occ : List ℕ) (zb bound : List (Option ℕ)) → length zb ≡ length zo → AllLow d zb → Late d k labels w l occ bound
     → Late d k labels (zs ++ w) (zs ++ l) (zo ++ occ) (zb ++ bound)
 late_before d k labels zs w l zo occ zb bound n g h = record {
   taken = put_before d k labels zs w l h.taken;
@@ -139,7 +139,7 @@ late_before d k labels zs w l zo occ zb bound n g h = record {
 }
 
 -- before others
-late_behind : (d k : ℕ) (labels : List ℕ) (w l zs : List (Lexeme ℕ)) (occ zo : List ℕ) (bound zb : List (Option ℕ)) → AllIn zo (lexeme_names zs) → Late d k labels w l occ bound
+late_behind : (d k : ℕ) (labels : List ℕ) (w l zs : List (Terminal ℕ)) (occ zo : List ℕ) (bound zb : List (Option ℕ)) → AllIn zo (lexeme_names zs) → Late d k labels w l occ bound
     → Late d k labels (w ++ zs) (l ++ zs) (occ ++ zo) (bound ++ zb)
 late_behind d k labels w l zs occ zo bound zb g h = record {
   taken = put_behind d k labels w l zs h.taken;
@@ -155,12 +155,12 @@ late_behind d k labels w l zs occ zo bound zb g h = record {
       (all_joined h.behind zo (lexeme_names h.taken.after ++ lexeme_names zs) (all_first h.behind (lexeme_names h.taken.after) (lexeme_names zs) h.among) (all_second zo (lexeme_names h.taken.after) (lexeme_names zs) g));
 }
 
-late_suffix : {s : Sort} (d k : ℕ) (labels : List ℕ) (w l : List (Lexeme ℕ)) (z : Tree ℕ s) (occ : List ℕ) (bound zb : List (Option ℕ)) → Late d k labels w l occ bound
+late_suffix : {s : Sort} (d k : ℕ) (labels : List ℕ) (w l : List (Terminal ℕ)) (z : Tree ℕ s) (occ : List ℕ) (bound zb : List (Option ℕ)) → Late d k labels w l occ bound
     → Late d k labels (w ++ spell z) (l ++ spell z) (occ ++ occurrences z) (bound ++ zb)
 late_suffix d k labels w l z occ bound zb h = late_behind d k labels w l (spell z) occ (occurrences z) bound zb (occurrences_in z) h
 
 module _ (c : ℕ → Option (Tree Name factor)) (f : ℕ → Name) (g : ℕ → ℕ) (d : ℕ) (w : Value) (as_many : (s : Sort) (t : Tree ℕ s) → length (occurrences (inlined c f g t)) ≡ length (occurrences t)) where
-  late_constants : (known : Known) (scope : Scope Name) (k : ℕ) (cs : Tree ℕ (items constant)) (front : List (Lexeme ℕ)) (border : TokenKind)
+  late_constants : (known : Known) (scope : Scope Name) (k : ℕ) (cs : Tree ℕ (items constant)) (front : List (Terminal ℕ)) (border : TokenKind)
       → (border ≡ kind.Reserved reserved.Const) ⊎ (border ≡ kind.Symbol symbol.Semicolon) → ScopeLow k scope → value_among known d k (inlined c f g cs) ≡ Some w
       → Late d k (constant_names cs) (front ++ (Mark border ∷ spell cs)) (front ++ (Mark border ∷ spell (gone_constants d k cs))) (occurrences cs) (occurrences (relabel_constants as_names forget scope k (inlined c f g cs)))
   unfolding value_among
@@ -208,11 +208,11 @@ module _ (c : ℕ → Option (Tree Name factor)) (f : ℕ → Name) (g : ℕ →
           → Late d k (x ∷ constant_names cs) (front ++ (Mark border ∷ spell (more (declares_constant x a) cs))) (front ++ (Mark border ∷ spell (gone_constants d k (more (declares_constant x a) cs))))
           (occurrences a ++ occurrences cs) (occurrences (relabel_uses as_names forget scope (inlined c f g a)) ++ occurrences (relabel_constants as_names forget ((f x, k) ∷ scope) (suc k) (inlined c f g cs)))
       there q r =
-          let moved = λ (l : List (Lexeme ℕ)). append_assoc front (Mark border ∷ lexeme.Name x ∷ Mark (kind.Symbol symbol.Equal) ∷ spell a) (Mark (kind.Symbol symbol.Semicolon) ∷ l)
+          let moved = λ (l : List (Terminal ℕ)). append_assoc front (Mark border ∷ lexeme.Name x ∷ Mark (kind.Symbol symbol.Equal) ∷ spell a) (Mark (kind.Symbol symbol.Semicolon) ∷ l)
           ∙ ap (λ z. front ++ (Mark border ∷ lexeme.Name x ∷ Mark (kind.Symbol symbol.Equal) ∷ z)) (sym (append_assoc (spell a) (Mark (kind.Symbol symbol.Semicolon) ∷ []) l)) in
-          let done : List (Lexeme ℕ) = front ++ (Mark border ∷ lexeme.Name x ∷ Mark (kind.Symbol symbol.Equal) ∷ spell a) in
-          let w1 : List (Lexeme ℕ) = done ++ (Mark (kind.Symbol symbol.Semicolon) ∷ spell cs) in
-          let l1 : List (Lexeme ℕ) = done ++ (Mark (kind.Symbol symbol.Semicolon) ∷ spell (gone_constants d (suc k) cs)) in
+          let done : List (Terminal ℕ) = front ++ (Mark border ∷ lexeme.Name x ∷ Mark (kind.Symbol symbol.Equal) ∷ spell a) in
+          let w1 : List (Terminal ℕ) = done ++ (Mark (kind.Symbol symbol.Semicolon) ∷ spell cs) in
+          let l1 : List (Terminal ℕ) = done ++ (Mark (kind.Symbol symbol.Semicolon) ∷ spell (gone_constants d (suc k) cs)) in
           let w2 = front ++ (Mark border ∷ spell (more (declares_constant x a) cs)) in
           let l2 = front ++ (Mark border ∷ spell (gone_constants d k (more (declares_constant x a) cs))) in
           let lb = occurrences (relabel_uses as_names forget scope (inlined c f g a)) in
@@ -250,7 +250,7 @@ module _ (c : ℕ → Option (Tree Name factor)) (f : ℕ → Name) (g : ℕ →
   late_section known scope k none below e = absurd (cc)
   late_section known scope k (one (declares_constants cs)) below e = late_constants known scope k cs [] (kind.Reserved reserved.Const) (inl refl) below e
 
-  joined_in : (is js : List ℕ) (xs ys : List (Lexeme ℕ)) → AllIn is (lexeme_names xs) → AllIn js (lexeme_names ys) → AllIn (is ++ js) (lexeme_names (xs ++ ys))
+  joined_in : (is js : List ℕ) (xs ys : List (Terminal ℕ)) → AllIn is (lexeme_names xs) → AllIn js (lexeme_names ys) → AllIn (is ++ js) (lexeme_names (xs ++ ys))
   joined_in is js xs ys h q =
       subst (AllIn (is ++ js)) (sym (lexeme_names-append xs ys)) (all_joined is js (lexeme_names xs ++ lexeme_names ys) (all_first is (lexeme_names xs) (lexeme_names ys) h) (all_second js (lexeme_names xs) (lexeme_names ys) q))
 
@@ -267,8 +267,8 @@ module _ (c : ℕ → Option (Tree Name factor)) (f : ℕ → Name) (g : ℕ →
       let kept = low_procedures d (first_procedure k b) ps (omega (arith, h, up2, up3)) in
       let there = late_among d k k (constant_names (section_constants cs)) labels (spell cs) (spell (gone_section d k cs)) (occurrences cs) lc t t.taken.place t.taken.ordinal_is
       (get_first (constant_names (section_constants cs)) (named_types (section_types ts) ++ (variable_names (section_variables vs) ++ procedures_declare ps)) t.taken.place t.taken.name t.taken.named_there) in
-      let rest : List (Lexeme ℕ) = spell ts ++ (spell vs ++ spell ps) in
-      let l1 : List (Lexeme ℕ) = (spell (gone_section d k cs) ++ rest) ++ spell statements in
+      let rest : List (Terminal ℕ) = spell ts ++ (spell vs ++ spell ps) in
+      let l1 : List (Terminal ℕ) = (spell (gone_section d k cs) ++ rest) ++ spell statements in
       late_move d k labels (spell b) (spell b) l1 (spell (gone_block d k b)) (occurrences b) ((lc ++ rest_bound) ++ ls) refl
       (ap (λ (qs : Tree ℕ (items procedure)). (spell (gone_section d k cs) ++ (spell ts ++ (spell vs ++ spell qs))) ++ spell statements) kept)
       (late_suffix d k labels (spell cs ++ rest) (spell (gone_section d k cs) ++ rest) statements (occurrences cs ++ (occurrences ts ++ (occurrences vs ++ occurrences ps))) (lc ++ rest_bound) ls
@@ -293,7 +293,7 @@ module _ (c : ℕ → Option (Tree Name factor)) (f : ℕ → Name) (g : ℕ →
       let e3 = names_counted (after_names (after_names k xs) ys) zs in
       let there = late_among d k (first_procedure k b) (procedures_declare ps) labels (spell ps) left (occurrences ps) lp t (length xs + (length ys + (length zs + t.taken.place))) (omega (arith, t.taken.ordinal_is, e1, e2, e3))
       (get_later xs (ys ++ (zs ++ procedures_declare ps)) (length ys + (length zs + t.taken.place)) ∙ (get_later ys (zs ++ procedures_declare ps) (length zs + t.taken.place) ∙ get_later zs (procedures_declare ps) t.taken.place)) in
-      let l1 : List (Lexeme ℕ) = (spell cs ++ (spell ts ++ (spell vs ++ left))) ++ spell statements in
+      let l1 : List (Terminal ℕ) = (spell cs ++ (spell ts ++ (spell vs ++ left))) ++ spell statements in
       late_move d k labels (spell b) (spell b) l1 (spell (gone_block d k b)) (occurrences b) ((lc ++ (lt ++ (lv ++ lp))) ++ ls) refl
       (ap (λ (qs : Tree ℕ (maybe constants)). (spell qs ++ (spell ts ++ (spell vs ++ left))) ++ spell statements) (high_section d k cs h))
       (late_suffix d k labels (spell cs ++ (spell ts ++ (spell vs ++ spell ps))) (spell cs ++ (spell ts ++ (spell vs ++ left))) statements (occurrences cs ++ (occurrences ts ++ (occurrences vs ++ occurrences ps))) (lc ++ (lt ++ (lv ++ lp))) ls
@@ -333,7 +333,7 @@ module _ (c : ℕ → Option (Tree Name factor)) (f : ℕ → Name) (g : ℕ →
       let xs = formal_names (formal_sections fs) in
       let labels = xs ++ block_declares b in
       let left = spell (gone_block d (after_names k xs) b) in
-      let tail : List (Lexeme ℕ) = Mark (kind.Reserved reserved.End) ∷ lexeme.Name closing ∷ (Mark (kind.Symbol symbol.Semicolon) ∷ []) in
+      let tail : List (Terminal ℕ) = Mark (kind.Reserved reserved.End) ∷ lexeme.Name closing ∷ (Mark (kind.Symbol symbol.Semicolon) ∷ []) in
       let count = names_counted k xs in
       let there = late_among d k (after_names k xs) (block_declares b) labels (spell b) left (occurrences b) lb t (length xs + t.taken.place) (omega (arith, t.taken.ordinal_is, count)) (get_later xs (block_declares b) t.taken.place) in
       let ended : Late d k labels (spell b ++ tail) (left ++ tail) (occurrences b ++ []) (lb ++ []) = late_behind d k labels (spell b) left tail (occurrences b) [] lb [] tt there in
@@ -451,7 +451,7 @@ module _ (c : ℕ → Option (Tree Name factor)) (f : ℕ → Name) (g : ℕ →
   late_module (is_module x b closing) e =
       let labels = block_declares b in
       let left = spell (gone_block d 7 b) in
-      let tail : List (Lexeme ℕ) = Mark (kind.Reserved reserved.End) ∷ lexeme.Name closing ∷ (Mark (kind.Symbol symbol.Dot) ∷ []) in
+      let tail : List (Terminal ℕ) = Mark (kind.Reserved reserved.End) ∷ lexeme.Name closing ∷ (Mark (kind.Symbol symbol.Dot) ∷ []) in
       let lb = occurrences (relabel_block as_names forget (predeclared_scope as_names) 7 (inlined c f g b)) in
       let seven : ScopeLow 7 (predeclared_scope as_names) = (omega arith, (omega arith, (omega arith, (omega arith, (omega arith, (omega arith, (omega arith, tt))))))) in
       elim (nat_lt d 7) as (λ y. (if y then None else value_in_block predeclared_known d 7 (inlined c f g b)) ≡ Some w

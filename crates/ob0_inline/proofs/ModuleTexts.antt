@@ -4,7 +4,7 @@ use Rattle.std.proofs.lemmas.List.{append_cancel_right}
 use Rattle.ob0_scan.specs.declared.lexeme.Token.{Token}
 use Rattle.ob0_scan.specs.Scanned.{Word, read_in}
 use Rattle.ob0_text.specs.declared.edits.Edit.{Edit}
-use Rattle.ob0_text.specs.declared.positions.Unit as counting
+use Rattle.ob0_text.specs.declared.position_types.Unit as counting
 use Rattle.ob0_tree.specs.Lexeme.{EndOfText}
 use Rattle.ob0_tree.specs.Parsed.{Parsed, IsParsed, tree_of}
 use Rattle.ob0_tree.specs.Places.{lexeme_of, lexemes_from}
@@ -17,7 +17,7 @@ use Rattle.ob0_edits.proofs.Factors.{number_spelled, truth_spelled}
 use Rattle.ob0_edits.proofs.OfTrees.{inlined_words_spell}
 use Rattle.ob0_values.specs.declared.scalar.Scalar.{Scalar}
 use Rattle.ob0_values.specs.declared.scalar.Scalar.TheVariants as scalar
-use Rattle.ob0_inline.specs.Inlined.{LeavesModule, StandAlone, inlined_at}
+use Rattle.ob0_inline.specs.Inlined.{LeavesModule, AreAlone, inlined_at}
 use Rattle.ob0_inline.specs.Values.{value_factor, value_words}
 use Rattle.ob0_inline.proofs.Depths.{lexemes_of_words}
 
@@ -36,7 +36,7 @@ pub value_spelled : (value : Scalar) → map word_lexeme (value_words value) ≡
 value_spelled (scalar.Number n) = number_spelled n
 value_spelled (scalar.Truth b) = truth_spelled b
 
-pub inlined_spelled : (m : Parsed) → IsParsed m → (places : List ℕ) → AreNames m.source.tokens 0 places → (value : Scalar) → StandAlone m places value
+pub inlined_spelled : (m : Parsed) → IsParsed m → (places : List ℕ) → AreNames m.source.tokens 0 places → (value : Scalar) → AreAlone m places value
     → map word_lexeme (changed (at_each places (value_words value)) 0 (words_of m.source)) ≡ spell (inlined_at m places value)
 inlined_spelled m parsed places names value alone =
     inlined_words_spell m.source _ (tree_of m) places (value_factor value) (value_words value) names (spelled_by_words m parsed) alone (value_spelled value)

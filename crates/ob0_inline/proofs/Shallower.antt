@@ -12,7 +12,7 @@ use Rattle.ob0_scope_rules.specs.Resolution.{IsResolution, Resolution}
 use Rattle.ob0_scope_rules.specs.Scopes.{after_names, after_procedure, first_procedure}
 use Rattle.ob0_values.specs.declared.scalar.Scalar.{Scalar}
 use Rattle.ob0_values.specs.declared.scalar.Scalar.TheVariants as scalar
-use Rattle.ob0_inline.specs.declared.constants.Constant.{Constant}
+use Rattle.ob0_inline.specs.declared.constants.NamedConstant.{NamedConstant}
 use Rattle.ob0_inline.specs.Everywhere.{inlined_all}
 use Rattle.ob0_inline.specs.Inlined.{inlined_at}
 use Rattle.ob0_inline.specs.Values.{value_factor}
@@ -66,7 +66,7 @@ mutual
 module_low : {N : Type 0} (d : ℕ) (m : Tree N module_text) → nesting (gone_module d m) ≤ nesting m
 module_low d (is_module x b closing) = block_low d 7 b
 
-pub everywhere_shallow : (r : Resolution) → IsResolution r → (c : Constant) → nesting (inlined_all r.module_read c) ≤ nesting (tree_of r.module_read) + 1
+pub everywhere_shallow : (r : Resolution) → IsResolution r → (c : NamedConstant) → nesting (inlined_all r.module_read c) ≤ nesting (tree_of r.module_read) + 1
 everywhere_shallow r is c =
     let m = r.module_read in
     let gone : Tree ℕ module_text = gone_module c.ordinal (tree_of m) in

@@ -13,7 +13,7 @@ use Rattle.ob0_tree.specs.declared.tree.Relation.{Relation}
 use Rattle.ob0_tree.specs.declared.tree.Relation.TheVariants as relation
 use Rattle.ob0_tree.specs.declared.tree.Sign.{Sign}
 use Rattle.ob0_tree.specs.declared.tree.Sign.TheVariants as sign
-use Rattle.ob0_tree.specs.Lexeme.{Lexeme, Mark, add_mark, multiply_mark, relation_mark, sign_marks}
+use Rattle.ob0_tree.specs.Lexeme.{Terminal, Mark, add_mark, multiply_mark, relation_mark, sign_marks}
 use Rattle.ob0_tree.specs.Lexeme as lexeme
 use Rattle.ob0_tree.specs.Tree.{Sort, Tree, identifiers, addend, adds, compares, designator, expression, factor, field, index, integer, multiplier, multiplies, negation, parenthesised, product, relates, selector, simple, sum, term, block, constant, constants, declares, declares_constant, declares_constants, declares_procedure, declares_type, declares_types, declares_variable, declares_variables, end, formals, further_name, further_section, has_body, is_module, item, items, listed, maybe, module_text, more, names, no_formals, none, one, procedure, section, some_formals, spell, then_name, then_section, type_name, type_names, value_section, variable, variable_section, variables, body}
 use Rattle.ob0_edits.specs.Inlined.{ReplacesFactors, inlined}
@@ -176,7 +176,7 @@ is_end kind.Identifier = false
 is_end (kind.Reserved r) = false
 is_end (kind.Integer n) = false
 
-abbrev pub NoEnd : {N : Type 0} → List (Lexeme N) → Type 0
+abbrev pub NoEnd : {N : Type 0} → List (Terminal N) → Type 0
 NoEnd [] = Unit {0}
 NoEnd (Mark k ∷ xs) = (is_end k ≡ false) × NoEnd xs
 NoEnd (lexeme.Name n ∷ xs) = NoEnd xs
@@ -199,24 +199,24 @@ abbrev mutual
 
 -- A declaration is among the tokens of a whole, from a constant's name to its `;`, and not among those that are left.
 -- The constant has the ordinal d, where the first of these names has k.
-pub record Taken (d k : ℕ) (labels : List ℕ) (whole left : List (Lexeme ℕ)) : Type 0 where
+pub record Taken (d k : ℕ) (labels : List ℕ) (whole left : List (Terminal ℕ)) : Type 0 where
   pub place : ℕ
   pub ordinal_is : d ≡ k + place
-  pub before : List (Lexeme ℕ)
+  pub before : List (Terminal ℕ)
   pub border : TokenKind
   pub opens : (border ≡ kind.Reserved reserved.Const) ⊎ (border ≡ kind.Symbol symbol.Semicolon)
   pub name : ℕ
   pub named_there : slice_get labels place ≡ Some name
-  pub right : List (Lexeme ℕ)
+  pub right : List (Terminal ℕ)
   pub no_end : NoEnd right
-  pub after : List (Lexeme ℕ)
+  pub after : List (Terminal ℕ)
   pub whole_is : whole ≡ (before ++ (Mark border ∷ [])) ++ ((lexeme.Name name ∷ Mark (kind.Symbol symbol.Equal) ∷ (right ++ (Mark (kind.Symbol symbol.Semicolon) ∷ []))) ++ after)
   pub left_is : left ≡ (before ++ (Mark border ∷ [])) ++ after
 
-pub shifted : (zs b m y : List (Lexeme ℕ)) → zs ++ ((b ++ m) ++ y) ≡ ((zs ++ b) ++ m) ++ y
+pub shifted : (zs b m y : List (Terminal ℕ)) → zs ++ ((b ++ m) ++ y) ≡ ((zs ++ b) ++ m) ++ y
 shifted zs b m y = sym (append_assoc zs (b ++ m) y) ∙ ap (λ l. l ++ y) (sym (append_assoc zs b m))
 
-abbrev pub put_before : (d k : ℕ) (labels : List ℕ) (zs xs ys : List (Lexeme ℕ)) → Taken d k labels xs ys → Taken d k labels (zs ++ xs) (zs ++ ys)
+abbrev pub put_before : (d k : ℕ) (labels : List ℕ) (zs xs ys : List (Terminal ℕ)) → Taken d k labels xs ys → Taken d k labels (zs ++ xs) (zs ++ ys)
 put_before d k labels zs xs ys t = record {
   place = t.place;
   ordinal_is = t.ordinal_is;
@@ -233,10 +233,10 @@ put_before d k labels zs xs ys t = record {
   left_is = ap (λ l. zs ++ l) t.left_is ∙ shifted zs t.before (Mark t.border ∷ []) t.after;
 }
 
-abbrev pub put_behind : (d k : ℕ) (labels : List ℕ) (xs ys zs : List (Lexeme ℕ)) → Taken d k labels xs ys → Taken d k labels (xs ++ zs) (ys ++ zs)
+abbrev pub put_behind : (d k : ℕ) (labels : List ℕ) (xs ys zs : List (Terminal ℕ)) → Taken d k labels xs ys → Taken d k labels (xs ++ zs) (ys ++ zs)
 put_behind d k labels xs ys zs t =
     let front = t.before ++ (Mark t.border ∷ []) in
-    let whole : List (Lexeme ℕ) = lexeme.Name t.name ∷ Mark (kind.Symbol symbol.Equal) ∷ (t.right ++ (Mark (kind.Symbol symbol.Semicolon) ∷ [])) in
+    let whole : List (Terminal ℕ) = lexeme.Name t.name ∷ Mark (kind.Symbol symbol.Equal) ∷ (t.right ++ (Mark (kind.Symbol symbol.Semicolon) ∷ [])) in
     record {
       place = t.place;
       ordinal_is = t.ordinal_is;
@@ -253,7 +253,7 @@ put_behind d k labels xs ys zs t =
     }
 
 -- the same among more names
-abbrev pub among_others : (d j k : ℕ) (labels others : List ℕ) (xs ys : List (Lexeme ℕ)) (t : Taken d k labels xs ys) (place : ℕ) → d ≡ j + place → slice_get others place ≡ slice_get labels t.place → Taken d j others xs ys
+abbrev pub among_others : (d j k : ℕ) (labels others : List ℕ) (xs ys : List (Terminal ℕ)) (t : Taken d k labels xs ys) (place : ℕ) → d ≡ j + place → slice_get others place ≡ slice_get labels t.place → Taken d j others xs ys
 among_others d j k labels others xs ys t place e h = record {
   place = place;
   ordinal_is = e;
@@ -362,7 +362,7 @@ mutual
   high_procedure d k (declares_procedure x fs b closing) h = λ i. declares_procedure x fs (high_block d (after_names k (formal_names (formal_sections fs))) b h i) closing
 
 -- an expression has no `;`
-no_end_append : {N : Type 0} (xs ys : List (Lexeme N)) → NoEnd xs → NoEnd ys → NoEnd (xs ++ ys)
+no_end_append : {N : Type 0} (xs ys : List (Terminal N)) → NoEnd xs → NoEnd ys → NoEnd (xs ++ ys)
 no_end_append [] ys p q = q
 no_end_append (Mark k ∷ xs) ys p q = (p.0, no_end_append xs ys p.1 q)
 no_end_append (lexeme.Name n ∷ xs) ys p q = no_end_append xs ys p q
@@ -430,7 +430,7 @@ pub gone_here : (d k : ℕ) (c : Tree ℕ (item constant)) (cs : Tree ℕ (items
 gone_here d k c cs b e = ap (λ v. if v then cs else more c (gone_constants d (suc k) cs)) e
 
 module _ (c : ℕ → Option (Tree Name factor)) (f : ℕ → Name) (g : ℕ → ℕ) (d : ℕ) (w : Value) where
-  taken_constants : (known : Known) (k : ℕ) (cs : Tree ℕ (items constant)) (front : List (Lexeme ℕ)) (border : TokenKind)
+  taken_constants : (known : Known) (k : ℕ) (cs : Tree ℕ (items constant)) (front : List (Terminal ℕ)) (border : TokenKind)
       → (border ≡ kind.Reserved reserved.Const) ⊎ (border ≡ kind.Symbol symbol.Semicolon) → value_among known d k (inlined c f g cs) ≡ Some w
       → Taken d k (constant_names cs) (front ++ (Mark border ∷ spell cs)) (front ++ (Mark border ∷ spell (gone_constants d k cs)))
   unfolding value_among
@@ -460,7 +460,7 @@ module _ (c : ℕ → Option (Tree Name factor)) (f : ℕ → Name) (g : ℕ →
           ((front ++ (Mark border ∷ lexeme.Name x ∷ Mark (kind.Symbol symbol.Equal) ∷ spell a)) ++ (Mark (kind.Symbol symbol.Semicolon) ∷ spell (gone_constants d (suc k) cs)))
           → Taken d k (x ∷ constant_names cs) (front ++ (Mark border ∷ spell (more (declares_constant x a) cs))) (front ++ (Mark border ∷ spell (gone_constants d k (more (declares_constant x a) cs))))
       there q t =
-          let moved = λ (l : List (Lexeme ℕ)). append_assoc front (Mark border ∷ lexeme.Name x ∷ Mark (kind.Symbol symbol.Equal) ∷ spell a) (Mark (kind.Symbol symbol.Semicolon) ∷ l)
+          let moved = λ (l : List (Terminal ℕ)). append_assoc front (Mark border ∷ lexeme.Name x ∷ Mark (kind.Symbol symbol.Equal) ∷ spell a) (Mark (kind.Symbol symbol.Semicolon) ∷ l)
           ∙ ap (λ z. front ++ (Mark border ∷ lexeme.Name x ∷ Mark (kind.Symbol symbol.Equal) ∷ z)) (sym (append_assoc (spell a) (Mark (kind.Symbol symbol.Semicolon) ∷ []) l)) in
           record {
             place = suc t.place;
@@ -564,7 +564,7 @@ module _ (c : ℕ → Option (Tree Name factor)) (f : ℕ → Name) (g : ℕ →
       let xs = formal_names (formal_sections fs) in
       let labels = xs ++ block_declares b in
       let left = spell (gone_block d (after_names k xs) b) in
-      let tail : List (Lexeme ℕ) = Mark (kind.Reserved reserved.End) ∷ lexeme.Name closing ∷ (Mark (kind.Symbol symbol.Semicolon) ∷ []) in
+      let tail : List (Terminal ℕ) = Mark (kind.Reserved reserved.End) ∷ lexeme.Name closing ∷ (Mark (kind.Symbol symbol.Semicolon) ∷ []) in
       let count = names_counted k xs in
       let there = among_others d k (after_names k xs) (block_declares b) labels (spell b) left t (length xs + t.place) (omega (arith, t.ordinal_is, count)) (get_later xs (block_declares b) t.place) in
       put_before d k labels (Mark (kind.Reserved reserved.Procedure) ∷ lexeme.Name x ∷ []) (spell fs ++ (Mark (kind.Symbol symbol.Semicolon) ∷ (spell b ++ tail))) (spell fs ++ (Mark (kind.Symbol symbol.Semicolon) ∷ (left ++ tail)))
@@ -635,7 +635,7 @@ module _ (c : ℕ → Option (Tree Name factor)) (f : ℕ → Name) (g : ℕ →
   unfolding value_of_constant
   taken_module (is_module x b closing) e =
       let left = spell (gone_block d 7 b) in
-      let tail : List (Lexeme ℕ) = Mark (kind.Reserved reserved.End) ∷ lexeme.Name closing ∷ (Mark (kind.Symbol symbol.Dot) ∷ []) in
+      let tail : List (Terminal ℕ) = Mark (kind.Reserved reserved.End) ∷ lexeme.Name closing ∷ (Mark (kind.Symbol symbol.Dot) ∷ []) in
       put_before d 7 (block_declares b) (Mark (kind.Reserved reserved.Module) ∷ lexeme.Name x ∷ Mark (kind.Symbol symbol.Semicolon) ∷ []) (spell b ++ tail) (left ++ tail)
       (put_behind d 7 (block_declares b) (spell b) left tail
       (elim (nat_lt d 7) as (λ y. (if y then None else value_in_block predeclared_known d 7 (inlined c f g b)) ≡ Some w → Taken d 7 (block_declares b) (spell b) (spell (gone_block d 7 b)))

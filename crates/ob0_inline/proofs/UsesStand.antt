@@ -6,7 +6,7 @@ use Rattle.ob0_scan.specs.declared.lexeme.Token.{Token}
 use Rattle.ob0_scan.specs.Scanned.{read_in}
 use Rattle.ob0_tree.specs.declared.tree.Role.{Role}
 use Rattle.ob0_tree.specs.declared.tree.Role.TheVariants as role
-use Rattle.ob0_tree.specs.Order.{AreIdentifiers, Ascending, IsIdentifier, names_only}
+use Rattle.ob0_tree.specs.Order.{AreIdentifiers, Ascending, IsIdentifierToken, names_only}
 use Rattle.ob0_tree.specs.Parsed.{named_tree_of, tree_of}
 use Rattle.ob0_tree.specs.Places as leaf
 use Rattle.ob0_tree.specs.Tree.{Tree, factor, identifiers, occurrences}
@@ -70,9 +70,9 @@ uses_are_identifiers r is =
 pub inside : {a b : ℕ} → Some a ≡ Some b → a ≡ b
 inside {a} e = ap (λ (o : Option ℕ). elim o [ Some n ↦ n | None ↦ a ]) e
 
-pub one_identifier : (ts : List Token) (is : List ℕ) (k i : ℕ) → AreIdentifiers ts is → slice_get is k ≡ Some i → IsIdentifier ts i
+pub one_identifier : (ts : List Token) (is : List ℕ) (k i : ℕ) → AreIdentifiers ts is → slice_get is k ≡ Some i → IsIdentifierToken ts i
 one_identifier ts [] k i h e = absurd (cc)
-one_identifier ts (x ∷ is) zero i h e = subst (IsIdentifier ts) (inside e) h.0
+one_identifier ts (x ∷ is) zero i h e = subst (IsIdentifierToken ts) (inside e) h.0
 one_identifier ts (x ∷ is) (suc k) i h e = one_identifier ts is k i h.1 e
 
 -- the places are tokens of occurrences that are bound to d

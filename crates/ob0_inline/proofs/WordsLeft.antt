@@ -11,7 +11,7 @@ use Rattle.ob0_scan.specs.declared.lexeme.Token.{Token}
 use Rattle.ob0_scan.specs.declared.lexeme.TokenKind.{TokenKind}
 use Rattle.ob0_scan.specs.declared.lexeme.TokenKind.TheVariants as kind
 use Rattle.ob0_scan.specs.Scanned.{Scanned, Word, read_in}
-use Rattle.ob0_tree.specs.Lexeme.{Lexeme, Mark, kind_lexeme}
+use Rattle.ob0_tree.specs.Lexeme.{Terminal, Mark, kind_lexeme}
 use Rattle.ob0_tree.specs.Lexeme as lexeme
 use Rattle.ob0_tree.specs.Places.{lexeme_of, value_of}
 use Rattle.ob0_tree.specs.Tree.{Sort, Tree, factor, spell}
@@ -27,7 +27,7 @@ use Rattle.ob0_scope_rules.proofs.Peeling.{heads}
 use Rattle.ob0_inline.proofs.TakenOut.{Taken}
 
 -- words cut where their tokens are
-pub record Cut (k : ℕ) (ws : List Word) (front behind : List (Lexeme ℕ)) : Type 0 where
+pub record Cut (k : ℕ) (ws : List Word) (front behind : List (Terminal ℕ)) : Type 0 where
   pub first : List Word
   pub rest : List Word
   pub joined : ws ≡ first ++ rest
@@ -35,7 +35,7 @@ pub record Cut (k : ℕ) (ws : List Word) (front behind : List (Lexeme ℕ)) : T
   pub behind_is : placed (k + length first) rest ≡ behind
   pub count : length first ≡ length front
 
-pub cut_words : (k : ℕ) (ws : List Word) (front behind : List (Lexeme ℕ)) → placed k ws ≡ front ++ behind → Cut k ws front behind
+pub cut_words : (k : ℕ) (ws : List Word) (front behind : List (Terminal ℕ)) → placed k ws ≡ front ++ behind → Cut k ws front behind
 cut_words k ws [] behind e = record { first = []; rest = ws; joined = refl; front_is = refl; behind_is = ap (λ n. placed n ws) (let z : k + 0 ≡ k = omega arith in z) ∙ e; count = refl }
 cut_words k [] (l ∷ front) behind e = absurd (cc)
 cut_words k (w ∷ ws) (l ∷ front) behind e =
@@ -51,7 +51,7 @@ cut_words k (w ∷ ws) (l ∷ front) behind e =
     }
 
 -- the word at a token
-pub lexeme_at : (k : ℕ) (ws : List Word) (xs : List (Lexeme ℕ)) (l : Lexeme ℕ) (ys : List (Lexeme ℕ)) → placed k ws ≡ xs ++ (l ∷ ys) → (length xs < length ws) × (lexeme_of (k + length xs) (word_at ws (length xs)).kind ≡ l)
+pub lexeme_at : (k : ℕ) (ws : List Word) (xs : List (Terminal ℕ)) (l : Terminal ℕ) (ys : List (Terminal ℕ)) → placed k ws ≡ xs ++ (l ∷ ys) → (length xs < length ws) × (lexeme_of (k + length xs) (word_at ws (length xs)).kind ≡ l)
 lexeme_at k [] [] l ys e = absurd (cc)
 lexeme_at k [] (x ∷ xs) l ys e = absurd (cc)
 lexeme_at k (w ∷ ws) [] l ys e = (omega arith, ap (λ n. lexeme_of n w.kind) (let z : k + 0 ≡ k = omega arith in z) ∙ (heads e).0)
@@ -80,20 +80,20 @@ word_kind s k = of_list s.tokens k
     of_list (t ∷ ts) (suc k) = of_list ts k
 
 -- the first and the last token of a declaration
-abbrev pub first_token : {d k : ℕ} {labels : List ℕ} {whole left : List (Lexeme ℕ)} → Taken d k labels whole left → ℕ
+abbrev pub first_token : {d k : ℕ} {labels : List ℕ} {whole left : List (Terminal ℕ)} → Taken d k labels whole left → ℕ
 first_token t = length (t.before ++ (Mark t.border ∷ []))
 
-abbrev pub last_token : {d k : ℕ} {labels : List ℕ} {whole left : List (Lexeme ℕ)} → Taken d k labels whole left → ℕ
+abbrev pub last_token : {d k : ℕ} {labels : List ℕ} {whole left : List (Terminal ℕ)} → Taken d k labels whole left → ℕ
 last_token t = length (t.before ++ (Mark t.border ∷ [])) + (2 + length t.right)
 
-module _ (s : Scanned) (d k : ℕ) (labels : List ℕ) (left : List (Lexeme ℕ)) (t : Taken d k labels (placed 0 (words_of s)) left) where
-  abbrev front : List (Lexeme ℕ)
+module _ (s : Scanned) (d k : ℕ) (labels : List ℕ) (left : List (Terminal ℕ)) (t : Taken d k labels (placed 0 (words_of s)) left) where
+  abbrev front : List (Terminal ℕ)
   front = t.before ++ (Mark t.border ∷ [])
 
-  abbrev inner : List (Lexeme ℕ)
+  abbrev inner : List (Terminal ℕ)
   inner = lexeme.Name t.name ∷ Mark (kind.Symbol symbol.Equal) ∷ t.right
 
-  abbrev declaration : List (Lexeme ℕ)
+  abbrev declaration : List (Terminal ℕ)
   declaration = lexeme.Name t.name ∷ Mark (kind.Symbol symbol.Equal) ∷ (t.right ++ (Mark (kind.Symbol symbol.Semicolon) ∷ []))
 
   words_count : length (words_of s) ≡ length s.tokens
@@ -163,7 +163,7 @@ behind_last first last ch k (x ∷ xs) h =
     none false = refl
 
 -- a token that stays, where others give way
-same_with : (w : Word) (c : ℕ → Option (List (Lexeme (List ℕ)))) (f : ℕ → List ℕ) (g : ℕ → ℕ) (j : ℕ) → c j ≡ None → f j ≡ w.text → g j ≡ value_of w.kind
+same_with : (w : Word) (c : ℕ → Option (List (Terminal (List ℕ)))) (f : ℕ → List ℕ) (g : ℕ → ℕ) (j : ℕ) → c j ≡ None → f j ≡ w.text → g j ≡ value_of w.kind
     → token_with c f g (lexeme_of j w.kind) ≡ word_lexeme w ∷ []
 same_with w c f g j none e h = by_kind w.kind h
   where
@@ -182,7 +182,7 @@ names_at tokens least (p ∷ ps) k names e = by_test (k == p) refl e (names_at t
     by_test false h e later = later e
 
 module _ (s : Scanned) (least : ℕ) (places : List ℕ) (names : AreNames s.tokens least places) (v : Tree (List ℕ) factor) (vs : List Word) (same : map word_lexeme vs ≡ spell v) where
-  put : Lexeme ℕ → List (Lexeme (List ℕ))
+  put : Terminal ℕ → List (Terminal (List ℕ))
   put x = token_with (λ n. spelled (factor_at places v n)) (text_at (words_of s)) (number_at (words_of s)) x
 
   each_put : (j : ℕ) → put (lexeme_of j (word_at (words_of s) j).kind) ≡ map word_lexeme (or_itself (word_at (words_of s) j) (at_each places vs j))
@@ -211,7 +211,7 @@ module _ (s : Scanned) (least : ℕ) (places : List ℕ) (names : AreNames s.tok
       ap₂ (λ xs ys. xs ++ ys) this (part_put (suc k) (done ++ (w ∷ [])) ws rest (e ∙ sym (append_assoc done (w ∷ []) (ws ++ rest))) more_done)
       ∙ sym (map-append word_lexeme (or_itself w (at_each places vs k)) (changed (at_each places vs) (suc k) ws))
 
-  tokens_put : (xs : List (Lexeme ℕ)) → tokens_with (λ n. spelled (factor_at places v n)) (text_at (words_of s)) (number_at (words_of s)) xs ≡ flat_map put xs
+  tokens_put : (xs : List (Terminal ℕ)) → tokens_with (λ n. spelled (factor_at places v n)) (text_at (words_of s)) (number_at (words_of s)) xs ≡ flat_map put xs
   unfolding put
   tokens_put xs = refl
 
@@ -220,8 +220,8 @@ module _ (s : Scanned) (least : ℕ) (places : List ℕ) (names : AreNames s.tok
       → map word_lexeme (changed (without (first_token t) (last_token t) (at_each places vs)) 0 (words_of s))
       ≡ spell (inlined (factor_at places v) (text_at (words_of s)) (number_at (words_of s)) without_it)
   words_left d k labels without_it t factors =
-      let front : List (Lexeme ℕ) = t.before ++ (Mark t.border ∷ []) in
-      let declaration : List (Lexeme ℕ) = lexeme.Name t.name ∷ Mark (kind.Symbol symbol.Equal) ∷ (t.right ++ (Mark (kind.Symbol symbol.Semicolon) ∷ [])) in
+      let front : List (Terminal ℕ) = t.before ++ (Mark t.border ∷ []) in
+      let declaration : List (Terminal ℕ) = lexeme.Name t.name ∷ Mark (kind.Symbol symbol.Equal) ∷ (t.right ++ (Mark (kind.Symbol symbol.Semicolon) ∷ [])) in
       let first = first_token t in
       let last = last_token t in
       let ch : Changes = at_each places vs in

@@ -5,7 +5,7 @@ use Rattle.std.specs.List.{All, filter, list_any, position_from, range_with_len,
 use Rattle.std.specs.declared.alloc.Global.{Global}
 use Rattle.ob0_scan.specs.Scanned.{max_text}
 use Rattle.ob0_text.specs.declared.edits.Edit.{Edit}
-use Rattle.ob0_text.specs.declared.positions.Unit as counting
+use Rattle.ob0_text.specs.declared.position_types.Unit as counting
 use Rattle.ob0_text.specs.declared.refusals.EditRefusal.{EditRefusal}
 use Rattle.ob0_text.specs.declared.refusals.EditRefusal.TheVariants.{CommentInside, Memory, NoName, Shadowed, TooDeep, TooLong}
 use Rattle.ob0_text.specs.Units.{width_of}
@@ -23,24 +23,24 @@ use Rattle.ob0_scope_rules.specs.Resolution.{declaring_only, token_declaring}
 use Rattle.ob0_scope_rules.specs.Scopes.{numbered, same_ordinal}
 use Rattle.ob0_values.specs.Scalars.{scalar_value}
 use Rattle.ob0_scope.specs.declared.naming.Named as named
-use Rattle.ob0_scope.specs.Standing.{name_on}
+use Rattle.ob0_scope.specs.NamesAtPlaces.{name_on}
 use Rattle.ob0_types_rules.specs.ConstantValues.{value_of_constant}
 use Rattle.ob0_types_rules.specs.WellTyped.{WellTyped}
 use Rattle.ob0_run_rules.specs.EditLaws.{SameRuns}
-use Rattle.ob0_inline.specs.declared.constants.Constant.{Constant}
+use Rattle.ob0_inline.specs.declared.constants.NamedConstant.{NamedConstant}
 use Rattle.ob0_inline.specs.Declarations.{is_inside, is_semicolon}
 use Rattle.ob0_inline.specs.Inlined.{LeavesModule}
-use Rattle.ob0_inline.specs.Uses.{is_shown}
+use Rattle.ob0_inline.specs.Uses.{is_predeclared_truth}
 use Rattle.ob0_inline.specs.Values.{value_factor, value_text}
 
 -- A constant of a CONST section: its ordinal and value, the token that declares it, and the first `;` after that.
-pub record IsConstant (m : Parsed) (c : Constant) : Type 0 where
+pub record IsConstant (m : Parsed) (c : NamedConstant) : Type 0 where
   pub worth : value_of_constant (named_tree_of m) c.ordinal ≡ Some (scalar_value c.value)
   pub begins : token_declaring (declaring_only (identifiers role.Declaring (tree_of m))) c.ordinal ≡ Some c.first
   pub ends : position_from (λ t. is_semicolon t.kind) c.first (drop c.first m.source.tokens) ≡ Some c.last
 
 -- the place is on a name of this constant: the one that declares it, or a use
-pub record IsConstantAt (m : Parsed) (offset : ℕ) (c : Constant) : Type 0 where
+pub record IsConstantAt (m : Parsed) (offset : ℕ) (c : NamedConstant) : Type 0 where
   pub token : ℕ
   pub named : name_on m offset ≡ Some (record { token = token; ordinal = c.ordinal })
   pub is_constant : IsConstant m c
@@ -54,31 +54,31 @@ abbrev pub uses_of : Parsed → ℕ → List ℕ
 uses_of m d = map (λ u. u.0) (filter (λ u. same_label u.1 (declared d)) (zip (occurrences (tree_of m)) (bindings (named_tree_of m))))
 
 -- none of the names of d is elsewhere than alone as a factor
-abbrev pub StandsAlone : Parsed → ℕ → Type 0
-StandsAlone m d = All (λ l. l ≢ declared d) (names_elsewhere (numbered (named_tree_of m)))
+abbrev pub IsAlone : Parsed → ℕ → Type 0
+IsAlone m d = All (λ l. l ≢ declared d) (names_elsewhere (numbered (named_tree_of m)))
 
 -- the module with the value in place of all uses, without the declaration
-abbrev pub inlined_all : Parsed → Constant → Tree Name module_text
+abbrev pub inlined_all : Parsed → NamedConstant → Tree Name module_text
 inlined_all m c = inlined_everywhere (named_tree_of m) c.ordinal (value_factor c.value)
 
 -- the text of it
-abbrev pub text_without : Parsed → Constant → List ℕ
+abbrev pub text_without : Parsed → NamedConstant → List ℕ
 text_without m c = without_text m.source c.first c.last (uses_of m c.ordinal) (value_text c.value)
 
 -- an occurrence is a use, and TRUE or FALSE, where it would be written, isn't the predeclared one there
-abbrev pub is_hidden : Tree Name module_text → Constant → ℕ → Bool
-is_hidden m c k = same_ordinal (binds m k) c.ordinal && not (is_shown m k c.value)
+abbrev pub is_hidden : Tree Name module_text → NamedConstant → ℕ → Bool
+is_hidden m c k = same_ordinal (binds m k) c.ordinal && not (is_predeclared_truth m k c.value)
 
 -- at some use the word that would be written isn't the predeclared one
-abbrev pub any_hidden : Tree Name module_text → Constant → Bool
+abbrev pub any_hidden : Tree Name module_text → NamedConstant → Bool
 any_hidden m c = list_any (is_hidden m c) (range_with_len 0 (length (bindings m)))
 
 -- a comment is between the declaration's name and its `;`
-abbrev pub has_comment : Parsed → Constant → Bool
+abbrev pub has_comment : Parsed → NamedConstant → Bool
 has_comment m c = list_any (is_inside (span_over m.source.tokens c.first c.last)) m.source.comments
 
 -- the first of the refusals that apply to a constant; None where none applies
-abbrev pub refusal_everywhere : Parsed → Constant → Option EditRefusal
+abbrev pub refusal_everywhere : Parsed → NamedConstant → Option EditRefusal
 refusal_everywhere m c =
     if nat_lt max_text (length (text_without m c)) then Some TooLong
     else if nat_lt 100 (nesting (inlined_all m c)) then Some TooDeep
@@ -88,18 +88,18 @@ refusal_everywhere m c =
 
 -- These edits take the declaration out, from its name to its `;`, write the value in place of each use, and touch no
 -- other character. They leave the text of the inlined module, which is well-typed and has the same runs.
-pub record InlinesEverywhere (unit : counting.Unit) (text : List ℕ) (m : Parsed) (c : Constant) (edits : List Edit) : Type 0 where
+pub record InlinesEverywhere (unit : counting.Unit) (text : List ℕ) (m : Parsed) (c : NamedConstant) (edits : List Edit) : Type 0 where
   pub everywhere : map parts edits ≡ (range_of (width_of unit) text (span_over m.source.tokens c.first c.last), []) ∷ map (edit_at unit text m.source.tokens (value_text c.value)) (uses_of m c.ordinal)
   pub leaves : LeavesModule unit text edits (inlined_all m c)
   pub well_typed : WellTyped (inlined_all m c)
   pub same_runs : SameRuns (inlined_all m c) (named_tree_of m)
 
 -- The edits where nothing refuses a constant, else the first refusal; out of memory may be answered in place of either.
-abbrev pub AnswersConstant : counting.Unit → List ℕ → Parsed → Constant → Result (Vec Edit Global) EditRefusal → Type 0
+abbrev pub AnswersConstant : counting.Unit → List ℕ → Parsed → NamedConstant → Result (Vec Edit Global) EditRefusal → Type 0
 AnswersConstant unit text m c (Ok edits) = (refusal_everywhere m c ≡ None) × InlinesEverywhere unit text m c edits.items
 AnswersConstant unit text m c (Err refusal) = (refusal_everywhere m c ≡ Some refusal) ⊎ (refusal ≡ Memory)
 
 -- The answer at a place: that of the constant that it names, and NoName where it names none.
 abbrev pub AnswersEverywhere : counting.Unit → List ℕ → Parsed → ℕ → Result (Vec Edit Global) EditRefusal → Type 0
 AnswersEverywhere unit text m offset answer =
-    ((c : Constant) × IsConstantAt m offset c × AnswersConstant unit text m c answer) ⊎ ((answer ≡ Err NoName) × NoConstantAt m offset)
+    ((c : NamedConstant) × IsConstantAt m offset c × AnswersConstant unit text m c answer) ⊎ ((answer ≡ Err NoName) × NoConstantAt m offset)

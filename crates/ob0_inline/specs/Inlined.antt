@@ -4,7 +4,7 @@ use Rattle.std.specs.Prelude.{◌≡◌, ℕ, List, Some}
 use Rattle.std.specs.Str.{chars}
 use Rattle.ob0_scan.specs.Scanned.{Scanned, IsScan}
 use Rattle.ob0_text.specs.declared.edits.Edit.{Edit}
-use Rattle.ob0_text.specs.declared.positions.Unit as counting
+use Rattle.ob0_text.specs.declared.position_types.Unit as counting
 use Rattle.ob0_text.specs.Patches.{patched}
 use Rattle.ob0_text.specs.Units.{width_of}
 use Rattle.ob0_tree.specs.Module.{ModuleOf}
@@ -17,8 +17,8 @@ use Rattle.ob0_values.specs.declared.scalar.Scalar.{Scalar}
 use Rattle.ob0_inline.specs.Values.{value_factor}
 
 -- the identifiers at these tokens are as whole factors
-abbrev pub StandAlone : Parsed → List ℕ → Scalar → Type 0
-StandAlone m places value = ReplacesFactors (factor_at places (value_factor value)) (tree_of m)
+abbrev pub AreAlone : Parsed → List ℕ → Scalar → Type 0
+AreAlone m places value = ReplacesFactors (factor_at places (value_factor value)) (tree_of m)
 
 -- the module with the value in their place
 abbrev pub inlined_at : Parsed → List ℕ → Scalar → Tree (List ℕ) module_text

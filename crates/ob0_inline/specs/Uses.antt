@@ -4,7 +4,7 @@ use Rattle.std.specs.Prelude.{◌≡◌, ◌⊎◌, ℕ, Bool, true, false, nat_
 use Rattle.std.specs.declared.alloc.Global.{Global}
 use Rattle.ob0_scan.specs.Scanned.{max_text}
 use Rattle.ob0_text.specs.declared.edits.Edit.{Edit}
-use Rattle.ob0_text.specs.declared.positions.Unit as counting
+use Rattle.ob0_text.specs.declared.position_types.Unit as counting
 use Rattle.ob0_text.specs.declared.refusals.EditRefusal.{EditRefusal}
 use Rattle.ob0_text.specs.declared.refusals.EditRefusal.TheVariants.{Memory, NoName, Shadowed, TooDeep, TooLong}
 use Rattle.ob0_tree.specs.Parsed.{Parsed, named_tree_of, tree_of}
@@ -19,7 +19,7 @@ use Rattle.ob0_scope_rules.specs.SeenNames.{sees}
 use Rattle.ob0_values.specs.declared.scalar.Scalar.{Scalar}
 use Rattle.ob0_values.specs.declared.scalar.Scalar.TheVariants as scalar
 use Rattle.ob0_values.specs.Scalars.{scalar_value}
-use Rattle.ob0_scope.specs.Standing.{name_on}
+use Rattle.ob0_scope.specs.NamesAtPlaces.{name_on}
 use Rattle.ob0_types_rules.specs.ConstantValues.{value_of_constant}
 use Rattle.ob0_types_rules.specs.WellTyped.{WellTyped}
 use Rattle.ob0_run_rules.specs.EditLaws.{SameRuns}
@@ -45,9 +45,9 @@ truth_ordinal true = 2
 truth_ordinal false = 3
 
 -- where TRUE or FALSE would be written in place of an occurrence, it is the predeclared one
-abbrev pub is_shown : Tree Name module_text → ℕ → Scalar → Bool
-is_shown m occurrence (scalar.Number n) = true
-is_shown m occurrence (scalar.Truth b) = same_ordinal (sees m occurrence (truth_text b)) (truth_ordinal b)
+abbrev pub is_predeclared_truth : Tree Name module_text → ℕ → Scalar → Bool
+is_predeclared_truth m occurrence (scalar.Number n) = true
+is_predeclared_truth m occurrence (scalar.Truth b) = same_ordinal (sees m occurrence (truth_text b)) (truth_ordinal b)
 
 -- the module with the value in place of the use
 abbrev pub inlined_here : Parsed → Use → Tree Name module_text
@@ -58,7 +58,7 @@ abbrev pub refusal_here : Parsed → Use → Option EditRefusal
 refusal_here m u =
     if nat_lt max_text (length (with_text_at m.source (u.token ∷ []) (value_text u.value))) then Some TooLong
     else if nat_lt 100 (nesting (inlined_here m u)) then Some TooDeep
-    else if is_shown (named_tree_of m) u.occurrence u.value then None
+    else if is_predeclared_truth (named_tree_of m) u.occurrence u.value then None
     else Some Shadowed
 
 -- These edits write the value in place of the use and touch no other character. They leave the text of the inlined

@@ -16,7 +16,7 @@ use ob0_values::Scalar;
 
 /// A constant of a CONST section: its ordinal and value, and the tokens of its declaration's name and `;`.
 #[derive(Clone, Copy)]
-pub struct Constant {
+pub struct NamedConstant {
     pub ordinal: usize,
     pub value: Scalar,
     pub first: usize,
@@ -24,7 +24,7 @@ pub struct Constant {
 }
 
 /// The constant that a place names, at its declaration or at a use.
-pub(crate) fn constant_at(module: &WellTyped, offset: usize) -> Option<Constant>
+pub(crate) fn constant_at(module: &WellTyped, offset: usize) -> Option<NamedConstant>
     ensures { MatchOption result (NoConstantAt «module».now.module_read offset) (λ c. IsConstantAt «module».now.module_read offset c) }
 {
     let names = module.resolved();
@@ -38,7 +38,7 @@ pub(crate) fn constant_at(module: &WellTyped, offset: usize) -> Option<Constant>
 }
 
 /// A constant of which the ordinal and the value are known.
-fn declared(names: &Resolved, ordinal: usize, value: Scalar) -> Option<Constant>
+fn declared(names: &Resolved, ordinal: usize, value: Scalar) -> Option<NamedConstant>
     requires worth { value_of_constant (named_tree_of names.now.module_read) ordinal ≡ Some (scalar_value value) }
     ensures { IsSomeAnd result (λ c. (c.ordinal ≡ ordinal) × IsConstant names.now.module_read c) }
 {
@@ -46,7 +46,7 @@ fn declared(names: &Resolved, ordinal: usize, value: Scalar) -> Option<Constant>
     let _module = names.module();
     match names.declaring_token(ordinal) {
         Some(first) => match end_of_declaration(names.tokens().tokens(), first) {
-            Some(last) => Some(Constant {
+            Some(last) => Some(NamedConstant {
                 ordinal,
                 value,
                 first,

@@ -12,13 +12,13 @@ ghost use Rattle.ob0_edits.specs.Ranges.{range_of};
 ghost use Rattle.ob0_edits.specs.Removed.{span_over};
 ghost use Rattle.ob0_edits.specs.Replaced.{edit_at, parts};
 ghost use Rattle.ob0_inline.specs.Declarations.{is_inside};
-ghost use Rattle.ob0_inline.specs.Everywhere.{AnswersConstant, AnswersEverywhere, IsConstant, StandsAlone, inlined_all, text_without, uses_of};
+ghost use Rattle.ob0_inline.specs.Everywhere.{AnswersConstant, AnswersEverywhere, IsConstant, IsAlone, inlined_all, text_without, uses_of};
 ghost use Rattle.ob0_inline.specs.Inlined.{LeavesModule};
 ghost use Rattle.ob0_inline.specs.Values.{value_text};
 
-use crate::constants::{Constant, constant_at};
+use crate::constants::{NamedConstant, constant_at};
 use crate::depth::is_too_deep;
-use crate::shown::{any_hidden, is_ordinal};
+use crate::shadowing::{any_hidden, is_ordinal};
 use crate::written::{is_scalar, value_text};
 use ob0_edits::edits_without;
 use ob0_run_rules::laws::inlining_everywhere_keeps_modules;
@@ -26,7 +26,7 @@ use ob0_scan::{Span, Tokens};
 use ob0_scope_rules::Resolved;
 use ob0_text::{Edit, EditRefusal, Position, TextStore};
 use ob0_types::WellTyped;
-use ob0_types_rules::laws::constants_stand_alone;
+use ob0_types_rules::laws::constants_are_alone;
 use std::alloc::{AllocError, Global};
 
 /// The edits that write a constant's value in place of all uses of it, and take its declaration out, from its name to
@@ -51,13 +51,13 @@ fn inline_constant<T: TextStore>(
     alloc: Global,
     store: &T,
     module: &WellTyped,
-    constant: Constant,
+    constant: NamedConstant,
 ) -> Result<Vec<Edit>, EditRefusal>
     requires content { T.content store.now ≡ chars «module».now.module_read.source.text }
     requires is_constant { IsConstant «module».now.module_read constant }
     ensures { AnswersConstant (T.unit_of store.now) (T.content store.now) «module».now.module_read constant result }
 {
-    constants_stand_alone();
+    constants_are_alone();
     inlining_everywhere_keeps_modules();
     is_scalar(constant.value);
     let names = module.resolved();
@@ -80,16 +80,16 @@ fn edits_everywhere<T: TextStore>(
     alloc: Global,
     store: &T,
     names: &Resolved,
-    constant: Constant,
+    constant: NamedConstant,
 ) -> Result<Vec<Edit>, EditRefusal>
     requires content { T.content store.now ≡ chars names.now.module_read.source.text }
     requires is_constant { IsConstant names.now.module_read constant }
     ensures edits { IfOk result (λ edits. map parts edits.items
         ≡ (range_of (width_of (T.unit_of store.now)) (T.content store.now) (span_over names.now.module_read.source.tokens constant.first constant.last), [])
         ∷ map (edit_at (T.unit_of store.now) (T.content store.now) names.now.module_read.source.tokens (value_text constant.value)) (uses_of names.now.module_read constant.ordinal)) }
-    ensures inlined { StandsAlone names.now.module_read constant.ordinal → IfOk result (λ edits. LeavesModule (T.unit_of store.now) (T.content store.now) edits.items (inlined_all names.now.module_read constant)) }
+    ensures inlined { IsAlone names.now.module_read constant.ordinal → IfOk result (λ edits. LeavesModule (T.unit_of store.now) (T.content store.now) edits.items (inlined_all names.now.module_read constant)) }
     ensures too_long { IsErrOf result TooLong → max_text < length (text_without names.now.module_read constant) }
-    ensures too_deep { StandsAlone names.now.module_read constant.ordinal → IsErrOf result TooDeep → 100 < nesting (inlined_all names.now.module_read constant) }
+    ensures too_deep { IsAlone names.now.module_read constant.ordinal → IsErrOf result TooDeep → 100 < nesting (inlined_all names.now.module_read constant) }
     ensures short { IfOk result (λ edits. length (text_without names.now.module_read constant) ≤ max_text) }
     ensures deep_and_short { IsErrOf result TooDeep → length (text_without names.now.module_read constant) ≤ max_text }
     ensures refusals { IfErr result (λ refusal. (refusal ≡ TooLong) ⊎ ((refusal ≡ TooDeep) ⊎ (refusal ≡ Memory))) }
@@ -121,7 +121,7 @@ fn uses_of(alloc: Global, names: &Resolved, constant: usize) -> Result<Vec<usize
 }
 
 /// Whether a comment is between the name of a constant's declaration and its `;`.
-fn has_comment(tokens: &Tokens, constant: Constant) -> bool
+fn has_comment(tokens: &Tokens, constant: NamedConstant) -> bool
     requires inside { constant.last < length tokens.now.tokens }
     requires order { constant.first < constant.last }
     ensures { result ≡ list_any (is_inside (span_over tokens.now.tokens constant.first constant.last)) tokens.now.comments }

@@ -6,14 +6,14 @@ ghost use Rattle.ob0_text.specs.Texts.{offset_of};
 ghost use Rattle.ob0_text.specs.Units.{width_of};
 ghost use Rattle.ob0_inline.specs.Uses.{AnswersHere, AnswersUse, IsUse};
 
-use crate::shown::is_shown;
+use crate::shadowing::is_predeclared_truth;
 use crate::uses::{Use, use_at};
 use crate::writing::edits_at;
 use crate::written::is_scalar;
 use ob0_run_rules::laws::inlining_keeps_modules;
 use ob0_text::{Edit, EditRefusal, Position, TextStore};
 use ob0_types::WellTyped;
-use ob0_types_rules::laws::constants_stand_alone;
+use ob0_types_rules::laws::constants_are_alone;
 use std::alloc::Global;
 
 /// The edit that writes a constant's value in place of the use of it that a place is on.
@@ -43,13 +43,13 @@ fn inline_use<T: TextStore>(
     requires is_use { IsUse «module».now.module_read found }
     ensures { AnswersUse (T.unit_of store.now) (T.content store.now) «module».now.module_read found result }
 {
-    constants_stand_alone();
+    constants_are_alone();
     inlining_keeps_modules();
     is_scalar(found.value);
     let names = module.resolved();
     match edits_at(alloc, store, names, &[found.token], found.value) {
         Ok(edits) => {
-            if is_shown(alloc, names, found.occurrence, found.value)? {
+            if is_predeclared_truth(alloc, names, found.occurrence, found.value)? {
                 Ok(edits)
             } else {
                 Err(EditRefusal::Shadowed)

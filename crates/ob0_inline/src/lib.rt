@@ -6,12 +6,12 @@ mod constants;
 mod depth;
 mod everywhere;
 mod inlining;
-mod shown;
+mod shadowing;
 mod uses;
 mod writing;
 mod written;
 
-pub use constants::Constant;
+pub use constants::NamedConstant;
 pub use everywhere::inline_all;
 pub use inlining::inline_here;
 pub use uses::Use;

@@ -6,7 +6,7 @@ ghost use Rattle.ob0_scan.specs.Scanned.{max_text};
 ghost use Rattle.ob0_text.specs.declared.refusals.EditRefusal.TheVariants.{Memory, TooDeep, TooLong};
 ghost use Rattle.ob0_tree.specs.Tree.{nesting};
 ghost use Rattle.ob0_edits.specs.Replaced.{AreNames, edit_at, parts, with_text_at};
-ghost use Rattle.ob0_inline.specs.Inlined.{LeavesModule, StandAlone, inlined_at};
+ghost use Rattle.ob0_inline.specs.Inlined.{LeavesModule, AreAlone, inlined_at};
 ghost use Rattle.ob0_inline.specs.Values.{value_text};
 
 use crate::depth::is_too_deep;
@@ -28,9 +28,9 @@ pub(crate) fn edits_at<T: TextStore>(
     requires content { T.content store.now ≡ chars names.now.module_read.source.text }
     requires names { AreNames names.now.module_read.source.tokens 0 places.now }
     ensures edits { IfOk result (λ edits. map parts edits.items ≡ map (edit_at (T.unit_of store.now) (T.content store.now) names.now.module_read.source.tokens (value_text value)) places.now) }
-    ensures inlined { StandAlone names.now.module_read places.now value → IfOk result (λ edits. LeavesModule (T.unit_of store.now) (T.content store.now) edits.items (inlined_at names.now.module_read places.now value)) }
+    ensures inlined { AreAlone names.now.module_read places.now value → IfOk result (λ edits. LeavesModule (T.unit_of store.now) (T.content store.now) edits.items (inlined_at names.now.module_read places.now value)) }
     ensures too_long { IsErrOf result TooLong → max_text < length (with_text_at names.now.module_read.source places.now (value_text value)) }
-    ensures too_deep { StandAlone names.now.module_read places.now value → IsErrOf result TooDeep → 100 < nesting (inlined_at names.now.module_read places.now value) }
+    ensures too_deep { AreAlone names.now.module_read places.now value → IsErrOf result TooDeep → 100 < nesting (inlined_at names.now.module_read places.now value) }
     ensures short { IfOk result (λ edits. length (with_text_at names.now.module_read.source places.now (value_text value)) ≤ max_text) }
     ensures deep_and_short { IsErrOf result TooDeep → length (with_text_at names.now.module_read.source places.now (value_text value)) ≤ max_text }
     ensures refusals { IfErr result (λ refusal. (refusal ≡ TooLong) ⊎ ((refusal ≡ TooDeep) ⊎ (refusal ≡ Memory))) }

@@ -1,7 +1,7 @@
 //! How a value is written.
 
 ghost use Rattle.std.specs.Prelude.{◌≡◌, IfOk, IsTrue, string_bytes};
-ghost use Rattle.ob0_edits.specs.Replaced.{StandsForName};
+ghost use Rattle.ob0_edits.specs.Replaced.{ReplacesName};
 ghost use Rattle.ob0_edits.specs.Written.{number_text, number_words};
 ghost use Rattle.ob0_types_rules.specs.EditLaws.{IsScalar};
 ghost use Rattle.ob0_values.specs.Scalars.{scalar_value};
@@ -15,11 +15,11 @@ use std::alloc::{AllocError, Global};
 /// its own.
 pub(crate) fn value_text(alloc: Global, value: Scalar) -> Result<String, AllocError>
     ensures text { IfOk result (λ text. string_bytes text ≡ value_text value) }
-    ensures stands { StandsForName (value_text value) (value_words value) }
+    ensures stands { ReplacesName (value_text value) (value_words value) }
 {
     match value {
         Scalar::Number(number) => {
-            stands_for_name(number);
+            replaces_name(number);
             number_text(alloc, number)
         }
         Scalar::Truth(true) => String::from_str(alloc, "TRUE"),
@@ -40,8 +40,8 @@ fn number_text(alloc: Global, number: i32) -> Result<String, AllocError>
 }
 
 /// A number of 32 bits may be written wherever an identifier is.
-fn stands_for_name(number: i32)
-    ensures { StandsForName (number_text number) (number_words number) }
+fn replaces_name(number: i32)
+    ensures { ReplacesName (number_text number) (number_words number) }
 {}
 
 /// A value is a number of 32 bits or a truth value.

@@ -15,20 +15,20 @@ use Rattle.ob0_scan.specs.Lexed.{Lexeme, joined}
 use Rattle.ob0_scan.specs.Scanned.{Scanned, IsScan, span_from, token_at, comment_at, tokens_from, comments_from}
 use Rattle.ob0_scan.proofs.Cuts.{nonempty}
 use Rattle.ob0_scan.proofs.Spans.{StandFrom, next_from}
-use Rattle.ob0_layout.specs.declared.sites.Site.{Site}
-use Rattle.ob0_layout.specs.declared.sites.Next.TheVariants as next
+use Rattle.ob0_layout.specs.declared.sites.GapSite.{GapSite}
+use Rattle.ob0_layout.specs.declared.sites.NextLexeme.TheVariants as next
 use Rattle.ob0_layout.specs.declared.sites.Solid.{Solid}
-use Rattle.ob0_layout.specs.declared.standing.LineRole.{LineRole}
-use Rattle.ob0_layout.specs.Layout.{next_line, next_role, holds_break, comment_role}
+use Rattle.ob0_layout.specs.declared.line_role.LineRole.{LineRole}
+use Rattle.ob0_layout.specs.Layout.{next_line, next_role, has_break, comment_role}
 use Rattle.std.specs.List.{All}
 use Rattle.std.proofs.lemmas.List.Elements.{All-nil, All-cons}
 use Rattle.ob0_layout.specs.Sites.{gap_before, last_gap, sites, all_sites, next_of, LiesIn}
 
-break_append : (xs ys : List ℕ) → holds_break (xs ++ ys) ≡ (holds_break xs || holds_break ys)
+break_append : (xs ys : List ℕ) → has_break (xs ++ ys) ≡ (has_break xs || has_break ys)
 break_append [] ys = refl
 break_append (x ∷ xs) ys = by_test (x == 10) (x == 13) (break_append xs ys)
   where
-    by_test : (a b : Bool) → holds_break (xs ++ ys) ≡ (holds_break xs || holds_break ys) → (a || (b || holds_break (xs ++ ys))) ≡ ((a || (b || holds_break xs)) || holds_break ys)
+    by_test : (a b : Bool) → has_break (xs ++ ys) ≡ (has_break xs || has_break ys) → (a || (b || has_break (xs ++ ys))) ≡ ((a || (b || has_break xs)) || has_break ys)
     by_test true b e = refl
     by_test false true e = refl
     by_test false false e = e
@@ -65,7 +65,7 @@ first_comment at (l ∷ ls) c cs e = first_comment_kind l.kind at (length l.text
 abbrev make_token : TokenKind → ℕ → ℕ → Token
 make_token kind place size = record { kind = kind; span = span_from place size }
 
-abbrev pub make_site : ℕ → ℕ → Gap → Site
+abbrev pub make_site : ℕ → ℕ → Gap → GapSite
 make_site start end gap = record { start = start; end = end; gap = gap }
 
 abbrev pub make_solid : LexemeKind → LineRole → Solid
@@ -94,9 +94,9 @@ module _ (text : List ℕ) (before : Option Solid) (level : ℕ) (ss : List Line
         ≡ make_site from place (gap_before before (lexeme.Token kind) (next_role ss)) ∷ sites (Some (make_solid (lexeme.Token kind) (next_role ss))) (next_line level ss) false (drop 1 ss) (place + size) (place + size) ls
 
   abbrev standing_of : ℕ → Bool → ℕ → LineRole
-  standing_of at broken place = comment_role (broken || holds_break (slice_range text at place)) (next_line level ss)
+  standing_of at broken place = comment_role (broken || has_break (slice_range text at place)) (next_line level ss)
 
-  abbrev with_comment : LineRole → ℕ → ℕ → List Lexeme → List Site
+  abbrev with_comment : LineRole → ℕ → ℕ → List Lexeme → List GapSite
   with_comment standing place size ls =
       make_site from place (gap_before before lexeme.Comment standing) ∷ sites (Some (make_solid lexeme.Comment standing)) level false ss (place + size) (place + size) ls
 
@@ -116,7 +116,7 @@ module _ (text : List ℕ) (before : Option Solid) (level : ℕ) (ss : List Line
   Ahead at broken rest = NoMore at broken rest ⊎ (TokenAhead at broken rest ⊎ CommentAhead at broken rest)
 
   over_space : (at : ℕ) (broken : Bool) (t : List ℕ) (ls : List Lexeme) → drop at text ≡ t ++ joined ls → drop (at + length t) text ≡ joined ls
-      → Ahead (at + length t) (broken || holds_break t) ls → Ahead at broken (record { kind = lexeme.Space; text = t } ∷ ls)
+      → Ahead (at + length t) (broken || has_break t) ls → Ahead at broken (record { kind = lexeme.Space; text = t } ∷ ls)
   over_space at broken t ls here there (inl n) = inl (record { up = omega (arith, n.up); tokens = n.tokens; comments = n.comments; gaps = n.gaps })
   over_space at broken t ls here there (inr (inl n)) = inr (inl (record {
     kind = n.kind;
@@ -134,8 +134,8 @@ module _ (text : List ℕ) (before : Option Solid) (level : ℕ) (ss : List Line
       let further : n.place - at ≡ length t + (n.place - (at + length t)) = omega (arith, n.up) in
       let parts : slice_range text at n.place ≡ t ++ slice_range text (at + length t) n.place =
       (λ i. take (further i) (here i)) ∙ take-append-add t (joined ls) (n.place - (at + length t)) ∙ ap (λ r. t ++ take (n.place - (at + length t)) r) (sym there) in
-      let same : ((broken || holds_break t) || holds_break (slice_range text (at + length t) n.place)) ≡ (broken || holds_break (slice_range text at n.place)) =
-      or_assoc broken (holds_break t) _ ∙ ap (λ b. broken || b) (sym (ap holds_break parts ∙ break_append t (slice_range text (at + length t) n.place))) in
+      let same : ((broken || has_break t) || has_break (slice_range text (at + length t) n.place)) ≡ (broken || has_break (slice_range text at n.place)) =
+      or_assoc broken (has_break t) _ ∙ ap (λ b. broken || b) (sym (ap has_break parts ∙ break_append t (slice_range text (at + length t) n.place))) in
       inr (inr (record {
         place = n.place;
         size = n.size;
@@ -149,13 +149,13 @@ module _ (text : List ℕ) (before : Option Solid) (level : ℕ) (ss : List Line
       }))
 
   over_kind : (k : LexemeKind) (at : ℕ) (broken : Bool) (t : List ℕ) (ls : List Lexeme) → StandFrom text at (record { kind = k; text = t } ∷ ls) []
-      → StandFrom text (at + length t) ls [] → Ahead (at + length t) (broken || holds_break t) ls → Ahead at broken (record { kind = k; text = t } ∷ ls)
+      → StandFrom text (at + length t) ls [] → Ahead (at + length t) (broken || has_break t) ls → Ahead at broken (record { kind = k; text = t } ∷ ls)
   over_kind lexeme.Space at broken t ls s s' more =
       over_space at broken t ls (s.rest ∙ append-nil (t ++ joined ls)) (s'.rest ∙ append-nil (joined ls)) more
   over_kind lexeme.Comment at broken t ls s s' more =
       let zero : at - at ≡ 0 = omega arith in
       let nothing : slice_range text at at ≡ [] = ap (λ n. take n (drop at text)) zero in
-      let same : broken ≡ (broken || holds_break (slice_range text at at)) = sym (ap (λ g. broken || holds_break g) nothing ∙ or_false broken) in
+      let same : broken ≡ (broken || has_break (slice_range text at at)) = sym (ap (λ g. broken || has_break g) nothing ∙ or_false broken) in
       inr (inr (record {
         place = at;
         size = length t;
@@ -187,7 +187,7 @@ module _ (text : List ℕ) (before : Option Solid) (level : ℕ) (ss : List Line
       inl (record { up = s.place.0; tokens = refl; comments = refl; gaps = ap (λ e. make_site from e (last_gap before) ∷ []) end })
   ahead at broken (l ∷ ls) s =
       let s' = next_from text at l ls [] s in
-      over_kind l.kind at broken l.text ls s s' (ahead (at + length l.text) (broken || holds_break l.text) ls s')
+      over_kind l.kind at broken l.text ls s s' (ahead (at + length l.text) (broken || has_break l.text) ls s')
 
   -- what the code finds next
   no_next : (at : ℕ) (broken : Bool) (rest : List Lexeme) (n : NoMore at broken rest) → next_of (tokens_from at rest) (comments_from at rest) ≡ None
@@ -217,7 +217,7 @@ module _ (text : List ℕ) (before : Option Solid) (level : ℕ) (ss : List Line
           ap (λ b. if b then Some (next.Comment (span_from n.place n.size)) else Some (next.Token t)) test
 
 -- what a pass has written and what is left: joined they are the gaps of the whole text
-pub record Sited (text : List ℕ) (whole : List Site) (left : List Token) (comments : List Span) (ss : List LineRole) (before : Option Solid) (level start : ℕ) (out : List Site) : Type 0 where
+pub record Sited (text : List ℕ) (whole : List GapSite) (left : List Token) (comments : List Span) (ss : List LineRole) (before : Option Solid) (level start : ℕ) (out : List GapSite) : Type 0 where
   pub rest : List Lexeme
   pub stand : StandFrom text start rest []
   pub left_is : left ≡ tokens_from start rest
@@ -246,7 +246,7 @@ same_comment e = cc
 same_token : {a b : Token} → Some (next.Token a) ≡ Some (next.Token b) → a ≡ b
 same_token e = cc
 
-module _ (text : List ℕ) (whole : List Site) (left : List Token) (comments : List Span) (ss : List LineRole) (before : Option Solid) (level start : ℕ) (out : List Site) (h : Sited text whole left comments ss before level start out) where
+module _ (text : List ℕ) (whole : List GapSite) (left : List Token) (comments : List Span) (ss : List LineRole) (before : Option Solid) (level start : ℕ) (out : List GapSite) (h : Sited text whole left comments ss before level start out) where
   found_is : next_of left comments ≡ next_of (tokens_from start h.rest) (comments_from start h.rest)
   found_is = λ i. next_of (h.left_is i) (h.comments_is i)
 
@@ -268,7 +268,7 @@ module _ (text : List ℕ) (whole : List Site) (left : List Token) (comments : L
     pub ordered : span.start ≤ span.end
     pub within : span.end ≤ length text
     pub some : 0 < length comments
-    pub after : let standing = comment_role (is_none before || holds_break (slice_range text start span.start)) (next_line level ss) in
+    pub after : let standing = comment_role (is_none before || has_break (slice_range text start span.start)) (next_line level ss) in
         Sited text whole left (drop 1 comments) ss (Some (make_solid lexeme.Comment standing)) level span.end (out ++ (make_site start span.start (gap_before before lexeme.Comment standing) ∷ []))
 
   pub record TokenStep (token : Token) : Type 0 where
@@ -336,11 +336,11 @@ module _ (text : List ℕ) (whole : List Site) (left : List Token) (comments : L
   ]
 
 -- the same of equal parts
-pub sited_moved : {text : List ℕ} {whole : List Site} {left left' : List Token} {comments comments' : List Span} {ss ss' : List LineRole} {before before' : Option Solid} {level level' start : ℕ} {out out' : List Site}
+pub sited_moved : {text : List ℕ} {whole : List GapSite} {left left' : List Token} {comments comments' : List Span} {ss ss' : List LineRole} {before before' : Option Solid} {level level' start : ℕ} {out out' : List GapSite}
     → Sited text whole left comments ss before level start out → left' ≡ left → comments' ≡ comments → ss' ≡ ss → before' ≡ before → level' ≡ level → out' ≡ out
     → Sited text whole left' comments' ss' before' level' start out'
 sited_moved {text = text} {whole = whole} {left = left} {left' = left'} {comments = comments} {comments' = comments'} {ss = ss} {ss' = ss'} {before = before} {before' = before'} {level = level} {level' = level'} {start = start} {out = out} {out' = out'} h a b c d e f =
-    subst (λ (o : List Site). Sited text whole left' comments' ss' before' level' start o) (sym f)
+    subst (λ (o : List GapSite). Sited text whole left' comments' ss' before' level' start o) (sym f)
     (subst (λ (k : ℕ). Sited text whole left' comments' ss' before' k start out) (sym e)
     (subst (λ (x : Option Solid). Sited text whole left' comments' ss' x level start out) (sym d)
     (subst (λ (xs : List LineRole). Sited text whole left' comments' xs before level start out) (sym c)
@@ -351,7 +351,7 @@ sited_moved {text = text} {whole = whole} {left = left} {left' = left'} {comment
 lie_kind : (text : List ℕ) (k : LexemeKind) (t : List ℕ) (ls : List Lexeme) (before : Option Solid) (level : ℕ) (broken : Bool) (ss : List LineRole) (from at : ℕ) → from ≤ at → at ≤ length text
     → ((b : Option Solid) (k : ℕ) (br : Bool) (xs : List LineRole) (f : ℕ) → f ≤ at + length t → All (LiesIn (length text)) (sites b k br xs f (at + length t) ls))
     → All (LiesIn (length text)) (sites before level broken ss from at (record { kind = k; text = t } ∷ ls))
-lie_kind text lexeme.Space t ls before level broken ss from at up in_text more = more before level (broken || holds_break t) ss from (omega arith)
+lie_kind text lexeme.Space t ls before level broken ss from at up in_text more = more before level (broken || has_break t) ss from (omega arith)
 lie_kind text lexeme.Comment t ls before level broken ss from at up in_text more =
     All-cons (LiesIn (length text)) _ _ (record { ordered = up; within = in_text }) (more _ level false ss (at + length t) (omega arith))
 lie_kind text (lexeme.Token k) t ls before level broken ss from at up in_text more =

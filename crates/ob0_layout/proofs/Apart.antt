@@ -14,7 +14,7 @@ use Rattle.ob0_scan.specs.declared.lexeme.LexemeKind.{LexemeKind}
 use Rattle.ob0_scan.specs.declared.lexeme.LexemeKind.TheVariants as lexeme
 use Rattle.ob0_scan.specs.Classes.{symbol_text, is_space, IsRun, Belongs}
 use Rattle.ob0_scan.specs.Lexed.{Lexeme, joined}
-use Rattle.ob0_scan.specs.Ends.{joins, goes_on, AreApart}
+use Rattle.ob0_scan.specs.Ends.{joins, continues, AreApart}
 use Rattle.ob0_scan.specs.Scanned.{words}
 use Rattle.ob0_scan.proofs.Families.{Family, Blank, Letter, Digit, family, family_of, family-blank, head_family}
 use Rattle.ob0_scan.proofs.Families as families
@@ -26,10 +26,10 @@ use Rattle.ob0_tree.specs.Lexeme.{kind_lexeme}
 use Rattle.ob0_tree.specs.Tree.{Sort, Tree, spell}
 use Rattle.ob0_layout.proofs.Named.{named_lexeme}
 use Rattle.ob0_layout.specs.declared.gap.Gap.TheVariants.{Nothing, Space}
-use Rattle.ob0_layout.specs.declared.standing.LineRole.{LineRole}
-use Rattle.ob0_layout.specs.declared.standing.LineRole.TheVariants.{Begins, Opening, Joining, Plain}
-use Rattle.ob0_layout.specs.Standings.{line_roles}
-use Rattle.ob0_layout.specs.Layout.{Placed, placed, next_line, next_role, holds_break, comment_role, is_comment, follows_directly, precedes_directly, indentation, gap, gap_between, gap_in_line, gap_text, spaced, laid_after, laid, laid_out}
+use Rattle.ob0_layout.specs.declared.line_role.LineRole.{LineRole}
+use Rattle.ob0_layout.specs.declared.line_role.LineRole.TheVariants.{Begins, Opening, Joining, Plain}
+use Rattle.ob0_layout.specs.LineRoles.{line_roles}
+use Rattle.ob0_layout.specs.Layout.{PlacedLexeme, placed, next_line, next_role, has_break, comment_role, is_comment, follows_directly, precedes_directly, indentation, gap, gap_between, gap_in_line, gap_text, spaced, laid_after, laid, laid_out}
 use Rattle.ob0_layout.proofs.Pairs.{Calm, calm_next, calm_paren, is_paren, is_star, calm_spelled}
 
 -- a token or comment
@@ -65,7 +65,7 @@ quiet_joins symbol.RightParen x q = refl
 quiet_joins symbol.LeftBracket x q = refl
 quiet_joins symbol.RightBracket x q = refl
 
-quiet_ends : (k : LexemeKind) (x : ℕ) → IsSolid k → Quiet x → goes_on k x ≡ false
+quiet_ends : (k : LexemeKind) (x : ℕ) → IsSolid k → Quiet x → continues k x ≡ false
 quiet_ends lexeme.Space x solid q = absurd solid
 quiet_ends lexeme.Comment x solid q = refl
 quiet_ends (lexeme.Token token.Identifier) x solid q = q.alone
@@ -145,7 +145,7 @@ direct_symbol symbol.RightParen standing x h star = refl
 direct_symbol symbol.LeftBracket standing x h star = refl
 direct_symbol symbol.RightBracket standing x h star = refl
 
-direct_ends : (k : LexemeKind) (standing : LineRole) (x : ℕ) → precedes_directly k standing ≡ true → (k ≡ left_paren → (x == 42) ≡ false) → goes_on k x ≡ false
+direct_ends : (k : LexemeKind) (standing : LineRole) (x : ℕ) → precedes_directly k standing ≡ true → (k ≡ left_paren → (x == 42) ≡ false) → continues k x ≡ false
 direct_ends lexeme.Space standing x h star = absurd (differ h)
 direct_ends lexeme.Comment standing x h star = absurd (differ h)
 direct_ends (lexeme.Token token.Identifier) standing x h star = absurd (differ h)
@@ -187,7 +187,7 @@ token_first (token.Symbol s) text b h = ap (λ t. get_or t 0 0 == 42) b ∙ symb
 
 -- a gap that keeps apart a lexeme of a kind and one that begins with a byte
 data Fits (k : LexemeKind) (first : ℕ) : List ℕ → Type 0 where
-  directly : goes_on k first ≡ false → Fits k first []
+  directly : continues k first ≡ false → Fits k first []
   by_space : {x : ℕ} {xs : List ℕ} → Quiet x → IsRun is_space (x ∷ xs) → Fits k first (x ∷ xs)
 
 either_true : (x y : Bool) → (x || y) ≡ true → (x ≡ true) ⊎ (y ≡ true)
@@ -209,67 +209,67 @@ space_fits : (k : LexemeKind) (first : ℕ) → Fits k first (32 ∷ [])
 space_fits k first = by_space (record { alone = refl; unequal = refl; starless = refl }) (record { nonempty = omega arith; all = AllPass-from_list_all is_space (32 ∷ []) refl })
 
 -- two tokens or comments, of which the second doesn't begin with a `*` where it is a token after a `(`
-record Neighbours (a b : Placed) : Type 0 where
+record Neighbours (a b : PlacedLexeme) : Type 0 where
   left : IsSolid a.lexeme.kind
   right : IsSolid b.lexeme.kind
   right_belongs : Belongs b.lexeme.kind b.lexeme.text
   starless : a.lexeme.kind ≡ left_paren → is_comment b.lexeme.kind ≡ false → (get_or b.lexeme.text 0 0 == 42) ≡ false
 
-joined_fits : (a b : Placed) → Neighbours a b → is_comment b.lexeme.kind ≡ false
+joined_fits : (a b : PlacedLexeme) → Neighbours a b → is_comment b.lexeme.kind ≡ false
     → (follows_directly b.lexeme.kind b.standing || precedes_directly a.lexeme.kind a.standing) ≡ true → Fits a.lexeme.kind (get_or b.lexeme.text 0 0) []
 joined_fits a b n uncommented h = directly (⊎_elim
     (λ f. quiet_ends a.lexeme.kind (get_or b.lexeme.text 0 0) n.left (quiet_first b.lexeme.kind b.lexeme.text b.standing n.right_belongs f))
     (λ p. direct_ends a.lexeme.kind a.standing (get_or b.lexeme.text 0 0) p (λ paren. n.starless paren uncommented))
     (either_true (follows_directly b.lexeme.kind b.standing) (precedes_directly a.lexeme.kind a.standing) h))
 
-in_line_fits : (indent : Indent) (a b : Placed) → Neighbours a b → (c d : Bool) → (is_comment a.lexeme.kind || is_comment b.lexeme.kind) ≡ c
+in_line_fits : (indent : Indent) (a b : PlacedLexeme) → Neighbours a b → (c d : Bool) → (is_comment a.lexeme.kind || is_comment b.lexeme.kind) ≡ c
     → (follows_directly b.lexeme.kind b.standing || precedes_directly a.lexeme.kind a.standing) ≡ d
     → Fits a.lexeme.kind (get_or b.lexeme.text 0 0) (gap_text indent (cond c Space (cond d Nothing Space)))
 in_line_fits indent a b n true d e f = space_fits a.lexeme.kind (get_or b.lexeme.text 0 0)
 in_line_fits indent a b n false true e f = joined_fits a b n (both_false (is_comment a.lexeme.kind) (is_comment b.lexeme.kind) e) f
 in_line_fits indent a b n false false e f = space_fits a.lexeme.kind (get_or b.lexeme.text 0 0)
 
-gap_in_line_fits : (indent : Indent) (a b : Placed) → Neighbours a b
+gap_in_line_fits : (indent : Indent) (a b : PlacedLexeme) → Neighbours a b
     → Fits a.lexeme.kind (get_or b.lexeme.text 0 0) (gap_text indent (gap_in_line a.lexeme.kind a.standing b.lexeme.kind b.standing))
 gap_in_line_fits indent a b n = in_line_fits indent a b n _ _ refl refl
 
-gap_between_fits : (indent : Indent) (a : Placed) (l : Lexeme) (s : LineRole) → Neighbours a (record { lexeme = l; standing = s })
+gap_between_fits : (indent : Indent) (a : PlacedLexeme) (l : Lexeme) (s : LineRole) → Neighbours a (record { lexeme = l; standing = s })
     → Fits a.lexeme.kind (get_or l.text 0 0) (gap_text indent (gap_between a.lexeme.kind a.standing l.kind s))
 gap_between_fits indent a l (Begins level) n = line_fits a.lexeme.kind (get_or l.text 0 0) indent level
 gap_between_fits indent a l Opening n = gap_in_line_fits indent a (record { lexeme = l; standing = Opening }) n
 gap_between_fits indent a l Joining n = gap_in_line_fits indent a (record { lexeme = l; standing = Joining }) n
 gap_between_fits indent a l Plain n = gap_in_line_fits indent a (record { lexeme = l; standing = Plain }) n
 
-gap_fits : (indent : Indent) (a b : Placed) → Neighbours a b → Fits a.lexeme.kind (get_or b.lexeme.text 0 0) (gap indent a b)
+gap_fits : (indent : Indent) (a b : PlacedLexeme) → Neighbours a b → Fits a.lexeme.kind (get_or b.lexeme.text 0 0) (gap indent a b)
 unfolding gap
 gap_fits indent a b n = gap_between_fits indent a b.lexeme b.standing n
 
 first_of : (l : Lexeme) (ls : List Lexeme) → Belongs l.kind l.text → get_or (joined (l ∷ ls)) 0 0 ≡ get_or l.text 0 0
 first_of l ls h = get_or_append_left l.text (joined ls) 0 0 (nonempty l.kind l.text h)
 
-fits_apart : (a b : Placed) (rest : List Lexeme) (g : List ℕ) → Neighbours a b → Belongs a.lexeme.kind a.lexeme.text
+fits_apart : (a b : PlacedLexeme) (rest : List Lexeme) (g : List ℕ) → Neighbours a b → Belongs a.lexeme.kind a.lexeme.text
     → Fits a.lexeme.kind (get_or b.lexeme.text 0 0) g → AreApart (b.lexeme ∷ rest) → AreApart (a.lexeme ∷ (spaced g ++ (b.lexeme ∷ rest)))
 fits_apart a b rest _ n h (directly e) more =
-    (record { belongs = h; ends = ap (goes_on a.lexeme.kind) (first_of b.lexeme rest n.right_belongs) ∙ e }, more)
+    (record { belongs = h; ends = ap (continues a.lexeme.kind) (first_of b.lexeme rest n.right_belongs) ∙ e }, more)
 fits_apart a b rest _ n h (by_space {x = x} q run) more = (
   record { belongs = h; ends = quiet_ends a.lexeme.kind x n.left q },
   (record { belongs = run; ends = ap is_space (first_of b.lexeme rest n.right_belongs) ∙ solid_first b.lexeme.kind b.lexeme.text n.right n.right_belongs }, more),
 )
 
 -- the tokens among lexemes, as a tree spells them
-abbrev spelled : List Lexeme → List (spelled_as.Lexeme (List ℕ))
+abbrev spelled : List Lexeme → List (spelled_as.Terminal (List ℕ))
 spelled ls = map named_lexeme (words ls)
 
 -- the first is no `*`
-abbrev NoStar : List (spelled_as.Lexeme (List ℕ)) → Type 0
+abbrev NoStar : List (spelled_as.Terminal (List ℕ)) → Type 0
 NoStar [] = Unit {0}
 NoStar (x ∷ xs) = is_star x ≡ false
 
-calm_behind : {x : spelled_as.Lexeme (List ℕ)} {xs : List (spelled_as.Lexeme (List ℕ))} → Calm (x ∷ xs) → Calm xs
+calm_behind : {x : spelled_as.Terminal (List ℕ)} {xs : List (spelled_as.Terminal (List ℕ))} → Calm (x ∷ xs) → Calm xs
 calm_behind (calm_next h p) = p
 calm_behind (calm_paren h p) = p
 
-calm_first : {x : spelled_as.Lexeme (List ℕ)} {xs : List (spelled_as.Lexeme (List ℕ))} → Calm (x ∷ xs) → is_paren x ≡ true → NoStar xs
+calm_first : {x : spelled_as.Terminal (List ℕ)} {xs : List (spelled_as.Terminal (List ℕ))} → Calm (x ∷ xs) → is_paren x ≡ true → NoStar xs
 calm_first (calm_next h p) paren = absurd (differ (sym h ∙ paren))
 calm_first (calm_paren h p) paren = h
 
@@ -277,25 +277,25 @@ paren_of : (k : TokenKind) (text : List ℕ) → lexeme.Token k ≡ left_paren �
 paren_of k text e = let same : k ≡ token.Symbol symbol.LeftParen = cc in ap (λ k. is_paren (kind_lexeme text k)) same
 
 abbrev Spread : Indent → List Lexeme → Type 0
-Spread indent ls = (level : ℕ) (broken : Bool) (ss : List LineRole) (a : Placed) → IsSolid a.lexeme.kind → Belongs a.lexeme.kind a.lexeme.text
+Spread indent ls = (level : ℕ) (broken : Bool) (ss : List LineRole) (a : PlacedLexeme) → IsSolid a.lexeme.kind → Belongs a.lexeme.kind a.lexeme.text
     → (a.lexeme.kind ≡ left_paren → NoStar (spelled ls)) → Calm (spelled ls) → AreApart ls → AreApart (a.lexeme ∷ laid_after indent a (placed level broken ss ls))
 
 comment_spread : (indent : Indent) (text : List ℕ) (ls : List Lexeme) → Spread indent ls → Spread indent (record { kind = lexeme.Comment; text = text } ∷ ls)
 comment_spread indent text ls rest level broken ss a solid h after calm apart =
-    let c : Placed = record { lexeme = record { kind = lexeme.Comment; text = text }; standing = comment_role broken (next_line level ss) } in
+    let c : PlacedLexeme = record { lexeme = record { kind = lexeme.Comment; text = text }; standing = comment_role broken (next_line level ss) } in
     let n : Neighbours a c = record { left = solid; right = tt; right_belongs = apart.0.belongs; starless = λ paren uncommented. absurd (differ (sym uncommented)) } in
     fits_apart a c (laid_after indent c (placed level false ss ls)) (gap indent a c) n h (gap_fits indent a c n)
     (rest level false ss c tt apart.0.belongs (λ e. cc) calm apart.1)
 
 token_spread : (indent : Indent) (k : TokenKind) (text : List ℕ) (ls : List Lexeme) → Spread indent ls → Spread indent (record { kind = lexeme.Token k; text = text } ∷ ls)
 token_spread indent k text ls rest level broken ss a solid h after calm apart =
-    let t : Placed = record { lexeme = record { kind = lexeme.Token k; text = text }; standing = next_role ss } in
+    let t : PlacedLexeme = record { lexeme = record { kind = lexeme.Token k; text = text }; standing = next_role ss } in
     let n : Neighbours a t = record { left = solid; right = tt; right_belongs = apart.0.belongs; starless = λ paren uncommented. token_first k text apart.0.belongs (after paren) } in
     fits_apart a t (laid_after indent t (placed (next_line level ss) false (drop 1 ss) ls)) (gap indent a t) n h (gap_fits indent a t n)
     (rest (next_line level ss) false (drop 1 ss) t tt apart.0.belongs (λ e. calm_first calm (paren_of k text e)) (calm_behind calm) apart.1)
 
 kind_spread : (indent : Indent) (k : LexemeKind) (text : List ℕ) (ls : List Lexeme) → Spread indent ls → Spread indent (record { kind = k; text = text } ∷ ls)
-kind_spread indent lexeme.Space text ls rest = λ level broken ss a solid h after calm apart. rest level (broken || holds_break text) ss a solid h after calm apart.1
+kind_spread indent lexeme.Space text ls rest = λ level broken ss a solid h after calm apart. rest level (broken || has_break text) ss a solid h after calm apart.1
 kind_spread indent lexeme.Comment text ls rest = comment_spread indent text ls rest
 kind_spread indent (lexeme.Token k) text ls rest = token_spread indent k text ls rest
 
@@ -313,12 +313,12 @@ abbrev FirstSpread : Indent → List Lexeme → Type 0
 FirstSpread indent ls = (level : ℕ) (broken : Bool) (ss : List LineRole) → Calm (spelled ls) → AreApart ls → AreApart (laid indent (placed level broken ss ls))
 
 kind_first_spread : (indent : Indent) (k : LexemeKind) (text : List ℕ) (ls : List Lexeme) → FirstSpread indent ls → FirstSpread indent (record { kind = k; text = text } ∷ ls)
-kind_first_spread indent lexeme.Space text ls rest = λ level broken ss calm apart. rest level (broken || holds_break text) ss calm apart.1
+kind_first_spread indent lexeme.Space text ls rest = λ level broken ss calm apart. rest level (broken || has_break text) ss calm apart.1
 kind_first_spread indent lexeme.Comment text ls rest = λ level broken ss calm apart.
-    let c : Placed = record { lexeme = record { kind = lexeme.Comment; text = text }; standing = comment_role broken (next_line level ss) } in
+    let c : PlacedLexeme = record { lexeme = record { kind = lexeme.Comment; text = text }; standing = comment_role broken (next_line level ss) } in
     behind_spread indent ls level false ss c tt apart.0.belongs (λ e. cc) calm apart.1
 kind_first_spread indent (lexeme.Token k) text ls rest = λ level broken ss calm apart.
-    let t : Placed = record { lexeme = record { kind = lexeme.Token k; text = text }; standing = next_role ss } in
+    let t : PlacedLexeme = record { lexeme = record { kind = lexeme.Token k; text = text }; standing = next_role ss } in
     behind_spread indent ls (next_line level ss) false (drop 1 ss) t tt apart.0.belongs (λ e. calm_first calm (paren_of k text e)) (calm_behind calm) apart.1
 
 first_spread : (indent : Indent) (ls : List Lexeme) → FirstSpread indent ls

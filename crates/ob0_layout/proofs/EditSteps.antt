@@ -3,22 +3,22 @@ use Rattle.std.proofs.Common.{◌≡◌, ℕ, ◌+◌, ◌<◌, List, [], ◌∷
 use Rattle.std.proofs.lemmas.List.{get_or-map, map-append, map_more, length-map}
 use Rattle.ob0_text.specs.declared.edits.Edit.{Edit}
 use Rattle.ob0_text.specs.declared.edits.Indent.{Indent}
-use Rattle.ob0_text.specs.declared.positions.Position.{Position}
+use Rattle.ob0_text.specs.declared.position_types.Position.{Position}
 use Rattle.ob0_text.specs.Texts.{position_of}
-use Rattle.ob0_layout.specs.declared.sites.Site.{Site}
-use Rattle.ob0_layout.specs.Sites.{said, edit_of}
+use Rattle.ob0_layout.specs.declared.sites.GapSite.{GapSite}
+use Rattle.ob0_layout.specs.Sites.{edit_text, edit_of}
 
-module _ (width : ℕ → ℕ) (content : List ℕ) (gs : List Site) (i : ℕ) (low : i < length gs) (d : Site) where
-  pub position_at : (part : Site → ℕ) (offsets : List ℕ) (ps : List Position) (p : Position) → ps ≡ map (position_of width content) offsets → offsets ≡ map part gs → get_or ps i p ≡ position_of width content (part (get_or gs i d))
+module _ (width : ℕ → ℕ) (content : List ℕ) (gs : List GapSite) (i : ℕ) (low : i < length gs) (d : GapSite) where
+  pub position_at : (part : GapSite → ℕ) (offsets : List ℕ) (ps : List Position) (p : Position) → ps ≡ map (position_of width content) offsets → offsets ≡ map part gs → get_or ps i p ≡ position_of width content (part (get_or gs i d))
   position_at part offsets ps p e f =
       let long : i < length (map part gs) = omega (arith, length-map gs part) in
       ap (λ qs. get_or qs i p) (e ∙ ap (map (position_of width content)) f) ∙ get_or-map (position_of width content) (map part gs) i 0 p long
       ∙ ap (position_of width content) (get_or-map part gs i d 0 low)
 
-  pub positions_long : (part : Site → ℕ) (offsets : List ℕ) (ps : List Position) → ps ≡ map (position_of width content) offsets → offsets ≡ map part gs → i < length ps
+  pub positions_long : (part : GapSite → ℕ) (offsets : List ℕ) (ps : List Position) → ps ≡ map (position_of width content) offsets → offsets ≡ map part gs → i < length ps
   positions_long part offsets ps e f = omega (arith, ap length e, length-map offsets (position_of width content), ap length f, length-map gs part)
 
-  pub edit_further : (indent : Indent) (edits : List Edit) (e : Edit) → map said edits ≡ map (edit_of indent width content) (take i gs)
-      → said e ≡ edit_of indent width content (get_or gs i d) → map said (edits ++ (e ∷ [])) ≡ map (edit_of indent width content) (take (i + 1) gs)
+  pub edit_further : (indent : Indent) (edits : List Edit) (e : Edit) → map edit_text edits ≡ map (edit_of indent width content) (take i gs)
+      → edit_text e ≡ edit_of indent width content (get_or gs i d) → map edit_text (edits ++ (e ∷ [])) ≡ map (edit_of indent width content) (take (i + 1) gs)
   edit_further indent edits e so_far is =
-      map-append said edits (e ∷ []) ∙ (λ j. so_far j ++ (is j ∷ [])) ∙ sym (map_more (edit_of indent width content) gs i d low)
+      map-append edit_text edits (e ∷ []) ∙ (λ j. so_far j ++ (is j ∷ [])) ∙ sym (map_more (edit_of indent width content) gs i d low)

@@ -2,13 +2,13 @@
 use Rattle.std.proofs.Common.{◌≡◌, ℕ, List, [], ◌∷◌, map, refl, sym, ap, ◌∙◌}
 use Rattle.ob0_scan.specs.declared.lexeme.Token.{Token}
 use Rattle.ob0_scan.specs.Scanned.{Scanned, IsScan, Word, words, read_in}
-use Rattle.ob0_tree.specs.Lexeme.{Lexeme, kind_lexeme}
+use Rattle.ob0_tree.specs.Lexeme.{Terminal, kind_lexeme}
 use Rattle.ob0_tree.specs.Tree.{Tree, module_text, spell}
 use Rattle.ob0_tree.specs.Module.{ModuleOf, token_lexeme, text_lexemes}
 use Rattle.ob0_scan.proofs.Spans.{scan_words}
 
 -- a word as a tree spells it: identifiers by their text
-abbrev pub named_lexeme : Word → Lexeme (List ℕ)
+abbrev pub named_lexeme : Word → Terminal (List ℕ)
 named_lexeme w = kind_lexeme w.text w.kind
 
 as_words : (text : List ℕ) (ts : List Token) → map (token_lexeme text) ts ≡ map named_lexeme (map (read_in text) ts)

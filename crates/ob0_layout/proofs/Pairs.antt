@@ -10,42 +10,42 @@ use Rattle.ob0_tree.specs.declared.tree.AddOperator.TheVariants as add_operator
 use Rattle.ob0_tree.specs.declared.tree.MultiplyOperator.{MultiplyOperator}
 use Rattle.ob0_tree.specs.declared.tree.MultiplyOperator.TheVariants as multiply_operator
 use Rattle.ob0_scan.specs.declared.lexeme.TokenKind.TheVariants as kind
-use Rattle.ob0_tree.specs.Lexeme.{Lexeme, Mark, relation_mark, sign_marks, add_mark, multiply_mark}
+use Rattle.ob0_tree.specs.Lexeme.{Terminal, Mark, relation_mark, sign_marks, add_mark, multiply_mark}
 use Rattle.ob0_tree.specs.Tree.{Sort, Tree, expression, simple, term, factor, section, names, spell, none, one, end, more, compares, relates, sum, adds, product, multiplies, designator, integer, parenthesised, negation, field, index, empty, assigns, calls, branches, while_loop, repeat_loop, no_arguments, some_arguments, then_argument, runs, then_statement, elsif_branch, else_branch, listed, then_name, named_type, array_type, record_type, no_fields, some_fields, then_fields, no_formals, some_formals, value_section, variable_section, then_section, declares_constant, declares_constants, declares_type, declares_types, declares_variable, declares_variables, declares_procedure, declares, begins, has_body, is_module}
 
-abbrev pub is_paren : {N : Type 0} → Lexeme N → Bool
+abbrev pub is_paren : {N : Type 0} → Terminal N → Bool
 is_paren (Mark (kind.Symbol symbol.LeftParen)) = true
 is_paren other = false
 
-abbrev pub is_star : {N : Type 0} → Lexeme N → Bool
+abbrev pub is_star : {N : Type 0} → Terminal N → Bool
 is_star (Mark (kind.Symbol symbol.Times)) = true
 is_star other = false
 
 -- after each `(` is something, and no `*`
-pub data Calm {N : Type 0} : List (Lexeme N) → Type 0 where
+pub data Calm {N : Type 0} : List (Terminal N) → Type 0 where
   calm_end : Calm []
-  calm_next : {x : Lexeme N} {xs : List (Lexeme N)} → is_paren x ≡ false → Calm xs → Calm (x ∷ xs)
-  calm_paren : {x y : Lexeme N} {xs : List (Lexeme N)} → is_star y ≡ false → Calm (y ∷ xs) → Calm (x ∷ y ∷ xs)
+  calm_next : {x : Terminal N} {xs : List (Terminal N)} → is_paren x ≡ false → Calm xs → Calm (x ∷ xs)
+  calm_paren : {x y : Terminal N} {xs : List (Terminal N)} → is_star y ≡ false → Calm (y ∷ xs) → Calm (x ∷ y ∷ xs)
 
-calm_append : {N : Type 0} {xs ys : List (Lexeme N)} → Calm xs → Calm ys → Calm (xs ++ ys)
+calm_append : {N : Type 0} {xs ys : List (Terminal N)} → Calm xs → Calm ys → Calm (xs ++ ys)
 calm_append calm_end q = q
 calm_append (calm_next h p) q = calm_next h (calm_append p q)
 calm_append (calm_paren h p) q = calm_paren h (calm_append p q)
 
 -- the first is no `*`
-record Starts {N : Type 0} (xs : List (Lexeme N)) : Type 0 where
-  first : Lexeme N
-  rest : List (Lexeme N)
+record Starts {N : Type 0} (xs : List (Terminal N)) : Type 0 where
+  first : Terminal N
+  rest : List (Terminal N)
   split : xs ≡ first ∷ rest
   starless : is_star first ≡ false
 
-starts_append : {N : Type 0} {xs : List (Lexeme N)} (ys : List (Lexeme N)) → Starts xs → Starts (xs ++ ys)
+starts_append : {N : Type 0} {xs : List (Terminal N)} (ys : List (Terminal N)) → Starts xs → Starts (xs ++ ys)
 starts_append ys s = record { first = s.first; rest = s.rest ++ ys; split = ap (λ x. x ++ ys) s.split; starless = s.starless }
 
-starts_with : {N : Type 0} (x : Lexeme N) (xs : List (Lexeme N)) → is_star x ≡ false → Starts (x ∷ xs)
+starts_with : {N : Type 0} (x : Terminal N) (xs : List (Terminal N)) → is_star x ≡ false → Starts (x ∷ xs)
 starts_with x xs h = record { first = x; rest = xs; split = refl; starless = h }
 
-calm_open : {N : Type 0} {xs : List (Lexeme N)} (x : Lexeme N) → Starts xs → Calm xs → Calm (x ∷ xs)
+calm_open : {N : Type 0} {xs : List (Terminal N)} (x : Terminal N) → Starts xs → Calm xs → Calm (x ∷ xs)
 calm_open x s p = subst (λ xs. Calm (x ∷ xs)) (sym s.split) (calm_paren s.starless (subst Calm s.split p))
 
 factor_starts : {N : Type 0} (t : Tree N factor) → Starts (spell t)

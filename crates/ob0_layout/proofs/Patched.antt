@@ -13,16 +13,16 @@ use Rattle.ob0_scan.proofs.Spans.{StandFrom, next_from}
 use Rattle.ob0_text.specs.declared.edits.Edit.{Edit}
 use Rattle.ob0_text.specs.declared.edits.Indent.{Indent}
 use Rattle.ob0_text.specs.declared.edits.Indent.TheVariants as indent_by
-use Rattle.ob0_text.specs.declared.positions.Unit as counting
+use Rattle.ob0_text.specs.declared.position_types.Unit as counting
 use Rattle.ob0_text.specs.Units.{width_of}
 use Rattle.ob0_text.specs.Patches.{cut_at, cuts_of, patched, pieced}
 use Rattle.ob0_layout.specs.declared.gap.Gap.{Gap}
 use Rattle.ob0_layout.specs.declared.gap.Gap.TheVariants.{Nothing, Space, Line}
-use Rattle.ob0_layout.specs.declared.sites.Site.{Site}
+use Rattle.ob0_layout.specs.declared.sites.GapSite.{GapSite}
 use Rattle.ob0_layout.specs.declared.sites.Solid.{Solid}
-use Rattle.ob0_layout.specs.declared.standing.LineRole.{LineRole}
-use Rattle.ob0_layout.specs.Layout.{placed, next_line, holds_break, indentation, gap_text, laid}
-use Rattle.ob0_layout.specs.Sites.{sites, all_sites, is_changed, changed_sites, said, edit_of}
+use Rattle.ob0_layout.specs.declared.line_role.LineRole.{LineRole}
+use Rattle.ob0_layout.specs.Layout.{placed, next_line, has_break, indentation, gap_text, laid}
+use Rattle.ob0_layout.specs.Sites.{sites, all_sites, is_changed, changed_sites, edit_text, edit_of}
 use Rattle.ob0_layout.specs.Cuts.{cut_of}
 use Rattle.ob0_layout.proofs.Apart.{IsSolid, solid_first}
 use Rattle.ob0_layout.proofs.LastBytes.{last_byte, last_at, solid_last}
@@ -31,13 +31,13 @@ use Rattle.ob0_layout.proofs.TextCuts.{IsEnding, AreSame, IsSameCut, same_cut, p
 use Rattle.ob0_text.proofs.StableSort.{first_same, rest_same}
 
 -- a gap begins and ends between characters, and not inside a line's ending
-pub record IsClear (text : List ℕ) (g : Site) : Type 0 where
+pub record IsClear (text : List ℕ) (g : GapSite) : Type 0 where
   pub start : IsCharBoundary text g.start
   pub end : IsCharBoundary text g.end
   pub clear : IsEnding text g.start → ⊥
   pub clear_end : IsEnding text g.end → ⊥
 
-unfoldable pub AllClear : List ℕ → List Site → Type 0
+unfoldable pub AllClear : List ℕ → List GapSite → Type 0
 AllClear text [] = Unit {0}
 AllClear text (g ∷ gs) = IsClear text g × AllClear text gs
 
@@ -74,7 +74,7 @@ module _ (text : List ℕ) where
       → ((before : Option Solid) (level : ℕ) (broken : Bool) (ss : List LineRole) (from : ℕ) → IsBorder from → AllClear text (sites before level broken ss from (at + length t) ls))
       → (before : Option Solid) (level : ℕ) (broken : Bool) (ss : List LineRole) (from : ℕ) → IsBorder from → AllClear text (sites before level broken ss from at (record { kind = k; text = t } ∷ ls))
   unfolding AllClear
-  clear_kind lexeme.Space at t ls s more before level broken ss from b = more before level (broken || holds_break t) ss from b
+  clear_kind lexeme.Space at t ls s more before level broken ss from b = more before level (broken || has_break t) ss from b
   clear_kind lexeme.Comment at t ls s more before level broken ss from b =
       let e = before_solid lexeme.Comment at t ls tt s in
       (record { start = b.place; end = e.place; clear = b.clear; clear_end = e.clear }, more _ level false ss (at + length t) (behind_solid lexeme.Comment at t ls tt s))
@@ -91,7 +91,7 @@ module _ (text : List ℕ) where
       at_zero n = omega arith
   clear_sites (l ∷ ls) at s = clear_kind l.kind at l.text ls s (clear_sites ls (at + length l.text) (next_from text at l ls [] s))
 
-  clear_changed : (indent : Indent) (gs : List Site) → AllClear text gs → AllClear text (changed_sites indent text gs)
+  clear_changed : (indent : Indent) (gs : List GapSite) → AllClear text gs → AllClear text (changed_sites indent text gs)
   unfolding AllClear
   clear_changed indent [] all = tt
   clear_changed indent (g ∷ gs) all = elim (is_changed indent text g) as (λ b. AllClear text (cond b (g ∷ changed_sites indent text gs) (changed_sites indent text gs))) [
@@ -124,8 +124,8 @@ gap_utf8 : (indent : Indent) (g : Gap) → IsUtf8 (gap_text indent g)
 gap_utf8 indent g = IsUtf8-from_ascii (gap_text indent g) (gap_ascii indent g)
 
 -- the cuts of the edits are those of the gaps
-same_cuts : (unit : counting.Unit) (text : List ℕ) (u : IsUtf8 text) (indent : Indent) (at : ℕ) (gs : List Site) (edits : List Edit) → Chain at (map (cut_of indent) gs) → AllClear text gs
-    → map said edits ≡ map (edit_of indent (width_of unit) (chars text)) gs → AreSame unit text u (map (cut_of indent) gs) (cuts_of (width_of unit) (chars text) edits)
+same_cuts : (unit : counting.Unit) (text : List ℕ) (u : IsUtf8 text) (indent : Indent) (at : ℕ) (gs : List GapSite) (edits : List Edit) → Chain at (map (cut_of indent) gs) → AllClear text gs
+    → map edit_text edits ≡ map (edit_of indent (width_of unit) (chars text)) gs → AreSame unit text u (map (cut_of indent) gs) (cuts_of (width_of unit) (chars text) edits)
 unfolding AllClear AreSame
 same_cuts unit text u indent at [] [] chain clear e = tt
 same_cuts unit text u indent at [] (x ∷ edits) chain clear e = absurd (cc)
@@ -146,7 +146,7 @@ all_clear s scan ss =
     zero_less = omega arith
 
 pub gaps_patched : (unit : counting.Unit) (indent : Indent) (s : Scanned) (scan : IsScan s) (ss : List LineRole) (edits : List Edit)
-    → map said edits ≡ map (edit_of indent (width_of unit) (chars s.text)) (changed_sites indent s.text (all_sites ss scan.lexemes))
+    → map edit_text edits ≡ map (edit_of indent (width_of unit) (chars s.text)) (changed_sites indent s.text (all_sites ss scan.lexemes))
     → patched (width_of unit) (chars s.text) edits ≡ Some (chars (joined (laid indent (placed 0 true ss scan.lexemes))))
 gaps_patched unit indent s scan ss edits e =
     let clear = clear_changed s.text indent (all_sites ss scan.lexemes) (all_clear s scan ss) in
@@ -154,7 +154,7 @@ gaps_patched unit indent s scan ss edits e =
     let made = patched_by_same unit s.text scan.utf8 _ _ (same_cuts unit s.text scan.utf8 indent 0 (changed_sites indent s.text (all_sites ss scan.lexemes)) edits chain clear e) chain in
     made.1 ∙ ap (λ t. Some (chars t)) (changed_made indent s scan ss)
 
-made_utf8 : (indent : Indent) (text : List ℕ) → IsUtf8 text → (at : ℕ) (gs : List Site) → IsCharBoundary text at → Chain at (map (cut_of indent) gs) → AllClear text gs → IsUtf8 (pieced text at (map (cut_of indent) gs))
+made_utf8 : (indent : Indent) (text : List ℕ) → IsUtf8 text → (at : ℕ) (gs : List GapSite) → IsCharBoundary text at → Chain at (map (cut_of indent) gs) → AllClear text gs → IsUtf8 (pieced text at (map (cut_of indent) gs))
 unfolding pieced AllClear
 made_utf8 indent text u at [] b chain clear = IsUtf8-drop text at u b
 made_utf8 indent text u at (g ∷ gs) b chain clear =

@@ -15,10 +15,10 @@ use Rattle.ob0_scan.proofs.Spans.{StandFrom, next_from}
 use Rattle.ob0_text.specs.declared.edits.Indent.{Indent}
 use Rattle.ob0_text.specs.declared.edits.Indent.TheVariants as indent_by
 use Rattle.ob0_text.specs.Patches.{Cut, pieced}
-use Rattle.ob0_layout.specs.declared.sites.Site.{Site}
+use Rattle.ob0_layout.specs.declared.sites.GapSite.{GapSite}
 use Rattle.ob0_layout.specs.declared.sites.Solid.{Solid}
-use Rattle.ob0_layout.specs.declared.standing.LineRole.{LineRole}
-use Rattle.ob0_layout.specs.Layout.{Placed, placed, next_line, next_role, holds_break, comment_role, indentation, gap, gap_text, spaced, laid_after, laid}
+use Rattle.ob0_layout.specs.declared.line_role.LineRole.{LineRole}
+use Rattle.ob0_layout.specs.Layout.{PlacedLexeme, placed, next_line, next_role, has_break, comment_role, indentation, gap, gap_text, spaced, laid_after, laid}
 use Rattle.ob0_layout.specs.Sites.{sites, all_sites, is_changed, changed_sites, laid_len, LiesIn}
 use Rattle.ob0_layout.proofs.Ahead.{all_lie}
 use Rattle.ob0_layout.specs.Cuts.{cut_of, made_of}
@@ -63,14 +63,14 @@ no_indent : (indent : Indent) → indentation indent 0 ≡ []
 no_indent indent_by.Tab = refl
 no_indent (indent_by.Spaces n) = let none : 0 * n ≡ 0 = omega arith in ap (λ k. replicate k 32) none
 
-abbrev solid_of : Placed → Solid
+abbrev solid_of : PlacedLexeme → Solid
 solid_of a = record { kind = a.lexeme.kind; standing = a.standing }
 
 -- the gaps from a place on are in order
 chain_kind : (indent : Indent) (k : LexemeKind) (t : List ℕ) (ls : List Lexeme) (before : Option Solid) (level : ℕ) (broken : Bool) (ss : List LineRole) (from at : ℕ) → from ≤ at
     → ((b : Option Solid) (k : ℕ) (br : Bool) (xs : List LineRole) (f : ℕ) → f ≤ at + length t → Chain f (map (cut_of indent) (sites b k br xs f (at + length t) ls)))
     → Chain from (map (cut_of indent) (sites before level broken ss from at (record { kind = k; text = t } ∷ ls)))
-chain_kind indent lexeme.Space t ls before level broken ss from at up more = more before level (broken || holds_break t) ss from (omega arith)
+chain_kind indent lexeme.Space t ls before level broken ss from at up more = more before level (broken || has_break t) ss from (omega arith)
 chain_kind indent lexeme.Comment t ls before level broken ss from at up more = (omega arith, up, earlier at (at + length t) _ (omega arith) (more _ level false ss (at + length t) (omega arith)))
 chain_kind indent (lexeme.Token k) t ls before level broken ss from at up more = (omega arith, up, earlier at (at + length t) _ (omega arith) (more _ (next_line level ss) false (drop 1 ss) (at + length t) (omega arith)))
 
@@ -88,11 +88,11 @@ module _ (indent : Indent) (text : List ℕ) where
 
   abbrev Laid : ℕ → List Lexeme → Type 0
   Laid at rest =
-      (a : Placed) (level : ℕ) (broken : Bool) (ss : List LineRole) (from : ℕ) → from ≤ at
+      (a : PlacedLexeme) (level : ℕ) (broken : Bool) (ss : List LineRole) (from : ℕ) → from ≤ at
       → pieced text from (map (cut_of indent) (sites (Some (solid_of a)) level broken ss from at rest)) ≡ joined (laid_after indent a (placed level broken ss rest))
 
   laid_solid : (at : ℕ) (t : List ℕ) (ls : List Lexeme) → drop at text ≡ t ++ joined ls → Laid (at + length t) ls
-      → (a b : Placed) (level : ℕ) (ss : List LineRole) (from : ℕ) → b.lexeme.text ≡ t
+      → (a b : PlacedLexeme) (level : ℕ) (ss : List LineRole) (from : ℕ) → b.lexeme.text ≡ t
       → pieced text from (record { from = from; to = at; new = gap indent a b } ∷ map (cut_of indent) (sites (Some (solid_of b)) level false ss (at + length t) (at + length t) ls))
       ≡ joined (laid_after indent a (b ∷ placed level false ss ls))
   laid_solid at t ls here more a b level ss from is =
@@ -105,7 +105,7 @@ module _ (indent : Indent) (text : List ℕ) where
 
   laid_kind : (k : LexemeKind) (at : ℕ) (t : List ℕ) (ls : List Lexeme) → drop at text ≡ t ++ joined ls → Laid (at + length t) ls → Laid at (record { kind = k; text = t } ∷ ls)
   unfolding gap
-  laid_kind lexeme.Space at t ls here more a level broken ss from up = more a level (broken || holds_break t) ss from (omega arith)
+  laid_kind lexeme.Space at t ls here more a level broken ss from up = more a level (broken || has_break t) ss from (omega arith)
   laid_kind lexeme.Comment at t ls here more a level broken ss from up =
       laid_solid at t ls here more a (record { lexeme = record { kind = lexeme.Comment; text = t }; standing = comment_role broken (next_line level ss) }) level ss from refl
   laid_kind (lexeme.Token k) at t ls here more a level broken ss from up =
@@ -124,7 +124,7 @@ module _ (indent : Indent) (text : List ℕ) where
       (level : ℕ) (broken : Bool) (ss : List LineRole) (from : ℕ) → from ≤ at → pieced text from (map (cut_of indent) (sites None level broken ss from at rest)) ≡ joined (laid indent (placed level broken ss rest))
 
   first_solid : (at : ℕ) (t : List ℕ) (ls : List Lexeme) → drop at text ≡ t ++ joined ls → Laid (at + length t) ls
-      → (b : Placed) (level : ℕ) (ss : List LineRole) (from : ℕ) → b.lexeme.text ≡ t
+      → (b : PlacedLexeme) (level : ℕ) (ss : List LineRole) (from : ℕ) → b.lexeme.text ≡ t
       → pieced text from (record { from = from; to = at; new = [] } ∷ map (cut_of indent) (sites (Some (solid_of b)) level false ss (at + length t) (at + length t) ls))
       ≡ joined (laid indent (b ∷ placed level false ss ls))
   first_solid at t ls here more b level ss from is =
@@ -134,7 +134,7 @@ module _ (indent : Indent) (text : List ℕ) where
       ∙ ap₂ (λ xs ys. xs ++ ys) (sym is) (more b level false ss (at + length t) (omega arith))
 
   first_kind : (k : LexemeKind) (at : ℕ) (t : List ℕ) (ls : List Lexeme) → drop at text ≡ t ++ joined ls → Laid (at + length t) ls → FirstLaid (at + length t) ls → FirstLaid at (record { kind = k; text = t } ∷ ls)
-  first_kind lexeme.Space at t ls here behind more level broken ss from up = more level (broken || holds_break t) ss from (omega arith)
+  first_kind lexeme.Space at t ls here behind more level broken ss from up = more level (broken || has_break t) ss from (omega arith)
   first_kind lexeme.Comment at t ls here behind more level broken ss from up =
       first_solid at t ls here behind (record { lexeme = record { kind = lexeme.Comment; text = t }; standing = comment_role broken (next_line level ss) }) level ss from refl
   first_kind (lexeme.Token k) at t ls here behind more level broken ss from up =
@@ -147,7 +147,7 @@ module _ (indent : Indent) (text : List ℕ) where
       let s' = next_from text at l ls [] s in
       first_kind l.kind at l.text ls (s.rest ∙ append-nil (l.text ++ joined ls)) (laid_from ls (at + length l.text) s') (first_laid ls (at + length l.text) s')
 
-  pub chain_changed : (at : ℕ) (gs : List Site) → Chain at (map (cut_of indent) gs) → Chain at (map (cut_of indent) (changed_sites indent text gs))
+  pub chain_changed : (at : ℕ) (gs : List GapSite) → Chain at (map (cut_of indent) gs) → Chain at (map (cut_of indent) (changed_sites indent text gs))
   chain_changed at [] chain = tt
   chain_changed at (g ∷ gs) chain = elim (is_changed indent text g) as (λ b. Chain at (map (cut_of indent) (cond b (g ∷ changed_sites indent text gs) (changed_sites indent text gs)))) [
     | true ↦ (chain.0, chain.1, chain_changed g.end gs chain.2)
@@ -155,7 +155,7 @@ module _ (indent : Indent) (text : List ℕ) where
   ]
 
   -- gaps that stay may be left out
-  kept_or_changed : (at : ℕ) (gs : List Site) → Chain at (map (cut_of indent) gs) → pieced text at (map (cut_of indent) (changed_sites indent text gs)) ≡ pieced text at (map (cut_of indent) gs)
+  kept_or_changed : (at : ℕ) (gs : List GapSite) → Chain at (map (cut_of indent) gs) → pieced text at (map (cut_of indent) (changed_sites indent text gs)) ≡ pieced text at (map (cut_of indent) gs)
   unfolding pieced
   kept_or_changed at [] chain = refl
   kept_or_changed at (g ∷ gs) chain = by_test (bytes_eq (slice_range text g.start g.end) (gap_text indent g.gap)) refl (kept_or_changed g.end gs chain.2)
@@ -175,7 +175,7 @@ module _ (indent : Indent) (text : List ℕ) where
           ap (λ b. pieced text at (map (cut_of indent) (cond (not b) (g ∷ changed_sites indent text gs) (changed_sites indent text gs)))) e
           ∙ ap (λ xs. take (g.start - at) (drop at text) ++ (gap_text indent g.gap ++ xs)) more
 
-pub made_length : (indent : Indent) (text : List ℕ) (at : ℕ) (gs : List Site) → Chain at (map (cut_of indent) gs) → All (LiesIn (length text)) gs → length (pieced text at (map (cut_of indent) gs)) ≡ laid_len indent (length text) at gs
+pub made_length : (indent : Indent) (text : List ℕ) (at : ℕ) (gs : List GapSite) → Chain at (map (cut_of indent) gs) → All (LiesIn (length text)) gs → length (pieced text at (map (cut_of indent) gs)) ≡ laid_len indent (length text) at gs
 unfolding pieced
 made_length indent text at [] chain all = length-drop at text
 made_length indent text at (g ∷ gs) chain all =

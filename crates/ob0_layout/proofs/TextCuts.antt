@@ -7,8 +7,8 @@ use Rattle.std.proofs.Math.Seq.{take-append_seam, take-append-add}
 use Rattle.std.proofs.lemmas.Str.{chars-append, IsUtf8-append, IsUtf8-take, IsUtf8-drop, IsUtf8-between, encodes-append, encodes-chars, scalars-chars, encode_ascii}
 use Rattle.std.proofs.lemmas.List.{take-append-drop, length-take}
 use Rattle.std.proofs.lemmas.Bool.Decides.{nat_tests}
-use Rattle.ob0_text.specs.declared.positions.Range.{Range}
-use Rattle.ob0_text.specs.declared.positions.Unit as counting
+use Rattle.ob0_text.specs.declared.position_types.Range.{Range}
+use Rattle.ob0_text.specs.declared.position_types.Unit as counting
 use Rattle.ob0_text.specs.Units.{width_of}
 use Rattle.ob0_text.proofs.Widths.{wide}
 use Rattle.ob0_text.specs.Texts.{CR, LF, before, position_of, byte_len, IsInsideEnding}

@@ -1,8 +1,8 @@
 -- The standings of a tree don't depend on its names.
 use Rattle.std.proofs.Common.{◌≡◌, ℕ, [], ◌∷◌, ◌++◌, refl}
 use Rattle.ob0_tree.specs.Tree.{Sort, Tree, none, one, end, more, compares, relates, sum, adds, product, multiplies, designator, integer, parenthesised, negation, field, index, empty, assigns, calls, branches, while_loop, repeat_loop, no_arguments, some_arguments, then_argument, runs, then_statement, elsif_branch, else_branch, listed, then_name, named_type, array_type, record_type, no_fields, some_fields, then_fields, no_formals, some_formals, value_section, variable_section, then_section, declares_constant, declares_constants, declares_type, declares_types, declares_variable, declares_variables, declares_procedure, declares, begins, has_body, is_module, mapped}
-use Rattle.ob0_layout.specs.declared.standing.LineRole.TheVariants.{Begins, Opening, Plain}
-use Rattle.ob0_layout.specs.Standings.{line_roles, deeper, in_line, sign_role}
+use Rattle.ob0_layout.specs.declared.line_role.LineRole.TheVariants.{Begins, Opening, Plain}
+use Rattle.ob0_layout.specs.LineRoles.{line_roles, deeper, in_line, sign_role}
 
 pub standings_mapped : {N M : Type 0} {s : Sort} (u : N → M) (v : ℕ → ℕ) (k : ℕ) (t : Tree N s) → line_roles k (mapped u v t) ≡ line_roles k t
 standings_mapped u v k none = refl

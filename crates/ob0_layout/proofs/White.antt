@@ -14,10 +14,10 @@ use Rattle.ob0_text.specs.declared.edits.Indent.{Indent}
 use Rattle.ob0_text.specs.declared.edits.Indent.TheVariants as indent_by
 use Rattle.ob0_layout.specs.declared.gap.Gap.{Gap}
 use Rattle.ob0_layout.specs.declared.gap.Gap.TheVariants.{Nothing, Space, Line}
-use Rattle.ob0_layout.specs.declared.sites.Site.{Site}
+use Rattle.ob0_layout.specs.declared.sites.GapSite.{GapSite}
 use Rattle.ob0_layout.specs.declared.sites.Solid.{Solid}
-use Rattle.ob0_layout.specs.declared.standing.LineRole.{LineRole}
-use Rattle.ob0_layout.specs.Layout.{next_line, holds_break, indentation, gap_text}
+use Rattle.ob0_layout.specs.declared.line_role.LineRole.{LineRole}
+use Rattle.ob0_layout.specs.Layout.{next_line, has_break, indentation, gap_text}
 use Rattle.ob0_layout.specs.Sites.{IsWhite, all_sites, last_gap, sites}
 use Rattle.ob0_layout.proofs.Pieced.{none_taken, two_parts}
 
@@ -45,7 +45,7 @@ module _ (text : List ℕ) where
 
   white_kind : (k : LexemeKind) (at : ℕ) (t : List ℕ) (ls : List Lexeme) → drop at text ≡ t ++ joined ls → Belongs k t → AllWhite (at + length t) ls → AllWhite at (record { kind = k; text = t } ∷ ls)
   white_kind lexeme.Space at t ls here is more = λ before level broken ss from up w.
-      more before level (broken || holds_break t) ss from (omega (arith, up)) (longer from at t (joined ls) up here w is.all)
+      more before level (broken || has_break t) ss from (omega (arith, up)) (longer from at t (joined ls) up here w is.all)
   white_kind lexeme.Comment at t ls here is more = λ before level broken ss from up w.
       All-cons (IsWhite text) _ _ w (more _ level false ss (at + length t) (omega arith) (empty (at + length t)))
   white_kind (lexeme.Token k) at t ls here is more = λ before level broken ss from up w.

@@ -3,13 +3,13 @@
 use Rattle.std.specs.Prelude.{ℕ, List, map}
 use Rattle.ob0_text.specs.declared.edits.Indent.{Indent}
 use Rattle.ob0_text.specs.Patches.{Cut, pieced}
-use Rattle.ob0_layout.specs.declared.sites.Site.{Site}
+use Rattle.ob0_layout.specs.declared.sites.GapSite.{GapSite}
 use Rattle.ob0_layout.specs.Layout.{gap_text}
 
 -- a gap is taken out, and what is to be there is put in its place
-abbrev pub cut_of : Indent → Site → Cut
+abbrev pub cut_of : Indent → GapSite → Cut
 cut_of indent g = record { from = g.start; to = g.end; new = gap_text indent g.gap }
 
 -- what these gaps make of a text's bytes
-abbrev pub made_of : Indent → List ℕ → List Site → List ℕ
+abbrev pub made_of : Indent → List ℕ → List GapSite → List ℕ
 made_of indent text gs = pieced text 0 (map (cut_of indent) gs)

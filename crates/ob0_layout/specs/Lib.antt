@@ -1,4 +1,4 @@
-pub mod Standings
+pub mod LineRoles
 pub mod Layout
 pub mod Sites
 pub mod Cuts

@@ -9,10 +9,10 @@ ghost use Rattle.ob0_text.specs.Units.{width_of};
 ghost use Rattle.ob0_text.specs.declared.refusals.EditRefusal.TheVariants.{TooLong, Memory};
 ghost use Rattle.ob0_tree.specs.Parsed.{named_tree_of};
 ghost use Rattle.ob0_layout.specs.Layout.{layout};
-ghost use Rattle.ob0_layout.specs.Standings.{line_roles};
-ghost use Rattle.ob0_layout.specs.Sites.{all_sites, is_changed, changed_sites, said, edit_of, LiesIn, laid_len};
+ghost use Rattle.ob0_layout.specs.LineRoles.{line_roles};
+ghost use Rattle.ob0_layout.specs.Sites.{all_sites, is_changed, changed_sites, edit_text, edit_of, LiesIn, laid_len};
 
-use crate::sites::{Site, all_sites};
+use crate::sites::{GapSite, all_sites};
 use crate::walk::line_roles;
 use ob0_scan::MAX_TEXT;
 use ob0_text::{Edit, EditRefusal, Indent, Range, TextStore};
@@ -27,7 +27,7 @@ pub fn format<T: TextStore>(
     module: &Module,
     indent: Indent,
 ) -> Result<Vec<Edit>, EditRefusal>
-    ensures edits { (scan : IsScan module.now.source) → IfOk result (λ edits. map said edits.items ≡
+    ensures edits { (scan : IsScan module.now.source) → IfOk result (λ edits. map edit_text edits.items ≡
         map (edit_of indent (width_of (T.unit_of store.now)) (T.content store.now)) (changed_sites indent module.now.source.text (all_sites (line_roles 0 (named_tree_of module.now)) scan.lexemes))) }
     ensures fits { (scan : IsScan module.now.source) → IfOk result (λ _. length (layout indent (named_tree_of module.now) scan.lexemes) ≤ max_text) }
     ensures too_long { (scan : IsScan module.now.source) → IsErrOf result TooLong → max_text < length (layout indent (named_tree_of module.now) scan.lexemes) }
@@ -47,7 +47,7 @@ pub fn format<T: TextStore>(
 }
 
 /// Whether a text of this length isn't too long when its gaps are laid out.
-fn fits(sites: &[Site], len: usize, indent: Indent) -> bool
+fn fits(sites: &[GapSite], len: usize, indent: Indent) -> bool
     requires length { len ≤ max_text }
     requires within { All (LiesIn len) sites.now }
     ensures { IsTrue result ↔ laid_len indent len 0 sites.now ≤ max_text }
@@ -68,9 +68,9 @@ fn fits(sites: &[Site], len: usize, indent: Indent) -> bool
 fn changed(
     alloc: Global,
     text: &[u8],
-    sites: &[Site],
+    sites: &[GapSite],
     indent: Indent,
-) -> Result<Vec<Site>, AllocError>
+) -> Result<Vec<GapSite>, AllocError>
     requires { All (LiesIn (length text.now)) sites.now }
     ensures { IfOk result (λ changed. changed.items ≡ changed_sites indent text.now sites.now) }
 {
@@ -83,7 +83,7 @@ fn changed(
     Ok(changed)
 }
 
-fn is_changed(alloc: Global, text: &[u8], site: Site, indent: Indent) -> Result<bool, AllocError>
+fn is_changed(alloc: Global, text: &[u8], site: GapSite, indent: Indent) -> Result<bool, AllocError>
     requires { LiesIn (length text.now) site }
     ensures { IfOk result (λ changes. changes ≡ is_changed indent text.now site) }
 {
@@ -95,10 +95,10 @@ fn is_changed(alloc: Global, text: &[u8], site: Site, indent: Indent) -> Result<
 fn edits<T: TextStore>(
     alloc: Global,
     store: &T,
-    sites: &[Site],
+    sites: &[GapSite],
     indent: Indent,
 ) -> Result<Vec<Edit>, AllocError>
-    ensures { IfOk result (λ edits. map said edits.items ≡ map (edit_of indent (width_of (T.unit_of store.now)) (T.content store.now)) sites.now) }
+    ensures { IfOk result (λ edits. map edit_text edits.items ≡ map (edit_of indent (width_of (T.unit_of store.now)) (T.content store.now)) sites.now) }
 {
     let starts = starts(alloc, sites)?;
     let ends = ends(alloc, sites)?;
@@ -116,13 +116,13 @@ fn edits<T: TextStore>(
     Ok(edits)
 }
 
-fn starts(alloc: Global, sites: &[Site]) -> Result<Vec<usize>, AllocError>
+fn starts(alloc: Global, sites: &[GapSite]) -> Result<Vec<usize>, AllocError>
     ensures { IfOk result (λ offsets. offsets.items ≡ map (λ site. site.start) sites.now) }
 {
     sites.iter().map(|site| site.start).collect(alloc)
 }
 
-fn ends(alloc: Global, sites: &[Site]) -> Result<Vec<usize>, AllocError>
+fn ends(alloc: Global, sites: &[GapSite]) -> Result<Vec<usize>, AllocError>
     ensures { IfOk result (λ offsets. offsets.items ≡ map (λ site. site.end) sites.now) }
 {
     sites.iter().map(|site| site.end).collect(alloc)

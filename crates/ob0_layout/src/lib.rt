@@ -4,9 +4,9 @@
 mod formatting;
 mod gap;
 pub mod laws;
+mod line_role;
 mod sites;
-mod standing;
 mod walk;
 
 pub use formatting::format;
-pub use standing::LineRole;
+pub use line_role::LineRole;

@@ -2,17 +2,17 @@
 
 ghost use Rattle.std.specs.Prelude.{◌≡◌, ◌||◌, ◌==◌, IfOk, is_none, drop};
 ghost use Rattle.ob0_scan.specs.Scanned.{IsScan};
-ghost use Rattle.ob0_layout.specs.Layout.{next_line, next_role, comment_role, holds_break};
+ghost use Rattle.ob0_layout.specs.Layout.{next_line, next_role, comment_role, has_break};
 ghost use Rattle.ob0_layout.specs.Sites.{all_sites, next_of, gap_before, last_gap};
 
 use crate::gap::{Gap, gap_between};
-use crate::standing::LineRole;
+use crate::line_role::LineRole;
 use ob0_scan::{LexemeKind, Span, Token, Tokens};
 use std::alloc::{AllocError, Global};
 
 /// A gap of a text: where it begins and ends, and what is to be there.
 #[derive(Clone, Copy)]
-pub struct Site {
+pub struct GapSite {
     pub start: usize,
     pub end: usize,
     pub gap: Gap,
@@ -27,7 +27,7 @@ pub struct Solid {
 
 /// What comes next in a text, white space aside.
 #[derive(Clone, Copy)]
-pub enum Next {
+pub enum NextLexeme {
     Token(Token),
     Comment(Span),
 }
@@ -37,7 +37,7 @@ pub fn all_sites(
     alloc: Global,
     tokens: &Tokens,
     standings: &[LineRole],
-) -> Result<Vec<Site>, AllocError>
+) -> Result<Vec<GapSite>, AllocError>
     ensures { (scan : IsScan tokens.now) → IfOk result (λ sites. sites.items ≡ all_sites standings.now scan.lexemes) }
 {
     let text = tokens.text().as_bytes();
@@ -50,54 +50,54 @@ pub fn all_sites(
     let mut start = 0;
     while let Some(next) = next_of(left, comments) {
         match next {
-            Next::Comment(span) => {
-                let broken = begins_anew(before, &text[start..span.start]);
+            NextLexeme::Comment(span) => {
+                let broken = begins_line(before, &text[start..span.start]);
                 let standing = comment_role(broken, next_line(level, standings));
                 let kind = LexemeKind::Comment;
                 let gap = gap_before(before, kind, standing);
                 let end = span.start;
-                sites.push(Site { start, end, gap })?;
+                sites.push(GapSite { start, end, gap })?;
                 before = Some(Solid { kind, standing });
                 start = span.end;
-                comments = behind_first(comments);
+                comments = after_first(comments);
             }
-            Next::Token(token) => {
+            NextLexeme::Token(token) => {
                 let standing = next_role(standings);
                 let kind = LexemeKind::Token(token.kind);
                 let gap = gap_before(before, kind, standing);
                 let end = token.span.start;
-                sites.push(Site { start, end, gap })?;
+                sites.push(GapSite { start, end, gap })?;
                 before = Some(Solid { kind, standing });
                 level = next_line(level, standings);
-                standings = behind_first(standings);
+                standings = after_first(standings);
                 start = token.span.end;
-                left = behind_first(left);
+                left = after_first(left);
             }
         }
     }
     let end = text.len();
     let gap = last_gap(before);
-    sites.push(Site { start, end, gap })?;
+    sites.push(GapSite { start, end, gap })?;
     Ok(sites)
 }
 
 /// Of the tokens and comments that are left, which comes first.
-fn next_of(left: &[Token], comments: &[Span]) -> Option<Next>
+fn next_of(left: &[Token], comments: &[Span]) -> Option<NextLexeme>
     ensures { result ≡ next_of left.now comments.now }
 {
     if left.is_empty() {
         if comments.is_empty() {
             return None;
         }
-        return Some(Next::Comment(comments[0]));
+        return Some(NextLexeme::Comment(comments[0]));
     }
     if comments.is_empty() {
-        return Some(Next::Token(left[0]));
+        return Some(NextLexeme::Token(left[0]));
     }
     if comments[0].start < left[0].span.start {
-        Some(Next::Comment(comments[0]))
+        Some(NextLexeme::Comment(comments[0]))
     } else {
-        Some(Next::Token(left[0]))
+        Some(NextLexeme::Token(left[0]))
     }
 }
 
@@ -146,7 +146,7 @@ fn next_role(standings: &[LineRole]) -> LineRole
 }
 
 /// All of a list but the first.
-fn behind_first<T>(items: &[T]) -> &[T]
+fn after_first<T>(items: &[T]) -> &[T]
     ensures { result.now ≡ drop 1 items.now }
 {
     if items.is_empty() {
@@ -167,15 +167,15 @@ fn comment_role(broken: bool, level: u32) -> LineRole
 }
 
 /// Whether a line break is in a gap. The text's start counts as one.
-fn begins_anew(before: Option<Solid>, gap: &[u8]) -> bool
-    ensures { result ≡ (is_none before || holds_break gap.now) }
+fn begins_line(before: Option<Solid>, gap: &[u8]) -> bool
+    ensures { result ≡ (is_none before || has_break gap.now) }
 {
-    before.is_none() || holds_break(gap)
+    before.is_none() || has_break(gap)
 }
 
 /// Whether white space holds a line break.
-fn holds_break(gap: &[u8]) -> bool
-    ensures { result ≡ holds_break gap.now }
+fn has_break(gap: &[u8]) -> bool
+    ensures { result ≡ has_break gap.now }
 {
     for b in gap {
         if *b == b'\n' || *b == b'\r' {

@@ -1,13 +1,13 @@
 //! The walk over a module that gives each of its tokens its role in a line.
 
 ghost use Rattle.std.specs.Prelude.{◌≡◌, ◌++◌, ◌∷◌, [], IfOk};
-ghost use Rattle.ob0_layout.specs.declared.standing.LineRole.TheVariants.{Begins, Plain};
-ghost use Rattle.ob0_layout.specs.Standings.{line_roles, deeper, sign_role, separated};
+ghost use Rattle.ob0_layout.specs.declared.line_role.LineRole.TheVariants.{Begins, Plain};
+ghost use Rattle.ob0_layout.specs.LineRoles.{line_roles, deeper, sign_role, separated};
 ghost use Rattle.ob0_tree.specs.Parsed.{tree_of};
 ghost use Rattle.ob0_tree.specs.Tree.{then_name};
 ghost use Rattle.ob0_tree.specs.View.{items_of, expression_of, simple_of, term_of, factor_of, selector_of, designator_of, assignment_of, arguments_in, call_of, statement_of, if_of, elsifs_in, sequence_in, type_of, record_in, fields_of, section_of, formals_of, constants_of, types_of, variables_of, body_of, procedure_of, block_of};
 
-use crate::standing::LineRole;
+use crate::line_role::LineRole;
 use ob0_tree::{
     Assignment, Block, Call, Constant, Designator, Elsif, Expression, Factor, Fields, If, Module,
     Names, Procedure, RecordType, Section, Selector, Sign, Simple, Statement, Term,

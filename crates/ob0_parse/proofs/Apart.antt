@@ -4,35 +4,35 @@ use Rattle.ob0_scan.specs.declared.lexeme.TokenKind.{TokenKind}
 use Rattle.ob0_scan.specs.declared.lexeme.TokenKind.TheVariants as kind
 use Rattle.ob0_scan.specs.declared.lexeme.Reserved.TheVariants as reserved
 use Rattle.ob0_scan.specs.declared.lexeme.Symbol.TheVariants as symbol
-use Rattle.ob0_tree.specs.Lexeme.{Lexeme, Name, Number, Mark}
+use Rattle.ob0_tree.specs.Lexeme.{Terminal, Name, Number, Mark}
 
-pub name_not_mark : {N : Type 0} {n : N} {k : TokenKind} {x y : List (Lexeme N)} → Name n ∷ x ≡ Mark k ∷ y → ⊥
+pub name_not_mark : {N : Type 0} {n : N} {k : TokenKind} {x y : List (Terminal N)} → Name n ∷ x ≡ Mark k ∷ y → ⊥
 name_not_mark e = cc
 
-pub name_not_number : {N : Type 0} {n : N} {i : ℕ} {x y : List (Lexeme N)} → Name n ∷ x ≡ Number i ∷ y → ⊥
+pub name_not_number : {N : Type 0} {n : N} {i : ℕ} {x y : List (Terminal N)} → Name n ∷ x ≡ Number i ∷ y → ⊥
 name_not_number e = cc
 
-pub number_not_mark : {N : Type 0} {i : ℕ} {k : TokenKind} {x y : List (Lexeme N)} → Number i ∷ x ≡ Mark k ∷ y → ⊥
+pub number_not_mark : {N : Type 0} {i : ℕ} {k : TokenKind} {x y : List (Terminal N)} → Number i ∷ x ≡ Mark k ∷ y → ⊥
 number_not_mark e = cc
 
-pub paren_not_tilde : {N : Type 0} {x y : List (Lexeme N)} → Mark (kind.Symbol symbol.LeftParen) ∷ x ≡ Mark (kind.Symbol symbol.Not) ∷ y → ⊥
+pub paren_not_tilde : {N : Type 0} {x y : List (Terminal N)} → Mark (kind.Symbol symbol.LeftParen) ∷ x ≡ Mark (kind.Symbol symbol.Not) ∷ y → ⊥
 paren_not_tilde e = cc
 
-pub dot_not_bracket : {N : Type 0} {x y : List (Lexeme N)} → Mark (kind.Symbol symbol.Dot) ∷ x ≡ Mark (kind.Symbol symbol.LeftBracket) ∷ y → ⊥
+pub dot_not_bracket : {N : Type 0} {x y : List (Terminal N)} → Mark (kind.Symbol symbol.Dot) ∷ x ≡ Mark (kind.Symbol symbol.LeftBracket) ∷ y → ⊥
 dot_not_bracket e = cc
 
-pub dot_not_paren : {N : Type 0} {x y : List (Lexeme N)} → Mark (kind.Symbol symbol.Dot) ∷ x ≡ Mark (kind.Symbol symbol.LeftParen) ∷ y → ⊥
+pub dot_not_paren : {N : Type 0} {x y : List (Terminal N)} → Mark (kind.Symbol symbol.Dot) ∷ x ≡ Mark (kind.Symbol symbol.LeftParen) ∷ y → ⊥
 dot_not_paren e = cc
 
-pub bracket_not_paren : {N : Type 0} {x y : List (Lexeme N)} → Mark (kind.Symbol symbol.LeftBracket) ∷ x ≡ Mark (kind.Symbol symbol.LeftParen) ∷ y → ⊥
+pub bracket_not_paren : {N : Type 0} {x y : List (Terminal N)} → Mark (kind.Symbol symbol.LeftBracket) ∷ x ≡ Mark (kind.Symbol symbol.LeftParen) ∷ y → ⊥
 bracket_not_paren e = cc
 
-pub becomes_not_paren : {N : Type 0} {x y : List (Lexeme N)} → Mark (kind.Symbol symbol.Becomes) ∷ x ≡ Mark (kind.Symbol symbol.LeftParen) ∷ y → ⊥
+pub becomes_not_paren : {N : Type 0} {x y : List (Terminal N)} → Mark (kind.Symbol symbol.Becomes) ∷ x ≡ Mark (kind.Symbol symbol.LeftParen) ∷ y → ⊥
 becomes_not_paren e = cc
 
-pub array_not_record : {N : Type 0} {x y : List (Lexeme N)} → Mark (kind.Reserved reserved.Array) ∷ x ≡ Mark (kind.Reserved reserved.Record) ∷ y → ⊥
+pub array_not_record : {N : Type 0} {x y : List (Terminal N)} → Mark (kind.Reserved reserved.Array) ∷ x ≡ Mark (kind.Reserved reserved.Record) ∷ y → ⊥
 array_not_record e = cc
 
 -- the numbers of two lists that begin with them
-pub number_of : {N : Type 0} {i j : ℕ} {x y : List (Lexeme N)} → Number i ∷ x ≡ Number j ∷ y → i ≡ j
+pub number_of : {N : Type 0} {i j : ℕ} {x y : List (Terminal N)} → Number i ∷ x ≡ Number j ∷ y → i ≡ j
 number_of e = cc

@@ -2,7 +2,7 @@
 use Rattle.std.proofs.Common.{◌≡◌, ℕ, suc, ◌+◌, ◌<◌, Bool, true, false, Option, Some, None, List, [], ◌∷◌, ◌++◌, length, refl, sym, ◌∙◌, ap, subst, arith, eqb-true, eq-eqb, if◌then◌else◌}
 use Rattle.ob0_scan.specs.declared.lexeme.TokenKind.{TokenKind}
 use Rattle.ob0_scan.specs.declared.lexeme.Token.{Token}
-use Rattle.ob0_tree.specs.Lexeme.{Lexeme, Name, Number, Mark}
+use Rattle.ob0_tree.specs.Lexeme.{Terminal, Name, Number, Mark}
 use Rattle.ob0_tree.specs.Tree.{Item, item, items, maybe, Sort}
 use Rattle.ob0_parse.specs.Follow.{rank, item_rank, Starts}
 use Rattle.ob0_parse.specs.Descent.{Part, token, name, number, node, parts, missing, too_deep, nested, is_next, chosen, IsPart, Stop, Expects, Descends, done, taken, other, made, absent, deep}
@@ -32,7 +32,7 @@ parts_deep e = cc
 missing_deep : {a : Expected} → missing a ≡ too_deep → ⊥
 missing_deep e = cc
 
-pub same_stop : {ps : List Part} {i : ℕ} {tokens : List (Lexeme ℕ)} {a b : Stop} → Descends ps i tokens a → Descends ps i tokens b → a ≡ b
+pub same_stop : {ps : List Part} {i : ℕ} {tokens : List (Terminal ℕ)} {a b : Stop} → Descends ps i tokens a → Descends ps i tokens b → a ≡ b
 same_stop done done = refl
 same_stop (taken is p) (taken again q) = same_stop p q
 same_stop (taken is p) (other differs e) = absurd (differs is)
@@ -73,7 +73,7 @@ by p q = record { on = λ o more r. p.on o more (q.on o more r) }
 
 -- one token is read
 
-read_part : {p : Part} {x : Lexeme ℕ} {ts : List Token} {at next : ℕ} → IsPart p x → rest ts at ≡ x ∷ rest ts next → next ≡ at + 1 → ReadAs (p ∷ []) [] ts at next
+read_part : {p : Part} {x : Terminal ℕ} {ts : List Token} {at next : ℕ} → IsPart p x → rest ts at ≡ x ∷ rest ts next → next ≡ at + 1 → ReadAs (p ∷ []) [] ts at next
 read_part {p = p} {ts = ts} {at = at} {next = next} is here behind = record {
   on = λ o ps r.
       subst (λ w. Descends (p ∷ ps) at w o) (sym here) (taken is (subst (λ j. Descends ps j (rest ts next) o) behind r));
@@ -109,11 +109,11 @@ read_opened {k = k} inner f c d here =
 
 -- an item is next, or isn't
 
-pub next_item : (i : Item) (w : List (Lexeme ℕ)) → Starts (item_rank i) w → is_next i w ≡ true
+pub next_item : (i : Item) (w : List (Terminal ℕ)) → Starts (item_rank i) w → is_next i w ≡ true
 next_item i [] s = absurd s
 next_item i (x ∷ w) s = eq-eqb (rank x) (item_rank i) s
 
-pub no_next : (i : Item) (w : List (Lexeme ℕ)) → ¬ Starts (item_rank i) w → (b : Bool) → is_next i w ≡ b → is_next i w ≡ false
+pub no_next : (i : Item) (w : List (Terminal ℕ)) → ¬ Starts (item_rank i) w → (b : Bool) → is_next i w ≡ b → is_next i w ≡ false
 no_next i w lacks false e = e
 no_next i [] lacks true e = refl
 no_next i (x ∷ w) lacks true e = absurd (lacks (eqb-true (rank x) (item_rank i) e))
@@ -131,7 +131,7 @@ pub read_none : {i : Item} {room : ℕ} {ts : List Token} {at : ℕ} → ¬ Star
 read_none {i = i} {room = room} {ts = ts} {at = at} lacks = read_made (ap (λ b. if b then parts (node (item i) room ∷ []) else parts []) (no_next i (rest ts at) lacks _ refl))
 
 -- what a construct is made of is read where the construct is
-pub unmade : {s : Sort} {room : ℕ} {qs ps : List Part} {i : ℕ} {tokens : List (Lexeme ℕ)} {o : Stop} → chosen s room tokens ≡ parts qs → Descends (node s room ∷ ps) i tokens o → Descends (qs ++ ps) i tokens o
+pub unmade : {s : Sort} {room : ℕ} {qs ps : List Part} {i : ℕ} {tokens : List (Terminal ℕ)} {o : Stop} → chosen s room tokens ≡ parts qs → Descends (node s room ∷ ps) i tokens o → Descends (qs ++ ps) i tokens o
 unmade c (taken is r) = absurd is
 unmade c (other differs e) = absurd (none_some e)
 unmade {ps = ps} {i = i} {tokens = tokens} {o = o} c (made rs d r) = subst (λ l. Descends (l ++ ps) i tokens o) (same_parts (sym d ∙ c)) r
@@ -141,9 +141,9 @@ unmade c (deep d) = absurd (parts_deep (sym c ∙ d))
 pub read_back : {s : Sort} {room : ℕ} {qs rs : List Part} {ts : List Token} {at next : ℕ} → chosen s room (rest ts at) ≡ parts qs → ReadAs (node s room ∷ []) rs ts at next → ReadAs qs rs ts at next
 read_back c p = record { on = λ o more r. unmade c (p.on o more r) }
 
-pub past_name : {n i : ℕ} {ps : List Part} {xs w : List (Lexeme ℕ)} {o : Stop} → xs ≡ Name n ∷ w → Descends (name ∷ ps) i xs o → Descends ps (i + 1) w o
+pub past_name : {n i : ℕ} {ps : List Part} {xs w : List (Terminal ℕ)} {o : Stop} → xs ≡ Name n ∷ w → Descends (name ∷ ps) i xs o → Descends ps (i + 1) w o
 past_name {n} {i} {ps} {xs} {w} {o} e r = behind (subst (λ y. Descends (name ∷ ps) i y o) e r)
   where
-    behind : {n i : ℕ} {ps : List Part} {w : List (Lexeme ℕ)} {o : Stop} → Descends (name ∷ ps) i (Name n ∷ w) o → Descends ps (i + 1) w o
+    behind : {n i : ℕ} {ps : List Part} {w : List (Terminal ℕ)} {o : Stop} → Descends (name ∷ ps) i (Name n ∷ w) o → Descends ps (i + 1) w o
     behind (taken is r) = r
     behind {n = n} (other differs e) = absurd (differs (n, refl))

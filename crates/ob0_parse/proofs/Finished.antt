@@ -5,7 +5,7 @@ use Rattle.ob0_scan.specs.declared.lexeme.TokenKind.TheVariants as kind
 use Rattle.ob0_scan.specs.declared.lexeme.Reserved.TheVariants as reserved
 use Rattle.ob0_scan.specs.declared.lexeme.Symbol.TheVariants as symbol
 use Rattle.ob0_tree.specs.declared.tree.Sign.TheVariants as signs
-use Rattle.ob0_tree.specs.Lexeme.{Lexeme, Name, Number, Mark}
+use Rattle.ob0_tree.specs.Lexeme.{Terminal, Name, Number, Mark}
 use Rattle.ob0_tree.specs.Tree.{Item, arguments, further_argument, further_section, constants, type_names, variables, procedure, Sort, item, items, maybe, expression, statement, fields, section, Tree, none, one, end, more, compares, relates, sum, adds, product, multiplies, designator, integer, parenthesised, negation, field, index, empty, assigns, calls, branches, while_loop, repeat_loop, no_arguments, some_arguments, then_argument, runs, then_statement, elsif_branch, else_branch, listed, then_name, named_type, array_type, record_type, no_fields, some_fields, then_fields, no_formals, some_formals, value_section, variable_section, then_section, declares_constant, declares_constants, declares_type, declares_types, declares_variable, declares_variables, declares_procedure, declares, begins, has_body, is_module, spell, nesting}
 use Rattle.ob0_parse.specs.Follow.{rank, item_rank, item_level, level, Stops, Starts}
 use Rattle.ob0_parse.specs.Descent.{Part, token, name, number, node, parts, sign, is_next, is_expression_next, is_section_next, is_assigned, chosen, Done, Descends, taken, made}
@@ -21,48 +21,48 @@ use Rattle.ob0_parse.proofs.NamedStatements.{chosen_named, assigned_next, unassi
 use Rattle.ob0_parse.proofs.DeclarationParts.{chosen_typed, section_next}
 
 -- the tokens are read to their end, wherever they begin
-abbrev pub Finishes : List Part → List (Lexeme ℕ) → Type 0
+abbrev pub Finishes : List Part → List (Terminal ℕ) → Type 0
 Finishes ps w = (i : ℕ) → Descends ps i w Done
 
-tok : {k : TokenKind} {ps : List Part} {z : List (Lexeme ℕ)} → Finishes ps z → Finishes (token k ∷ ps) (Mark k ∷ z)
+tok : {k : TokenKind} {ps : List Part} {z : List (Terminal ℕ)} → Finishes ps z → Finishes (token k ∷ ps) (Mark k ∷ z)
 tok r = λ i. taken refl (r (i + 1))
 
-nam : {n : ℕ} {ps : List Part} {z : List (Lexeme ℕ)} → Finishes ps z → Finishes (name ∷ ps) (Name n ∷ z)
+nam : {n : ℕ} {ps : List Part} {z : List (Terminal ℕ)} → Finishes ps z → Finishes (name ∷ ps) (Name n ∷ z)
 nam {n = n} r = λ i. taken (n, refl) (r (i + 1))
 
-num : {n : ℕ} {ps : List Part} {z : List (Lexeme ℕ)} → Finishes ps z → Finishes (number ∷ ps) (Number n ∷ z)
+num : {n : ℕ} {ps : List Part} {z : List (Terminal ℕ)} → Finishes ps z → Finishes (number ∷ ps) (Number n ∷ z)
 num {n = n} r = λ i. taken (n, refl) (r (i + 1))
 
-prod : {s : Sort} {room : ℕ} {ps qs : List Part} {w : List (Lexeme ℕ)} → chosen s room w ≡ parts qs → Finishes (qs ++ ps) w → Finishes (node s room ∷ ps) w
+prod : {s : Sort} {room : ℕ} {ps qs : List Part} {w : List (Terminal ℕ)} → chosen s room w ≡ parts qs → Finishes (qs ++ ps) w → Finishes (node s room ∷ ps) w
 prod {qs = qs} c r = λ i. made qs c (r i)
 
-assoc : {ps : List Part} (a b z : List (Lexeme ℕ)) → Finishes ps (a ++ (b ++ z)) → Finishes ps ((a ++ b) ++ z)
+assoc : {ps : List Part} (a b z : List (Terminal ℕ)) → Finishes ps (a ++ (b ++ z)) → Finishes ps ((a ++ b) ++ z)
 assoc {ps = ps} a b z r = λ i. subst (λ w. Descends ps i w Done) (sym (append_assoc a b z)) (r i)
 
-some : (i : Item) (room : ℕ) (w : List (Lexeme ℕ)) → Starts (item_rank i) w → chosen (maybe i) room w ≡ parts (node (item i) room ∷ [])
+some : (i : Item) (room : ℕ) (w : List (Terminal ℕ)) → Starts (item_rank i) w → chosen (maybe i) room w ≡ parts (node (item i) room ∷ [])
 some i room w s = ap (λ b. if b then parts (node (item i) room ∷ []) else parts []) (next_item i w s)
 
-further : (i : Item) (room : ℕ) (w : List (Lexeme ℕ)) → Starts (item_rank i) w → chosen (items i) room w ≡ parts (node (item i) room ∷ node (items i) room ∷ [])
+further : (i : Item) (room : ℕ) (w : List (Terminal ℕ)) → Starts (item_rank i) w → chosen (items i) room w ≡ parts (node (item i) room ∷ node (items i) room ∷ [])
 further i room w s = ap (λ b. if b then parts (node (item i) room ∷ node (items i) room ∷ []) else parts []) (next_item i w s)
 
-left_out : (i : Item) (w : List (Lexeme ℕ)) → Stops (item_rank i) w → is_next i w ≡ false
+left_out : (i : Item) (w : List (Terminal ℕ)) → Stops (item_rank i) w → is_next i w ≡ false
 left_out i w s = no_next i w (λ p. no_end (item_rank i) w p s) _ refl
 
-no_statement : (room : ℕ) (z : List (Lexeme ℕ)) → Stops 8 z → chosen statement room z ≡ parts []
+no_statement : (room : ℕ) (z : List (Terminal ℕ)) → Stops 8 z → chosen statement room z ≡ parts []
 no_statement room [] s = refl
 no_statement room (x ∷ z) s = chosen_empty room x z (λ e. omega (arith, e, s)) (λ e. let r : rank x ≡ 8 = ap rank e in omega (arith, r, s)) (λ e. let r : rank x ≡ 8 = ap rank e in omega (arith, r, s)) (λ e. let r : rank x ≡ 8 = ap rank e in omega (arith, r, s))
 
-no_field : (room : ℕ) (z : List (Lexeme ℕ)) → Stops 7 z → chosen fields room z ≡ parts []
+no_field : (room : ℕ) (z : List (Terminal ℕ)) → Stops 7 z → chosen fields room z ≡ parts []
 no_field room [] s = refl
 no_field room (x ∷ z) s = chosen_no_fields room x z (λ e. omega (arith, e, s))
 
-call_next : (a : Tree ℕ (maybe arguments)) (z : List (Lexeme ℕ)) → Stops 8 z → is_assigned (spell a ++ z) ≡ false
+call_next : (a : Tree ℕ (maybe arguments)) (z : List (Terminal ℕ)) → Stops 8 z → is_assigned (spell a ++ z) ≡ false
 call_next none [] s = refl
 call_next none (x ∷ z) s = unassigned x z (λ e. let r : rank x ≡ 8 = ap rank e in omega (arith, r, s)) (λ p. omega (arith, p, s))
 call_next (one no_arguments) z s = refl
 call_next (one (some_arguments e es)) z s = refl
 
-pub finishes : {s : Sort} (t : Tree ℕ s) (room : ℕ) (ps : List Part) (z : List (Lexeme ℕ)) → nesting t ≤ room → Stops (level s) z → Finishes ps z → Finishes (node s room ∷ ps) (spell t ++ z)
+pub finishes : {s : Sort} (t : Tree ℕ s) (room : ℕ) (ps : List Part) (z : List (Terminal ℕ)) → nesting t ≤ room → Stops (level s) z → Finishes ps z → Finishes (node s room ∷ ps) (spell t ++ z)
 finishes (none {i = i}) room ps z n s r = prod {qs = []} (ap (λ b. if b then parts (node (item i) room ∷ []) else parts []) (left_out i z s)) r
 finishes (one {i = i} t) room ps z n s r = prod (some i room _ (starts_item t z)) (finishes t room ps z n (stops_less z (item_level i) (item_rank i) (omega (arith, below i)) s) r)
 finishes (end {i = i}) room ps z n s r = prod {qs = []} (ap (λ b. if b then parts (node (item i) room ∷ node (items i) room ∷ []) else parts []) (left_out i z s)) r

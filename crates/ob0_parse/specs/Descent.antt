@@ -9,7 +9,7 @@ use Rattle.ob0_scan.specs.declared.lexeme.Reserved.{Reserved}
 use Rattle.ob0_scan.specs.declared.lexeme.Reserved.TheVariants as reserved
 use Rattle.ob0_scan.specs.declared.lexeme.Symbol.{Symbol}
 use Rattle.ob0_scan.specs.declared.lexeme.Symbol.TheVariants as symbol
-use Rattle.ob0_tree.specs.Lexeme.{Lexeme, Name, Number, Mark, EndOfText}
+use Rattle.ob0_tree.specs.Lexeme.{Terminal, Name, Number, Mark, EndOfText}
 use Rattle.ob0_tree.specs.Tree.{Item, selector, multiplier, addend, comparison, arguments, further_argument, further_statement, elsif_part, else_part, further_name, further_fields, formals, further_section, constant, constants, type_name, type_names, variable, variables, procedure, body, Sort, item, items, maybe, expression, simple, term, factor, statement, sequence, names, written_type, fields, section, declarations, block, module_text}
 use Rattle.ob0_parse.specs.Follow.{rank, item_rank, opens_expression}
 use Rattle.ob0_parse.specs.declared.refusal.Expected.{Expected}
@@ -47,35 +47,35 @@ nested zero inside = too_deep
 nested (suc room) inside = parts (inside room)
 
 -- an item is next
-abbrev pub is_next : Item → List (Lexeme ℕ) → Bool
+abbrev pub is_next : Item → List (Terminal ℕ) → Bool
 is_next i [] = false
 is_next i (x ∷ tokens) = rank x == item_rank i
 
 -- an expression is next
-abbrev pub is_expression_next : List (Lexeme ℕ) → Bool
+abbrev pub is_expression_next : List (Terminal ℕ) → Bool
 is_expression_next (Name n ∷ tokens) = true
 is_expression_next (Number n ∷ tokens) = true
 is_expression_next (Mark k ∷ tokens) = opens_expression (Some k)
 is_expression_next tokens = false
 
 -- a section of formal parameters is next
-abbrev pub is_section_next : List (Lexeme ℕ) → Bool
+abbrev pub is_section_next : List (Terminal ℕ) → Bool
 is_section_next (Name n ∷ tokens) = true
 is_section_next (Mark (kind.Reserved reserved.Var) ∷ tokens) = true
 is_section_next tokens = false
 
 -- After its identifier an assignment goes on with `:=`, or with a selector.
-abbrev pub is_assigned : List (Lexeme ℕ) → Bool
+abbrev pub is_assigned : List (Terminal ℕ) → Bool
 is_assigned (Mark (kind.Symbol symbol.Becomes) ∷ tokens) = true
 is_assigned tokens = is_next selector tokens
 
 -- the operator that is next, and its right side
-abbrev pub operation : Sort → ℕ → List (Lexeme ℕ) → Choice
+abbrev pub operation : Sort → ℕ → List (Terminal ℕ) → Choice
 operation s room (Mark k ∷ tokens) = parts (token k ∷ node s room ∷ [])
 operation s room tokens = missing expected.Expression
 
 -- The production of an item. It is used only when the item is next, so its value for other tokens doesn't matter.
-abbrev pub chosen_item : Item → (room : ℕ) → List (Lexeme ℕ) → Choice
+abbrev pub chosen_item : Item → (room : ℕ) → List (Terminal ℕ) → Choice
 -- selector = "[" expression "]" | "." ident
 chosen_item selector room (Mark (kind.Symbol symbol.LeftBracket) ∷ tokens) = nested room (λ inner. sign symbol.LeftBracket ∷ node expression inner ∷ sign symbol.RightBracket ∷ [])
 chosen_item selector room tokens = parts (sign symbol.Dot ∷ name ∷ [])
@@ -127,7 +127,7 @@ chosen_item procedure room tokens = nested room (λ inner. word reserved.Procedu
 chosen_item body room tokens = parts (word reserved.Begin ∷ node sequence room ∷ [])
 
 -- the production of a construct (nothing in a list of names counts for nesting, so it needs no level)
-abbrev pub chosen : Sort → (room : ℕ) → List (Lexeme ℕ) → Choice
+abbrev pub chosen : Sort → (room : ℕ) → List (Terminal ℕ) → Choice
 chosen (item i) room tokens = chosen_item i room tokens
 chosen (items i) room tokens = if is_next i tokens then parts (node (item i) room ∷ node (items i) room ∷ []) else parts []
 chosen (maybe i) room tokens = if is_next i tokens then parts (node (item i) room ∷ []) else parts []
@@ -183,7 +183,7 @@ chosen module_text room tokens = parts (word reserved.Module ∷ name ∷ sign s
 -- ---- the stop
 
 -- the token is this part
-abbrev pub IsPart : Part → Lexeme ℕ → Type 0
+abbrev pub IsPart : Part → Terminal ℕ → Type 0
 IsPart (token k) x = x ≡ Mark k
 IsPart name x = (n : ℕ) × (x ≡ Name n)
 IsPart number x = (n : ℕ) × (x ≡ Number n)
@@ -206,29 +206,29 @@ pub data Stop : Type 0 where
   Deep : ℕ → Stop
 
 -- These parts are read from these tokens, the first of which has this index, and the descent ends in this stop.
-pub data Descends : List Part → ℕ → List (Lexeme ℕ) → Stop → Type 0 where
+pub data Descends : List Part → ℕ → List (Terminal ℕ) → Stop → Type 0 where
   -- no part is left
-  done : {i : ℕ} {tokens : List (Lexeme ℕ)} → Descends [] i tokens Done
+  done : {i : ℕ} {tokens : List (Terminal ℕ)} → Descends [] i tokens Done
   -- the next token is the next part
-  taken : {p : Part} {ps : List Part} {i : ℕ} {x : Lexeme ℕ} {tokens : List (Lexeme ℕ)} {o : Stop}
+  taken : {p : Part} {ps : List Part} {i : ℕ} {x : Terminal ℕ} {tokens : List (Terminal ℕ)} {o : Stop}
       → IsPart p x → Descends ps (i + 1) tokens o → Descends (p ∷ ps) i (x ∷ tokens) o
   -- it isn't
-  other : {p : Part} {ps : List Part} {i : ℕ} {x : Lexeme ℕ} {tokens : List (Lexeme ℕ)} {e : Expected}
+  other : {p : Part} {ps : List Part} {i : ℕ} {x : Terminal ℕ} {tokens : List (Terminal ℕ)} {e : Expected}
       → ¬ IsPart p x → expected_part p ≡ Some e → Descends (p ∷ ps) i (x ∷ tokens) (Expects i e)
   -- the next part is a construct: its own parts come first
-  made : {s : Sort} {room : ℕ} {ps : List Part} {i : ℕ} {tokens : List (Lexeme ℕ)} {o : Stop} (qs : List Part)
+  made : {s : Sort} {room : ℕ} {ps : List Part} {i : ℕ} {tokens : List (Terminal ℕ)} {o : Stop} (qs : List Part)
       → chosen s room tokens ≡ parts qs → Descends (qs ++ ps) i tokens o → Descends (node s room ∷ ps) i tokens o
   -- it can't begin with the next token
-  absent : {s : Sort} {room : ℕ} {ps : List Part} {i : ℕ} {tokens : List (Lexeme ℕ)} {e : Expected}
+  absent : {s : Sort} {room : ℕ} {ps : List Part} {i : ℕ} {tokens : List (Terminal ℕ)} {e : Expected}
       → chosen s room tokens ≡ missing e → Descends (node s room ∷ ps) i tokens (Expects i e)
   -- it opens a level of nesting, and none is left
-  deep : {s : Sort} {room : ℕ} {ps : List Part} {i : ℕ} {tokens : List (Lexeme ℕ)}
+  deep : {s : Sort} {room : ℕ} {ps : List Part} {i : ℕ} {tokens : List (Terminal ℕ)}
       → chosen s room tokens ≡ too_deep → Descends (node s room ∷ ps) i tokens (Deep i)
 
 -- there is one stop
 abbrev pub OneStop : Type 0
-OneStop = (ps : List Part) (i : ℕ) (tokens : List (Lexeme ℕ)) (a b : Stop) → Descends ps i tokens a → Descends ps i tokens b → a ≡ b
+OneStop = (ps : List Part) (i : ℕ) (tokens : List (Terminal ℕ)) (a b : Stop) → Descends ps i tokens a → Descends ps i tokens b → a ≡ b
 
 -- the descent through the tokens of a whole text, the end counted as one, at nesting at most 100
-abbrev pub DescendsText : List (Lexeme ℕ) → Stop → Type 0
+abbrev pub DescendsText : List (Terminal ℕ) → Stop → Type 0
 DescendsText tokens o = Descends (node module_text 100 ∷ finish ∷ []) 0 tokens o

@@ -9,7 +9,7 @@ use Rattle.ob0_tree.specs.Places.{text_at}
 use Rattle.ob0_scope_rules.specs.Names.{same_name}
 use Rattle.ob0_scope_rules.specs.Resolution.{Resolution, span_at}
 use Rattle.ob0_scope_rules.specs.Spans.{is_on}
-use Rattle.ob0_scope.specs.Standing.{name_on}
+use Rattle.ob0_scope.specs.NamesAtPlaces.{name_on}
 use Rattle.ob0_scope.specs.declared.naming.Named as named
 use Rattle.ob0_types.specs.CheckedModules.{IsWellTyped}
 use Rattle.ob0_types_rules.proofs.Literals.{some_inverse}
@@ -17,7 +17,7 @@ use Rattle.ob0_types_fields.specs.Identifiers.{declaring_field, field_at, field_
 use Rattle.ob0_types_fields.proofs.FieldsDeclared.{fields_declared-holds}
 use Rattle.ob0_refs.specs.Answered.{at_name}
 use Rattle.ob0_refs.specs.Laws.{FieldsAreDefined, FieldsAreRenamedThere, IsOnField, IsRenamedThere}
-use Rattle.ob0_refs.specs.Questions.{at_field, declared, definition_at, field_declared, named_at, or_else, references_at, stands}
+use Rattle.ob0_refs.specs.Questions.{at_field, declared, definition_at, field_declared, named_at, or_else, references_at, name_or_field}
 use Rattle.ob0_refs.specs.declared.answers.At as told
 use Rattle.ob0_refs.specs.declared.answers.Of as of
 use Rattle.ob0_refs.specs.declared.answers.Of.TheVariants as tells
@@ -46,7 +46,7 @@ pub record OnField (r : Resolution) (offset : ℕ) (span : Span) (k : ℕ) : Typ
 pub on_field : (r : Resolution) (offset k index : ℕ) (span : Span) → IsOnField r offset span k index → OnField r offset span k
 on_field r offset k index span h = go (name_on r.module_read offset) refl (field_at r offset) refl h
   where
-    go : (n : Option named.Named) → name_on r.module_read offset ≡ n → (f : Option (ℕ × ℕ)) → field_at r offset ≡ f → stands r.module_read n f ≡ Some (record { span = span; of = tells.Field k index }) → OnField r offset span k
+    go : (n : Option named.Named) → name_on r.module_read offset ≡ n → (f : Option (ℕ × ℕ)) → field_at r offset ≡ f → name_or_field r.module_read n f ≡ Some (record { span = span; of = tells.Field k index }) → OnField r offset span k
     go (Some n) e f g same = absurd (true≢false (sym (ap (λ (a : told.At). tells_field a.of) (some_inverse same)) ∙ no_field (nat_lt n.ordinal 7) n.ordinal))
     go None e None g same = absurd (cc)
     go None e (Some (token, owner)) g same =

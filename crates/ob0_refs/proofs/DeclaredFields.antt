@@ -26,7 +26,7 @@ use Rattle.ob0_types_fields.specs.Identifiers.{declared_fields, declared_in, dec
 use Rattle.ob0_types_fields.specs.Owned.{marked_group, marked_groups, marked_sections, marked_type, marked_types, marked_variables}
 use Rattle.ob0_selections.specs.FieldTypes.{field_named, fields_named, first_listed, type_of_elements, typed_fields}
 use Rattle.ob0_refs.specs.Fields.{module_typed}
-use Rattle.ob0_selections.specs.Selections.{Selected, noted}
+use Rattle.ob0_selections.specs.Selections.{Selected, selection_of}
 use Rattle.ob0_refs.proofs.DeclaredTypes.{BlockStands, Denotes, FormalsStand, ProcedureStands, ProceduresStand, TypesStand, VariablesStand, meaning, module-stands}
 use Rattle.ob0_selections.proofs.FieldLabels.{AllWritten, BlockPlain, GroupPlain, GroupsPlain, IsWritten, ProcedurePlain, ProceduresPlain, SectionsPlain, TypePlain, TypesPlain, VariablesPlain, numbered-plain}
 use Rattle.ob0_refs.proofs.SelectedFields.{in_either, in_first, in_second, nothing_in, or_right}
@@ -140,7 +140,7 @@ module _ (r : Resolution) (p : ℕ → Bool) where
     name-found : (x : ℕ) (s : Shape) → shape_of_field all (text x) ≡ Some s → p x ≡ true → finds (field_named (meaning r) (Some (record_shape o all)) x) ≡ true
     name-found x s typed hit =
         let place = place-found all (text x) s typed in
-        (λ i. finds (noted x (option_map (λ j. record { ordinal = o; index = j }) (place.1 i)) (typed i))) ∙ ap (λ b. b || false) hit
+        (λ i. finds (selection_of x (option_map (λ j. record { ordinal = o; index = j }) (place.1 i)) (typed i))) ∙ ap (λ b. b || false) hit
 
     names-found : (j : ℕ) (xs : List ℕ) → HaveTypes xs → hits (map (λ x. (x, j)) xs) ≡ true → finds (fields_named (meaning r) (Some (record_shape o all)) xs) ≡ true
     names-found j [] have h = nothing_in h
@@ -172,7 +172,7 @@ module _ (r : Resolution) (p : ℕ → Bool) where
   abbrev Covered : Tree ℕ written_type → Shape → Type 0
   Covered u s = (j : ℕ) → hits (marked_type j u) ≡ true → finds (typed_fields (meaning r) (Some s) u) ≡ true
 
-  -- a type in the place of the one that is found
+  -- a type in place of the one that is found
   abbrev Behind : Option Shape → Tree ℕ written_type → Type 0
   Behind t u = (j : ℕ) → hits (marked_type j u) ≡ true → finds (typed_fields (meaning r) t u) ≡ true
 
@@ -186,7 +186,7 @@ module _ (r : Resolution) (p : ℕ → Bool) where
       let R : List (Selected ℕ) = typed_fields (meaning r) (Some (record_shape o all)) rest in
       elim (in_either any_hit (marked_group j k g) (marked_groups j n rest) hit) [ inl e ↦ in_first any_find G R (first j k e) | inr e ↦ in_second any_find G R (others j n e) ]
 
-  -- behind a group a name is found as from those that follow, where it isn't one of the group's
+  -- after a group a name is found as from those that follow, where it isn't one of the group's
   behind-group : (env : TypeEnvironment Label) (k : ℕ) (later fs : FieldShapes) (g : Tree ℕ fields) → denoted_group (meanings as_labels env) k later (in_labels r g) ≡ Some fs → GroupPlain (in_labels r g)
       → (others : List Name) → are_distinct (group_fields (mapped text value g) ++ others) ≡ true → (y : Name) → is_among y others ≡ true → shape_of_field fs y ≡ shape_of_field later y
   unfolding denoted

@@ -37,7 +37,7 @@ module _ (r : Resolution) where
   abbrev pub meaning : Meanings ℕ Shape Signature
   meaning = token_meaning objects r
 
-  -- the text of a type denotes this where it stands
+  -- the text of a type denotes this where it is
   pub record Denotes (u : Tree ℕ written_type) (s : Shape) : Type 0 where
     pub env : TypeEnvironment Label
     pub ordinal : ℕ
@@ -97,7 +97,7 @@ module _ (r : Resolution) where
   put_weaker : (env after : TypeEnvironment Label) (P Q : Type 0) → (P → Q) → Put env after P → Put env after Q
   put_weaker env after P Q f p = record { bound = p.bound; is = p.is; says = λ right. f (p.says right) }
 
-  -- a token stands for what its label is bound to
+  -- a token means what its label is bound to
   stands : (x : ℕ) (o : Object Shape Signature) → at_label objects (label_in r x) ≡ Some o → meaning.stands_for x ≡ Some o
   stands x o h = go (ordinal_in r.ordinals x) h
     where
@@ -175,13 +175,13 @@ module _ (r : Resolution) where
   bind_typed-both [] qs env = refl
   bind_typed-both (p ∷ ps) qs env = bind_typed-both ps qs ((p.name, a_variable p.formal.shape) ∷ env)
 
-  -- a parameter that stands first is bound
+  -- a parameter that is first is bound
   first-bound : (x : Label) (f : Formal) (ps : List (TypedParameter Label)) → Right objects (bind_typed (record { name = x; formal = f } ∷ ps) []) → at_label objects x ≡ Some (a_variable f.shape)
   first-bound x f ps right =
       let one : TypeEnvironment Label = (x, a_variable f.shape) ∷ [] in
       (right_split objects (bind_typed ps []) one (subst (Right objects) (bind_typed-append ps [] one) right)).1.0
 
-  -- a section, where those behind it stand
+  -- a section, where those after it are
   section-stands : (env : TypeEnvironment Label) (k : ℕ) (mode : Mode) (x : ℕ) (others : List Label) (u : Tree ℕ written_type) (fs : Tree ℕ (items further_section)) (qs : List (TypedParameter Label))
       → option_and_then
       (λ s. option_and_then (λ rest. Some (map (parameter_of mode s) (label_in r x ∷ others) ++ rest))

@@ -1,32 +1,32 @@
 -- Parameters gathered from names and a signature side by side.
 use Rattle.std.proofs.Common.{◌≡◌, ℕ, ◌<◌, zero, suc, min, List, [], ◌∷◌, ◌++◌, length, drop, map, get_or, refl, ap, sym, ◌∙◌, arith, append_assoc, append-nil}
-use Rattle.ob0_refs.specs.Declarations.{parameter_shown, parameters_shown}
+use Rattle.ob0_refs.specs.Declarations.{parameter_hover, parameters_hover}
 use Rattle.ob0_refs.specs.Hovers.{Parameter}
 use Rattle.ob0_scope_rules.specs.Names.{Name}
 use Rattle.ob0_types_rules.specs.WellTyped.{Formal}
 
 -- those found so far and those that are left are all
 abbrev pub Gathered : {A B : Type 0} → (A → Name) → (B → Formal) → List A → List B → ℕ → List Parameter → Type 0
-Gathered name formal xs ys n found = found ++ parameters_shown (map name (drop n xs)) (map formal (drop n ys)) ≡ parameters_shown (map name xs) (map formal ys)
+Gathered name formal xs ys n found = found ++ parameters_hover (map name (drop n xs)) (map formal (drop n ys)) ≡ parameters_hover (map name xs) (map formal ys)
 
 -- one more of both
 shown_further : {A B : Type 0} (name : A → Name) (formal : B → Formal) (xs : List A) (ys : List B) (n : ℕ) → n < length xs → n < length ys → (d : A) (e : B)
-    → parameters_shown (map name (drop n xs)) (map formal (drop n ys)) ≡ parameter_shown (name (get_or xs n d)) (formal (get_or ys n e)) ∷ parameters_shown (map name (drop (suc n) xs)) (map formal (drop (suc n) ys))
+    → parameters_hover (map name (drop n xs)) (map formal (drop n ys)) ≡ parameter_hover (name (get_or xs n d)) (formal (get_or ys n e)) ∷ parameters_hover (map name (drop (suc n) xs)) (map formal (drop (suc n) ys))
 shown_further name formal [] ys n h g d e = absurd (omega arith)
 shown_further name formal (x ∷ xs) [] n h g d e = absurd (omega arith)
 shown_further name formal (x ∷ xs) (y ∷ ys) zero h g d e = refl
 shown_further name formal (x ∷ xs) (y ∷ ys) (suc n) h g d e = shown_further name formal xs ys n (omega arith) (omega arith) d e
 
 pub gathered_further : {A B : Type 0} (name : A → Name) (formal : B → Formal) (xs : List A) (ys : List B) (n : ℕ) (found : List Parameter) (x : A) (y : B) → Gathered name formal xs ys n found
-    → n < length xs → n < length ys → ((d : A) → x ≡ get_or xs n d) → ((e : B) → y ≡ get_or ys n e) → Gathered name formal xs ys (suc n) (found ++ parameter_shown (name x) (formal y) ∷ [])
+    → n < length xs → n < length ys → ((d : A) → x ≡ get_or xs n d) → ((e : B) → y ≡ get_or ys n e) → Gathered name formal xs ys (suc n) (found ++ parameter_hover (name x) (formal y) ∷ [])
 gathered_further name formal xs ys n found x y so_far h g at here =
-    append_assoc found (parameter_shown (name x) (formal y) ∷ []) (parameters_shown (map name (drop (suc n) xs)) (map formal (drop (suc n) ys)))
-    ∙ ap (λ l. found ++ l) (ap (λ z. parameter_shown (name z) (formal y) ∷ parameters_shown (map name (drop (suc n) xs)) (map formal (drop (suc n) ys))) (at x)
-    ∙ ap (λ z. parameter_shown (name (get_or xs n x)) (formal z) ∷ parameters_shown (map name (drop (suc n) xs)) (map formal (drop (suc n) ys))) (here y) ∙ sym (shown_further name formal xs ys n h g x y))
+    append_assoc found (parameter_hover (name x) (formal y) ∷ []) (parameters_hover (map name (drop (suc n) xs)) (map formal (drop (suc n) ys)))
+    ∙ ap (λ l. found ++ l) (ap (λ z. parameter_hover (name z) (formal y) ∷ parameters_hover (map name (drop (suc n) xs)) (map formal (drop (suc n) ys))) (at x)
+    ∙ ap (λ z. parameter_hover (name (get_or xs n x)) (formal z) ∷ parameters_hover (map name (drop (suc n) xs)) (map formal (drop (suc n) ys))) (here y) ∙ sym (shown_further name formal xs ys n h g x y))
     ∙ so_far
 
 -- where one of both is used up, nothing is left
-shown_ends : {A B : Type 0} (name : A → Name) (formal : B → Formal) (xs : List A) (ys : List B) (n : ℕ) → n ≡ min (length xs) (length ys) → parameters_shown (map name (drop n xs)) (map formal (drop n ys)) ≡ []
+shown_ends : {A B : Type 0} (name : A → Name) (formal : B → Formal) (xs : List A) (ys : List B) (n : ℕ) → n ≡ min (length xs) (length ys) → parameters_hover (map name (drop n xs)) (map formal (drop n ys)) ≡ []
 shown_ends name formal [] ys zero e = refl
 shown_ends name formal [] ys (suc n) e = refl
 shown_ends name formal (x ∷ xs) [] zero e = refl
@@ -35,5 +35,5 @@ shown_ends name formal (x ∷ xs) (y ∷ ys) zero e = absurd (omega arith)
 shown_ends name formal (x ∷ xs) (y ∷ ys) (suc n) e = shown_ends name formal xs ys n (omega arith)
 
 pub gathered_all : {A B : Type 0} (name : A → Name) (formal : B → Formal) (xs : List A) (ys : List B) (n : ℕ) (found : List Parameter) → Gathered name formal xs ys n found
-    → n ≡ min (length xs) (length ys) → found ≡ parameters_shown (map name xs) (map formal ys)
+    → n ≡ min (length xs) (length ys) → found ≡ parameters_hover (map name xs) (map formal ys)
 gathered_all name formal xs ys n found so_far e = sym (append-nil found) ∙ ap (λ l. found ++ l) (sym (shown_ends name formal xs ys n e)) ∙ so_far

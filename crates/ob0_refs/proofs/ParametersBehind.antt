@@ -1,4 +1,4 @@
--- The declaring identifiers behind that of a procedure are those of its parameters.
+-- The declaring identifiers after that of a procedure are those of its parameters.
 use Rattle.std.proofs.Common.{◌≡◌, ℕ, suc, ◌+◌, ◌-◌, ◌≤◌, false, if◌then◌else◌, List, [], ◌∷◌, ◌++◌, map, length, take, drop, nat_lt, slice_get, Some, None, Option, refl, sym, ap, ◌∙◌, subst, arith, append_assoc, append-nil, All, add-one, le-ltb}
 use Rattle.std.proofs.lemmas.List.{map-append}
 use Rattle.std.proofs.lemmas.List.Elements.{All-append, All-cons, All-nil, All-weaker}
@@ -10,8 +10,8 @@ use Rattle.ob0_tree.specs.Tree.{Sort, Tree, block, declares, declares_procedure,
 use Rattle.ob0_scope_rules.specs.Parts.{formal_names, formal_sections, further_names, module_block, names_listed, section_names}
 use Rattle.ob0_scope_rules.specs.Resolution.{declaring_only, token_declaring}
 use Rattle.ob0_scope_rules.proofs.Plain.{declares_nothing, declaring_only-append}
-use Rattle.ob0_refs.specs.HoverLaws.{HasParametersBehind, ParametersAreBehind, block_headings, headings, procedure_headings}
-use Rattle.ob0_refs.specs.Declarations.{names_behind}
+use Rattle.ob0_refs.specs.HoverLaws.{HasParametersAfter, ParametersFollow, block_headings, headings, procedure_headings}
+use Rattle.ob0_refs.specs.Declarations.{names_after}
 
 -- ---- the identifiers of formal parameters
 
@@ -66,7 +66,7 @@ declaring t = declaring_only (identifiers role.Declaring t)
 abbrev AllStand : List ℕ → List (ℕ × List ℕ) → Type 0
 AllStand all hs = All (Stands all) hs
 
--- behind other identifiers, and before others
+-- after other identifiers, and before others
 all_after : (xs ys : List (Role × ℕ)) (hs : List (ℕ × List ℕ)) → AllStand (declaring_only ys) hs → AllStand (declaring_only (xs ++ ys)) hs
 all_after xs ys hs h =
     subst (λ all. AllStand all hs) (sym (declaring_only-append xs ys)) (All-weaker (Stands (declaring_only ys)) (Stands (declaring_only xs ++ declaring_only ys)) (stands_after (declaring_only xs) (declaring_only ys)) hs h)
@@ -104,7 +104,7 @@ mutual
 module_stands : (t : Tree ℕ module_text) → AllStand (declaring t) (block_headings (module_block t))
 module_stands (is_module x b closing) = all_before (identifiers role.Declaring b) ((role.ModuleName, closing) ∷ []) (block_headings b) (block_stands b)
 
--- ---- what is behind it
+-- ---- what is after it
 
 got : (before : List ℕ) (x : ℕ) (ys : List ℕ) → slice_get (before ++ (x ∷ ys)) (length before) ≡ Some x
 got [] x ys = refl
@@ -118,7 +118,7 @@ first_ones : (f : ℕ → List ℕ) (xs ys : List ℕ) → take (length xs) (map
 first_ones f [] ys = refl
 first_ones f (x ∷ xs) ys = ap (λ zs. f x ∷ zs) (first_ones f xs ys)
 
-behind : (m : Parsed) (h : ℕ × List ℕ) → Stands (declaring (tree_of m)) h → HasParametersBehind m h
+behind : (m : Parsed) (h : ℕ × List ℕ) → Stands (declaring (tree_of m)) h → HasParametersAfter m h
 behind m h s =
     let all : List ℕ = declaring (tree_of m) in
     let n : ℕ = length s.before in
@@ -135,5 +135,5 @@ behind m h s =
           ∙ (ap (λ ys. take (length h.1) (map (text_at m.source) ys)) (left s.before h.0 (h.1 ++ s.after)) ∙ first_ones (text_at m.source) h.1 s.after);
     }
 
-pub parameters_are_behind-holds : ParametersAreBehind
-parameters_are_behind-holds m = All-weaker (Stands (declaring (tree_of m))) (HasParametersBehind m) (behind m) (block_headings (module_block (tree_of m))) (module_stands (tree_of m))
+pub parameters_are_behind-holds : ParametersFollow
+parameters_are_behind-holds m = All-weaker (Stands (declaring (tree_of m))) (HasParametersAfter m) (behind m) (block_headings (module_block (tree_of m))) (module_stands (tree_of m))

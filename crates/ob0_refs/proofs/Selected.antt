@@ -1,6 +1,6 @@
 -- Selections of the code and those of the module.
 use Rattle.std.proofs.Common.{◌≡◌, ℕ, Bool, true, false, List, [], ◌∷◌, map, Option, None, option_map, refl, ap, ◌∙◌}
-use Rattle.ob0_refs.specs.Shown.{Shown}
+use Rattle.ob0_refs.specs.Shown.{HoverText}
 use Rattle.ob0_scope_rules.specs.Spans.{is_on}
 use Rattle.ob0_scan.specs.Scanned.{Scanned}
 use Rattle.ob0_scope_rules.specs.Resolution.{Resolution, span_at}
@@ -13,7 +13,7 @@ use Rattle.ob0_selections.specs.Selections.{Selected, selections, token_meaning}
 use Rattle.ob0_refs.specs.Fields.{module_selections, module_typed}
 use Rattle.ob0_selections.specs.SelectionParts.{selection_in}
 use Rattle.ob0_selections.specs.FieldTypes.{typed_fields}
-use Rattle.ob0_refs.specs.Questions.{selected_on, selected_shown, selection_shown}
+use Rattle.ob0_refs.specs.Questions.{selected_on, selected_hover, selection_hover}
 use Rattle.ob0_refs.specs.FieldParts.{selection_on}
 use Rattle.ob0_values.specs.Values.{Shape}
 
@@ -40,9 +40,9 @@ selection_found shapes source offset (s ∷ found) = by (is_on offset (span_at s
     by false e later = rw e later
 
 pub chosen_shown : (r : Resolution) (shapes : List Shape) (offset : ℕ) (found : List Selection) (source : Scanned) (chosen : Option Selection) → chosen ≡ selection_on source offset found → source ≡ r.module_read.source
-    → option_map (selection_shown r) (option_map (selection_in shapes) chosen) ≡ selected_shown r offset (map (selection_in shapes) found)
+    → option_map (selection_hover r) (option_map (selection_in shapes) chosen) ≡ selected_hover r offset (map (selection_in shapes) found)
 chosen_shown r shapes offset found source chosen e f =
-    ap (λ o. option_map (selection_shown r) (option_map (selection_in shapes) o)) (e ∙ ap (λ s. selection_on s offset found) f) ∙ ap (option_map (selection_shown r)) (selection_found shapes r.module_read.source offset found)
+    ap (λ o. option_map (selection_hover r) (option_map (selection_in shapes) o)) (e ∙ ap (λ s. selection_on s offset found) f) ∙ ap (option_map (selection_hover r)) (selection_found shapes r.module_read.source offset found)
 
-pub shown_kept : (x : Option Shown) (offset : ℕ) (r names : Resolution) (found all : List (Selected ℕ)) → r ≡ names → found ≡ all → x ≡ selected_shown r offset found → x ≡ selected_shown names offset all
-shown_kept x offset r names found all same e h = h ∙ (λ i. selected_shown (same i) offset (e i))
+pub shown_kept : (x : Option HoverText) (offset : ℕ) (r names : Resolution) (found all : List (Selected ℕ)) → r ≡ names → found ≡ all → x ≡ selected_hover r offset found → x ≡ selected_hover names offset all
+shown_kept x offset r names found all same e h = h ∙ (λ i. selected_hover (same i) offset (e i))

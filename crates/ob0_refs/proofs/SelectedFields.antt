@@ -20,7 +20,7 @@ use Rattle.ob0_types_fields.specs.Identifiers.{declared_fields, declared_in, dec
 use Rattle.ob0_types_fields.specs.Owned.{mark, marked, marked_block, marked_module, marked_path, marked_procedure, marked_procedures, marked_sections, marked_types, marked_variables, owner, token_objects}
 use Rattle.ob0_types_fields.proofs.MarkedFields.{module-fields}
 use Rattle.ob0_refs.specs.Questions.{selected_on}
-use Rattle.ob0_selections.specs.Selections.{Selected, noted, path_selections, selected_by, selections, token_meaning, type_behind}
+use Rattle.ob0_selections.specs.Selections.{Selected, selection_of, path_selections, selected_by, selections, token_meaning, type_after}
 use Rattle.ob0_refs.specs.Fields.{module_selections}
 
 -- ---- what holds of some element of one of two lists
@@ -85,19 +85,19 @@ module _ (m : Meanings ℕ Shape Signature) (p : ℕ → Bool) where
   one_selected (array_shape k n s) x h = nothing_in h
   one_selected (record_shape k fs) x h = go (place_of_field fs (m.written x)) refl h
     where
-      typed : (i : ℕ) (t : Option Shape) → is_some t ≡ true → (p x || false) ≡ true → finds (noted x (Some (record { ordinal = k; index = i })) t) ≡ true
+      typed : (i : ℕ) (t : Option Shape) → is_some t ≡ true → (p x || false) ≡ true → finds (selection_of x (Some (record { ordinal = k; index = i })) t) ≡ true
       typed i None some e = nothing_in some
       typed i (Some t) some e = e
 
       go : (o : Option ℕ) → place_of_field fs (m.written x) ≡ o → hits (mark x (option_map (λ (f : FieldOf). f.ordinal) (option_map (λ i. record { ordinal = k; index = i }) o))) ≡ true
-          → finds (noted x (option_map (λ i. record { ordinal = k; index = i }) o) (shape_of_field fs (m.written x))) ≡ true
+          → finds (selection_of x (option_map (λ i. record { ordinal = k; index = i }) o) (shape_of_field fs (m.written x))) ≡ true
       go None e hit = nothing_in hit
       go (Some i) e hit = typed i (shape_of_field fs (m.written x)) (typed_field fs (m.written x) i e) hit
 
   abbrev Found : List (Selected ℕ) → Type 0
   Found xs = finds xs ≡ true
 
-  -- behind what stands before, and before what stands behind
+  -- after what precedes, and before what follows
   behind : (xs ys : List (Selected ℕ)) → Found ys → Found (xs ++ ys)
   behind xs ys h = in_second (λ (s : Selected ℕ). p s.name) xs ys h
 

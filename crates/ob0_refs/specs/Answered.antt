@@ -1,4 +1,4 @@
--- What is answered of a name: where it stands, and what it is a name of.
+-- What is answered of a name: where it is, and what it is a name of.
 -- Rule: docs/PROTOCOL.md, Requests on documents 3, 4.
 use Rattle.std.specs.Prelude.{ℕ, nat_lt, if◌then◌else◌}
 use Rattle.ob0_tree.specs.Parsed.{Parsed}
@@ -8,7 +8,7 @@ use Rattle.ob0_refs.specs.declared.answers.At as told
 use Rattle.ob0_refs.specs.declared.answers.Of as of
 use Rattle.ob0_refs.specs.declared.answers.Of.TheVariants as tells
 
--- the declarations of the text come behind the predeclared names
+-- the declarations of the text come after the predeclared names
 abbrev pub of_ordinal : ℕ → of.Of
 of_ordinal ordinal = if nat_lt ordinal 7 then tells.Predeclared else tells.Declared ordinal
 

@@ -1,4 +1,4 @@
--- What the code's values stand for.
+-- What the code's values mean.
 -- Rule: none; for contracts: what values of the code mean.
 use Rattle.std.specs.Prelude.{List, map, Option}
 use Rattle.ob0_types_table.specs.declared.known.Formal as formal

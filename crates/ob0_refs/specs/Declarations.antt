@@ -15,11 +15,11 @@ use Rattle.ob0_values.specs.Values.{Shape, Value, elements, members, number, tru
 use Rattle.ob0_values.specs.declared.scalar.Scalar.TheVariants as scalar
 
 -- a constant is a number or a truth
-abbrev pub constant_shown : Name → Value → Option (List ℕ)
-constant_shown name (number n) = Some (constant_text name (scalar.Number n))
-constant_shown name (truth b) = Some (constant_text name (scalar.Truth b))
-constant_shown name (elements vs) = None
-constant_shown name (members k ms) = None
+abbrev pub constant_hover : Name → Value → Option (List ℕ)
+constant_hover name (number n) = Some (constant_text name (scalar.Number n))
+constant_hover name (truth b) = Some (constant_text name (scalar.Truth b))
+constant_hover name (elements vs) = None
+constant_hover name (members k ms) = None
 
 -- a parameter is a VAR parameter
 abbrev pub is_by_place : Mode → Bool
@@ -27,31 +27,31 @@ is_by_place by_value = false
 is_by_place by_place = true
 
 -- a parameter in a hover text
-abbrev pub parameter_shown : Name → Formal → Parameter
-parameter_shown name f = record { by_place = is_by_place f.mode; name = name; of = type_text f.shape }
+abbrev pub parameter_hover : Name → Formal → Parameter
+parameter_hover name f = record { by_place = is_by_place f.mode; name = name; of = type_text f.shape }
 
--- the parameters of a procedure, by the names that are declared behind its own and by its signature
-abbrev pub parameters_shown : List Name → Signature → List Parameter
-parameters_shown (x ∷ xs) (f ∷ fs) = parameter_shown x f ∷ parameters_shown xs fs
-parameters_shown [] fs = []
-parameters_shown (x ∷ xs) [] = []
+-- the parameters of a procedure, by the names that are declared after its own and by its signature
+abbrev pub parameters_hover : List Name → Signature → List Parameter
+parameters_hover (x ∷ xs) (f ∷ fs) = parameter_hover x f ∷ parameters_hover xs fs
+parameters_hover [] fs = []
+parameters_hover (x ∷ xs) [] = []
 
--- a declaration, by what its name is bound to, the name and the names declared behind it
-abbrev pub object_shown : Name → List Name → Object Shape Signature → Option (List ℕ)
-object_shown name behind (a_constant v) = constant_shown name v
-object_shown name behind (a_type s) = Some (named_type_text name (type_text s))
-object_shown name behind (a_variable s) = Some (variable_text name (type_text s))
-object_shown name behind (a_procedure fs) = Some (procedure_text name (parameters_shown behind fs))
-object_shown name behind (a_standard s) = Some (predeclared_text name)
+-- a declaration, by what its name is bound to, the name and the names declared after it
+abbrev pub object_hover : Name → List Name → Object Shape Signature → Option (List ℕ)
+object_hover name behind (a_constant v) = constant_hover name v
+object_hover name behind (a_type s) = Some (named_type_text name (type_text s))
+object_hover name behind (a_variable s) = Some (variable_text name (type_text s))
+object_hover name behind (a_procedure fs) = Some (procedure_text name (parameters_hover behind fs))
+object_hover name behind (a_standard s) = Some (predeclared_text name)
 
--- the names that are declared behind what has this ordinal, in text order
-abbrev pub names_behind : Parsed → ℕ → List Name
-names_behind m ordinal = map (text_at m.source) (drop (ordinal + 1 - 7) (declaring_only (identifiers role.Declaring (tree_of m))))
+-- the names that are declared after what has this ordinal, in text order
+abbrev pub names_after : Parsed → ℕ → List Name
+names_after m ordinal = map (text_at m.source) (drop (ordinal + 1 - 7) (declaring_only (identifiers role.Declaring (tree_of m))))
 
 -- the name of a declaration of the text, by what this is bound to
-abbrev pub declaration_shown : Parsed → named.Named → Option (Object Shape Signature) → Option (List ℕ)
-declaration_shown m n object = option_and_then (object_shown (text_at m.source n.token) (names_behind m n.ordinal)) object
+abbrev pub declaration_hover : Parsed → named.Named → Option (Object Shape Signature) → Option (List ℕ)
+declaration_hover m n object = option_and_then (object_hover (text_at m.source n.token) (names_after m n.ordinal)) object
 
 -- the predeclared names come before the declarations of the text
-abbrev pub name_shown : Parsed → named.Named → Option (Object Shape Signature) → Option (List ℕ)
-name_shown m n object = if nat_lt n.ordinal 7 then Some (predeclared_text (text_at m.source n.token)) else declaration_shown m n object
+abbrev pub name_hover : Parsed → named.Named → Option (Object Shape Signature) → Option (List ℕ)
+name_hover m n object = if nat_lt n.ordinal 7 then Some (predeclared_text (text_at m.source n.token)) else declaration_hover m n object

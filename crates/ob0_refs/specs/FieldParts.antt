@@ -1,4 +1,4 @@
--- What the code's lists stand for.
+-- What the code's lists mean.
 -- Rule: none; for contracts: what values of the code mean.
 use Rattle.std.specs.Prelude.{ℕ, List, [], ◌∷◌, Option, Some, None, if◌then◌else◌}
 use Rattle.ob0_scan.specs.Scanned.{Scanned}

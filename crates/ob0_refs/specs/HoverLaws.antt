@@ -8,7 +8,7 @@ use Rattle.ob0_tree.specs.Places.{text_at}
 use Rattle.ob0_tree.specs.Tree.{Tree, block, declares, declares_procedure, end, has_body, identifiers, item, items, more, procedure}
 use Rattle.ob0_scope_rules.specs.Parts.{formal_names, formal_sections, module_block}
 use Rattle.ob0_scope_rules.specs.Resolution.{declaring_only, token_declaring}
-use Rattle.ob0_refs.specs.Declarations.{names_behind}
+use Rattle.ob0_refs.specs.Declarations.{names_after}
 
 -- the headings of procedures in text order: each name with the names of the formal parameters
 abbrev mutual
@@ -22,12 +22,12 @@ abbrev mutual
   pub procedure_headings : Tree ℕ (item procedure) → List (ℕ × List ℕ)
   procedure_headings (declares_procedure x fs b closing) = (x, formal_names (formal_sections fs)) ∷ block_headings b
 
--- the first names that are declared behind a procedure are those of its parameters
-pub record HasParametersBehind (m : Parsed) (heading : ℕ × List ℕ) : Type 0 where
+-- the first names that are declared after a procedure are those of its parameters
+pub record HasParametersAfter (m : Parsed) (heading : ℕ × List ℕ) : Type 0 where
   pub ordinal : ℕ
   pub declares : token_declaring (declaring_only (identifiers role.Declaring (tree_of m))) ordinal ≡ Some heading.0
-  pub behind : take (length heading.1) (names_behind m ordinal) ≡ map (text_at m.source) heading.1
+  pub behind : take (length heading.1) (names_after m ordinal) ≡ map (text_at m.source) heading.1
 
 -- the names declared after each procedure begin with those of its parameters
-abbrev pub ParametersAreBehind : Type 0
-ParametersAreBehind = (m : Parsed) → All (HasParametersBehind m) (block_headings (module_block (tree_of m)))
+abbrev pub ParametersFollow : Type 0
+ParametersFollow = (m : Parsed) → All (HasParametersAfter m) (block_headings (module_block (tree_of m)))

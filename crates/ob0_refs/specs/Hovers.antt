@@ -59,7 +59,7 @@ by_text false = []
 abbrev pub parameter_text : Parameter → List ℕ
 parameter_text p = by_text p.by_place ++ (p.name ++ (codes ": " ++ p.of))
 
--- parameters behind another one
+-- parameters after another one
 abbrev pub further_text : List Parameter → List ℕ
 further_text [] = []
 further_text (p ∷ ps) = codes "; " ++ (parameter_text p ++ further_text ps)

@@ -5,21 +5,21 @@ use Rattle.std.specs.List.{Contains}
 use Rattle.ob0_scan.specs.declared.lexeme.Span.{Span}
 use Rattle.ob0_tree.specs.Places.{text_at}
 use Rattle.ob0_scope_rules.specs.Resolution.{Resolution, span_at}
-use Rattle.ob0_scope.specs.Standing.{name_on}
+use Rattle.ob0_scope.specs.NamesAtPlaces.{name_on}
 use Rattle.ob0_types_fields.specs.Identifiers.{field_at, field_tokens}
 use Rattle.ob0_types.specs.CheckedModules.{IsWellTyped}
-use Rattle.ob0_refs.specs.Questions.{all_shown_at, definition_at, references_at, stands_at}
+use Rattle.ob0_refs.specs.Questions.{hover_at_place, definition_at, references_at, identified_at}
 use Rattle.ob0_refs.specs.declared.answers.Of.TheVariants as tells
 
 -- the place is on a field: the identifier there has this span, and this is the field of the record
 abbrev pub IsOnField : Resolution → ℕ → Span → ℕ → ℕ → Type 0
-IsOnField r offset span k index = stands_at r offset ≡ Some record { span = span; of = tells.Field k index }
+IsOnField r offset span k index = identified_at r offset ≡ Some record { span = span; of = tells.Field k index }
 
 -- In a well-typed module a field has a definition, where it is declared and where it is selected.
 abbrev pub FieldsAreDefined : Type 0
 FieldsAreDefined = (r : Resolution) (offset k index : ℕ) (span : Span) → IsWellTyped r → IsOnField r offset span k index → is_some (definition_at r offset) ≡ true
 
--- A field that is answered at a place is the one that renaming finds there: no name stands there, and the references with the
+-- A field that is answered at a place is the one that renaming finds there: no name is there, and the references with the
 -- declaration are the identifiers that its renaming writes.
 pub record IsRenamedThere (r : Resolution) (offset : ℕ) (span : Span) (k : ℕ) : Type 0 where
   pub token : ℕ
@@ -34,5 +34,5 @@ abbrev pub FieldsAreRenamedThere : Type 0
 FieldsAreRenamedThere = (r : Resolution) (offset k index : ℕ) (span : Span) → IsOnField r offset span k index → IsRenamedThere r offset span k
 
 -- In a well-typed module a field is shown at each of its places.
-abbrev pub FieldsAreShown : Type 0
-FieldsAreShown = (r : Resolution) (offset k index : ℕ) (span : Span) → IsWellTyped r → IsOnField r offset span k index → is_some (all_shown_at r offset) ≡ true
+abbrev pub FieldsHaveHovers : Type 0
+FieldsHaveHovers = (r : Resolution) (offset k index : ℕ) (span : Span) → IsWellTyped r → IsOnField r offset span k index → is_some (hover_at_place r offset) ≡ true

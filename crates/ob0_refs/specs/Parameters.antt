@@ -1,4 +1,4 @@
--- What the code's parameters stand for.
+-- What the code's parameters mean.
 -- Rule: none; for contracts: what values of the code mean.
 use Rattle.std.specs.Prelude.{string_bytes}
 use Rattle.ob0_refs.specs.Hovers as shown

@@ -1,13 +1,13 @@
--- What the code's values stand for.
+-- What the code's values mean.
 -- Rule: none; for contracts: what values of the code mean.
 use Rattle.std.specs.Prelude.{string_bytes}
 use Rattle.ob0_scan.specs.declared.lexeme.Span.{Span}
 use Rattle.ob0_refs.specs.declared.answers.Capture as told
 use Rattle.ob0_refs.specs.declared.answers.Hover as answer
-use Rattle.ob0_refs.specs.Shown.{Shown}
+use Rattle.ob0_refs.specs.Shown.{HoverText}
 
 -- a hover of the code
-abbrev pub hover_in : answer.Hover → Shown
+abbrev pub hover_in : answer.Hover → HoverText
 hover_in h = record { span = h.span; text = string_bytes h.text }
 
 -- where a capture of the code is

@@ -6,9 +6,9 @@ use Rattle.ob0_tree.specs.Parsed.{Parsed, tree_of}
 use Rattle.ob0_tree.specs.Tree.{identifiers}
 use Rattle.ob0_tree.specs.declared.tree.Role.TheVariants as role
 use Rattle.ob0_scope_rules.specs.Resolution.{declaring_only, span_at, token_declaring}
-use Rattle.ob0_scope.specs.Standing.{tokens_bound}
+use Rattle.ob0_scope.specs.NamesAtPlaces.{tokens_bound}
 
--- where the identifier stands that declares what has an ordinal; nowhere for a predeclared name
+-- where the identifier is that declares what has an ordinal; nowhere for a predeclared name
 abbrev pub declared_at : Parsed → ℕ → Option Span
 declared_at m ordinal = option_map (span_at m.source) (token_declaring (declaring_only (identifiers role.Declaring (tree_of m))) ordinal)
 

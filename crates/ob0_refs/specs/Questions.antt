@@ -1,4 +1,4 @@
--- What is answered of a place: of the name that stands there, or else of the field.
+-- What is answered of a place: of the name that is there, or else of the field.
 -- Rule: docs/PROTOCOL.md, Requests on documents 3 to 5.
 use Rattle.std.specs.Prelude.{◌≡◌, ◌==◌, ℕ, Bool, true, false, not, List, [], ◌∷◌, if◌then◌else◌, map, Option, Some, None, option_map, option_and_then, unwrap_or}
 use Rattle.std.specs.List.{filter}
@@ -8,7 +8,7 @@ use Rattle.ob0_tree.specs.Parsed.{Parsed}
 use Rattle.ob0_tree.specs.Places.{text_at}
 use Rattle.ob0_scope_rules.specs.Resolution.{Resolution, span_at}
 use Rattle.ob0_scope_rules.specs.Spans.{is_on}
-use Rattle.ob0_scope.specs.Standing.{name_on}
+use Rattle.ob0_scope.specs.NamesAtPlaces.{name_on}
 use Rattle.ob0_scope.specs.declared.naming.Named as named
 use Rattle.ob0_types_fields.specs.Identifiers.{declaring_field, field_at, field_place, field_tokens}
 use Rattle.ob0_refs.specs.Answered.{at_name}
@@ -16,7 +16,7 @@ use Rattle.ob0_refs.specs.Places.{declared_at, references_to}
 use Rattle.ob0_refs.specs.Fields.{module_selections, module_typed}
 use Rattle.ob0_refs.specs.Hovers.{field_text, type_text}
 use Rattle.ob0_selections.specs.Selections.{Selected}
-use Rattle.ob0_refs.specs.Shown.{Shown, shown_at}
+use Rattle.ob0_refs.specs.Shown.{HoverText, name_hover_at}
 use Rattle.ob0_refs.specs.declared.answers.At as told
 use Rattle.ob0_refs.specs.declared.answers.Of.TheVariants as tells
 
@@ -33,15 +33,15 @@ abbrev pub at_field : Parsed → Identified → told.At
 at_field m x = record { span = span_at m.source x.0; of = tells.Field x.1 (index_of m x) }
 
 -- the name at a place, or else the field
-abbrev pub stands : Parsed → Option named.Named → Option Identified → Option told.At
-stands m (Some n) f = Some (at_name m n)
-stands m None f = option_map (at_field m) f
+abbrev pub name_or_field : Parsed → Option named.Named → Option Identified → Option told.At
+name_or_field m (Some n) f = Some (at_name m n)
+name_or_field m None f = option_map (at_field m) f
 
--- what stands at a place
-abbrev pub stands_at : Resolution → ℕ → Option told.At
-stands_at r offset = stands r.module_read (name_on r.module_read offset) (field_at r offset)
+-- what is at a place
+abbrev pub identified_at : Resolution → ℕ → Option told.At
+identified_at r offset = name_or_field r.module_read (name_on r.module_read offset) (field_at r offset)
 
--- where the identifier stands that declares a field
+-- where the identifier is that declares a field
 abbrev pub field_declared : Parsed → Identified → Option Span
 field_declared m x = option_map (span_at m.source) (declaring_field m x.1 (text_at m.source x.0))
 
@@ -50,7 +50,7 @@ abbrev pub declared : Parsed → Option named.Named → Option Identified → Op
 declared m (Some n) f = declared_at m n.ordinal
 declared m None f = option_and_then (field_declared m) f
 
--- where it is declared what stands at a place
+-- where it is declared what is at a place
 abbrev pub definition_at : Resolution → ℕ → Option Span
 definition_at r offset = declared r.module_read (name_on r.module_read offset) (field_at r offset)
 
@@ -75,7 +75,7 @@ abbrev pub named_at : Resolution → Bool → Option named.Named → Option Iden
 named_at r include (Some n) f = references_to r.module_read n.ordinal include
 named_at r include None f = field_named_at r include f
 
--- where it is named what stands at a place
+-- where it is named what is at a place
 abbrev pub references_at : Resolution → ℕ → Bool → List Span
 references_at r offset include = named_at r include (name_on r.module_read offset) (field_at r offset)
 
@@ -94,17 +94,17 @@ selected_on source offset [] = None
 selected_on source offset (s ∷ found) = if is_on offset (span_at source s.name) then Some s else selected_on source offset found
 
 -- the hover of a selected field
-abbrev pub selection_shown : Resolution → Selected ℕ → Shown
-selection_shown r s = record { span = span_at r.module_read.source s.name; text = field_text (text_at r.module_read.source s.name) (type_text s.shape) }
+abbrev pub selection_hover : Resolution → Selected ℕ → HoverText
+selection_hover r s = record { span = span_at r.module_read.source s.name; text = field_text (text_at r.module_read.source s.name) (type_text s.shape) }
 
 -- what is shown of the one of some fields that a place is on
-abbrev pub selected_shown : Resolution → ℕ → List (Selected ℕ) → Option Shown
-selected_shown r offset found = option_map (selection_shown r) (selected_on r.module_read.source offset found)
+abbrev pub selected_hover : Resolution → ℕ → List (Selected ℕ) → Option HoverText
+selected_hover r offset found = option_map (selection_hover r) (selected_on r.module_read.source offset found)
 
 -- what is shown of a field, where it is declared and where it is selected
-abbrev pub field_shown : Resolution → ℕ → Option Shown
-field_shown r offset = or_else (selected_shown r offset (module_typed r)) (selected_shown r offset (module_selections r))
+abbrev pub field_hover : Resolution → ℕ → Option HoverText
+field_hover r offset = or_else (selected_hover r offset (module_typed r)) (selected_hover r offset (module_selections r))
 
 -- what is shown at a place: of a name, or else of a field
-abbrev pub all_shown_at : Resolution → ℕ → Option Shown
-all_shown_at r offset = or_else (shown_at r.module_read offset) (field_shown r offset)
+abbrev pub hover_at_place : Resolution → ℕ → Option HoverText
+hover_at_place r offset = or_else (name_hover_at r.module_read offset) (field_hover r offset)

@@ -4,20 +4,20 @@ use Rattle.std.specs.Prelude.{ℕ, List, Option, option_map, option_and_then}
 use Rattle.ob0_scan.specs.declared.lexeme.Span.{Span}
 use Rattle.ob0_tree.specs.Parsed.{Parsed, named_tree_of}
 use Rattle.ob0_scope_rules.specs.Resolution.{span_at}
-use Rattle.ob0_scope.specs.Standing.{name_on}
+use Rattle.ob0_scope.specs.NamesAtPlaces.{name_on}
 use Rattle.ob0_scope.specs.declared.naming.Named as named
 use Rattle.ob0_types_rules.specs.Bindings.{declared_object}
-use Rattle.ob0_refs.specs.Declarations.{name_shown}
+use Rattle.ob0_refs.specs.Declarations.{name_hover}
 
--- what is shown, and where the name stands
-pub record Shown : Type 0 where
+-- what is shown, and where the name is
+pub record HoverText : Type 0 where
   pub span : Span
   pub text : List ℕ
 
 -- the hover of a name, by what its declaration binds it to
-abbrev pub shown_of : Parsed → named.Named → Option Shown
-shown_of m n = option_map (λ text. record { span = span_at m.source n.token; text = text }) (name_shown m n (declared_object (named_tree_of m) n.ordinal))
+abbrev pub hover_of : Parsed → named.Named → Option HoverText
+hover_of m n = option_map (λ text. record { span = span_at m.source n.token; text = text }) (name_hover m n (declared_object (named_tree_of m) n.ordinal))
 
--- what is shown at a place: nothing where no name stands, at a field and at the module's name
-abbrev pub shown_at : Parsed → ℕ → Option Shown
-shown_at m offset = option_and_then (shown_of m) (name_on m offset)
+-- what is shown at a place: nothing where no name is, at a field and at the module's name
+abbrev pub name_hover_at : Parsed → ℕ → Option HoverText
+name_hover_at m offset = option_and_then (hover_of m) (name_on m offset)

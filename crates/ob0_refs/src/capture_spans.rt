@@ -6,16 +6,16 @@ ghost use Rattle.ob0_refs.specs.Captured.{capture_span, occurrence_span, or_star
 
 use crate::declaration_spans::declared_at;
 use ob0_scan::Span;
-use ob0_scope::Capture;
+use ob0_scope::FirstCapture;
 use ob0_scope_rules::{Resolved, token_span};
 
 /// Where it is that a capture is: at the identifier that declares the declaration, or at an occurrence.
-pub fn capture_span(names: &Resolved, declaration: usize, capture: Capture) -> Span
+pub fn capture_span(names: &Resolved, declaration: usize, capture: FirstCapture) -> Span
     ensures { result ≡ capture_span names.now.module_read declaration (place_of capture) }
 {
     match capture {
-        Capture::Duplicate(_) => or_start(declared_at(names, declaration)),
-        Capture::Occurrence(k) => or_start(occurrence_span(names, k)),
+        FirstCapture::Duplicate(_) => or_start(declared_at(names, declaration)),
+        FirstCapture::Occurrence(k) => or_start(occurrence_span(names, k)),
     }
 }
 

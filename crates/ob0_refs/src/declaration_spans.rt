@@ -33,7 +33,7 @@ pub fn references_to(
     spans_of(alloc, names.tokens(), &found)
 }
 
-/// Where tokens stand.
+/// Where tokens are.
 pub fn spans_of(alloc: Global, tokens: &Tokens, found: &[usize]) -> Result<Vec<Span>, AllocError>
     ensures { IfOk result (λ spans. spans.items ≡ map (span_at tokens.now) found.now) }
 {

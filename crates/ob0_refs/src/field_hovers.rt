@@ -5,7 +5,7 @@ ghost use Rattle.ob0_refs.specs.Parts.{hover_in};
 ghost use Rattle.ob0_selections.specs.SelectionParts.{selection_in};
 ghost use Rattle.ob0_types_table.specs.KnownTables.{shapes_of};
 ghost use Rattle.ob0_refs.specs.Fields.{module_selections, module_typed};
-ghost use Rattle.ob0_refs.specs.Questions.{all_shown_at, field_shown, selected_shown, selection_shown};
+ghost use Rattle.ob0_refs.specs.Questions.{hover_at_place, field_hover, selected_hover, selection_hover};
 ghost use Rattle.ob0_refs.specs.FieldParts.{selection_on};
 
 use crate::answers::Hover;
@@ -26,7 +26,7 @@ pub fn hover(
     well_typed: &WellTyped<'_, '_>,
     offset: usize,
 ) -> Result<Option<Hover>, AllocError>
-    ensures { IfOk result (λ h. option_map hover_in h ≡ all_shown_at well_typed.now offset) }
+    ensures { IfOk result (λ h. option_map hover_in h ≡ hover_at_place well_typed.now offset) }
 {
     match hover_name(alloc, well_typed, offset)? {
         Some(found) => Ok(Some(found)),
@@ -39,7 +39,7 @@ fn hover_field(
     well_typed: &WellTyped<'_, '_>,
     offset: usize,
 ) -> Result<Option<Hover>, AllocError>
-    ensures { IfOk result (λ h. option_map hover_in h ≡ field_shown well_typed.now offset) }
+    ensures { IfOk result (λ h. option_map hover_in h ≡ field_hover well_typed.now offset) }
 {
     match hover_declared(alloc, well_typed, offset)? {
         Some(found) => Ok(Some(found)),
@@ -53,7 +53,7 @@ fn hover_declared(
     well_typed: &WellTyped<'_, '_>,
     offset: usize,
 ) -> Result<Option<Hover>, AllocError>
-    ensures { IfOk result (λ h. option_map hover_in h ≡ selected_shown well_typed.now offset (module_typed well_typed.now)) }
+    ensures { IfOk result (λ h. option_map hover_in h ≡ selected_hover well_typed.now offset (module_typed well_typed.now)) }
 {
     let known = well_typed.known();
     let names = well_typed.resolved();
@@ -67,7 +67,7 @@ fn hover_selected(
     well_typed: &WellTyped<'_, '_>,
     offset: usize,
 ) -> Result<Option<Hover>, AllocError>
-    ensures { IfOk result (λ h. option_map hover_in h ≡ selected_shown well_typed.now offset (module_selections well_typed.now)) }
+    ensures { IfOk result (λ h. option_map hover_in h ≡ selected_hover well_typed.now offset (module_selections well_typed.now)) }
 {
     let known = well_typed.known();
     let names = well_typed.resolved();
@@ -82,7 +82,7 @@ fn hover_among(
     offset: usize,
     found: &[Selection],
 ) -> Result<Option<Hover>, AllocError>
-    ensures { IfOk result (λ h. option_map hover_in h ≡ selected_shown names.now offset (map (selection_in (shapes_of known.now)) found.now)) }
+    ensures { IfOk result (λ h. option_map hover_in h ≡ selected_hover names.now offset (map (selection_in (shapes_of known.now)) found.now)) }
 {
     match selection_on(names.tokens(), offset, found) {
         None => Ok(None),
@@ -96,7 +96,7 @@ fn hover_of(
     names: &Resolved<'_>,
     selection: Selection,
 ) -> Result<Hover, AllocError>
-    ensures { IfOk result (λ h. hover_in h ≡ selection_shown names.now (selection_in (shapes_of known.now) selection)) }
+    ensures { IfOk result (λ h. hover_in h ≡ selection_hover names.now (selection_in (shapes_of known.now) selection)) }
 {
     let tokens = names.tokens();
     let text = field_line(alloc, known, text_at(tokens, selection.token), selection.of)?;

@@ -1,8 +1,8 @@
 //! The laws. Each function does nothing: its contract is the law.
 
-ghost use Rattle.ob0_refs.specs.HoverLaws.{ParametersAreBehind};
+ghost use Rattle.ob0_refs.specs.HoverLaws.{ParametersFollow};
 
-/// The first names that are declared behind a procedure are those of its parameters, in order.
-pub fn parameters_are_behind()
-    ensures { ParametersAreBehind }
+/// The first names that are declared after a procedure are those of its parameters, in order.
+pub fn parameters_follow()
+    ensures { ParametersFollow }
 {}

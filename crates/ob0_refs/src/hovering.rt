@@ -2,7 +2,7 @@
 
 ghost use Rattle.std.specs.Prelude.{◌≡◌, IfOk, Some, option_map};
 ghost use Rattle.ob0_refs.specs.Parts.{hover_in};
-ghost use Rattle.ob0_refs.specs.Shown.{shown_at, shown_of};
+ghost use Rattle.ob0_refs.specs.Shown.{name_hover_at, hover_of};
 
 use crate::answers::Hover;
 use crate::name_text;
@@ -18,7 +18,7 @@ pub(crate) fn hover(
     well_typed: &WellTyped<'_, '_>,
     offset: usize,
 ) -> Result<Option<Hover>, AllocError>
-    ensures { IfOk result (λ h. option_map hover_in h ≡ shown_at well_typed.now.module_read offset) }
+    ensures { IfOk result (λ h. option_map hover_in h ≡ name_hover_at well_typed.now.module_read offset) }
 {
     match name_at(well_typed.resolved(), offset) {
         None => Ok(None),
@@ -31,7 +31,7 @@ fn hover_of(
     well_typed: &WellTyped<'_, '_>,
     name: Named,
 ) -> Result<Option<Hover>, AllocError>
-    ensures { IfOk result (λ h. option_map hover_in h ≡ shown_of well_typed.now.module_read name) }
+    ensures { IfOk result (λ h. option_map hover_in h ≡ hover_of well_typed.now.module_read name) }
 {
     let names = well_typed.resolved();
     let span = token_span(names.tokens(), name.token);

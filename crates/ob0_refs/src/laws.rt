@@ -1,6 +1,6 @@
 //! The laws. Each function does nothing: its contract is the law.
 
-ghost use Rattle.ob0_refs.specs.Laws.{FieldsAreDefined, FieldsAreRenamedThere, FieldsAreShown};
+ghost use Rattle.ob0_refs.specs.Laws.{FieldsAreDefined, FieldsAreRenamedThere, FieldsHaveHovers};
 
 /// In a well-typed module a field has a definition, where it is declared and where it is selected.
 pub fn fields_are_defined()
@@ -13,6 +13,6 @@ pub fn fields_are_renamed_there()
 {}
 
 /// In a well-typed module a field is shown where it is declared and where it is selected.
-pub fn fields_are_shown()
-    ensures { FieldsAreShown }
+pub fn fields_have_hovers()
+    ensures { FieldsHaveHovers }
 {}

@@ -1,4 +1,4 @@
-//! What is answered of a name: where it stands, and what it is a name of.
+//! What is answered of a name: where it is, and what it is a name of.
 
 ghost use Rattle.std.specs.Prelude.{◌≡◌};
 ghost use Rattle.ob0_scope_rules.specs.Spans.{is_on};
@@ -9,7 +9,7 @@ use ob0_scan::Span;
 use ob0_scope::Named;
 use ob0_scope_rules::{PREDECLARED, Resolved, token_span};
 
-/// Where a name stands, and what it is a name of.
+/// Where a name is, and what it is a name of.
 pub(crate) fn at_name(names: &Resolved, name: Named) -> At
     ensures { result ≡ at_name names.now.module_read name }
 {

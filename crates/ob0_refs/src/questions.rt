@@ -1,7 +1,7 @@
 //! What is answered of a place: of the name that is there, or else of the field.
 
 ghost use Rattle.std.specs.Prelude.{◌≡◌, IfOk, Some};
-ghost use Rattle.ob0_refs.specs.Questions.{AreReferencesAt, at_field, definition_at, field_declared, field_named_at, field_references, index_of, stands_at, without};
+ghost use Rattle.ob0_refs.specs.Questions.{AreReferencesAt, at_field, definition_at, field_declared, field_named_at, field_references, index_of, identified_at, without};
 
 use crate::answers::{At, Of};
 use crate::names::at_name;
@@ -16,7 +16,7 @@ use std::alloc::{AllocError, Global};
 /// What a place is on, where it lies in an identifier or at its end: a name, or a field, at the identifier that declares it
 /// and at each that selects it. A closing name of a procedure is the procedure's. None at the module's name.
 pub fn at(well_typed: &WellTyped<'_, '_>, offset: usize) -> Option<At>
-    ensures { result ≡ stands_at well_typed.now offset }
+    ensures { result ≡ identified_at well_typed.now offset }
 {
     let names = well_typed.resolved();
     match name_at(names, offset) {

@@ -7,7 +7,7 @@ ghost use Rattle.ob0_tree.specs.Tree.{identifiers};
 ghost use Rattle.ob0_tree.specs.declared.tree.Role.TheVariants as role;
 ghost use Rattle.ob0_scope_rules.specs.Resolution.{declaring_only};
 ghost use Rattle.ob0_refs.specs.DeclarationParts.{object_of, signature_in};
-ghost use Rattle.ob0_refs.specs.Declarations.{declaration_shown, name_shown, names_behind, object_shown, parameter_shown, parameters_shown};
+ghost use Rattle.ob0_refs.specs.Declarations.{declaration_hover, name_hover, names_after, object_hover, parameter_hover, parameters_hover};
 ghost use Rattle.ob0_refs.specs.Hovers.{field_text, named_type_text, procedure_text, type_text, variable_text};
 ghost use Rattle.ob0_refs.specs.Parameters.{parameter_in};
 ghost use Rattle.ob0_types_table.specs.KnownTables.{declared_in, shapes_of};
@@ -30,7 +30,7 @@ pub fn name_text(
     names: &Resolved<'_>,
     name: Named,
 ) -> Result<Option<String>, AllocError>
-    ensures { IfOk result (λ r. option_map string_bytes r ≡ name_shown names.now.module_read name (declared_in known.now name.ordinal)) }
+    ensures { IfOk result (λ r. option_map string_bytes r ≡ name_hover names.now.module_read name (declared_in known.now name.ordinal)) }
 {
     if name.ordinal < PREDECLARED {
         let text = predeclared_text(alloc, text_at(names.tokens(), name.token))?;
@@ -49,7 +49,7 @@ fn object_text(
     name: Named,
     object: &Object,
 ) -> Result<Option<String>, AllocError>
-    ensures { IfOk result (λ r. option_map string_bytes r ≡ declaration_shown names.now.module_read name (object_of known.now object.now)) }
+    ensures { IfOk result (λ r. option_map string_bytes r ≡ declaration_hover names.now.module_read name (object_of known.now object.now)) }
 {
     let text = text_at(names.tokens(), name.token);
     match object {
@@ -105,9 +105,9 @@ fn procedure_line(
     name: Named,
     formals: &[Formal],
 ) -> Result<String, AllocError>
-    ensures { IfOk result (λ text. string_bytes text ≡ procedure_text (text_at names.now.module_read.source name.token) (parameters_shown (names_behind names.now.module_read name.ordinal) (signature_in known.now formals.now))) }
+    ensures { IfOk result (λ text. string_bytes text ≡ procedure_text (text_at names.now.module_read.source name.token) (parameters_hover (names_after names.now.module_read name.ordinal) (signature_in known.now formals.now))) }
 {
-    let behind = declared_behind(names, name.ordinal);
+    let behind = declared_after(names, name.ordinal);
     let parameters = parameters_of(alloc, known, names.tokens(), behind, formals)?;
     procedure_text(
         alloc,
@@ -116,8 +116,8 @@ fn procedure_line(
     )
 }
 
-/// The tokens of the declarations behind that with an ordinal.
-fn declared_behind<'r>(names: &'r Resolved<'_>, ordinal: usize) -> &'r [usize]
+/// The tokens of the declarations after that with an ordinal.
+fn declared_after<'r>(names: &'r Resolved<'_>, ordinal: usize) -> &'r [usize]
     ensures { result.now ≡ drop (ordinal + 1 - 7) (declaring_only (identifiers role.Declaring (tree_of names.now.module_read))) }
 {
     // For the proof: what the contract of this call says.
@@ -131,7 +131,7 @@ fn declared_behind<'r>(names: &'r Resolved<'_>, ordinal: usize) -> &'r [usize]
     }
 }
 
-/// The parameters of a procedure, by the tokens of the declarations behind it.
+/// The parameters of a procedure, by the tokens of the declarations after it.
 fn parameters_of<'s>(
     alloc: Global,
     known: &Known<'_>,
@@ -139,7 +139,7 @@ fn parameters_of<'s>(
     behind: &[usize],
     formals: &[Formal],
 ) -> Result<Vec<Parameter<'s>>, AllocError>
-    ensures { IfOk result (λ ps. map parameter_in ps.items ≡ parameters_shown (map (text_at tokens.now) behind.now) (signature_in known.now formals.now)) }
+    ensures { IfOk result (λ ps. map parameter_in ps.items ≡ parameters_hover (map (text_at tokens.now) behind.now) (signature_in known.now formals.now)) }
 {
     let mut found = Vec::new(alloc);
     for (token, formal) in behind.iter().zip(formals) {
@@ -154,7 +154,7 @@ fn parameter_of<'s>(
     name: &'s str,
     formal: Formal,
 ) -> Result<Parameter<'s>, AllocError>
-    ensures { IfOk result (λ p. parameter_in p ≡ parameter_shown name.now (formal_in (shapes_of known.now) formal)) }
+    ensures { IfOk result (λ p. parameter_in p ≡ parameter_hover name.now (formal_in (shapes_of known.now) formal)) }
 {
     Ok(Parameter {
         by_place: formal.by_place,

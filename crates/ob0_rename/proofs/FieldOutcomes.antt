@@ -6,8 +6,8 @@ use Rattle.std.proofs.lemmas.Slice.Eq.{bytes_eq-Decides}
 use Rattle.ob0_scan.specs.Classes.{IsIdentifier}
 use Rattle.ob0_scan.specs.Scanned.{IsScan, Scanned, max_text}
 use Rattle.ob0_text.specs.declared.edits.Edit.{Edit}
-use Rattle.ob0_text.specs.declared.positions.Position.{Position}
-use Rattle.ob0_text.specs.declared.positions.Unit as counting
+use Rattle.ob0_text.specs.declared.position_types.Position.{Position}
+use Rattle.ob0_text.specs.declared.position_types.Unit as counting
 use Rattle.ob0_text.specs.declared.refusals.EditRefusal.{EditRefusal}
 use Rattle.ob0_text.specs.declared.refusals.EditRefusal.TheVariants as refusal
 use Rattle.ob0_tree.specs.Parsed.{named_tree_of, tree_of}
@@ -18,13 +18,13 @@ use Rattle.ob0_scope_rules.specs.Resolution.{Resolution}
 use Rattle.ob0_analysis.specs.CheckedModules.{IsWellTyped}
 use Rattle.ob0_edits.specs.Changed.{is_among, words_of}
 use Rattle.ob0_edits.specs.OfTrees.{RenamedWordsSpell, number_at, renamed_at}
-use Rattle.ob0_edits.specs.Replaced.{AreNames, StandsForName, with_text_at}
+use Rattle.ob0_edits.specs.Replaced.{AreNames, ReplacesName, with_text_at}
 use Rattle.ob0_edits.specs.Written.{name_word}
 use Rattle.ob0_rename_laws.specs.FieldLaws.{FreeFieldKeepsModules}
 use Rattle.ob0_types_fields.specs.Identifiers.{DuplicateByToken, RenamedAtTokens, declaring_field, field_identifiers, field_tokens, tokens_among}
 use Rattle.ob0_rename_laws.specs.Renaming.{FieldFree, field_renamed}
-use Rattle.ob0_rename.specs.Answers.{Answers, AnswersForField, IsRefused, IsRefusedToField, OnlyMemory, TakesOwnName}
-use Rattle.ob0_rename.specs.Renaming.{MeansField, Renaming, declaration, field_of, field_tokens_renamed, token_range}
+use Rattle.ob0_rename.specs.Answers.{RenameAnswers, AnswersForField, IsRefused, IsRefusedToField, OnlyMemory, TakesOwnName}
+use Rattle.ob0_rename.specs.Renaming.{MeansField, Renaming, declaration, field_of, field_tokens_to_rename, token_range}
 use Rattle.ob0_rename.proofs.Outcomes.{Edited, whole, written}
 use Rattle.ob0_rename.proofs.Rewritten.{number_same, of_rewritten, text_same}
 
@@ -51,7 +51,7 @@ written-so source k f i (x ∷ xs) e = one (x.1 == k) (same_name (place.text_at 
     one false c same later e = later e
 
 pub field_there : (r : Resolution) (k : ℕ) (f new : Name) → IsWellTyped r → RenamedAtTokens
-    → mapped (renamed_at (words_of r.module_read.source) (field_tokens_renamed r k f new) new) (number_at (words_of r.module_read.source)) (tree_of r.module_read) ≡ field_renamed (named_tree_of r.module_read) k f new
+    → mapped (renamed_at (words_of r.module_read.source) (field_tokens_to_rename r k f new) new) (number_at (words_of r.module_read.source)) (tree_of r.module_read) ≡ field_renamed (named_tree_of r.module_read) k f new
 field_there r k f new well by_tokens = one (same_name new f) refl
   where
     s : Scanned
@@ -93,16 +93,16 @@ module _ (unit : counting.Unit) (text : List ℕ) (place : Position) (new : Name
       subst (IsRefusedToField (asked_field r) k f) (sym is) (id, by_token r.module_read k f new ∙ found.0, ap (option_map (token_range (asked_field r))) found.1)
 
   pub field_answered : (r : Resolution) → IsWellTyped r → IsIdentifier new → FieldFree (named_tree_of r.module_read) k f new → FreeFieldKeepsModules → RenamedAtTokens → RenamedWordsSpell
-      → ((name : List ℕ) → IsIdentifier name → StandsForName name (name_word name ∷ [])) → AreNames r.module_read.source.tokens 0 (field_tokens_renamed r k f new)
-      → (result : Result (Vec Edit Global) EditRefusal) → Edited unit text new r.module_read.source (field_tokens_renamed r k f new) result → AnswersForField (asked_field r) k f result
+      → ((name : List ℕ) → IsIdentifier name → ReplacesName name (name_word name ∷ [])) → AreNames r.module_read.source.tokens 0 (field_tokens_to_rename r k f new)
+      → (result : Result (Vec Edit Global) EditRefusal) → Edited unit text new r.module_read.source (field_tokens_to_rename r k f new) result → AnswersForField (asked_field r) k f result
   field_answered r well id free keeps by_tokens spells stand names (Ok edits) made =
       let m = r.module_read in
       record {
         identifier = id;
         free = free;
         writes =
-            written unit text place new k r (field_renamed (named_tree_of m) k f new) (field_tokens_renamed r k f new) id stand
-            (of_rewritten m (field_renamed (named_tree_of m) k f new) (field_tokens_renamed r k f new) new well.resolved.parsed spells names (field_there r k f new well by_tokens))
+            written unit text place new k r (field_renamed (named_tree_of m) k f new) (field_tokens_to_rename r k f new) id stand
+            (of_rewritten m (field_renamed (named_tree_of m) k f new) (field_tokens_to_rename r k f new) new well.resolved.parsed spells names (field_there r k f new well by_tokens))
             (keeps (named_tree_of m) k f new free well.well_typed) edits made;
       }
   field_answered r well id free keeps by_tokens spells stand names (Err why) made =
@@ -113,13 +113,13 @@ module _ (unit : counting.Unit) (text : List ℕ) (place : Position) (new : Name
 
   -- the name that is there makes no text longer
   pub own_field_answered : (r : Resolution) → IsScan r.module_read.source → new ≡ f
-      → (result : Result (Vec Edit Global) EditRefusal) → Edited unit text new r.module_read.source (field_tokens_renamed r k f new) result → OnlyMemory result
+      → (result : Result (Vec Edit Global) EditRefusal) → Edited unit text new r.module_read.source (field_tokens_to_rename r k f new) result → OnlyMemory result
   own_field_answered r scan own (Ok edits) made = tt
   own_field_answered r scan own (Err why) made =
       elim made.refusals [
         | inl e ↦
-            let none : field_tokens_renamed r k f new ≡ [] = ap (λ b. if b then [] else field_tokens r k f) ((bytes_eq-Decides new f).1 own) in
-            absurd (too_long_never r scan (field_tokens_renamed r k f new) none (made.too_long (ap Err e)))
+            let none : field_tokens_to_rename r k f new ≡ [] = ap (λ b. if b then [] else field_tokens r k f) ((bytes_eq-Decides new f).1 own) in
+            absurd (too_long_never r scan (field_tokens_to_rename r k f new) none (made.too_long (ap Err e)))
         | inr e ↦ e
       ]
     where
@@ -142,7 +142,7 @@ field_refused_there a k f means refusal.Shadowed h = absurd h
 field_refused_there a k f means refusal.CommentInside h = absurd h
 field_refused_there a k f means refusal.Memory h = absurd h
 
-pub field_answered_there : (a : Renaming) (k : ℕ) (f : Name) → MeansField a k f → (result : Result (Vec Edit Global) EditRefusal) → AnswersForField a k f result → Answers a result
+pub field_answered_there : (a : Renaming) (k : ℕ) (f : Name) → MeansField a k f → (result : Result (Vec Edit Global) EditRefusal) → AnswersForField a k f result → RenameAnswers a result
 field_answered_there a k f means (Ok edits) h = inr (k, (f, means, h))
 field_answered_there a k f means (Err why) h = elim h [ inl e ↦ inl e | inr e ↦ inr (field_refused_there a k f means why e) ]
 

@@ -2,24 +2,24 @@
 use Rattle.std.proofs.Common.{◌≡◌, ◌⊎◌, ℕ, List, Result, Ok, Err, Vec, Global, inl, inr, map, refl, subst}
 use Rattle.std.specs.Str.{chars, IsUtf8}
 use Rattle.ob0_rename_laws.specs.Renaming.{field_renamed}
-use Rattle.ob0_rename.specs.Answers.{AreEdits, IsRefused, Writes}
-use Rattle.ob0_rename.specs.Renaming.{Renaming, field_tokens_renamed, tokens_renamed}
+use Rattle.ob0_rename.specs.Answers.{AreEdits, IsRefused, WritesName}
+use Rattle.ob0_rename.specs.Renaming.{Renaming, field_tokens_to_rename, tokens_to_rename}
 use Rattle.ob0_scope_rules.specs.Names.{Name}
 use Rattle.ob0_scope_rules.specs.Resolution.{Resolution}
 use Rattle.ob0_scope_rules.specs.Scopes.{renamed}
 use Rattle.ob0_text.specs.declared.edits.Edit.{Edit}
-use Rattle.ob0_text.specs.declared.positions.Position.{Position}
-use Rattle.ob0_text.specs.declared.positions.Unit.{Unit}
+use Rattle.ob0_text.specs.declared.position_types.Position.{Position}
+use Rattle.ob0_text.specs.declared.position_types.Unit.{Unit}
 use Rattle.ob0_text.specs.declared.refusals.EditRefusal.{EditRefusal}
 use Rattle.ob0_text.specs.declared.refusals.EditRefusal.TheVariants.{Memory}
 use Rattle.ob0_tree.specs.Parsed.{named_tree_of}
 use Rattle.ob0_tree.specs.Tree.{Tree, module_text}
 use Rattle.ob0_analysis.specs.Analysed.{Finds, IsModuleIn}
-use Rattle.ob0_analysis.specs.Diagnosed.{IsTextOf, IsWellTypedModule, TellsFaults, complaint_in}
+use Rattle.ob0_analysis.specs.Diagnosed.{IsTextOf, IsWellTypedModule, ReportsFaults, complaint_in}
 use Rattle.ob0_analysis.specs.Texts.{utf8}
 use Rattle.ob0_rename.specs.InTexts.{FindsNewName, RenamesIn, Settles, renaming_of}
-use Rattle.ob0_analysis.specs.declared.analysis.Asked.{Asked}
-use Rattle.ob0_analysis.specs.declared.analysis.Asked.TheVariants.{Answered, IllTyped}
+use Rattle.ob0_analysis.specs.declared.analysis.Finding.{Finding}
+use Rattle.ob0_analysis.specs.declared.analysis.Finding.TheVariants.{Answered, IllTyped}
 use Rattle.ob0_analysis.proofs.Scanning.{is_module, utf8_of}
 
 -- a refusal that isn't out of memory
@@ -29,7 +29,7 @@ not_memory r refusal (inr h) other = h
 
 -- edits that leave a text of a well-typed tree with the same runs leave a text that runs as before
 renames_in : (unit : Unit) (text : List ℕ) (place : Position) (new : List ℕ) (edits : List Edit) (names : Resolution) → IsModuleIn (utf8 text) names
-    → AreEdits (renaming_of unit text names place new) edits → (tokens : List ℕ) (tree : Tree Name module_text) → Writes (renaming_of unit text names place new) tokens tree edits
+    → AreEdits (renaming_of unit text names place new) edits → (tokens : List ℕ) (tree : Tree Name module_text) → WritesName (renaming_of unit text names place new) tokens tree edits
     → RenamesIn unit text place new edits
 renames_in unit text place new edits names h are tokens tree made =
     let after : List ℕ = chars made.after.text in
@@ -48,15 +48,15 @@ renames_in unit text place new edits names h are tokens tree made =
 renamed_in : (unit : Unit) (text : List ℕ) (place : Position) (new : List ℕ) (edits : List Edit) (names : Resolution) → IsModuleIn (utf8 text) names
     → AreEdits (renaming_of unit text names place new) edits → RenamesIn unit text place new edits
 renamed_in unit text place new edits names h (inl (d, means, renames)) =
-    renames_in unit text place new edits names h (inl (d, means, renames)) (tokens_renamed names.module_read d new) (renamed (named_tree_of names.module_read) d new) renames.writes
+    renames_in unit text place new edits names h (inl (d, means, renames)) (tokens_to_rename names.module_read d new) (renamed (named_tree_of names.module_read) d new) renames.writes
 renamed_in unit text place new edits names h (inr (k, (f, means, renames))) =
-    renames_in unit text place new edits names h (inr (k, (f, means, renames))) (field_tokens_renamed names k f new) (field_renamed (named_tree_of names.module_read) k f new) renames.writes
+    renames_in unit text place new edits names h (inr (k, (f, means, renames))) (field_tokens_to_rename names k f new) (field_renamed (named_tree_of names.module_read) k f new) renames.writes
 
-pub new_name_found : (unit : Unit) (bytes text : List ℕ) (place : Position) (new : List ℕ) (found : Asked (Result (Vec Edit Global) EditRefusal)) → IsUtf8 bytes → chars bytes ≡ text
+pub new_name_found : (unit : Unit) (bytes text : List ℕ) (place : Position) (new : List ℕ) (found : Finding (Result (Vec Edit Global) EditRefusal)) → IsUtf8 bytes → chars bytes ≡ text
     → Finds bytes (λ names outcome. Settles (renaming_of unit text names place new) outcome) found → FindsNewName unit text place new found
 new_name_found unit bytes text place new (Answered (Ok edits)) u is h =
     renamed_in unit text place new edits.items h.0 (subst (λ (t : List ℕ). IsModuleIn t h.0) (utf8_of bytes text u is) h.1) h.2
 new_name_found unit bytes text place new (Answered (Err refusal)) u is h =
     record { names = h.0; read = subst (λ (t : List ℕ). IsModuleIn t h.0) (utf8_of bytes text u is) h.1; refused = h.2 }
 new_name_found unit bytes text place new (IllTyped told) u is h =
-    subst (λ (t : List ℕ). (IsWellTypedModule t → ⊥) × TellsFaults t (map complaint_in told.items)) (utf8_of bytes text u is) h
+    subst (λ (t : List ℕ). (IsWellTypedModule t → ⊥) × ReportsFaults t (map complaint_in told.items)) (utf8_of bytes text u is) h

@@ -7,7 +7,7 @@ use Rattle.ob0_tree.specs.Order.{AreIdentifiers, Ascending}
 use Rattle.ob0_edits.specs.Changed as changed
 use Rattle.ob0_edits.specs.Replaced.{AreNames}
 use Rattle.ob0_edits.proofs.MadeWithout.{lower}
-use Rattle.ob0_scope.specs.Standing as standing
+use Rattle.ob0_scope.specs.NamesAtPlaces as standing
 
 pub are_names : (tokens : List Token) (low : ℕ) (places : List ℕ) (high : ℕ) → Ascending low places high → AreIdentifiers tokens places → AreNames tokens low places
 are_names tokens low [] high up are = tt

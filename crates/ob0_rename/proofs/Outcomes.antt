@@ -7,8 +7,8 @@ use Rattle.ob0_scan.specs.Classes.{IsIdentifier}
 use Rattle.ob0_scan.specs.Scanned.{IsScan, Scanned, Word, max_text}
 use Rattle.ob0_text.specs.Patches.{pieced}
 use Rattle.ob0_text.specs.declared.edits.Edit.{Edit}
-use Rattle.ob0_text.specs.declared.positions.Position.{Position}
-use Rattle.ob0_text.specs.declared.positions.Unit as counting
+use Rattle.ob0_text.specs.declared.position_types.Position.{Position}
+use Rattle.ob0_text.specs.declared.position_types.Unit as counting
 use Rattle.ob0_text.specs.declared.refusals.EditRefusal.{EditRefusal}
 use Rattle.ob0_text.specs.declared.refusals.EditRefusal.TheVariants as refusal
 use Rattle.ob0_tree.specs.Parsed.{Parsed, named_tree_of, tree_of}
@@ -19,22 +19,22 @@ use Rattle.ob0_scope_rules.specs.Occurrences.{Free, at_declaration, at_occurrenc
 use Rattle.ob0_scope.specs.Renames.{namesake, other_of, place_of}
 use Rattle.ob0_scope_rules.specs.Resolution.{IsResolution, Resolution}
 use Rattle.ob0_scope_rules.specs.Scopes.{renamed}
-use Rattle.ob0_scope.specs.declared.capturing.Capture as told
-use Rattle.ob0_scope.specs.declared.capturing.Capture.TheVariants as tells
+use Rattle.ob0_scope.specs.declared.capturing.FirstCapture as told
+use Rattle.ob0_scope.specs.declared.capturing.FirstCapture.TheVariants as tells
 use Rattle.ob0_analysis.specs.CheckedModules.{IsWellTyped}
 use Rattle.ob0_types_rules.specs.WellTyped.{WellTyped}
 use Rattle.ob0_run_rules.specs.EditLaws.{FreeKeepsModules, SameRuns}
 use Rattle.ob0_edits.specs.Changed.{at_each, changed, words_of}
 use Rattle.ob0_edits.specs.OfTrees.{RenamedWordsSpell}
-use Rattle.ob0_edits.specs.Replaced.{AreNames, LeavesWords, StandsForName, edit_at, parts, with_text_at}
+use Rattle.ob0_edits.specs.Replaced.{AreNames, LeavesWords, ReplacesName, edit_at, parts, with_text_at}
 use Rattle.ob0_edits.specs.Written.{name_word}
-use Rattle.ob0_scope.specs.Standing.{name_on, tokens_bound}
+use Rattle.ob0_scope.specs.NamesAtPlaces.{name_on, tokens_bound}
 use Rattle.ob0_scope.specs.declared.naming.Named as named
 use Rattle.ob0_types_fields.specs.Identifiers.{field_at}
 use Rattle.ob0_scope.proofs.Written.{renamed_there}
 use Rattle.ob0_tree.specs.Module.{ModuleOf}
-use Rattle.ob0_rename.specs.Answers.{Answers, AnswersFor, IsRefused, IsRefusedTo, OnlyMemory, TakesOwnName, Writes}
-use Rattle.ob0_rename.specs.Renaming.{Means, MeansField, Renaming, by_ordinal, by_token, declaration, meant_at, meant_by, declaring_token, field_of, is_declared_as, meant, module_of, nothing, predeclared, token_range, tokens_renamed}
+use Rattle.ob0_rename.specs.Answers.{RenameAnswers, AnswersDeclaration, IsRefused, IsRefusedTo, OnlyMemory, TakesOwnName, WritesName}
+use Rattle.ob0_rename.specs.Renaming.{NamesDeclaration, MeansField, Renaming, by_ordinal, by_token, declaration, meant_at, meant_by, declaring_token, field_of, is_declared_as, meant, module_of, nothing, predeclared, token_range, tokens_to_rename}
 use Rattle.ob0_rename.proofs.Owned.{other_stands}
 use Rattle.ob0_rename.proofs.Rewritten.{of_renamed}
 use Rattle.ob0_rename.proofs.Told.{occurrence_stands}
@@ -43,7 +43,7 @@ use Rattle.ob0_rename.proofs.Told.{occurrence_stands}
 pub record Edited (unit : counting.Unit) (text : List ℕ) (new : Name) (s : Scanned) (places : List ℕ) (result : Result (Vec Edit Global) EditRefusal) : Type 0 where
   pub edits : IfOk result (λ edits. map parts edits.items ≡ map (edit_at unit text s.tokens new) places)
   pub short : IfOk result (λ edits. length (with_text_at s places new) ≤ max_text)
-  pub leaves : (ws : List Word) → StandsForName new ws → IfOk result (λ edits. LeavesWords unit text edits.items (changed (at_each places ws) 0 (words_of s)))
+  pub leaves : (ws : List Word) → ReplacesName new ws → IfOk result (λ edits. LeavesWords unit text edits.items (changed (at_each places ws) 0 (words_of s)))
   pub too_long : IsErrOf result refusal.TooLong → max_text < length (with_text_at s places new)
   pub refusals : IfErr result (λ why. (why ≡ refusal.TooLong) ⊎ (why ≡ refusal.Memory))
 
@@ -60,7 +60,7 @@ module _ (unit : counting.Unit) (text : List ℕ) (place : Position) (new : Name
   abbrev pub asked : Resolution → Renaming
   asked r = record { unit = unit; text = text; names = r; place = place; new = new }
 
-  pub captured : (r : Resolution) → IsResolution r → IsIdentifier new → (capture : told.Capture) (why : EditRefusal)
+  pub captured : (r : Resolution) → IsResolution r → IsIdentifier new → (capture : told.FirstCapture) (why : EditRefusal)
       → Some (place_of capture) ≡ first_captured (named_tree_of r.module_read) d new → other_of (Some capture) ≡ namesake (named_tree_of r.module_read) d new
       → ((other token : ℕ) → capture ≡ tells.Duplicate other → declaring_token r.module_read other ≡ Some token → why ≡ refusal.Duplicate (token_range (asked r) token))
       → ((k token : ℕ) → capture ≡ tells.Occurrence k → slice_get (occurrences (tree_of r.module_read)) k ≡ Some token → why ≡ refusal.Captures (token_range (asked r) token))
@@ -78,10 +78,10 @@ module _ (unit : counting.Unit) (text : List ℕ) (place : Position) (new : Name
       subst (IsRefusedTo (asked r) d) (sym (occurrence k stands.0 refl stands.1)) (id, (k, sym first, ap (option_map (token_range (asked r))) stands.1))
 
   -- edits at places leave a text of a tree that the new name makes there, where that tree is well-typed and runs as the module
-  pub written : (r : Resolution) (tree : Tree Name module_text) (places : List ℕ) → IsIdentifier new → ((name : List ℕ) → IsIdentifier name → StandsForName name (name_word name ∷ []))
+  pub written : (r : Resolution) (tree : Tree Name module_text) (places : List ℕ) → IsIdentifier new → ((name : List ℕ) → IsIdentifier name → ReplacesName name (name_word name ∷ []))
       → ((after : Scanned) → IsScan after → words_of after ≡ changed (at_each places (name_word new ∷ [])) 0 (words_of r.module_read.source) → ModuleOf after tree)
       → WellTyped tree × SameRuns tree (named_tree_of r.module_read)
-      → (edits : Vec Edit Global) → Edited unit text new r.module_read.source places (Ok edits) → Writes (asked r) places tree edits.items
+      → (edits : Vec Edit Global) → Edited unit text new r.module_read.source places (Ok edits) → WritesName (asked r) places tree edits.items
   written r tree places id stand leaves kept edits made =
       let words = made.leaves (name_word new ∷ []) (stand new id) in
       record {
@@ -96,15 +96,15 @@ module _ (unit : counting.Unit) (text : List ℕ) (place : Position) (new : Name
       }
 
   pub answered : (r : Resolution) → IsWellTyped r → IsIdentifier new → Free (named_tree_of r.module_read) d new → FreeKeepsModules → RenamedWordsSpell
-      → ((name : List ℕ) → IsIdentifier name → StandsForName name (name_word name ∷ [])) → AreNames r.module_read.source.tokens 0 (tokens_renamed r.module_read d new)
-      → (result : Result (Vec Edit Global) EditRefusal) → Edited unit text new r.module_read.source (tokens_renamed r.module_read d new) result → AnswersFor (asked r) d result
+      → ((name : List ℕ) → IsIdentifier name → ReplacesName name (name_word name ∷ [])) → AreNames r.module_read.source.tokens 0 (tokens_to_rename r.module_read d new)
+      → (result : Result (Vec Edit Global) EditRefusal) → Edited unit text new r.module_read.source (tokens_to_rename r.module_read d new) result → AnswersDeclaration (asked r) d result
   answered r well id free keeps spells stand names (Ok edits) made =
       let m = r.module_read in
       record {
         identifier = id;
         free = free;
         writes =
-            written r (renamed (named_tree_of m) d new) (tokens_renamed m d new) id stand
+            written r (renamed (named_tree_of m) d new) (tokens_to_rename m d new) id stand
             (of_renamed m d new well.resolved.parsed (once_of (named_tree_of m) well.well_typed) spells (renamed_there r d well.resolved) names)
             (keeps (named_tree_of m) d new free well.well_typed) edits made;
       }
@@ -120,12 +120,12 @@ whole text = refl
 
 -- the name that is there makes no text longer
 pub own_answered : (unit : counting.Unit) (text : List ℕ) (new : Name) (d : ℕ) (m : Parsed) → IsScan m.source → is_declared_as m d new ≡ true
-    → (result : Result (Vec Edit Global) EditRefusal) → Edited unit text new m.source (tokens_renamed m d new) result → IfErr result (λ why. why ≡ refusal.Memory)
+    → (result : Result (Vec Edit Global) EditRefusal) → Edited unit text new m.source (tokens_to_rename m d new) result → IfErr result (λ why. why ≡ refusal.Memory)
 own_answered unit text new d m scan own (Ok edits) made = tt
 own_answered unit text new d m scan own (Err why) made =
     elim made.refusals [
       | inl e ↦
-          let none : tokens_renamed m d new ≡ [] = own_places (tokens_bound m d true) (is_declared_as m d new) own in
+          let none : tokens_to_rename m d new ≡ [] = own_places (tokens_bound m d true) (is_declared_as m d new) own in
           let long = subst (λ places. max_text < length (with_text_at m.source places new)) none (made.too_long (ap Err e)) in
           absurd (omega (arith, long, whole m.source.text, scan.short))
       | inr e ↦ e
@@ -137,7 +137,7 @@ own_answered unit text new d m scan own (Err why) made =
 
 -- ---- an answer for what is named at the place is the answer
 
-refused_there : (a : Renaming) (d : ℕ) → Means a d → (why : EditRefusal) → IsRefusedTo a d why → IsRefused a why
+refused_there : (a : Renaming) (d : ℕ) → NamesDeclaration a d → (why : EditRefusal) → IsRefusedTo a d why → IsRefused a why
 refused_there a d means refusal.NoName h = absurd h
 refused_there a d means refusal.Predeclared h = absurd h
 refused_there a d means refusal.BadName h = inl (d, means, h)
@@ -149,19 +149,19 @@ refused_there a d means refusal.Shadowed h = absurd h
 refused_there a d means refusal.CommentInside h = absurd h
 refused_there a d means refusal.Memory h = absurd h
 
-pub answered_there : (a : Renaming) (d : ℕ) → Means a d → (result : Result (Vec Edit Global) EditRefusal) → AnswersFor a d result → Answers a result
+pub answered_there : (a : Renaming) (d : ℕ) → NamesDeclaration a d → (result : Result (Vec Edit Global) EditRefusal) → AnswersDeclaration a d result → RenameAnswers a result
 answered_there a d means (Ok edits) h = inl (d, means, h)
 answered_there a d means (Err why) h = elim h [ inl e ↦ inl e | inr e ↦ inr (refused_there a d means why e) ]
 
 -- what is named at the place is one thing
 
-pub own_there : (a : Renaming) (d : ℕ) → Means a d → (result : Result (Vec Edit Global) EditRefusal) → (is_declared_as (module_of a) d a.new ≡ true → OnlyMemory result) → TakesOwnName a result
+pub own_there : (a : Renaming) (d : ℕ) → NamesDeclaration a d → (result : Result (Vec Edit Global) EditRefusal) → (is_declared_as (module_of a) d a.new ≡ true → OnlyMemory result) → TakesOwnName a result
 own_there a d means result own = (
   λ e also. let both : declaration d ≡ declaration e = sym means ∙ also in let same : d ≡ e = cc in subst (λ n. is_declared_as (module_of a) n a.new ≡ true → OnlyMemory result) same own,
   λ k f also. let both : declaration d ≡ field_of k f = sym means ∙ also in absurd (cc),
 )
 
-pub own_nowhere : (a : Renaming) (result : Result (Vec Edit Global) EditRefusal) → ((d : ℕ) → Means a d → ⊥) → ((k : ℕ) (f : Name) → MeansField a k f → ⊥) → TakesOwnName a result
+pub own_nowhere : (a : Renaming) (result : Result (Vec Edit Global) EditRefusal) → ((d : ℕ) → NamesDeclaration a d → ⊥) → ((k : ℕ) (f : Name) → MeansField a k f → ⊥) → TakesOwnName a result
 own_nowhere a result none no_field = (λ d means own. absurd (none d means), λ k f means own. absurd (no_field k f means))
 
 pub own_nothing : (a : Renaming) (result : Result (Vec Edit Global) EditRefusal) → meant a ≡ nothing → TakesOwnName a result

@@ -18,9 +18,9 @@ use Rattle.ob0_edits.specs.OfTrees.{RenamedWordsSpell, number_at, placed, rename
 use Rattle.ob0_edits.specs.Replaced.{AreNames}
 use Rattle.ob0_edits.specs.Words.{word_lexeme}
 use Rattle.ob0_edits.specs.Written.{name_word}
-use Rattle.ob0_scope.specs.Standing as standing
-use Rattle.ob0_scope.specs.Standing.{IsRenamedAt, tokens_bound}
-use Rattle.ob0_rename.specs.Renaming.{is_declared_as, tokens_renamed}
+use Rattle.ob0_scope.specs.NamesAtPlaces as standing
+use Rattle.ob0_scope.specs.NamesAtPlaces.{IsRenamedAt, tokens_bound}
+use Rattle.ob0_rename.specs.Renaming.{is_declared_as, tokens_to_rename}
 use Rattle.ob0_rename.proofs.Named.{among_same}
 use Rattle.ob0_rename.proofs.Owned.{own_module}
 
@@ -68,7 +68,7 @@ renamed_there m d new false e once there =
     (λ i. mapped (λ k. at_places m new (tokens_bound m d true) k i) (λ k. number_same m.source k i) (tree_of m)) ∙ sym (there new)
 
 pub renamed_module : (m : Parsed) (d : ℕ) (new : Name) → declared_once (named_tree_of m) ≡ true → IsRenamedAt m d (tokens_bound m d true)
-    → mapped (renamed_at (words_of m.source) (tokens_renamed m d new) new) (number_at (words_of m.source)) (tree_of m) ≡ renamed (named_tree_of m) d new
+    → mapped (renamed_at (words_of m.source) (tokens_to_rename m d new) new) (number_at (words_of m.source)) (tree_of m) ≡ renamed (named_tree_of m) d new
 renamed_module m d new once there = renamed_there m d new (is_declared_as m d new) refl once there
 
 -- where a text has the words of a module with a new name at some places, it is a text of the tree that has that name there
@@ -89,8 +89,8 @@ of_rewritten m t places new is spells names there after scan words =
     }
 
 pub of_renamed : (m : Parsed) (d : ℕ) (new : Name) → IsParsed m → declared_once (named_tree_of m) ≡ true → RenamedWordsSpell → IsRenamedAt m d (tokens_bound m d true)
-    → AreNames m.source.tokens 0 (tokens_renamed m d new)
-    → (after : Scanned) → IsScan after → words_of after ≡ changed (at_each (tokens_renamed m d new) (name_word new ∷ [])) 0 (words_of m.source)
+    → AreNames m.source.tokens 0 (tokens_to_rename m d new)
+    → (after : Scanned) → IsScan after → words_of after ≡ changed (at_each (tokens_to_rename m d new) (name_word new ∷ [])) 0 (words_of m.source)
     → ModuleOf after (renamed (named_tree_of m) d new)
 of_renamed m d new is once spells there names =
-    of_rewritten m (renamed (named_tree_of m) d new) (tokens_renamed m d new) new is spells names (renamed_module m d new once there)
+    of_rewritten m (renamed (named_tree_of m) d new) (tokens_to_rename m d new) new is spells names (renamed_module m d new once there)

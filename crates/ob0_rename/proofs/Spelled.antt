@@ -65,13 +65,13 @@ declaring_stand ts ((role.ClosingName, n) ∷ xs) h = declaring_stand ts xs h.1
 declaring_stand ts ((role.FieldName, n) ∷ xs) h = declaring_stand ts xs h.1
 declaring_stand ts ((role.ModuleName, n) ∷ xs) h = declaring_stand ts xs h.1
 
-one_stands : (ts : List Token) (places : List ℕ) (j k : ℕ) → AreIdentifiers ts places → slice_get places j ≡ Some k → order.IsIdentifier ts k
+one_stands : (ts : List Token) (places : List ℕ) (j k : ℕ) → AreIdentifiers ts places → slice_get places j ≡ Some k → order.IsIdentifierToken ts k
 one_stands ts [] j k h e = absurd (cc)
-one_stands ts (p ∷ ps) zero k h e = let same : p ≡ k = cc in subst (order.IsIdentifier ts) same h.0
+one_stands ts (p ∷ ps) zero k h e = let same : p ≡ k = cc in subst (order.IsIdentifierToken ts) same h.0
 one_stands ts (p ∷ ps) (suc j) k h e = one_stands ts ps j k h.1 e
 
 -- an identifier is written as one
-pub spelled_at : (m : Parsed) (k : ℕ) → IsScan m.source → order.IsIdentifier m.source.tokens k → IsIdentifier (place.text_at m.source k)
+pub spelled_at : (m : Parsed) (k : ℕ) → IsScan m.source → order.IsIdentifierToken m.source.tokens k → IsIdentifier (place.text_at m.source k)
 spelled_at m k scan stands =
     let each : EachNamed (words_of m.source) = subst EachNamed (sym (scan_words m.source scan)) (words_named scan.lexemes [] scan.lexed.each) in
     let low : k < length (words_of m.source) = omega (arith, stands.0, length-map m.source.tokens (read_in m.source.text)) in
@@ -85,6 +85,6 @@ own_identifier m d new is scan e =
     subst IsIdentifier by.written (spelled_at m found.0 scan stands)
 
 -- so is a field that a place is on
-pub field_spelled : (m : Parsed) (found : Option (ℕ × ℕ)) → IsScan m.source → IfSome found (λ x. order.IsIdentifier m.source.tokens x.0) → IfSome found (λ x. IsIdentifier (place.text_at m.source x.0))
+pub field_spelled : (m : Parsed) (found : Option (ℕ × ℕ)) → IsScan m.source → IfSome found (λ x. order.IsIdentifierToken m.source.tokens x.0) → IfSome found (λ x. IsIdentifier (place.text_at m.source x.0))
 field_spelled m None scan stand = tt
 field_spelled m (Some x) scan stand = spelled_at m x.0 scan stand

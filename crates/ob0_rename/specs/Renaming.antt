@@ -5,9 +5,9 @@ use Rattle.std.specs.Prelude.{◌≡◌, ℕ, Bool, true, false, nat_lt, if◌th
 use Rattle.ob0_scan.specs.Scanned.{Scanned}
 use Rattle.ob0_text.specs.Texts.{offset_of}
 use Rattle.ob0_text.specs.Units.{width_of}
-use Rattle.ob0_text.specs.declared.positions.Position.{Position}
-use Rattle.ob0_text.specs.declared.positions.Range.{Range}
-use Rattle.ob0_text.specs.declared.positions.Unit as counting
+use Rattle.ob0_text.specs.declared.position_types.Position.{Position}
+use Rattle.ob0_text.specs.declared.position_types.Range.{Range}
+use Rattle.ob0_text.specs.declared.position_types.Unit as counting
 use Rattle.ob0_tree.specs.Parsed as read
 use Rattle.ob0_tree.specs.Places.{text_at}
 use Rattle.ob0_tree.specs.Tree.{Tree, identifiers, module_text, occurrences}
@@ -17,7 +17,7 @@ use Rattle.ob0_scope.specs.Renames.{namesake}
 use Rattle.ob0_scope_rules.specs.Resolution.{Resolution, declaring_only, span_at, token_declaring}
 use Rattle.ob0_edits.specs.Replaced.{with_text_at}
 use Rattle.ob0_edits.specs.Ranges.{range_of}
-use Rattle.ob0_scope.specs.Standing.{name_on, tokens_bound}
+use Rattle.ob0_scope.specs.NamesAtPlaces.{name_on, tokens_bound}
 use Rattle.ob0_scope.specs.declared.naming.Named as named
 use Rattle.ob0_types_fields.specs.Identifiers.{declaring_field, field_at, field_tokens}
 
@@ -72,8 +72,8 @@ abbrev pub meant : Renaming → Meant
 meant r = meant_at r.names (offset_of (width_of r.unit) r.text r.place)
 
 -- it is a name of the declaration with this ordinal
-abbrev pub Means : Renaming → ℕ → Type 0
-Means r d = meant r ≡ declaration d
+abbrev pub NamesDeclaration : Renaming → ℕ → Type 0
+NamesDeclaration r d = meant r ≡ declaration d
 
 -- it is the field f of the record with the ordinal k
 abbrev pub MeansField : Renaming → ℕ → Name → Type 0
@@ -90,12 +90,12 @@ abbrev pub is_declared_as : read.Parsed → ℕ → Name → Bool
 is_declared_as m d new = elim (declaring_token m d) [ Some token ↦ same_name (text_at m.source token) new | None ↦ false ]
 
 -- the tokens of the name, the declaring one and closing names too; none where the new name is the old one
-abbrev pub tokens_renamed : read.Parsed → ℕ → Name → List ℕ
-tokens_renamed m d new = if is_declared_as m d new then [] else tokens_bound m d true
+abbrev pub tokens_to_rename : read.Parsed → ℕ → Name → List ℕ
+tokens_to_rename m d new = if is_declared_as m d new then [] else tokens_bound m d true
 
 -- the tokens of the field f of the record k, the one that declares it and all that select it; none where it has the new name
-abbrev pub field_tokens_renamed : Resolution → ℕ → Name → Name → List ℕ
-field_tokens_renamed names k f new = if same_name new f then [] else field_tokens names k f
+abbrev pub field_tokens_to_rename : Resolution → ℕ → Name → Name → List ℕ
+field_tokens_to_rename names k f new = if same_name new f then [] else field_tokens names k f
 
 -- the text with the new name at some tokens, in bytes
 abbrev pub text_with : Renaming → List ℕ → List ℕ

@@ -3,19 +3,19 @@
 ghost use Rattle.std.specs.Prelude.{◌≡◌, Err, IfOk, IfSome, None, if◌then◌else◌};
 ghost use Rattle.std.specs.Str.{chars};
 ghost use Rattle.ob0_scan.specs.Classes.{IsIdentifier};
-ghost use Rattle.ob0_text.specs.declared.positions.Position as positions;
+ghost use Rattle.ob0_text.specs.declared.position_types.Position as positions;
 ghost use Rattle.ob0_text.specs.declared.refusals.EditRefusal.TheVariants as refused;
 ghost use Rattle.ob0_tree.specs.Places.{text_at};
 ghost use Rattle.ob0_scope_rules.specs.Names.{same_name};
 ghost use Rattle.ob0_edits.specs.Replaced.{AreNames};
 ghost use Rattle.ob0_types_fields.specs.Identifiers.{declaring_field, field_at};
 ghost use Rattle.ob0_rename.specs.Answers.{AnswersForField, OnlyMemory};
-ghost use Rattle.ob0_rename.specs.Renaming.{field_tokens_renamed};
+ghost use Rattle.ob0_rename.specs.Renaming.{field_tokens_to_rename};
 
 use crate::places::token_range;
 use ob0_analysis::{WellTyped, declaring_field, field_at, field_tokens};
 use ob0_edits::edits_for;
-use ob0_edits::laws::{names_stand_for_names, renamed_words_spell};
+use ob0_edits::laws::{names_replace_names, renamed_words_spell};
 use ob0_rename_laws::laws::free_field_keeps_modules;
 use ob0_scan::is_identifier;
 use ob0_text::{Edit, EditRefusal, TextStore};
@@ -49,7 +49,7 @@ pub(crate) fn rename_field<T: TextStore>(
     ensures memory { result ≡ Err refused.Memory → IsIdentifier new.now }
     ensures own_name { IsIdentifier new.now → new.now ≡ text_at well_typed.now.module_read.source field.0 → OnlyMemory result }
 {
-    names_stand_for_names();
+    names_replace_names();
     renamed_words_spell();
     free_field_keeps_modules();
     renamed_at_tokens();
@@ -66,7 +66,7 @@ pub(crate) fn rename_field<T: TextStore>(
             range: token_range(store, names.tokens(), Some(token)),
         }),
         None => {
-            let tokens = field_tokens_renamed(alloc, well_typed, field.1, old, new)?;
+            let tokens = field_tokens_to_rename(alloc, well_typed, field.1, old, new)?;
             edits_for(alloc, store, names.tokens(), &tokens, new)
         }
     }
@@ -83,14 +83,14 @@ fn other_field(well_typed: &WellTyped<'_, '_>, owner: usize, old: &str, new: &st
 }
 
 /// The tokens of a field, in text order; none where it has the new name.
-fn field_tokens_renamed(
+fn field_tokens_to_rename(
     alloc: Global,
     well_typed: &WellTyped<'_, '_>,
     owner: usize,
     old: &str,
     new: &str,
 ) -> Result<Vec<usize>, AllocError>
-    ensures value { IfOk result (λ found. found.items ≡ field_tokens_renamed well_typed.now owner old.now new.now) }
+    ensures value { IfOk result (λ found. found.items ≡ field_tokens_to_rename well_typed.now owner old.now new.now) }
     ensures names { IfOk result (λ found. AreNames well_typed.now.module_read.source.tokens 0 found.items) }
 {
     if new == old {

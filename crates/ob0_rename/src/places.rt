@@ -8,8 +8,8 @@ ghost use Rattle.ob0_tree.specs.Order.{AreIdentifiers, Ascending};
 ghost use Rattle.ob0_tree.specs.Places.{text_at};
 ghost use Rattle.ob0_edits.specs.Ranges.{range_of};
 ghost use Rattle.ob0_edits.specs.Replaced.{AreNames};
-ghost use Rattle.ob0_scope.specs.Standing.{IsRenamedAt, tokens_bound};
-ghost use Rattle.ob0_rename.specs.Renaming.{is_declared_as, tokens_renamed};
+ghost use Rattle.ob0_scope.specs.NamesAtPlaces.{IsRenamedAt, tokens_bound};
+ghost use Rattle.ob0_rename.specs.Renaming.{is_declared_as, tokens_to_rename};
 
 use ob0_scan::{Span, Tokens};
 use ob0_scope::renamed_tokens;
@@ -18,13 +18,13 @@ use ob0_text::{Range, TextStore};
 use std::alloc::{AllocError, Global};
 
 /// The tokens of a declaration's name, in text order; none where it has the new name.
-pub(crate) fn tokens_renamed(
+pub(crate) fn tokens_to_rename(
     alloc: Global,
     names: &Resolved,
     declaration: usize,
     new: &str,
 ) -> Result<Vec<usize>, AllocError>
-    ensures value { IfOk result (λ found. found.items ≡ tokens_renamed names.now.module_read declaration new.now) }
+    ensures value { IfOk result (λ found. found.items ≡ tokens_to_rename names.now.module_read declaration new.now) }
     ensures names { IfOk result (λ found. AreNames names.now.module_read.source.tokens 0 found.items) }
 {
     if is_declared_as(names, declaration, new) {

@@ -4,24 +4,24 @@ ghost use Rattle.std.specs.Prelude.{◌≡◌, ℕ, Err, Some, slice_get, true};
 ghost use Rattle.std.specs.Str.{chars};
 ghost use Rattle.ob0_scan.specs.Classes.{IsIdentifier};
 ghost use Rattle.ob0_text.specs.Units.{width_of};
-ghost use Rattle.ob0_text.specs.declared.positions.Position as positions;
+ghost use Rattle.ob0_text.specs.declared.position_types.Position as positions;
 ghost use Rattle.ob0_tree.specs.Parsed.{tree_of};
 ghost use Rattle.ob0_tree.specs.Tree.{occurrences};
 ghost use Rattle.ob0_scope_rules.specs.Resolution.{span_at};
-ghost use Rattle.ob0_scope.specs.declared.capturing.Capture.TheVariants.{Duplicate, Occurrence};
+ghost use Rattle.ob0_scope.specs.declared.capturing.FirstCapture.TheVariants.{Duplicate, Occurrence};
 ghost use Rattle.ob0_text.specs.declared.refusals.EditRefusal.TheVariants as refused;
 ghost use Rattle.ob0_edits.specs.Ranges.{range_of};
-ghost use Rattle.ob0_rename.specs.Answers.{Answers, AnswersFor, AsksForMemory, OnlyMemory, TakesOwnName};
+ghost use Rattle.ob0_rename.specs.Answers.{RenameAnswers, AnswersDeclaration, AllocatesOnly, OnlyMemory, TakesOwnName};
 ghost use Rattle.ob0_rename.specs.Renaming.{declaring_token, is_declared_as};
 
 use crate::fields::{field_named_at, rename_field};
-use crate::places::{token_range, tokens_renamed};
+use crate::places::{token_range, tokens_to_rename};
 use ob0_analysis::WellTyped;
 use ob0_edits::edits_for;
-use ob0_edits::laws::{names_stand_for_names, renamed_words_spell};
+use ob0_edits::laws::{names_replace_names, renamed_words_spell};
 use ob0_run_rules::laws::free_keeps_modules;
 use ob0_scan::is_identifier;
-use ob0_scope::{Capture, captures, name_at};
+use ob0_scope::{FirstCapture, captures, name_at};
 use ob0_scope_rules::{PREDECLARED, Resolved};
 use ob0_text::{Edit, EditRefusal, Position, TextStore};
 use std::alloc::Global;
@@ -40,8 +40,8 @@ pub fn rename<T: TextStore>(
     new: &str,
 ) -> Result<Vec<Edit>, EditRefusal>
     requires { T.content store.now ≡ chars well_typed.now.module_read.source.text }
-    ensures answers { Answers (record { unit = T.unit_of store.now; text = T.content store.now; names = well_typed.now; place = place; new = new.now }) result }
-    ensures memory { result ≡ Err refused.Memory → AsksForMemory (record { unit = T.unit_of store.now; text = T.content store.now; names = well_typed.now; place = place; new = new.now }) }
+    ensures answers { RenameAnswers (record { unit = T.unit_of store.now; text = T.content store.now; names = well_typed.now; place = place; new = new.now }) result }
+    ensures memory { result ≡ Err refused.Memory → AllocatesOnly (record { unit = T.unit_of store.now; text = T.content store.now; names = well_typed.now; place = place; new = new.now }) }
     ensures own_name { TakesOwnName (record { unit = T.unit_of store.now; text = T.content store.now; names = well_typed.now; place = place; new = new.now }) result }
 {
     let offset = store.offset(place);
@@ -69,11 +69,11 @@ fn rename_declaration<T: TextStore>(
     new: &str,
 ) -> Result<Vec<Edit>, EditRefusal>
     requires { T.content store.now ≡ chars well_typed.now.module_read.source.text }
-    ensures answers { (place : positions.Position) → AnswersFor (record { unit = T.unit_of store.now; text = T.content store.now; names = well_typed.now; place = place; new = new.now }) declaration result }
+    ensures answers { (place : positions.Position) → AnswersDeclaration (record { unit = T.unit_of store.now; text = T.content store.now; names = well_typed.now; place = place; new = new.now }) declaration result }
     ensures memory { result ≡ Err refused.Memory → IsIdentifier new.now }
     ensures own_name { is_declared_as well_typed.now.module_read declaration new.now ≡ true → OnlyMemory result }
 {
-    names_stand_for_names();
+    names_replace_names();
     renamed_words_spell();
     free_keeps_modules();
     let names = well_typed.resolved();
@@ -85,14 +85,14 @@ fn rename_declaration<T: TextStore>(
     match captures(alloc, names, declaration, new)? {
         Some(capture) => Err(refusal_of(store, names, capture)),
         None => {
-            let tokens = tokens_renamed(alloc, names, declaration, new)?;
+            let tokens = tokens_to_rename(alloc, names, declaration, new)?;
             edits_for(alloc, store, names.tokens(), &tokens, new)
         }
     }
 }
 
 /// Why a name that isn't free is refused.
-fn refusal_of<T: TextStore>(store: &T, names: &Resolved, capture: Capture) -> EditRefusal
+fn refusal_of<T: TextStore>(store: &T, names: &Resolved, capture: FirstCapture) -> EditRefusal
     ensures duplicate { (other token : ℕ) → capture ≡ Duplicate other → declaring_token names.now.module_read other ≡ Some token
         → result ≡ refused.Duplicate (range_of (width_of (T.unit_of store.now)) (T.content store.now) (span_at names.now.module_read.source token)) }
     ensures occurrence { (k token : ℕ) → capture ≡ Occurrence k → slice_get (occurrences (tree_of names.now.module_read)) k ≡ Some token
@@ -101,10 +101,10 @@ fn refusal_of<T: TextStore>(store: &T, names: &Resolved, capture: Capture) -> Ed
     // For the proof: what the contract of this call says.
     let _module = names.module();
     match capture {
-        Capture::Duplicate(other) => EditRefusal::Duplicate {
+        FirstCapture::Duplicate(other) => EditRefusal::Duplicate {
             range: token_range(store, names.tokens(), names.declaring_token(other)),
         },
-        Capture::Occurrence(k) => EditRefusal::Captures {
+        FirstCapture::Occurrence(k) => EditRefusal::Captures {
             range: token_range(store, names.tokens(), occurrence(names, k)),
         },
     }

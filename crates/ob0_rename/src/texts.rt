@@ -5,7 +5,7 @@ ghost use Rattle.std.specs.Str.{chars};
 ghost use Rattle.ob0_rename.specs.InTexts.{FindsNewName, Settles, renaming_of};
 
 use crate::renaming::rename;
-use ob0_analysis::{Asked, Question, WellTyped, ask};
+use ob0_analysis::{Finding, Question, WellTyped, ask};
 use ob0_scan::Tokens;
 use ob0_text::{Edit, EditRefusal, Position, TextStore};
 use std::alloc::{AllocError, Global};
@@ -52,7 +52,7 @@ pub fn rename_in<T: TextStore>(
     kept: Option<&Tokens>,
     place: Position,
     new: &str,
-) -> Result<Asked<Result<Vec<Edit>, EditRefusal>>, AllocError>
+) -> Result<Finding<Result<Vec<Edit>, EditRefusal>>, AllocError>
     ensures { IfOk result (λ found. FindsNewName (T.unit_of store.now) (T.content store.now) place new.now found) }
 {
     let question = NewName { store, place, new };

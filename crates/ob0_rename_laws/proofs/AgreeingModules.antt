@@ -12,7 +12,7 @@ use Rattle.ob0_values.specs.Values.{Shape}
 use Rattle.ob0_run_rules.proofs.Sound.{some-gives}
 use Rattle.ob0_run_rules.proofs.SoundCalls.{hold-true, some-inverse}
 use Rattle.ob0_run_rules.proofs.SoundStatements.{both_true}
-use Rattle.ob0_rename_laws.specs.Fields.{FieldNames, behind_procedures, refield, refield_block, refield_formals, refield_procedure, refield_procedures, refield_section, refield_sections, refield_type_section, refield_types, refield_variable_section, refield_variables, refielded}
+use Rattle.ob0_rename_laws.specs.Fields.{FieldNames, types_after_procedures, refield, refield_block, refield_formals, refield_procedure, refield_procedures, refield_section, refield_sections, refield_type_section, refield_types, refield_variable_section, refield_variables, refielded}
 use Rattle.ob0_rename_laws.specs.Renaming.{records, records_in_block, records_in_procedure, records_in_procedures, records_in_sections, records_in_type, records_in_types, records_in_variables}
 use Rattle.ob0_rename_laws.proofs.AgreeingFields.{NamesStand, ObjectAgrees, OptionAgrees, RecordsAgree, ShapeAgrees, denoted-agrees, records-split, sequence-alike, type-alike}
 use Rattle.ob0_rename_laws.proofs.RefieldedModules.{parameter_of, stands_in}
@@ -133,7 +133,7 @@ body-alike p q env (one (begins a)) h e = λ i. one (begins (sequence-alike p q 
 abbrev ProceduresAlike : FieldNames → FieldNames → TypeEnvironment Name → ℕ → Tree Name (maybe body) → Tree Name (items procedure) → Type 0
 ProceduresAlike p q env k statements ps =
     (refield_procedures p env k ps ≡ refield_procedures q env k ps)
-    × (refield p (meanings as_names (behind_procedures env k ps)) None statements ≡ refield q (meanings as_names (behind_procedures env k ps)) None statements)
+    × (refield p (meanings as_names (types_after_procedures env k ps)) None statements ≡ refield q (meanings as_names (types_after_procedures env k ps)) None statements)
 
 mutual
   unfolding block_fits
@@ -165,7 +165,7 @@ mutual
       procedures-alike p q (heading (procedure_name a) qs env) (k + procedure_constructors a) statements rest (tt, h) r₁.1 both.1 in
       subst (λ qs. (more (refield_procedure p (bind_typed qs (heading (procedure_name a) qs env)) k a) (refield_procedures p (heading (procedure_name a) qs env) (k + procedure_constructors a) rest)
       ≡ more (refield_procedure q (bind_typed qs (heading (procedure_name a) qs env)) k a) (refield_procedures q (heading (procedure_name a) qs env) (k + procedure_constructors a) rest))
-      × (refield p (meanings as_names (behind_procedures (heading (procedure_name a) qs env) (k + procedure_constructors a) rest)) None statements ≡ refield q (meanings as_names (behind_procedures (heading (procedure_name a) qs env) (k + procedure_constructors a) rest)) None statements))
+      × (refield p (meanings as_names (types_after_procedures (heading (procedure_name a) qs env) (k + procedure_constructors a) rest)) None statements ≡ refield q (meanings as_names (types_after_procedures (heading (procedure_name a) qs env) (k + procedure_constructors a) rest)) None statements))
       (sym (ap (λ o. unwrap_or o []) eqs)) (λ i. more (own i) (others.0 i), others.1)
 
   pub procedure-alike : (p q : FieldNames) (env : TypeEnvironment Name) (k : ℕ) (a : Tree Name (item procedure)) → EnvironmentAgrees p q env → RecordsAgree p q (records_in_procedure k a) → procedure_fits as_names env k a ≡ true

@@ -11,7 +11,7 @@ use Rattle.ob0_types_rules.specs.Typing.{constant_of, constant_value, constructo
 use Rattle.ob0_types_rules.specs.WellTyped.{Mode, TypeEnvironment, bind_typed, by_place, by_value}
 use Rattle.ob0_values.specs.Values.{FieldShapes, Shape, Store, Value, array_shape, boolean_shape, copies, elements, initial, initial_members, integer_shape, members, next_field_shape, next_member, next_value, no_field_shape, record_shape}
 use Rattle.ob0_run_rules.specs.Runs.{Activation, Code, Frame, Parameter, allocate, bind_parameter, bind_parameters, declare_block, declare_procedures, declare_variables, formal_modes, parameters, passing, statement_meanings, with_procedures}
-use Rattle.ob0_rename_laws.specs.Fields.{FieldNames, behind_heading, behind_variables, parameters_of, refield_block, refield_procedure, refield_procedures, refield_sections, refield_type, refield_types, refield_variables}
+use Rattle.ob0_rename_laws.specs.Fields.{FieldNames, types_after_heading, types_after_variables, parameters_of, refield_block, refield_procedure, refield_procedures, refield_sections, refield_type, refield_types, refield_variables}
 use Rattle.ob0_rename_laws.proofs.Apart.{fields_by, named, shape_by}
 use Rattle.ob0_rename_laws.proofs.RefieldedExecution.{Given, Modes, argument_by, place_given, value_given}
 use Rattle.ob0_rename_laws.proofs.RefieldedExpressions.{Scalar, Thing, Things, active, constant_thing, procedure_thing, scalar_value, standard_thing, thing_by, type_thing, variable_thing}
@@ -248,17 +248,17 @@ declare_variables-both l k (more (declares_variable ns u) gs) f =
 abbrev pub declared_procedures : ℕ → Tree Name (items procedure) → TypeEnvironment Name → Scene → Scene
 declared_procedures k end env scene = scene
 declared_procedures k (more p rest) env scene =
-    declared_procedures (k + procedure_constructors p) rest (behind_heading env k p)
-    ((procedure_name p, procedure_thing record { first = k; checked = bind_typed (parameters_of env k p) (behind_heading env k p); text = p }) ∷ scene)
+    declared_procedures (k + procedure_constructors p) rest (types_after_heading env k p)
+    ((procedure_name p, procedure_thing record { first = k; checked = bind_typed (parameters_of env k p) (types_after_heading env k p); text = p }) ∷ scene)
 
 pub declare_procedures-by : (l : FieldNames) (k : ℕ) (ps : Tree Name (items procedure)) (env : TypeEnvironment Name) (scene : Scene)
     → declare_procedures k (refield_procedures l env k ps) (env_as l scene) ≡ env_as l (declared_procedures k ps env scene)
 declare_procedures-by l k end env scene = refl
 declare_procedures-by l k (more p rest) env scene =
-    let e : TypeEnvironment Name = bind_typed (parameters_of env k p) (behind_heading env k p) in
-    (λ i. declare_procedures (k + procedure_constructors-refield l e k p i) (refield_procedures l (behind_heading env k p) (k + procedure_constructors p) rest)
+    let e : TypeEnvironment Name = bind_typed (parameters_of env k p) (types_after_heading env k p) in
+    (λ i. declare_procedures (k + procedure_constructors-refield l e k p i) (refield_procedures l (types_after_heading env k p) (k + procedure_constructors p) rest)
     ((procedure_name-refield l e k p i, a_procedure record { first_constructor = k; text = refield_procedure l e k p }) ∷ env_as l scene))
-    ∙ declare_procedures-by l (k + procedure_constructors p) rest (behind_heading env k p) ((procedure_name p, procedure_thing record { first = k; checked = e; text = p }) ∷ scene)
+    ∙ declare_procedures-by l (k + procedure_constructors p) rest (types_after_heading env k p) ((procedure_name p, procedure_thing record { first = k; checked = e; text = p }) ∷ scene)
 
 -- blocks
 
@@ -283,11 +283,11 @@ declared_parts-both l k j n cs ts vs ps inner f =
 
 declare_block-parts : (l : FieldNames) (checked : TypeEnvironment Name) (k : ℕ) (cs : Tree Name (maybe constants)) (ts : Tree Name (maybe type_names)) (vs : Tree Name (maybe variables)) (ps : Tree Name (items procedure)) (statements : Tree Name (maybe body)) (f : Stage)
     → declare_block as_names k (refield_block l checked k (has_body (declares cs ts vs ps) statements)) (frame_by l f)
-    ≡ declared_parts l k (after_types k (has_body (declares cs ts vs ps) statements)) (after_variables k (has_body (declares cs ts vs ps) statements)) (section_constants cs) (section_types ts) (section_variables vs) ps (behind_variables checked k (has_body (declares cs ts vs ps) statements)) f
+    ≡ declared_parts l k (after_types k (has_body (declares cs ts vs ps) statements)) (after_variables k (has_body (declares cs ts vs ps) statements)) (section_constants cs) (section_types ts) (section_variables vs) ps (types_after_variables checked k (has_body (declares cs ts vs ps) statements)) f
 unfolding declare_block
 declare_block-parts l checked k cs ts vs ps statements f = λ i.
     let b : Tree Name block = has_body (declares cs ts vs ps) statements in
-    option_and_then (λ env. option_map (with_procedures (k + types_count-refield l k ts i + variables_count-refield l (after_types k b) vs i) (refield_procedures l (behind_variables checked k b) (after_variables k b) ps))
+    option_and_then (λ env. option_map (with_procedures (k + types_count-refield l k ts i + variables_count-refield l (after_types k b) vs i) (refield_procedures l (types_after_variables checked k b) (after_variables k b) ps))
     (declare_variables as_names (k + types_count-refield l k ts i) (section_variables-refield l (after_types k b) vs i) record { env = env; store = store_by l f.store }))
     (option_and_then (λ env. declare_types as_names env k (section_types-refield l k ts i)) (declare_constants as_names (env_as l f.scene) (section_constants cs)))
 
@@ -295,7 +295,7 @@ pub declare_block-both : (l : FieldNames) (checked : TypeEnvironment Name) (k : 
     → FramesBoth l (declare_block as_names k (refield_block tagged checked k b) (frame_by tagged f)) (declare_block as_names k (refield_block l checked k b) (frame_by l f))
 declare_block-both l checked k (has_body (declares cs ts vs ps) statements) f =
     subst₂ (λ a b. FramesBoth l a b) (sym (declare_block-parts tagged checked k cs ts vs ps statements f)) (sym (declare_block-parts l checked k cs ts vs ps statements f))
-    (declared_parts-both l k (after_types k (has_body (declares cs ts vs ps) statements)) (after_variables k (has_body (declares cs ts vs ps) statements)) (section_constants cs) (section_types ts) (section_variables vs) ps (behind_variables checked k (has_body (declares cs ts vs ps) statements)) f)
+    (declared_parts-both l k (after_types k (has_body (declares cs ts vs ps) statements)) (after_variables k (has_body (declares cs ts vs ps) statements)) (section_constants cs) (section_types ts) (section_variables vs) ps (types_after_variables checked k (has_body (declares cs ts vs ps) statements)) f)
 
 -- parameters
 

@@ -7,7 +7,7 @@ use Rattle.ob0_types_rules.specs.Expressions.{designate, evaluate, reads, writes
 use Rattle.ob0_types_rules.specs.Typing.{designated, object_type}
 use Rattle.ob0_types_rules.specs.WellTyped.{Mode, Typed, by_place, by_value}
 use Rattle.ob0_values.specs.Values.{Outcome, Store, Stuck, TurnBound, Value, elements, ends, gives, members, number, or_stuck, truth, write_place, ◌>>=◌}
-use Rattle.ob0_run_rules.specs.Runs.{Argument, Calls, Progress, State, choose, evaluate_argument, evaluate_arguments, execute, execute_all, execute_else, execute_elsifs, execute_further, go_on, line_out, modes_of, number_out, perform, place_argument, put_out, read_number, running, stopped, store_at, turns, turns_until, use_in, value_argument}
+use Rattle.ob0_run_rules.specs.Runs.{Argument, Calls, Progress, State, choose, evaluate_argument, evaluate_arguments, execute, execute_all, execute_else, execute_elsifs, execute_further, continue_with, line_out, modes_of, number_out, perform, place_argument, append_output, read_number, running, stopped, store_at, turns, turns_until, use_in, value_argument}
 use Rattle.ob0_rename_laws.specs.Fields.{FieldNames, refield}
 use Rattle.ob0_rename_laws.specs.FieldLaws.{KeepsApart}
 use Rattle.ob0_rename_laws.proofs.Outcomes.{Follows, ValuesFollow, follows-then, or_stuck-follows}
@@ -37,14 +37,14 @@ use_in-goes l f g s (ends e) o₂ n₁ n₂ h each = go h
     go (inl p) = inl p
     go (inr q) = inr (ap (λ o. use_in (state_by l s) o n₂) q)
 
-pub go_on-goes : (l : FieldNames) (p₁ p₂ : Progress) (n₁ n₂ : State → Progress) → Goes l p₁ p₂ → Alike l n₁ n₂ → Goes l (go_on p₁ n₁) (go_on p₂ n₂)
+pub go_on-goes : (l : FieldNames) (p₁ p₂ : Progress) (n₁ n₂ : State → Progress) → Goes l p₁ p₂ → Alike l n₁ n₂ → Goes l (continue_with p₁ n₁) (continue_with p₂ n₂)
 go_on-goes l (running s₁) (running s₂) n₁ n₂ h alike = subst₂ (λ x y. Goes l (n₁ x) (n₂ y)) (sym h.1) (sym h.2) (alike h.0)
 go_on-goes l (running s₁) (stopped e out) n₁ n₂ h alike = absurd h
 go_on-goes l (stopped e out) p₂ n₁ n₂ h alike = go h
   where
-    go : (e ≡ Stuck) ⊎ (p₂ ≡ stopped e out) → (e ≡ Stuck) ⊎ (go_on p₂ n₂ ≡ stopped e out)
+    go : (e ≡ Stuck) ⊎ (p₂ ≡ stopped e out) → (e ≡ Stuck) ⊎ (continue_with p₂ n₂ ≡ stopped e out)
     go (inl p) = inl p
-    go (inr q) = inr (ap (λ p. go_on p n₂) q)
+    go (inr q) = inr (ap (λ p. continue_with p n₂) q)
 
 pub runs-on : (l : FieldNames) → Alike l running running
 runs-on l s = (s, refl, refl)
@@ -66,8 +66,8 @@ turns-alike l zero c₁ c₂ n₁ n₂ conditions alike s =
     use_in-goes l (value_by tagged) (value_by l) s (c₁ (state_by tagged s)) (c₂ (state_by l s)) (λ v. choose (state_by tagged s) v (λ s'. stopped TurnBound s'.output) running) (λ v. choose (state_by l s) v (λ s'. stopped TurnBound s'.output) running) (conditions s)
     (λ v. choose-goes l s v (λ s'. stopped TurnBound s'.output) (λ s'. stopped TurnBound s'.output) running running (λ s'. inr refl) (runs-on l))
 turns-alike l (suc t) c₁ c₂ n₁ n₂ conditions alike s =
-    use_in-goes l (value_by tagged) (value_by l) s (c₁ (state_by tagged s)) (c₂ (state_by l s)) (λ v. choose (state_by tagged s) v (λ s'. go_on (n₁ s') (turns t c₁ n₁)) running) (λ v. choose (state_by l s) v (λ s'. go_on (n₂ s') (turns t c₂ n₂)) running) (conditions s)
-    (λ v. choose-goes l s v (λ s'. go_on (n₁ s') (turns t c₁ n₁)) (λ s'. go_on (n₂ s') (turns t c₂ n₂)) running running
+    use_in-goes l (value_by tagged) (value_by l) s (c₁ (state_by tagged s)) (c₂ (state_by l s)) (λ v. choose (state_by tagged s) v (λ s'. continue_with (n₁ s') (turns t c₁ n₁)) running) (λ v. choose (state_by l s) v (λ s'. continue_with (n₂ s') (turns t c₂ n₂)) running) (conditions s)
+    (λ v. choose-goes l s v (λ s'. continue_with (n₁ s') (turns t c₁ n₁)) (λ s'. continue_with (n₂ s') (turns t c₂ n₂)) running running
     (λ s'. go_on-goes l (n₁ (state_by tagged s')) (n₂ (state_by l s')) (turns t c₁ n₁) (turns t c₂ n₂) (alike s') (turns-alike l t c₁ c₂ n₁ n₂ conditions alike)) (runs-on l))
 
 pub turns_until-alike : (l : FieldNames) (t : ℕ) (c₁ c₂ : State → Outcome Value) (n₁ n₂ : State → Progress) → Conditions l c₁ c₂ → Alike l n₁ n₂ → Alike l (turns_until t c₁ n₁) (turns_until t c₂ n₂)
@@ -156,7 +156,7 @@ writes-goes : (l : FieldNames) (e₁ e₂ : List Argument → State → Progress
     → Goes l (perform (option_map (thing_by {P = Modes} {Q = Modes} tagged (λ p. p)) (Some (standard_thing writes))) e₁ (map (argument_by tagged) args) (state_by tagged s)) (perform (option_map (thing_by {P = Modes} {Q = Modes} l (λ p. p)) (Some (standard_thing writes))) e₂ (map (argument_by l) args) (state_by l s))
 writes-goes l e₁ e₂ [] s = inl refl
 writes-goes l e₁ e₂ (place_given p ∷ args) s = inl refl
-writes-goes l e₁ e₂ (value_given (number n) ∷ []) s = (put_out s (number_out n), refl, refl)
+writes-goes l e₁ e₂ (value_given (number n) ∷ []) s = (append_output s (number_out n), refl, refl)
 writes-goes l e₁ e₂ (value_given (number n) ∷ a ∷ args) s = inl refl
 writes-goes l e₁ e₂ (value_given (truth b) ∷ args) s = inl refl
 writes-goes l e₁ e₂ (value_given (elements vs) ∷ args) s = inl refl
@@ -178,7 +178,7 @@ perform-goes l apart (Some (variable_thing p)) e₁ e₂ enters args s = inl ref
 perform-goes l apart (Some (procedure_thing ms)) e₁ e₂ enters args s = enters args s
 perform-goes l apart (Some (standard_thing reads)) e₁ e₂ enters args s = reads-goes l apart e₁ e₂ args s
 perform-goes l apart (Some (standard_thing writes)) e₁ e₂ enters args s = writes-goes l e₁ e₂ args s
-perform-goes l apart (Some (standard_thing writes_line)) e₁ e₂ enters [] s = (put_out s line_out, refl, refl)
+perform-goes l apart (Some (standard_thing writes_line)) e₁ e₂ enters [] s = (append_output s line_out, refl, refl)
 perform-goes l apart (Some (standard_thing writes_line)) e₁ e₂ enters (a ∷ args) s = inl refl
 
 -- statements

@@ -7,7 +7,7 @@ use Rattle.ob0_types_rules.specs.Expressions.{Meanings, Object, Standard, a_cons
 use Rattle.ob0_types_rules.specs.Typing.{object_type}
 use Rattle.ob0_types_rules.specs.WellTyped.{Typed}
 use Rattle.ob0_values.specs.Values.{Outcome, Place, Shape, Step, Store, Value, add, add_is_settled, at_path, gives, multiply, multiply_is_settled, negated, number, or_stuck, part, read_place, relate, signed, truth, ◌>>=◌}
-use Rattle.ob0_rename_laws.specs.Fields.{FieldNames, behind, record_of, refield}
+use Rattle.ob0_rename_laws.specs.Fields.{FieldNames, type_after, record_of, refield}
 use Rattle.ob0_rename_laws.specs.FieldLaws.{KeepsApart}
 use Rattle.ob0_rename_laws.proofs.Apart.{named, shape_by}
 use Rattle.ob0_rename_laws.proofs.Outcomes.{Follows, ValuesFollow, add-follows, add_is_settled-by, element_step-follows, follows-then, multiply-follows, multiply_is_settled-by, negated-follows, or_stuck-follows, relate-follows, settled-follows, signed-follows}
@@ -147,18 +147,18 @@ mutual
       → PathsFollow l (follow (active tagged things) (store_by tagged store) (value_by tagged v) (refield tagged checked s path)) (follow (active l things) (store_by l store) (value_by l v) (refield l checked s path))
   follow-follows l apart things checked store s v end = ([], refl, refl)
   follow-follows l apart things checked store s v (more (field x) rest) =
-      follow_on-follows l apart (λ w. follow (active tagged things) (store_by tagged store) w (refield tagged checked (behind s (field x)) rest)) (λ w. follow (active l things) (store_by l store) w (refield l checked (behind s (field x)) rest))
-      (λ w. follow-follows l apart things checked store (behind s (field x)) w rest) v (to_field (record_of s) x)
+      follow_on-follows l apart (λ w. follow (active tagged things) (store_by tagged store) w (refield tagged checked (type_after s (field x)) rest)) (λ w. follow (active l things) (store_by l store) w (refield l checked (type_after s (field x)) rest))
+      (λ w. follow-follows l apart things checked store (type_after s (field x)) w rest) v (to_field (record_of s) x)
   follow-follows l apart things checked store s v (more (index e) rest) =
       follows-then (value_by tagged) (value_by l) (map (step_by tagged)) (map (step_by l)) _ _
-      (λ i. element_step (value_by tagged v) i >>= follow_on (λ w. follow (active tagged things) (store_by tagged store) w (refield tagged checked (behind s (index e)) rest)) (value_by tagged v))
-      (λ i. element_step (value_by l v) i >>= follow_on (λ w. follow (active l things) (store_by l store) w (refield l checked (behind s (index e)) rest)) (value_by l v))
+      (λ i. element_step (value_by tagged v) i >>= follow_on (λ w. follow (active tagged things) (store_by tagged store) w (refield tagged checked (type_after s (index e)) rest)) (value_by tagged v))
+      (λ i. element_step (value_by l v) i >>= follow_on (λ w. follow (active l things) (store_by l store) w (refield l checked (type_after s (index e)) rest)) (value_by l v))
       (evaluate-follows l apart things checked store e)
       (λ i. follows-then (step_by tagged) (step_by l) (map (step_by tagged)) (map (step_by l)) (element_step (value_by tagged v) (value_by tagged i)) (element_step (value_by l v) (value_by l i))
-      (follow_on (λ w. follow (active tagged things) (store_by tagged store) w (refield tagged checked (behind s (index e)) rest)) (value_by tagged v)) (follow_on (λ w. follow (active l things) (store_by l store) w (refield l checked (behind s (index e)) rest)) (value_by l v))
+      (follow_on (λ w. follow (active tagged things) (store_by tagged store) w (refield tagged checked (type_after s (index e)) rest)) (value_by tagged v)) (follow_on (λ w. follow (active l things) (store_by l store) w (refield l checked (type_after s (index e)) rest)) (value_by l v))
       (element_step-follows l v i)
-      (λ m. follow_on-follows l apart (λ w. follow (active tagged things) (store_by tagged store) w (refield tagged checked (behind s (index e)) rest)) (λ w. follow (active l things) (store_by l store) w (refield l checked (behind s (index e)) rest))
-      (λ w. follow-follows l apart things checked store (behind s (index e)) w rest) v m))
+      (λ m. follow_on-follows l apart (λ w. follow (active tagged things) (store_by tagged store) w (refield tagged checked (type_after s (index e)) rest)) (λ w. follow (active l things) (store_by l store) w (refield l checked (type_after s (index e)) rest))
+      (λ w. follow-follows l apart things checked store (type_after s (index e)) w rest) v m))
 
 -- places
 

@@ -7,9 +7,9 @@ use Rattle.ob0_types_rules.specs.Declarations.{after_formals, after_types, after
 use Rattle.ob0_types_rules.specs.Environments.{from_binding, meanings, newest, outermost}
 use Rattle.ob0_types_rules.specs.Expressions.{Object, a_constant, a_procedure, a_type, a_variable}
 use Rattle.ob0_types_rules.specs.Typing.{constant_of, constant_value, constructors, denoted, type_of_name}
-use Rattle.ob0_types_rules.specs.WellTyped.{Mode, Signature, TypeEnvironment, TypedParameter, bind_names, bind_typed, block_fits, body_fits, declare_typed, fits_over, heading, hold, procedure_fits, procedures_fit, section_mode, sequence_fits, typed_parameters}
+use Rattle.ob0_types_rules.specs.WellTyped.{Mode, Signature, TypeEnvironment, TypedParameter, bind_names, bind_typed, block_fits, body_fits, declare_typed, fits_over, heading, some_and, procedure_fits, procedures_fit, section_mode, sequence_fits, typed_parameters}
 use Rattle.ob0_values.specs.Values.{Shape}
-use Rattle.ob0_rename_laws.specs.Fields.{FieldNames, behind_heading, behind_procedures, behind_variables, parameters_of, refield, refield_block, refield_formals, refield_procedure, refield_procedures, refield_section, refield_sections, refield_type, refield_type_section, refield_types, refield_variable_section, refield_variables}
+use Rattle.ob0_rename_laws.specs.Fields.{FieldNames, types_after_heading, types_after_procedures, types_after_variables, parameters_of, refield, refield_block, refield_formals, refield_procedure, refield_procedures, refield_section, refield_sections, refield_type, refield_type_section, refield_types, refield_variable_section, refield_variables}
 use Rattle.ob0_rename_laws.specs.FieldLaws.{KeepsApart, RefieldingKeepsFitting}
 use Rattle.ob0_rename_laws.proofs.Apart.{constant_of-by, each-then, formal_by, map-then, named, object_by, shape_by, type_of_name-by}
 use Rattle.ob0_rename_laws.proofs.RefieldedTypes.{constant_value-alike, constructors-refield, denoted-refield}
@@ -121,13 +121,13 @@ mutual
   block_constructors-refield l env k (has_body (declares cs ts vs ps) statements) = λ i.
       types_count-refield l k ts i
       + (variables_count-refield l (after_types k (has_body (declares cs ts vs ps) statements)) vs i
-      + procedures_constructors-refield l (behind_variables env k (has_body (declares cs ts vs ps) statements)) (after_variables k (has_body (declares cs ts vs ps) statements)) ps i)
+      + procedures_constructors-refield l (types_after_variables env k (has_body (declares cs ts vs ps) statements)) (after_variables k (has_body (declares cs ts vs ps) statements)) ps i)
 
   pub procedures_constructors-refield : (l : FieldNames) (env : TypeEnvironment Name) (k : ℕ) (ps : Tree Name (items procedure)) → procedures_constructors (refield_procedures l env k ps) ≡ procedures_constructors ps
   procedures_constructors-refield l env k end = refl
   procedures_constructors-refield l env k (more p rest) = λ i.
-      procedure_constructors-refield l (bind_typed (parameters_of env k p) (behind_heading env k p)) k p i
-      + procedures_constructors-refield l (behind_heading env k p) (k + procedure_constructors p) rest i
+      procedure_constructors-refield l (bind_typed (parameters_of env k p) (types_after_heading env k p)) k p i
+      + procedures_constructors-refield l (types_after_heading env k p) (k + procedure_constructors p) rest i
 
   pub procedure_constructors-refield : (l : FieldNames) (env : TypeEnvironment Name) (k : ℕ) (p : Tree Name (item procedure)) → procedure_constructors (refield_procedure l env k p) ≡ procedure_constructors p
   procedure_constructors-refield l env k (declares_procedure x fs b closing) = λ i.
@@ -209,31 +209,31 @@ mutual
   block_fits-refield l apart env k (has_body (declares cs ts vs ps) statements) =
       let b : Tree Name block = has_body (declares cs ts vs ps) statements in
       let o : Option (TypeEnvironment Name) = option_and_then (declare_typed as_names (after_types k b) (section_variables vs)) (declare_first as_names env k b) in
-      (λ i. hold (option_and_then (declare_typed as_names (k + types_count-refield l k ts i) (section_variables-refield l (after_types k b) vs i)) (option_and_then (λ env. declare_types as_names env k (section_types-refield l k ts i)) (declare_constants as_names (env_by l env) (section_constants cs))))
-      (λ inner. procedures_fit as_names inner (k + types_count-refield l k ts i + variables_count-refield l (after_types k b) vs i) (refield l (meanings as_names (behind_procedures (behind_variables env k b) (after_variables k b) ps)) None statements) (refield_procedures l (behind_variables env k b) (after_variables k b) ps)))
-      ∙ (ap (λ o. hold o (λ inner. procedures_fit as_names inner (after_variables k b) (refield l (meanings as_names (behind_procedures (behind_variables env k b) (after_variables k b) ps)) None statements) (refield_procedures l (behind_variables env k b) (after_variables k b) ps)))
+      (λ i. some_and (option_and_then (declare_typed as_names (k + types_count-refield l k ts i) (section_variables-refield l (after_types k b) vs i)) (option_and_then (λ env. declare_types as_names env k (section_types-refield l k ts i)) (declare_constants as_names (env_by l env) (section_constants cs))))
+      (λ inner. procedures_fit as_names inner (k + types_count-refield l k ts i + variables_count-refield l (after_types k b) vs i) (refield l (meanings as_names (types_after_procedures (types_after_variables env k b) (after_variables k b) ps)) None statements) (refield_procedures l (types_after_variables env k b) (after_variables k b) ps)))
+      ∙ (ap (λ o. some_and o (λ inner. procedures_fit as_names inner (after_variables k b) (refield l (meanings as_names (types_after_procedures (types_after_variables env k b) (after_variables k b) ps)) None statements) (refield_procedures l (types_after_variables env k b) (after_variables k b) ps)))
       (declared-by l env k (after_types k b) (section_constants cs) (section_types ts) (section_variables vs))
-      ∙ (elim o as (λ o. hold (option_map (env_by l) o) (λ inner. procedures_fit as_names inner (after_variables k b) (refield l (meanings as_names (behind_procedures (unwrap_or o env) (after_variables k b) ps)) None statements) (refield_procedures l (unwrap_or o env) (after_variables k b) ps))
-      ≡ hold o (λ inner. procedures_fit as_names inner (after_variables k b) statements ps))
+      ∙ (elim o as (λ o. some_and (option_map (env_by l) o) (λ inner. procedures_fit as_names inner (after_variables k b) (refield l (meanings as_names (types_after_procedures (unwrap_or o env) (after_variables k b) ps)) None statements) (refield_procedures l (unwrap_or o env) (after_variables k b) ps))
+      ≡ some_and o (λ inner. procedures_fit as_names inner (after_variables k b) statements ps))
       [ None ↦ refl | Some inner ↦ procedures_fit-refield l apart inner (after_variables k b) statements ps ]))
 
   pub procedures_fit-refield : (l : FieldNames) → KeepsApart l → (env : TypeEnvironment Name) (k : ℕ) (statements : Tree Name (maybe body)) (ps : Tree Name (items procedure))
-      → procedures_fit as_names (env_by l env) k (refield l (meanings as_names (behind_procedures env k ps)) None statements) (refield_procedures l env k ps) ≡ procedures_fit as_names env k statements ps
+      → procedures_fit as_names (env_by l env) k (refield l (meanings as_names (types_after_procedures env k ps)) None statements) (refield_procedures l env k ps) ≡ procedures_fit as_names env k statements ps
   procedures_fit-refield l apart env k statements end = body_fits-refield l apart env statements
   procedures_fit-refield l apart env k statements (more p rest) =
-      let e : TypeEnvironment Name = bind_typed (parameters_of env k p) (behind_heading env k p) in
-      (λ i. hold (typed_parameters as_names (env_by l env) k (procedure_formals-refield l e k p i)) (λ qs. procedure_fits as_names (bind_typed qs (heading (procedure_name-refield l e k p i) qs (env_by l env))) k (refield_procedure l e k p)
-      && procedures_fit as_names (heading (procedure_name-refield l e k p i) qs (env_by l env)) (k + procedure_constructors-refield l e k p i) (refield l (meanings as_names (behind_procedures (behind_heading env k p) (k + procedure_constructors p) rest)) None statements) (refield_procedures l (behind_heading env k p) (k + procedure_constructors p) rest)))
-      ∙ (ap (λ o. hold o (λ qs. procedure_fits as_names (bind_typed qs (heading (procedure_name p) qs (env_by l env))) k (refield_procedure l e k p)
-      && procedures_fit as_names (heading (procedure_name p) qs (env_by l env)) (k + procedure_constructors p) (refield l (meanings as_names (behind_procedures (behind_heading env k p) (k + procedure_constructors p) rest)) None statements) (refield_procedures l (behind_heading env k p) (k + procedure_constructors p) rest)))
+      let e : TypeEnvironment Name = bind_typed (parameters_of env k p) (types_after_heading env k p) in
+      (λ i. some_and (typed_parameters as_names (env_by l env) k (procedure_formals-refield l e k p i)) (λ qs. procedure_fits as_names (bind_typed qs (heading (procedure_name-refield l e k p i) qs (env_by l env))) k (refield_procedure l e k p)
+      && procedures_fit as_names (heading (procedure_name-refield l e k p i) qs (env_by l env)) (k + procedure_constructors-refield l e k p i) (refield l (meanings as_names (types_after_procedures (types_after_heading env k p) (k + procedure_constructors p) rest)) None statements) (refield_procedures l (types_after_heading env k p) (k + procedure_constructors p) rest)))
+      ∙ (ap (λ o. some_and o (λ qs. procedure_fits as_names (bind_typed qs (heading (procedure_name p) qs (env_by l env))) k (refield_procedure l e k p)
+      && procedures_fit as_names (heading (procedure_name p) qs (env_by l env)) (k + procedure_constructors p) (refield l (meanings as_names (types_after_procedures (types_after_heading env k p) (k + procedure_constructors p) rest)) None statements) (refield_procedures l (types_after_heading env k p) (k + procedure_constructors p) rest)))
       (typed_parameters-by l env k (procedure_formals p))
-      ∙ (elim (typed_parameters as_names env k (procedure_formals p)) as (λ o. hold (option_map (map (parameter_by l)) o) (λ qs. procedure_fits as_names (bind_typed qs (heading (procedure_name p) qs (env_by l env))) k (refield_procedure l (bind_typed (unwrap_or o []) (heading (procedure_name p) (unwrap_or o []) env)) k p)
-      && procedures_fit as_names (heading (procedure_name p) qs (env_by l env)) (k + procedure_constructors p) (refield l (meanings as_names (behind_procedures (heading (procedure_name p) (unwrap_or o []) env) (k + procedure_constructors p) rest)) None statements) (refield_procedures l (heading (procedure_name p) (unwrap_or o []) env) (k + procedure_constructors p) rest))
-      ≡ hold o (λ qs. procedure_fits as_names (bind_typed qs (heading (procedure_name p) qs env)) k p && procedures_fit as_names (heading (procedure_name p) qs env) (k + procedure_constructors p) statements rest)) [
+      ∙ (elim (typed_parameters as_names env k (procedure_formals p)) as (λ o. some_and (option_map (map (parameter_by l)) o) (λ qs. procedure_fits as_names (bind_typed qs (heading (procedure_name p) qs (env_by l env))) k (refield_procedure l (bind_typed (unwrap_or o []) (heading (procedure_name p) (unwrap_or o []) env)) k p)
+      && procedures_fit as_names (heading (procedure_name p) qs (env_by l env)) (k + procedure_constructors p) (refield l (meanings as_names (types_after_procedures (heading (procedure_name p) (unwrap_or o []) env) (k + procedure_constructors p) rest)) None statements) (refield_procedures l (heading (procedure_name p) (unwrap_or o []) env) (k + procedure_constructors p) rest))
+      ≡ some_and o (λ qs. procedure_fits as_names (bind_typed qs (heading (procedure_name p) qs env)) k p && procedures_fit as_names (heading (procedure_name p) qs env) (k + procedure_constructors p) statements rest)) [
         | None ↦ refl
         | Some qs ↦
             (λ i. procedure_fits as_names ((ap (bind_typed (map (parameter_by l) qs)) (heading-by l (procedure_name p) qs env) ∙ bind_typed-by l qs (heading (procedure_name p) qs env)) i) k (refield_procedure l (bind_typed qs (heading (procedure_name p) qs env)) k p)
-            && procedures_fit as_names (heading-by l (procedure_name p) qs env i) (k + procedure_constructors p) (refield l (meanings as_names (behind_procedures (heading (procedure_name p) qs env) (k + procedure_constructors p) rest)) None statements) (refield_procedures l (heading (procedure_name p) qs env) (k + procedure_constructors p) rest))
+            && procedures_fit as_names (heading-by l (procedure_name p) qs env i) (k + procedure_constructors p) (refield l (meanings as_names (types_after_procedures (heading (procedure_name p) qs env) (k + procedure_constructors p) rest)) None statements) (refield_procedures l (heading (procedure_name p) qs env) (k + procedure_constructors p) rest))
             ∙ (λ i. procedure_fits-refield l apart (bind_typed qs (heading (procedure_name p) qs env)) k p i && procedures_fit-refield l apart (heading (procedure_name p) qs env) (k + procedure_constructors p) statements rest i)
       ]))
 

@@ -12,7 +12,7 @@ use Rattle.ob0_types_rules.specs.Environments.{meanings, outermost}
 use Rattle.ob0_types_rules.specs.Typing.{constructors, group_constructors, object_type}
 use Rattle.ob0_types_rules.specs.WellTyped.{TypeEnvironment, Typed, bind_typed}
 use Rattle.ob0_values.specs.Values.{Shape}
-use Rattle.ob0_rename_laws.specs.Fields.{FieldNames, behind, behind_heading, behind_procedures, behind_variables, parameters_of, refield, refield_block, refield_formals, refield_group, refield_groups, refield_procedure, refield_procedures, refield_section, refield_sections, refield_type, refield_type_section, refield_types, refield_variable_section, refield_variables, refielded}
+use Rattle.ob0_rename_laws.specs.Fields.{FieldNames, type_after, types_after_heading, types_after_procedures, types_after_variables, parameters_of, refield, refield_block, refield_formals, refield_group, refield_groups, refield_procedure, refield_procedures, refield_section, refield_sections, refield_type, refield_type_section, refield_types, refield_variable_section, refield_variables, refielded}
 use Rattle.ob0_rename_laws.specs.FieldLaws.{KeepsApart}
 use Rattle.ob0_rename_laws.proofs.RefieldedModules.{formal_sections-refield, procedure_name-refield, section_names-refield, section_type-refield, section_types-refield, section_variables-refield}
 use Rattle.ob0_rename_laws.proofs.Values.{bare}
@@ -89,7 +89,7 @@ formal_names-refield l k (more (then_section f) fs) = λ i. section_names-refiel
 procedure_names-refield : (l : FieldNames) (env : TypeEnvironment Name) (k : ℕ) (ps : Tree Name (items procedure)) → procedure_names (refield_procedures l env k ps) ≡ procedure_names ps
 procedure_names-refield l env k end = refl
 procedure_names-refield l env k (more p rest) = λ i.
-    procedure_name-refield l (bind_typed (parameters_of env k p) (behind_heading env k p)) k p i ∷ procedure_names-refield l (behind_heading env k p) (k + procedure_constructors p) rest i
+    procedure_name-refield l (bind_typed (parameters_of env k p) (types_after_heading env k p)) k p i ∷ procedure_names-refield l (types_after_heading env k p) (k + procedure_constructors p) rest i
 
 mutual
   pub block_once-refield : (l : FieldNames) → KeepsApart l → (env : TypeEnvironment Name) (k : ℕ) (own : List Name) (b : Tree Name block) → block_once own (refield_block l env k b) ≡ block_once own b
@@ -98,15 +98,15 @@ mutual
       are_distinct (own ++ (constant_names (section_constants cs)
       ++ ((ap named_types (section_types-refield l k ts) ∙ named_types-refield l k (section_types ts)) i
       ++ ((ap variable_names (section_variables-refield l (after_types k b) vs) ∙ variable_names-refield l (after_types k b) (section_variables vs)) i
-      ++ procedure_names-refield l (behind_variables env k b) (after_variables k b) ps i))))
+      ++ procedure_names-refield l (types_after_variables env k b) (after_variables k b) ps i))))
       && ((ap types_once (section_types-refield l k ts) ∙ types_once-refield l apart k (section_types ts)) i
       && ((ap variables_once (section_variables-refield l (after_types k b) vs) ∙ variables_once-refield l apart (after_types k b) (section_variables vs)) i
-      && procedures_once-refield l apart (behind_variables env k b) (after_variables k b) ps i))
+      && procedures_once-refield l apart (types_after_variables env k b) (after_variables k b) ps i))
 
   pub procedures_once-refield : (l : FieldNames) → KeepsApart l → (env : TypeEnvironment Name) (k : ℕ) (ps : Tree Name (items procedure)) → procedures_once (refield_procedures l env k ps) ≡ procedures_once ps
   procedures_once-refield l apart env k end = refl
   procedures_once-refield l apart env k (more p rest) = λ i.
-      procedure_once-refield l apart (bind_typed (parameters_of env k p) (behind_heading env k p)) k p i && procedures_once-refield l apart (behind_heading env k p) (k + procedure_constructors p) rest i
+      procedure_once-refield l apart (bind_typed (parameters_of env k p) (types_after_heading env k p)) k p i && procedures_once-refield l apart (types_after_heading env k p) (k + procedure_constructors p) rest i
 
   pub procedure_once-refield : (l : FieldNames) → KeepsApart l → (env : TypeEnvironment Name) (k : ℕ) (p : Tree Name (item procedure)) → procedure_once (refield_procedure l env k p) ≡ procedure_once p
   procedure_once-refield l apart env k (declares_procedure x fs b closing) =
@@ -120,7 +120,7 @@ declared_once-refield l apart (is_module x b closing) = λ i. same_name x closin
 -- fields written as they are
 
 refield-bare : {s : Sort} (meaning : Typed Name) (o : Option Shape) (t : Tree Name s) → refield bare meaning o t ≡ t
-refield-bare meaning o (more t ts) = λ i. more (refield-bare meaning o t i) (refield-bare meaning (behind o t) ts i)
+refield-bare meaning o (more t ts) = λ i. more (refield-bare meaning o t i) (refield-bare meaning (type_after o t) ts i)
 refield-bare meaning o (field x) = refl
 refield-bare meaning o (index e) = λ i. index (refield-bare meaning None e i)
 refield-bare meaning o (designator x path) = λ i. designator x (refield-bare meaning (object_type (meaning.stands_for x)) path i)
@@ -195,13 +195,13 @@ mutual
   refield_block-bare : (env : TypeEnvironment Name) (k : ℕ) (b : Tree Name block) → refield_block bare env k b ≡ b
   refield_block-bare env k (has_body (declares cs ts vs ps) statements) =
       let b : Tree Name block = has_body (declares cs ts vs ps) statements in λ i.
-      has_body (declares cs (refield_type_section-bare k ts i) (refield_variable_section-bare (after_types k b) vs i) (refield_procedures-bare (behind_variables env k b) (after_variables k b) ps i))
-      (refield-bare (meanings as_names (behind_procedures (behind_variables env k b) (after_variables k b) ps)) None statements i)
+      has_body (declares cs (refield_type_section-bare k ts i) (refield_variable_section-bare (after_types k b) vs i) (refield_procedures-bare (types_after_variables env k b) (after_variables k b) ps i))
+      (refield-bare (meanings as_names (types_after_procedures (types_after_variables env k b) (after_variables k b) ps)) None statements i)
 
   refield_procedures-bare : (env : TypeEnvironment Name) (k : ℕ) (ps : Tree Name (items procedure)) → refield_procedures bare env k ps ≡ ps
   refield_procedures-bare env k end = refl
   refield_procedures-bare env k (more p rest) = λ i.
-      more (refield_procedure-bare (bind_typed (parameters_of env k p) (behind_heading env k p)) k p i) (refield_procedures-bare (behind_heading env k p) (k + procedure_constructors p) rest i)
+      more (refield_procedure-bare (bind_typed (parameters_of env k p) (types_after_heading env k p)) k p i) (refield_procedures-bare (types_after_heading env k p) (k + procedure_constructors p) rest i)
 
   refield_procedure-bare : (env : TypeEnvironment Name) (k : ℕ) (p : Tree Name (item procedure)) → refield_procedure bare env k p ≡ p
   refield_procedure-bare env k (declares_procedure x fs b closing) = λ i.

@@ -10,7 +10,7 @@ use Rattle.ob0_types_rules.specs.WellTyped.{TypeEnvironment, Typed, fits_over}
 use Rattle.ob0_values.specs.Values.{Stuck, boolean_shape, integer_shape}
 use Rattle.ob0_run_rules.specs.Runs.{Activation, Calls, Frame, Progress, State, activate, bind_parameters, call, declare_block, execute_all, execute_body, finished, in_frame, parameters, run_over, running, stopped}
 use Rattle.ob0_run_rules.proofs.SoundCalls.{fitting-run}
-use Rattle.ob0_rename_laws.specs.Fields.{FieldNames, behind_procedures, behind_variables, refield, refield_block, refielded}
+use Rattle.ob0_rename_laws.specs.Fields.{FieldNames, types_after_procedures, types_after_variables, refield, refield_block, refielded}
 use Rattle.ob0_rename_laws.specs.FieldLaws.{KeepsApart}
 use Rattle.ob0_rename_laws.proofs.RefieldedActivations.{FramesBoth, Scene, Stage, bind_parameters-both, both-then, declare_block-both, env_as, frame_by, from_binding-as, meanings-as, parameters-refield, scene_from, things_in}
 use Rattle.ob0_rename_laws.proofs.RefieldedExecution.{Alike, CallsAlike, Given, Goes, argument_by, execute_all-alike, state_by}
@@ -20,7 +20,7 @@ use Rattle.ob0_rename_laws.proofs.Values.{store_by, tagged, tagged-apart}
 
 -- what names mean to a block's statements, when they are checked
 abbrev pub body_meaning : TypeEnvironment Name → ℕ → Tree Name block → Typed Name
-body_meaning checked k b = meanings as_names (behind_procedures (behind_variables checked k b) (after_variables k b) (block_procedures b))
+body_meaning checked k b = meanings as_names (types_after_procedures (types_after_variables checked k b) (after_variables k b) (block_procedures b))
 
 statements-refield : (l : FieldNames) (checked : TypeEnvironment Name) (k : ℕ) (b : Tree Name block) → block_statements (refield_block l checked k b) ≡ refield l (body_meaning checked k b) None (block_statements b)
 statements-refield l checked k (has_body (declares cs ts vs ps) statements) = refl

@@ -24,14 +24,14 @@ record_of (Some (array_shape k n s)) = None
 record_of (Some (record_shape k fs)) = Some k
 
 -- the type after one more selector
-abbrev pub behind : {i : Item} → Option Shape → Tree Name (item i) → Option Shape
-behind s (field x) = option_and_then (λ t. field_type t x) s
-behind s (index e) = option_and_then (λ t. element_type t integer_shape) s
-behind s _ = s
+abbrev pub type_after : {i : Item} → Option Shape → Tree Name (item i) → Option Shape
+type_after s (field x) = option_and_then (λ t. field_type t x) s
+type_after s (index e) = option_and_then (λ t. element_type t integer_shape) s
+type_after s _ = s
 
 -- a part of a statement, each field selector by the type before it; s is the type before the selectors
 abbrev pub refield : {s : Sort} → FieldNames → Typed Name → Option Shape → Tree Name s → Tree Name s
-refield l meaning s (more t ts) = more (refield l meaning s t) (refield l meaning (behind s t) ts)
+refield l meaning s (more t ts) = more (refield l meaning s t) (refield l meaning (type_after s t) ts)
 refield l meaning s (field x) = field (l (record_of s) x)
 refield l meaning s (index e) = index (refield l meaning None e)
 refield l meaning s (designator x path) = designator x (refield l meaning (object_type (meaning.stands_for x)) path)
@@ -112,21 +112,21 @@ refield_formals l k (one no_formals) = one no_formals
 refield_formals l k (one (some_formals f fs)) = one (some_formals (refield_section l k f) (refield_sections l (k + constructors (section_type f)) fs))
 
 -- what names mean after the constants, types and variables of a block; where these don't fit, the module isn't well-typed
-abbrev pub behind_variables : TypeEnvironment Name → ℕ → Tree Name block → TypeEnvironment Name
-behind_variables env k b = unwrap_or (option_and_then (declare_typed as_names (after_types k b) (block_variables b)) (declare_first as_names env k b)) env
+abbrev pub types_after_variables : TypeEnvironment Name → ℕ → Tree Name block → TypeEnvironment Name
+types_after_variables env k b = unwrap_or (option_and_then (declare_typed as_names (after_types k b) (block_variables b)) (declare_first as_names env k b)) env
 
 -- the parameters of a procedure; none where they denote nothing
 abbrev pub parameters_of : TypeEnvironment Name → ℕ → Tree Name (item procedure) → List (TypedParameter Name)
 parameters_of env k p = unwrap_or (typed_parameters as_names env k (procedure_formals p)) []
 
 -- after a procedure's heading, and after those of a block's procedures
-abbrev pub behind_heading : TypeEnvironment Name → ℕ → Tree Name (item procedure) → TypeEnvironment Name
-behind_heading env k p = heading (procedure_name p) (parameters_of env k p) env
+abbrev pub types_after_heading : TypeEnvironment Name → ℕ → Tree Name (item procedure) → TypeEnvironment Name
+types_after_heading env k p = heading (procedure_name p) (parameters_of env k p) env
 
 -- what names mean after some procedures
-abbrev pub behind_procedures : TypeEnvironment Name → ℕ → Tree Name (items procedure) → TypeEnvironment Name
-behind_procedures env k end = env
-behind_procedures env k (more p rest) = behind_procedures (behind_heading env k p) (k + procedure_constructors p) rest
+abbrev pub types_after_procedures : TypeEnvironment Name → ℕ → Tree Name (items procedure) → TypeEnvironment Name
+types_after_procedures env k end = env
+types_after_procedures env k (more p rest) = types_after_procedures (types_after_heading env k p) (k + procedure_constructors p) rest
 
 -- a block in an environment, the first ARRAY or RECORD in it of ordinal k; constants have no fields
 abbrev mutual
@@ -134,14 +134,14 @@ abbrev mutual
   refield_block l env k (has_body (declares cs ts vs ps) statements) =
       has_body
       (declares cs (refield_type_section l k ts) (refield_variable_section l (after_types k (has_body (declares cs ts vs ps) statements)) vs)
-      (refield_procedures l (behind_variables env k (has_body (declares cs ts vs ps) statements)) (after_variables k (has_body (declares cs ts vs ps) statements)) ps))
-      (refield l (meanings as_names (behind_procedures (behind_variables env k (has_body (declares cs ts vs ps) statements)) (after_variables k (has_body (declares cs ts vs ps) statements)) ps)) None statements)
+      (refield_procedures l (types_after_variables env k (has_body (declares cs ts vs ps) statements)) (after_variables k (has_body (declares cs ts vs ps) statements)) ps))
+      (refield l (meanings as_names (types_after_procedures (types_after_variables env k (has_body (declares cs ts vs ps) statements)) (after_variables k (has_body (declares cs ts vs ps) statements)) ps)) None statements)
 
   pub refield_procedures : FieldNames → TypeEnvironment Name → ℕ → Tree Name (items procedure) → Tree Name (items procedure)
   refield_procedures l env k end = end
   refield_procedures l env k (more p rest) =
-      more (refield_procedure l (bind_typed (parameters_of env k p) (behind_heading env k p)) k p)
-      (refield_procedures l (behind_heading env k p) (k + procedure_constructors p) rest)
+      more (refield_procedure l (bind_typed (parameters_of env k p) (types_after_heading env k p)) k p)
+      (refield_procedures l (types_after_heading env k p) (k + procedure_constructors p) rest)
 
   -- a procedure, in the environment of its block
   pub refield_procedure : FieldNames → TypeEnvironment Name → ℕ → Tree Name (item procedure) → Tree Name (item procedure)

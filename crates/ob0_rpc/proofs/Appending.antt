@@ -1,4 +1,4 @@
--- Values whose texts are written one behind the other, and read back.
+-- Values whose texts are written one after the other, and read back.
 use Rattle.std.proofs.Common.{◌≡◌, ◌∙◌, ◌≤◌, ◌<◌, ◌^◌, ℕ, zero, suc, ℤ, pos, negsuc, List, [], ◌∷◌, ◌++◌, Bool, true, false, Option, Some, option_map, option_and_then, decimal, SFits, w64, length, take, get_or, map, ◌+◌, refl, sym, ap, ap₂, subst, arith, add-one, append_assoc, append-nil, take_all, nat_le, nat_lt, ◌&&◌, ◌==◌, not, codes}
 use Rattle.std.proofs.Math.Bool.{and-true as and_true}
 use Rattle.std.proofs.lemmas.Bool.{and_parts, eqb-false, leb-true, lt-ltb, not-true}
@@ -25,7 +25,7 @@ use Rattle.serde_json.specs.Read.{read, of_items, of_json, max_depth}
 use Rattle.serde_json.specs.Written.{comma_if, compact_text, items_text, outline, items_outline, members_outline}
 use Rattle.serde_json.proofs.Numbers.{number_of-decimal, number_of-negative}
 use Rattle.serde_json.proofs.Texts.{print-outline}
-use Rattle.ob0_text.specs.declared.positions.Position.{Position}
+use Rattle.ob0_text.specs.declared.position_types.Position.{Position}
 use Rattle.ob0_rpc.specs.Appending.{Appends, AppendsEach, AreReadBack, IsReadBack, listed}
 use Rattle.ob0_rpc.specs.Shapes.{position_value, range_value}
 use Rattle.ob0_rpc.specs.Writing.{Writes}
@@ -62,7 +62,7 @@ reads_as : (d : Data) → IsReadBack d → depth d ≤ 127 → read (compact_tex
 reads_as d r shallow =
     ap whole (ap (json.value max_depth) (tokens_of_text d r ∙ sym (append-nil _)) ∙ value-json_tokens (outline d) max_depth [] (omega (arith, outline_depth d))) ∙ r.reads
 
--- what was written behind nothing is the text of the value
+-- what was written after nothing is the text of the value
 pub written : (d : Data) (start bytes : List ℕ) → start ≡ [] → Appends d start bytes → depth d ≤ 127 → Writes d bytes
 written d start bytes none a shallow =
     let is : bytes ≡ compact_text d = a.text ∙ ap (λ b. b ++ compact_text d) none in
@@ -149,7 +149,7 @@ reads_three k l m d e f order i j h = rw (i, j, h) (ap (λ ms. Some (object ms))
 brace : IsUtf8 (125 ∷ [])
 brace = IsUtf8-are_ascii _ refl
 
--- a member's text behind a comma or a bracket, and what follows it
+-- a member's text after a comma or a bracket, and what follows it
 utf8_member : (before : ℕ) (k t rest : List ℕ) → are_ascii (before ∷ []) ≡ true → IsUtf8 (quoted k) → IsUtf8 t → IsUtf8 rest → IsUtf8 (before ∷ (quoted k ++ 58 ∷ (t ++ rest)))
 utf8_member before k t rest ascii uk ut ur =
     IsUtf8-append (before ∷ []) _ (IsUtf8-are_ascii _ ascii) (IsUtf8-append (quoted k) _ uk (IsUtf8-append (58 ∷ []) _ (IsUtf8-are_ascii _ refl) (IsUtf8-append t rest ut ur)))
@@ -255,7 +255,7 @@ pub position_written : (p : Position) (t0 t1 t2 t3 t4 t5 : List ℕ) → t1 ≡ 
 position_written p t0 t1 t2 t3 t4 t5 h1 h2 h3 h4 h5 =
     rw (h5, h4, h3, h2, h1) (object_text_of_two (codes "character") (codes "line") (number (unsigned p.character)) (number (unsigned p.line)) t0 (name (codes "character") refl refl) (name (codes "line") refl refl))
 
--- a range's text, put together from its end on, stands behind another
+-- a range's text, put together from its end on, follows another
 pub range_written : (start end : Position) (old new t0 t1 t2 t3 t4 t5 : List ℕ) → IsReadBack (position_value start) → IsReadBack (position_value end) → t0 ≡ [] → t1 ≡ (125 ∷ []) ++ t0
     → t2 ≡ compact_text (position_value start) ++ t1 → t3 ≡ (44 ∷ named (codes "start") []) ++ t2 → t4 ≡ compact_text (position_value end) ++ t3 → t5 ≡ (123 ∷ named (codes "end") []) ++ t4
     → new ≡ old ++ t5 → Appends (range_value start end) old new

@@ -1,4 +1,4 @@
--- JSON values that are written as text, behind what stands there.
+-- JSON values that are written as text, after what is there.
 -- Rule: none; for contracts of writers.
 use Rattle.std.specs.Prelude.{◌≡◌, ◌++◌, ℕ, List, [], ◌∷◌, Bool, true, Some, ⊤}
 use Rattle.std.specs.Str.{IsUtf8}
@@ -18,17 +18,17 @@ abbrev pub AreReadBack : List Data → Type 0
 AreReadBack [] = ⊤
 AreReadBack (value ∷ values) = IsReadBack value × AreReadBack values
 
--- the texts of values with commas between them, and a comma before the first where something stands before
+-- the texts of values with commas between them, and a comma before the first where something precedes
 abbrev pub listed : Bool → List Data → List ℕ
 listed later [] = []
 listed later (value ∷ values) = comma_if later ++ (compact_text value ++ listed true values)
 
--- the value's text is written behind the other
+-- the value's text is written after the other
 pub record Appends (value : Data) (old new : List ℕ) : Type 0 where
   pub text : new ≡ old ++ compact_text value
   pub reads : IsReadBack value
 
--- the texts of these values are written behind the other, with commas between them
+-- the texts of these values are written after the other, with commas between them
 pub record AppendsEach (later : Bool) (values : List Data) (old new : List ℕ) : Type 0 where
   pub text : new ≡ old ++ listed later values
   pub reads : AreReadBack values

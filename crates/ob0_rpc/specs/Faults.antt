@@ -1,4 +1,4 @@
--- How a fault of a message is told (JSON-RPC 2.0, error objects).
+-- How a fault of a message is reported (JSON-RPC 2.0, error objects).
 -- Rule: docs/PROTOCOL.md, Order of checks, and errors; JSON-RPC 2.0, error object.
 use Rattle.std.specs.Prelude.{◌-◌, ℕ, ℤ, negsuc, List, codes}
 use Rattle.ob0_rpc.specs.declared.incoming.RpcFault.{RpcFault}
@@ -8,7 +8,7 @@ use Rattle.ob0_rpc.specs.declared.incoming.RpcFault.TheVariants.{NotJson, NotAMe
 abbrev pub minus : ℕ → ℤ
 minus n = negsuc (n - 1)
 
--- running out of memory is never told
+-- running out of memory is never reported
 abbrev pub error_code : RpcFault → ℤ
 error_code NotJson = minus 32700
 error_code NotAMessage = minus 32600

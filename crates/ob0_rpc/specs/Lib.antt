@@ -1,5 +1,5 @@
 pub mod Appending
-pub mod Asks
+pub mod Requesting
 pub mod Faults
 pub mod Members
 pub mod Messages

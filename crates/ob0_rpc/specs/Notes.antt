@@ -1,11 +1,11 @@
--- What notifications tell, by their method and params (LSP 3.17, text document synchronization).
+-- What notifications say, by their method and params (LSP 3.17, text document synchronization).
 -- Rule: docs/PROTOCOL.md, Documents, JSON shapes 4; LSP 3.17, text document synchronization.
 use Rattle.std.specs.Prelude.{ℕ, ℤ, List, [], ◌∷◌, Option, Some, None, if◌then◌else◌, option_map, option_and_then, codes}
 use Rattle.std.specs.Str.{bytes_eq, chars}
 use Rattle.serde_json.specs.Data.{Data, Items, no_items, item}
 use Rattle.serde_json.specs.Find.{get, as_array}
 use Rattle.ob0_text.specs.OpenDocuments.{TextChange}
-use Rattle.ob0_text.specs.declared.positions.Range.{Range}
+use Rattle.ob0_text.specs.declared.position_types.Range.{Range}
 use Rattle.ob0_rpc.specs.Members.{is_absent, text_in, uri_of, version_of, text_of, range_of}
 
 -- what a notification says

@@ -1,4 +1,4 @@
--- What the values of the code stand for.
+-- What the values of the code mean.
 -- Rule: none; for contracts: what values of the code mean.
 use Rattle.std.specs.Prelude.{◌≡◌, ℕ, List, Option, Some, None, Result, Ok, Err, string_bytes, String, Vec, map, option_map}
 use Rattle.std.specs.Str.{chars}
@@ -7,11 +7,11 @@ use Rattle.serde_json.specs.Data.{Data, null, number, string, unsigned}
 use Rattle.serde_json.specs.Find.{of_integer}
 use Rattle.serde_json.specs.View.{view}
 use Rattle.ob0_text.specs.OpenDocuments.{reported_change}
-use Rattle.ob0_rpc.specs.Asks.{At, Ask, initialize, shutdown, hover, definition, references, prepare_rename, rename, code_action, formatting}
-use Rattle.ob0_rpc.specs.Messages.{Reads, Meaning, not_a_message, response, request, notice, meaning_of}
+use Rattle.ob0_rpc.specs.Requesting.{At, ClientRequest, initialize, shutdown, hover, definition, references, prepare_rename, rename, code_action, formatting}
+use Rattle.ob0_rpc.specs.Messages.{ReadsContent, MessageMeaning, not_a_message, response, request, notice, meaning_of}
 use Rattle.ob0_rpc.specs.Notes.{Notification, exits, opens, changes, closes, unreadable, other, note_of}
 use Rattle.ob0_rpc.specs.declared.calls.Call as called
-use Rattle.ob0_rpc.specs.declared.calls.Place.{Place}
+use Rattle.ob0_rpc.specs.declared.calls.DocumentPosition.{DocumentPosition}
 use Rattle.ob0_rpc.specs.declared.incoming.Id.{Id}
 use Rattle.ob0_rpc.specs.declared.incoming.Id.TheVariants.{Signed, Unsigned, Text}
 use Rattle.ob0_rpc.specs.declared.incoming.Incoming.{Incoming}
@@ -32,7 +32,7 @@ id_or_null (Some id) = id_data id
 id_or_null None = null
 
 -- a message of the code
-abbrev pub seen : Incoming → Meaning
+abbrev pub seen : Incoming → MessageMeaning
 seen (Request id method params) = request (id_data id) (string_bytes method) (view params)
 seen (Notice method params) = notice (string_bytes method) (view params)
 seen Ignored = response
@@ -48,12 +48,12 @@ MeansAs d (Err BadParams) = ⊥
 
 -- what the code makes of a content
 abbrev pub ReadsAs : List ℕ → Result Incoming RpcFault → Type 0
-ReadsAs content (Err NotJson) = Reads content None
+ReadsAs content (Err NotJson) = ReadsContent content None
 ReadsAs content (Err Memory) = Unit {0}
-ReadsAs content r = (d : Data) × Reads content (Some d) × MeansAs d r
+ReadsAs content r = (d : Data) × ReadsContent content (Some d) × MeansAs d r
 
 -- a document and a place of the code
-abbrev pub at_seen : Place → At
+abbrev pub at_seen : DocumentPosition → At
 at_seen place = record { uri = string_bytes place.uri; position = place.position }
 
 -- texts, where there are such
@@ -61,7 +61,7 @@ abbrev pub kinds_seen : Option (Vec (String Global) Global) → Option (List (Li
 kinds_seen kinds = option_map (λ texts. map string_bytes texts.items) kinds
 
 -- a request of the code
-abbrev pub seen_call : called.Call → Ask
+abbrev pub seen_call : called.Call → ClientRequest
 seen_call (called.TheVariants.Initialize client) = initialize client
 seen_call called.TheVariants.Shutdown = shutdown
 seen_call (called.TheVariants.Hover place) = hover (at_seen place)
@@ -73,13 +73,13 @@ seen_call (called.TheVariants.CodeAction uri range only) = code_action (string_b
 seen_call (called.TheVariants.Formatting uri indent) = formatting (string_bytes uri) indent
 
 -- what the code makes of a request that asks this
-abbrev pub AsksFor : Result Ask RpcFault → Result called.Call RpcFault → Type 0
-AsksFor asked (Ok call) = asked ≡ Ok (seen_call call)
-AsksFor asked (Err UnknownMethod) = asked ≡ Err UnknownMethod
-AsksFor asked (Err BadParams) = asked ≡ Err BadParams
-AsksFor asked (Err Memory) = Unit {0}
-AsksFor asked (Err NotJson) = ⊥
-AsksFor asked (Err NotAMessage) = ⊥
+abbrev pub Requests : Result ClientRequest RpcFault → Result called.Call RpcFault → Type 0
+Requests asked (Ok call) = asked ≡ Ok (seen_call call)
+Requests asked (Err UnknownMethod) = asked ≡ Err UnknownMethod
+Requests asked (Err BadParams) = asked ≡ Err BadParams
+Requests asked (Err Memory) = Unit {0}
+Requests asked (Err NotJson) = ⊥
+Requests asked (Err NotAMessage) = ⊥
 
 -- a notification of the code
 abbrev pub seen_note : noted.Note → Notification

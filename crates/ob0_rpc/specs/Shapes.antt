@@ -1,9 +1,9 @@
--- The messages that are written, as JSON values. Members stand in byte order of their names.
+-- The messages that are written, as JSON values. Members are in byte order of their names.
 -- Rule: docs/PROTOCOL.md, JSON shapes 2; JSON-RPC 2.0, response object.
 use Rattle.std.specs.Prelude.{ℕ, ℤ, List, codes}
 use Rattle.serde_json.specs.Data.{Data, number, string, object, unsigned, member, no_members}
 use Rattle.serde_json.specs.Find.{of_integer}
-use Rattle.ob0_text.specs.declared.positions.Position.{Position}
+use Rattle.ob0_text.specs.declared.position_types.Position.{Position}
 
 -- a text
 abbrev pub text : List ℕ → Data

@@ -3,14 +3,14 @@
 use Rattle.std.specs.Prelude.{◌≡◌, ◌≤◌, ℕ, List, false, Some}
 use Rattle.serde_json.specs.Data.{Data, depth}
 use Rattle.serde_json.specs.Written.{compact_text, has_float}
-use Rattle.ob0_rpc.specs.Messages.{Reads}
+use Rattle.ob0_rpc.specs.Messages.{ReadsContent}
 
 -- These bytes are the message's compact text, and they read back as this message.
 pub record Writes (message : Data) (bytes : List ℕ) : Type 0 where
   pub text : bytes ≡ compact_text message
-  pub reads : Reads bytes (Some message)
+  pub reads : ReadsContent bytes (Some message)
 
--- a value that can stand in a message: its numbers are whole, and it leaves a level of nesting for the message
+-- a value that can be in a message: its numbers are whole, and it leaves a level of nesting for the message
 pub record CanBeSent (value : Data) : Type 0 where
   pub whole : has_float value ≡ false
   pub shallow : depth value ≤ 126

@@ -2,10 +2,10 @@
 ghost use Rattle.std.specs.Prelude.{◌≡◌, IfOk, max, min, option_map, option_and_then, map, string_bytes, codes};
 ghost use Rattle.serde_json.specs.Find.{get};
 ghost use Rattle.serde_json.specs.View.{view, items_view};
-ghost use Rattle.ob0_rpc.specs.Asks as asks;
-ghost use Rattle.ob0_rpc.specs.Asks.{at_of, call_of, references_of, rename_of, code_action_of, formatting_of, language_call_of, only_by, only_of, texts_of as texts_in, indent_of as indent_in, or_bad, initialize_of};
+ghost use Rattle.ob0_rpc.specs.Requesting as asks;
+ghost use Rattle.ob0_rpc.specs.Requesting.{at_of, call_of, references_of, rename_of, code_action_of, formatting_of, language_call_of, only_by, only_of, texts_of as texts_in, indent_of as indent_in, or_bad, initialize_of};
 ghost use Rattle.ob0_rpc.specs.Members.{truth_in as truth_told};
-ghost use Rattle.ob0_rpc.specs.Seen.{AsksFor, at_seen, kinds_seen};
+ghost use Rattle.ob0_rpc.specs.Seen.{Requests, at_seen, kinds_seen};
 
 use crate::clients::{Client, client_of};
 use crate::incoming::RpcFault;
@@ -16,7 +16,7 @@ use std::alloc::{AllocError, Global};
 
 /// A position in a document.
 #[derive(Drop)]
-pub struct Place {
+pub struct DocumentPosition {
     pub uri: String,
     pub position: Position,
 }
@@ -26,15 +26,15 @@ pub struct Place {
 pub enum Call {
     Initialize(Client),
     Shutdown,
-    Hover(Place),
-    Definition(Place),
+    Hover(DocumentPosition),
+    Definition(DocumentPosition),
     References {
-        place: Place,
+        place: DocumentPosition,
         include_declaration: bool,
     },
-    PrepareRename(Place),
+    PrepareRename(DocumentPosition),
     Rename {
-        place: Place,
+        place: DocumentPosition,
         new_name: String,
     },
     CodeAction {
@@ -51,7 +51,7 @@ pub enum Call {
 
 /// Reads a request by its method. `initialize` asks only that its params are an object, and `shutdown` for nothing.
 pub fn request(alloc: Global, method: &str, params: &Value) -> Result<Call, RpcFault>
-    ensures { AsksFor (call_of method.now (view params.now)) result }
+    ensures { Requests (call_of method.now (view params.now)) result }
 {
     if method == "initialize" {
         initialize(params)
@@ -63,7 +63,7 @@ pub fn request(alloc: Global, method: &str, params: &Value) -> Result<Call, RpcF
 }
 
 fn request_of_language(alloc: Global, method: &str, params: &Value) -> Result<Call, RpcFault>
-    ensures { AsksFor (language_call_of method.now (view params.now)) result }
+    ensures { Requests (language_call_of method.now (view params.now)) result }
 {
     if method == "textDocument/hover" {
         hover(alloc, params)
@@ -85,7 +85,7 @@ fn request_of_language(alloc: Global, method: &str, params: &Value) -> Result<Ca
 }
 
 fn initialize(params: &Value) -> Result<Call, RpcFault>
-    ensures { AsksFor (or_bad (initialize_of (view params.now))) result }
+    ensures { Requests (or_bad (initialize_of (view params.now))) result }
 {
     if params.is_object() {
         Ok(Call::Initialize(client_of(params)))
@@ -95,7 +95,7 @@ fn initialize(params: &Value) -> Result<Call, RpcFault>
 }
 
 fn hover(alloc: Global, params: &Value) -> Result<Call, RpcFault>
-    ensures { AsksFor (or_bad (option_map asks.hover (at_of (view params.now)))) result }
+    ensures { Requests (or_bad (option_map asks.hover (at_of (view params.now)))) result }
 {
     let Some(place) = place_of(alloc, params)? else {
         return Err(RpcFault::BadParams);
@@ -104,7 +104,7 @@ fn hover(alloc: Global, params: &Value) -> Result<Call, RpcFault>
 }
 
 fn definition(alloc: Global, params: &Value) -> Result<Call, RpcFault>
-    ensures { AsksFor (or_bad (option_map asks.definition (at_of (view params.now)))) result }
+    ensures { Requests (or_bad (option_map asks.definition (at_of (view params.now)))) result }
 {
     let Some(place) = place_of(alloc, params)? else {
         return Err(RpcFault::BadParams);
@@ -113,7 +113,7 @@ fn definition(alloc: Global, params: &Value) -> Result<Call, RpcFault>
 }
 
 fn prepare_rename(alloc: Global, params: &Value) -> Result<Call, RpcFault>
-    ensures { AsksFor (or_bad (option_map asks.prepare_rename (at_of (view params.now)))) result }
+    ensures { Requests (or_bad (option_map asks.prepare_rename (at_of (view params.now)))) result }
 {
     let Some(place) = place_of(alloc, params)? else {
         return Err(RpcFault::BadParams);
@@ -122,7 +122,7 @@ fn prepare_rename(alloc: Global, params: &Value) -> Result<Call, RpcFault>
 }
 
 fn references(alloc: Global, params: &Value) -> Result<Call, RpcFault>
-    ensures { AsksFor (or_bad (references_of (view params.now))) result }
+    ensures { Requests (or_bad (references_of (view params.now))) result }
 {
     let Some(place) = place_of(alloc, params)? else {
         return Err(RpcFault::BadParams);
@@ -137,7 +137,7 @@ fn references(alloc: Global, params: &Value) -> Result<Call, RpcFault>
 }
 
 fn rename(alloc: Global, params: &Value) -> Result<Call, RpcFault>
-    ensures { AsksFor (or_bad (rename_of (view params.now))) result }
+    ensures { Requests (or_bad (rename_of (view params.now))) result }
 {
     let Some(place) = place_of(alloc, params)? else {
         return Err(RpcFault::BadParams);
@@ -150,7 +150,7 @@ fn rename(alloc: Global, params: &Value) -> Result<Call, RpcFault>
 }
 
 fn code_action(alloc: Global, params: &Value) -> Result<Call, RpcFault>
-    ensures { AsksFor (or_bad (code_action_of (view params.now))) result }
+    ensures { Requests (or_bad (code_action_of (view params.now))) result }
 {
     let Some(uri) = uri_of(params) else {
         return Err(RpcFault::BadParams);
@@ -166,7 +166,7 @@ fn code_action(alloc: Global, params: &Value) -> Result<Call, RpcFault>
 }
 
 fn formatting(alloc: Global, params: &Value) -> Result<Call, RpcFault>
-    ensures { AsksFor (or_bad (formatting_of (view params.now))) result }
+    ensures { Requests (or_bad (formatting_of (view params.now))) result }
 {
     let Some(uri) = uri_of(params) else {
         return Err(RpcFault::BadParams);
@@ -178,7 +178,7 @@ fn formatting(alloc: Global, params: &Value) -> Result<Call, RpcFault>
     Ok(Call::Formatting { uri, indent })
 }
 
-fn place_of(alloc: Global, params: &Value) -> Result<Option<Place>, AllocError>
+fn place_of(alloc: Global, params: &Value) -> Result<Option<DocumentPosition>, AllocError>
     ensures { IfOk result (λ found. option_map at_seen found ≡ at_of (view params.now)) }
 {
     let Some(uri) = uri_of(params) else {
@@ -186,7 +186,7 @@ fn place_of(alloc: Global, params: &Value) -> Result<Option<Place>, AllocError>
     };
     let uri = String::from_str(alloc, uri)?;
     match position_in(params, "position") {
-        Some(position) => Ok(Some(Place { uri, position })),
+        Some(position) => Ok(Some(DocumentPosition { uri, position })),
         None => Ok(None),
     }
 }

@@ -1,4 +1,4 @@
-//! The changes of a document, as they are told.
+//! The changes of a document, as they are reported.
 ghost use Rattle.std.specs.Prelude.{◌≡◌, IfOk, codes, option_and_then, option_map, map};
 ghost use Rattle.ob0_text.specs.OpenDocuments.{reported_change};
 ghost use Rattle.serde_json.specs.Find.{get, as_array};
@@ -56,7 +56,7 @@ fn read_change_in(entry: Value) -> Option<Change>
     Some(Change { range, text })
 }
 
-/// The range that is told, or that none is; none where it can't be read.
+/// The range that is reported, or that none is; none where it can't be read.
 fn read_range(member: Option<&Value>) -> Option<Option<Range>>
     ensures { result ≡ range_by (option_map (λ v. view v.now) member.entry) }
 {

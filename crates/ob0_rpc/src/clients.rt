@@ -2,7 +2,7 @@
 ghost use Rattle.std.specs.Prelude.{◌≡◌, ◌∷◌, [], codes, is_some, option_map, option_and_then};
 ghost use Rattle.serde_json.specs.Find.{as_object, as_str};
 ghost use Rattle.serde_json.specs.View.{view, items_view};
-ghost use Rattle.ob0_rpc.specs.Asks.{client_of as client_in, has_text, is_text as is_text_told, is_true as truth_of, within};
+ghost use Rattle.ob0_rpc.specs.Requesting.{client_of as client_in, has_text, is_text as is_text_told, is_true as truth_of, within};
 
 use serde_json::Value;
 
@@ -13,7 +13,7 @@ pub struct Client {
     pub counts_utf8: bool,
     /// It asks where a rename would work before it asks for one.
     pub prepares_renames: bool,
-    /// It takes code actions that are no commands.
+    /// It takes code actions that aren't commands.
     pub takes_literal_actions: bool,
     /// It takes edits with the versions of the documents that they are for.
     pub takes_document_changes: bool,
@@ -86,12 +86,12 @@ fn counts_utf8(params: &Value) -> bool
         return false;
     };
     match encodings.as_array() {
-        Some(items) => holds_text(items, "utf-8"),
+        Some(items) => has_text(items, "utf-8"),
         None => false,
     }
 }
 
-fn holds_text(items: &[Value], text: &str) -> bool
+fn has_text(items: &[Value], text: &str) -> bool
     ensures { result ≡ has_text text.now (items_view items.now) }
 {
     for item in items {

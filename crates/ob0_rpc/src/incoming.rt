@@ -45,7 +45,7 @@ impl RpcFault {
     ghost use Rattle.std.specs.Prelude.{◌≡◌};
     ghost use Rattle.ob0_rpc.specs.Faults.{error_code, error_text};
 
-    /// The code of the error that tells it (JSON-RPC 2.0).
+    /// The code of the error that reports it (JSON-RPC 2.0).
     pub fn code(self) -> i32
         ensures { result ≡ error_code self }
     {

@@ -12,7 +12,7 @@ mod outgoing;
 mod ranges;
 mod writing;
 
-pub use calls::{Call, Place, request};
+pub use calls::{Call, DocumentPosition, request};
 pub use clients::Client;
 pub use incoming::{Id, Incoming, RpcFault, read};
 pub use notes::{Note, notice};

@@ -1,4 +1,4 @@
-//! What notifications tell.
+//! What notifications say.
 ghost use Rattle.std.specs.Prelude.{◌≡◌, IfOk};
 ghost use Rattle.serde_json.specs.View.{view};
 ghost use Rattle.ob0_rpc.specs.Members.{uri_of as uri_in, version_of as version_in, text_of as text_in};

@@ -1,4 +1,4 @@
-//! Ranges of positions, written as text. Each is put together from its end on, so that its digits stand where they are made.
+//! Ranges of positions, written as text. Each is put together from its end on, so that its digits are where they are made.
 
 ghost use Rattle.std.specs.Prelude.{◌≡◌, ◌++◌, ◌+◌, ◌<◌, ◌≤◌, ◌^◌, OnOk, decimal, drop, length};
 ghost use Rattle.serde_json.specs.Written.{compact_text};

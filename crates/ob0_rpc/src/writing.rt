@@ -52,14 +52,14 @@ fn write_id(out: &mut Vec<u8>, id: &Id) -> Result<(), AllocError>
     }
 }
 
-/// Writes a piece of text as it is: brackets, names of members and what stands between.
+/// Writes a piece of text as it is: brackets, names of members and what is between.
 pub fn write_piece(out: &mut Vec<u8>, piece: &[u8]) -> Result<(), AllocError>
     ensures { OnOk result (out.new.items ≡ out.old.items ++ piece.now) }
 {
     out.extend_from_slice(piece)
 }
 
-/// Writes a comma, where something stands before.
+/// Writes a comma, where something precedes.
 pub fn write_comma(out: &mut Vec<u8>, later: bool) -> Result<(), AllocError>
     ensures { OnOk result (out.new.items ≡ out.old.items ++ comma_if later) }
 {

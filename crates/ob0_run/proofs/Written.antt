@@ -1,4 +1,4 @@
--- What the machine puts out is what the module's run does.
+-- What the machine outputs is what the module's run does.
 use Rattle.std.proofs.Common.{◌≡◌, List, [], ◌∷◌, map, refl}
 use Rattle.ob0_run_machine.specs.declared.machine.Item.{Item}
 use Rattle.ob0_run_machine.specs.declared.machine.Item.TheVariants as item

@@ -17,6 +17,6 @@ end_in end.InputEnd = values.InputEnd
 end_in end.CallBound = values.CallBound
 end_in end.TurnBound = values.TurnBound
 
--- the run that an outcome tells
+-- the run that an outcome gives
 abbrev pub run_of : Outcome → Run
 run_of o = record { output = items_out o.output.items; ending = end_in o.end }

@@ -1,4 +1,4 @@
--- What is put out.
+-- What is output.
 -- Rule: none; for contracts: what values of the code mean.
 use Rattle.std.specs.Prelude.{List, map}
 use Rattle.ob0_run_machine.specs.declared.machine.Item.{Item}

@@ -36,7 +36,7 @@ pub enum End {
     TurnBound,
 }
 
-/// What a run put out, and how it ended.
+/// What a run output, and how it ended.
 #[derive(Drop)]
 pub struct Outcome {
     pub output: Vec<Item>,

@@ -125,16 +125,16 @@ module _ {N : Type 0} (checked : Typed N) (slots : N → Slot) (targets : N → 
   unfolding execution.execute execute evaluate_arguments
   writes-mean x es e n st one hn b shown t low s h =
       let stands : b.active.stands_for x ≡ Some (a_standard writes) = standard-stands b.typing writes (b.active.stands_for x) (subst (λ o. ObjectFits b.typing o (b.active.stands_for x)) st (shown.names_fit.0 x)) in
-      subst (λ o. ProgressRepresents b.typing (execution.use_in low (machine.number b.levels low.cells n) (λ v. execution.running (execution.put_out low (execution.number_out v)))) (use_in s (modes_of o >>= (λ modes. evaluate_arguments b.active s.store modes (arguments_listed es))) (λ args. perform o (b.enters x) args s))) (sym stands)
-      (subst (λ l. ProgressRepresents b.typing (execution.use_in low (machine.number b.levels low.cells n) (λ v. execution.running (execution.put_out low (execution.number_out v)))) (use_in s (evaluate_arguments b.active s.store (by_value ∷ []) l) (λ args. perform (Some (a_standard writes)) (b.enters x) args s))) (sym one)
-      (subst (λ w. ProgressRepresents b.typing (execution.use_in low (machine.number b.levels low.cells n) (λ v. execution.running (execution.put_out low (execution.number_out v)))) w) (sym (use-value-argument s (evaluate b.active s.store e) (λ args. perform (Some (a_standard writes)) (b.enters x) args s)))
-      (use-represents b.typing number low s (machine.number b.levels low.cells n) (evaluate b.active s.store e) (λ v. execution.running (execution.put_out low (execution.number_out v))) (λ v. perform (Some (a_standard writes)) (b.enters x) (value_argument v ∷ []) s) h
+      subst (λ o. ProgressRepresents b.typing (execution.use_in low (machine.number b.levels low.cells n) (λ v. execution.running (execution.append_output low (execution.number_out v)))) (use_in s (modes_of o >>= (λ modes. evaluate_arguments b.active s.store modes (arguments_listed es))) (λ args. perform o (b.enters x) args s))) (sym stands)
+      (subst (λ l. ProgressRepresents b.typing (execution.use_in low (machine.number b.levels low.cells n) (λ v. execution.running (execution.append_output low (execution.number_out v)))) (use_in s (evaluate_arguments b.active s.store (by_value ∷ []) l) (λ args. perform (Some (a_standard writes)) (b.enters x) args s))) (sym one)
+      (subst (λ w. ProgressRepresents b.typing (execution.use_in low (machine.number b.levels low.cells n) (λ v. execution.running (execution.append_output low (execution.number_out v)))) w) (sym (use-value-argument s (evaluate b.active s.store e) (λ args. perform (Some (a_standard writes)) (b.enters x) args s)))
+      (use-represents b.typing number low s (machine.number b.levels low.cells n) (evaluate b.active s.store e) (λ v. execution.running (execution.append_output low (execution.number_out v))) (λ v. perform (Some (a_standard writes)) (b.enters x) (value_argument v ∷ []) s) h
       (number-in checked slots targets b shown n (value_of_expression e) hn low s h).0 (λ v is. put-represents b.typing low s (execution.number_out v) h))))
 
   pub line-means : (x : N) (es : Tree N (maybe arguments)) → checked.stands_for x ≡ Some (a_standard writes_line) → arguments_listed es ≡ [] → StatementMeans checked slots targets lowered.writes_line (calls x es)
   unfolding execution.execute execute evaluate_arguments
   line-means x es st empty_list b shown t low s h =
       let stands : b.active.stands_for x ≡ Some (a_standard writes_line) = standard-stands b.typing writes_line (b.active.stands_for x) (subst (λ o. ObjectFits b.typing o (b.active.stands_for x)) st (shown.names_fit.0 x)) in
-      subst (λ o. ProgressRepresents b.typing (execution.running (execution.put_out low execution.line_out)) (use_in s (modes_of o >>= (λ modes. evaluate_arguments b.active s.store modes (arguments_listed es))) (λ args. perform o (b.enters x) args s))) (sym stands)
-      (subst (λ l. ProgressRepresents b.typing (execution.running (execution.put_out low execution.line_out)) (use_in s (evaluate_arguments b.active s.store [] l) (λ args. perform (Some (a_standard writes_line)) (b.enters x) args s))) (sym empty_list)
+      subst (λ o. ProgressRepresents b.typing (execution.running (execution.append_output low execution.line_out)) (use_in s (modes_of o >>= (λ modes. evaluate_arguments b.active s.store modes (arguments_listed es))) (λ args. perform o (b.enters x) args s))) (sym stands)
+      (subst (λ l. ProgressRepresents b.typing (execution.running (execution.append_output low execution.line_out)) (use_in s (evaluate_arguments b.active s.store [] l) (λ args. perform (Some (a_standard writes_line)) (b.enters x) args s))) (sym empty_list)
       (put-represents b.typing low s execution.line_out h))

@@ -1,4 +1,4 @@
--- Numbers of lowered code mean the expressions that they stand for.
+-- Numbers of lowered code mean the expressions that they mean.
 use Rattle.std.proofs.Common.{◌≡◌, ℕ, Bool, true, false, pos, neg_ℤ, Some, None, sym, refl, ap, ◌∙◌}
 use Rattle.ob0_tree.specs.declared.tree.Sign.TheVariants as sign
 use Rattle.ob0_tree.specs.declared.tree.AddOperator.{AddOperator}
@@ -9,7 +9,7 @@ use Rattle.ob0_types_rules.specs.WellTyped.{Typed}
 use Rattle.ob0_values.specs.Values.{Outcome, Value, add, add_is_settled, ends, gives, multiply, multiply_is_settled, number, signed, ◌>>=◌}
 use Rattle.ob0_run_machine.specs.Evaluation as machine
 use Rattle.ob0_run_machine.specs.Lowered as lowered
-use Rattle.ob0_run_cells.specs.Lowering.{Evaluated, Moment, NumberLeads, NumberMeans, Rest, Slot, addends_left, cells_in, multipliers_left, value_of_expression, value_of_factor, value_of_simple, value_of_term}
+use Rattle.ob0_run_cells.specs.Lowering.{Evaluated, Moment, NumberLeads, NumberMeans, RestOfChain, Slot, addends_left, cells_in, multipliers_left, value_of_expression, value_of_factor, value_of_simple, value_of_term}
 use Rattle.ob0_run_cells.proofs.LoweredOutcomes.{Operates, bits-then, gives-then, grouped-then, in_range-bits, in_range-same, operate-bits, outcome-then, plus-same, followed_by}
 
 pub each-then : {A B : Type 0} (o : Outcome A) (f g : A → Outcome B) → ((a : A) → f a ≡ g a) → (o >>= f) ≡ (o >>= g)
@@ -38,7 +38,7 @@ module _ {N : Type 0} (checked : Typed N) (slots : N → Slot) where
   )
 
   -- where nothing is left
-  pub number-whole : (n : lowered.Number) (rest : Rest N Value) (whole : Evaluated N Value) → ((z : Moment N) (v : Value) → rest z v ≡ gives v) → NumberLeads checked slots n rest whole → NumberMeans checked slots n whole
+  pub number-whole : (n : lowered.Number) (rest : RestOfChain N Value) (whole : Evaluated N Value) → ((z : Moment N) (v : Value) → rest z v ≡ gives v) → NumberLeads checked slots n rest whole → NumberMeans checked slots n whole
   number-whole n rest whole ends_here h z shown =
       let (v, hv, ev) = h in
       let same : v z ≡ whole z = sym (gives-then (v z)) ∙ (each-then (v z) gives (rest z) (λ x. sym (ends_here z x)) ∙ ev z shown) in

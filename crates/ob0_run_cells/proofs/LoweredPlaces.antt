@@ -1,4 +1,4 @@
--- Places of lowered code mean the designators that they stand for, and cells at them what those are worth.
+-- Places of lowered code mean the designators that they mean, and cells at them the value of those.
 use Rattle.std.proofs.Common.{◌≡◌, ℕ, zero, suc, ◌+◌, ◌*◌, ◌<◌, ◌^◌, Bool, true, false, List, [], ◌∷◌, ◌++◌, ℤ, pos, negsuc, if◌then◌else◌, nat_lt, slice_get, Some, None, Option, option_map, option_and_then, unwrap_or, sym, refl, ap, ◌∙◌, subst, subst₂, arith, append_assoc, append-nil}
 use Rattle.std.proofs.lemmas.Option.{get_or_from_slice_get}
 use Rattle.ob0_tree.specs.Tree.{Tree, compares, designator, end, expression, factor, field, index, items, more, none, parenthesised, product, selector, sum}
@@ -17,7 +17,7 @@ use Rattle.ob0_run_cells.proofs.LoweredNumbers.{each-then}
 use Rattle.ob0_run_cells.proofs.LoweredOutcomes.{Led, addresses, forward-same, given-same, gives-then, grouped-then, led-then, same, stuck-then, followed_by}
 use Rattle.ob0_run_cells.proofs.Places.{numbers_are_cells-holds, parts_have_addresses-holds, place-lies, places_are_slices-holds, truths_are_cells-holds}
 
--- what names stand for in the run, by what they stand for in the checked module
+-- what names mean in the run, by what they mean in the checked module
 
 pub constant-stands : (typing : StoreTyping) (v : Value) (a : Option (Object Place (List Mode))) → ObjectFits typing (Some (a_constant v)) a → a ≡ Some (a_constant v)
 constant-stands typing v (Some (a_constant w)) h = ap (λ v. Some (a_constant v)) (sym h)
@@ -63,7 +63,7 @@ left-further z p s rest =
     ∙ (stuck-then (read_place z.store p) (at_path (s ∷ [])) (λ w. follow z.active z.store w rest >>= (λ steps. gives (further (further p (s ∷ [])) steps)))
     ∙ (λ i. or_stuck (read_place z.store p) >>= (λ u. or_stuck (then-some (part u s) i) >>= (λ w. follow z.active z.store w rest >>= (λ steps. gives (further-further p s steps i))))))
 
--- the steps that a selector and the others make are those of the others behind it
+-- the steps that a selector and the others make are those of the others after it
 pub step-first : (o : Outcome Value) (others : Value → Outcome (List Step)) (s : Step) (p : Place)
     → ((o >>= (λ w. others w >>= (λ steps. gives (s ∷ steps)))) >>= (λ steps. gives (further p steps))) ≡ (o >>= (λ w. others w >>= (λ steps. gives (further p (s ∷ steps)))))
 step-first (gives w) others s p = grouped-then (others w) (λ steps. gives (s ∷ steps)) (λ steps. gives (further p steps))
@@ -117,7 +117,7 @@ index-led typing store fits few p k n t fit o w e =
     go vs counted (machine.gives (negsuc i)) = record { is_same = refl; is_place = tt }
     go vs counted (machine.ends x) = record { is_same = refl; is_place = tt }
 
--- a designator in an expression is worth what its place holds
+-- a designator in an expression evaluates to what its place holds
 
 pub value-there : {N : Type 0} (active : Meanings N Place (List Mode)) (store : Store) (x : N) (path : Tree N (items selector)) (p : Place) → active.stands_for x ≡ Some (a_variable p)
     → (value_of store (active.stands_for x) >>= (λ v. follow active store v path >>= (λ steps. or_stuck (at_path steps v))))
@@ -169,7 +169,7 @@ pub bits-at : (o : machine.Outcome ℕ) (cells : List ℤ) → ((a : ℕ) → ma
 bits-at (machine.gives a) cells each = each a
 bits-at (machine.ends x) cells each = tt
 
--- an index and the selectors behind it, from a place that holds something
+-- an index and the selectors after it, from a place that holds something
 pub index-left : {N : Type 0} (z : Moment N) (p : Place) (e : Tree N expression) (rest : Tree N (items selector)) (u : Value) → read_place z.store p ≡ Some u
     → ((value_of_expression e z >>= (λ x. or_stuck (read_place z.store p) >>= (λ u. element_step u x >>= (λ s. gives (further p (s ∷ [])))))) >>= selectors_left rest z) ≡ selectors_left (more (index e) rest) z p
 unfolding evaluate

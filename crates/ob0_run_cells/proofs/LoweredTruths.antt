@@ -1,4 +1,4 @@
--- Truths of lowered code mean the expressions that they stand for.
+-- Truths of lowered code mean the expressions that they mean.
 use Rattle.std.proofs.Common.{◌≡◌, Bool, true, false, not, if◌then◌else◌, None, sym, refl, ap, ◌∙◌, subst}
 use Rattle.ob0_tree.specs.declared.tree.Relation.{Relation}
 use Rattle.ob0_tree.specs.declared.tree.Relation.TheVariants as relation
@@ -10,7 +10,7 @@ use Rattle.ob0_types_rules.specs.WellTyped.{Typed}
 use Rattle.ob0_values.specs.Values.{Outcome, Value, add, add_is_settled, gives, multiply, multiply_is_settled, negated, number, relate, truth, ◌>>=◌}
 use Rattle.ob0_run_machine.specs.Evaluation as machine
 use Rattle.ob0_run_machine.specs.Lowered as lowered
-use Rattle.ob0_run_cells.specs.Lowering.{Evaluated, Moment, NumberMeans, Rest, Slot, TruthLeads, TruthMeans, addends_left, cells_in, multipliers_left, outcome_of, relation_of, value_of_expression, value_of_factor, value_of_simple, value_of_term}
+use Rattle.ob0_run_cells.specs.Lowering.{Evaluated, Moment, NumberMeans, RestOfChain, Slot, TruthLeads, TruthMeans, addends_left, cells_in, multipliers_left, outcome_of, relation_of, value_of_expression, value_of_factor, value_of_simple, value_of_term}
 use Rattle.ob0_run_cells.proofs.LoweredNumbers.{each-then}
 use Rattle.ob0_run_cells.proofs.LoweredOutcomes.{alike-same, compare-same, gives-then, grouped-then, outcome-then, followed_by}
 
@@ -36,7 +36,7 @@ module _ {N : Type 0} (checked : Typed N) (slots : N → Slot) where
       (λ a. elim a as (λ a. outcome_of truth (if a then machine.truth z.levels (cells_in z) u else machine.gives false) ≡ elim (multiply_is_settled multiply_operator.And (truth a)) [ true ↦ gives (truth a) | false ↦ w z >>= multiply multiply_operator.And (truth a) ])
       [ true ↦ right-alone (multiply multiply_operator.And (truth true)) (machine.truth z.levels (cells_in z) u) (w z) (λ b. refl) (hu z shown) | false ↦ refl ])
 
-  pub truth-whole : (t : lowered.Truth) (rest : Rest N Value) (whole : Evaluated N Value) → ((z : Moment N) (v : Value) → rest z v ≡ gives v) → TruthLeads checked slots t rest whole → TruthMeans checked slots t whole
+  pub truth-whole : (t : lowered.Truth) (rest : RestOfChain N Value) (whole : Evaluated N Value) → ((z : Moment N) (v : Value) → rest z v ≡ gives v) → TruthLeads checked slots t rest whole → TruthMeans checked slots t whole
   truth-whole t rest whole ends_here h z shown =
       let (v, hv, ev) = h in
       hv z shown ∙ (sym (gives-then (v z)) ∙ (each-then (v z) gives (rest z) (λ x. sym (ends_here z x)) ∙ ev z shown))

@@ -82,7 +82,7 @@ passes-on typing f fs done p q a args h k = record {
   have_numbers = k.have_numbers;
 }
 
--- a block of cells of a store, with others behind them
+-- a block of cells of a store, with others after them
 pub block-there : (cells others : List ℤ) (from n : ℕ) → from + n ≤ length cells → execution.block_at (cells ++ others) from n ≡ take n (drop from cells)
 block-there cells others from n h =
     let whole : length (cells ++ others) ≡ length cells + length others = length-append cells others in

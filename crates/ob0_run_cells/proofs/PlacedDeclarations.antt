@@ -8,7 +8,7 @@ use Rattle.ob0_types_rules.specs.Declarations.{after_types, after_variables, dec
 use Rattle.ob0_types_rules.specs.Environments.{meanings}
 use Rattle.ob0_types_rules.specs.Expressions.{a_constant, a_procedure, a_type, a_variable}
 use Rattle.ob0_types_rules.specs.Typing.{constant_value, constructors, denoted}
-use Rattle.ob0_types_rules.specs.WellTyped.{Signature, TypeEnvironment, TypedParameter, bind_names, bind_typed, block_fits, declare_typed, heading, hold, procedure_fits, procedures_fit}
+use Rattle.ob0_types_rules.specs.WellTyped.{Signature, TypeEnvironment, TypedParameter, bind_names, bind_typed, block_fits, declare_typed, heading, some_and, procedure_fits, procedures_fit}
 use Rattle.ob0_values.specs.Values.{Shape, Store, Value, initial}
 use Rattle.ob0_run_rules.specs.Fitting.{ArgumentsFit, EnvironmentsFit, HasShape, StoreFits, StoreTyping}
 use Rattle.ob0_run_rules.specs.Runs.{Activation, Argument, Frame, allocate, bind_parameter, bind_parameters, declare_block, declare_procedures, declare_variables, place_argument, value_argument, with_procedures}
@@ -36,7 +36,7 @@ pub record FramePlaced {N : Type 0} (table : List lowered.Procedure) (most : ℕ
   pub placing_fits : PlacingFits table most naming typing ls checked p.placing f.env
   pub cells_counted : base + p.cells ≡ sizes typing
 
--- a frame with more variables, and their cells behind those before
+-- a frame with more variables, and their cells after those before
 pub record Extends {N : Type 0} (table : List lowered.Procedure) (most : ℕ) (naming : Naming N) (typing : StoreTyping) (ls : Levels) (base : ℕ) (checked : TypeEnvironment N) (p : Placed N) (before : Store) (added : List ℤ) (g : Frame N) : Type 0 where
   pub typing_now : StoreTyping
   pub others : StoreTyping
@@ -144,7 +144,7 @@ module _ {N : Type 0} (table : List lowered.Procedure) (most : ℕ) (naming : Na
   procedures-placed typing ls k code statements (more p rest) checked placing active env h e means =
       let (ps, i, entry, eps, et, here, others) = means in
       let fits : (procedure_fits naming (bind_typed ps (heading (procedure_name p) ps checked)) k p && procedures_fit naming (heading (procedure_name p) ps checked) (k + procedure_constructors p) statements rest) ≡ true =
-      subst (λ o. hold o (λ ps. procedure_fits naming (bind_typed ps (heading (procedure_name p) ps checked)) k p && procedures_fit naming (heading (procedure_name p) ps checked) (k + procedure_constructors p) statements rest) ≡ true) eps e in
+      subst (λ o. some_and o (λ ps. procedure_fits naming (bind_typed ps (heading (procedure_name p) ps checked)) k p && procedures_fit naming (heading (procedure_name p) ps checked) (k + procedure_constructors p) statements rest) ≡ true) eps e in
       let both = both_true (procedure_fits naming (bind_typed ps (heading (procedure_name p) ps checked)) k p) (procedures_fit naming (heading (procedure_name p) ps checked) (k + procedure_constructors p) statements rest) fits in
       procedures-placed typing ls (k + procedure_constructors p) code statements rest (heading (procedure_name p) ps checked) ((procedure_name p, own_target i) ∷ placing) ((procedure_name p, a_procedure record { first_constructor = k; text = p }) ∷ active)
       (refl, (ps, eps, refl, both.0), env) (refl, refl, (placing, h, ps, entry, eps, et, here), h) both.1 others
@@ -159,7 +159,7 @@ module _ {N : Type 0} (table : List lowered.Procedure) (most : ℕ) (naming : Na
       let b : Tree N block = has_body (declares cs ts vs ps) statements in
       let (first, inner, q, ef, ei, eq, total, bounded, procedures) = means in
       let fits : procedures_fit naming inner (after_variables k b) statements ps ≡ true =
-      subst (λ o. hold o (λ inner. procedures_fit naming inner (after_variables k b) statements ps) ≡ true) (ap (option_and_then (declare_typed naming (after_types k b) (section_variables vs))) ef ∙ ei) e in
+      subst (λ o. some_and o (λ inner. procedures_fit naming inner (after_variables k b) statements ps) ≡ true) (ap (option_and_then (declare_typed naming (after_types k b) (section_variables vs))) ef ∙ ei) e in
       let (consts, ec, e₄) = some-gives (declare_constants naming checked (section_constants cs)) (λ env. declare_types naming env k (section_types ts)) first ef in
       let (d₁, ed₁, fit₁) = constants-run naming typing checked f.env (section_constants cs) consts h.environment_fits ec in
       let placed₁ = constants-placed typing ls (section_constants cs) checked consts p.placing f.env d₁ ec ed₁ h.placing_fits in

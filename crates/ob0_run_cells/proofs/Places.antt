@@ -4,7 +4,7 @@ use Rattle.ob0_values.specs.Values.{Place, Shape, Step, Store, Value, at_path, b
 use Rattle.ob0_run_rules.specs.Fitting.{HasShape, PlaceFits, StoreFits, StoreTyping, part_shape, shape_at_path}
 use Rattle.ob0_run_rules.proofs.Sound.{is_number, is_truth, of_some, some-gives}
 use Rattle.ob0_run_rules.proofs.SoundStatements.{PlaceFits-grows, set-fits, slice_get-grows, with_path-fits}
-use Rattle.ob0_run_cells.specs.CellLaws.{AddressesStay, NumbersAreCells, PartsHaveAddresses, PlacesAreSlices, TruthsAreCells, TypesTellSizes, WritingPlacesWritesSlices}
+use Rattle.ob0_run_cells.specs.CellLaws.{AddressesStay, NumbersAreCells, PartsHaveAddresses, PlacesAreSlices, TruthsAreCells, TypesGiveSizes, WritingPlacesWritesSlices}
 use Rattle.ob0_run_cells.specs.Cells.{address, all_cells, cells_at, cells_of, cells_with, offset, size, sizes, truth_cell}
 use Rattle.ob0_run_cells.proofs.Parts.{cells-size, lies-inside, path-lies}
 use Rattle.ob0_run_cells.proofs.Splits.{Lies, lies-behind, lies-first, lies-within, split-at, split-get, split-set, split-with}
@@ -16,10 +16,10 @@ store-size (s ∷ typing) [] h = absurd h
 store-size (s ∷ typing) (v ∷ store) h =
     length-append (cells_of v) (all_cells store) ∙ (ap (λ n. n + length (all_cells store)) (cells-size v s h.0) ∙ ap (λ n. size s + n) (store-size typing store h.1))
 
-pub types_tell_sizes-holds : TypesTellSizes
+pub types_tell_sizes-holds : TypesGiveSizes
 types_tell_sizes-holds = (cells-size, store-size)
 
--- a variable lies behind the older ones
+-- a variable lies after the older ones
 pub variable-lies : (typing : StoreTyping) (store : Store) (n : ℕ) (s : Shape) → StoreFits typing store → slice_get typing n ≡ Some s
     → (v : Value) × (slice_get store n ≡ Some v) × HasShape v s × Lies all_cells store v (slice_set store n) (sizes (take n typing))
 variable-lies [] [] n s h e = absurd (cc)

@@ -4,7 +4,7 @@ use Rattle.std.proofs.lemmas.List.{map-append}
 use Rattle.ob0_types_rules.specs.WellTyped.{Typed}
 use Rattle.ob0_values.specs.Values.{Outcome, Place, Shape, Store, TurnBound, Value, boolean_shape, ends, gives, integer_shape, number, or_stuck, truth}
 use Rattle.ob0_run_rules.specs.Fitting.{PlaceFits, StoreFits, StoreTyping}
-use Rattle.ob0_run_rules.specs.Runs.{Progress, State, choose, go_on, put_out, read_number, running, stopped, store_at, turns, turns_until, use_in}
+use Rattle.ob0_run_rules.specs.Runs.{Progress, State, choose, continue_with, append_output, read_number, running, stopped, store_at, turns, turns_until, use_in}
 use Rattle.ob0_run_machine.specs.Evaluation as machine
 use Rattle.ob0_run_machine.specs.Execution as execution
 use Rattle.ob0_run_machine.specs.Lowered as lowered
@@ -40,13 +40,13 @@ choice-represents typing low s (machine.ends x) w k l i j h e on off = subst (λ
 abbrev pub Follows : StoreTyping → (execution.State → execution.Progress) → (State → Progress) → Type 0
 Follows typing k j = (low : execution.State) (s : State) → Represents typing low s → ProgressRepresents typing (k low) (j s)
 
-pub going-on : (typing : StoreTyping) (p : execution.Progress) (q : Progress) (k : execution.State → execution.Progress) (j : State → Progress) → ProgressRepresents typing p q → Follows typing k j → ProgressRepresents typing (execution.go_on p k) (go_on q j)
+pub going-on : (typing : StoreTyping) (p : execution.Progress) (q : Progress) (k : execution.State → execution.Progress) (j : State → Progress) → ProgressRepresents typing p q → Follows typing k j → ProgressRepresents typing (execution.continue_with p k) (continue_with q j)
 going-on typing (execution.running low) (running s) k j h follows = follows low s h
 going-on typing (execution.stopped e out) (stopped f written) k j h follows = h
 going-on typing (execution.running low) (stopped f written) k j h follows = absurd h
 going-on typing (execution.stopped e out) (running s) k j h follows = absurd h
 
--- a condition that is worth the same in every state
+-- a condition that evaluates to the same in every state
 abbrev pub SameConditions : StoreTyping → (execution.State → machine.Outcome Bool) → (State → Outcome Value) → Type 0
 SameConditions typing c d = (low : execution.State) (s : State) → Represents typing low s → outcome_of truth (c low) ≡ d s
 
@@ -55,7 +55,7 @@ pub turns-represent : (t : ℕ) (typing : StoreTyping) (c : execution.State → 
 turns-represent zero typing c d k j same follows low s h =
     choice-represents typing low s (c low) (d s) (λ s'. execution.stopped machine.TurnBound s'.output) execution.running (λ s'. stopped TurnBound s'.output) running h (same low s h) (refl, h.same_output) h
 turns-represent (suc t) typing c d k j same follows low s h =
-    choice-represents typing low s (c low) (d s) (λ s'. execution.go_on (k s') (execution.turns t c k)) execution.running (λ s'. go_on (j s') (turns t d j)) running h (same low s h)
+    choice-represents typing low s (c low) (d s) (λ s'. execution.continue_with (k s') (execution.turns t c k)) execution.running (λ s'. continue_with (j s') (turns t d j)) running h (same low s h)
     (going-on typing (k low) (j s) (execution.turns t c k) (turns t d j) (follows low s h) (turns-represent t typing c d k j same follows)) h
 
 pub turns_until-represent : (t : ℕ) (typing : StoreTyping) (c : execution.State → machine.Outcome Bool) (d : State → Outcome Value) (k : execution.State → execution.Progress) (j : State → Progress)
@@ -137,7 +137,7 @@ number-read typing low s p (n ∷ rest) h fit k =
     number-stored typing (record low { input = rest }) (record s { input = rest }) p n
     record { store_fits = h.store_fits; same_cells = h.same_cells; same_input = refl; same_output = h.same_output; cells_have_numbers = h.cells_have_numbers; input_has_numbers = λ i. k (suc i) } fit (k zero)
 
-pub put-represents : (typing : StoreTyping) (low : execution.State) (s : State) (i : execution.Written) → Represents typing low s → ProgressRepresents typing (execution.running (execution.put_out low i)) (running (put_out s (written_of i)))
+pub put-represents : (typing : StoreTyping) (low : execution.State) (s : State) (i : execution.Written) → Represents typing low s → ProgressRepresents typing (execution.running (execution.append_output low i)) (running (append_output s (written_of i)))
 put-represents typing low s i h = record {
   store_fits = h.store_fits;
   same_cells = h.same_cells;

@@ -58,7 +58,7 @@ run-given_up {N} naming (is_module x b closing) program most c t input fits mean
     (finished-same part.typing_now (execution.execute_all (execution.call program.procedures c t) t execution.outermost program.body low) (execute_body naming g.env (call_giving_up naming c t g.env) t (block_statements b) record start { store = g.store })
     (body-represents program.procedures most naming c t (calls-known program.procedures most naming c t) part.typing_now execution.outermost after q.placing g.env part.frame.environment_fits part.frame.placing_fits room program.body (block_statements b) body_means low record start { store = g.store } represents))
 
--- of the store that keeps every variable too: no run reads again what a call gave up
+-- of the store that keeps every variable too: no run reads again what a call failed
 pub run-lowered : {N : Type 0} (naming : Naming N) (m : Tree N module_text) (program : lowered.Program) (most c t : ℕ) (input : List ℤ) → fits_over naming m ≡ true → ProgramMeans most naming m program → suc c * most < 2 ^ 64 → HaveNumbers input
     → run_of (execution.run program input c t) ≡ run_over naming m input c t
 run-lowered naming m program most c t input fits means few numbers = run-given_up naming m program most c t input fits means few numbers ∙ giving_up-keeps naming m input c t

@@ -27,7 +27,7 @@ lies-within cells whole middle old outer inner a b h k = record {
   is_written = λ new. h.is_written (inner new) ∙ (ap (λ l. h.before ++ (l ++ h.after)) (k.is_written new) ∙ grouped h.before k.before (cells_of new) k.after h.after);
 }
 
--- behind others
+-- after others
 pub lies-behind : {X Y : Type 0} (cells : X → List ℤ) (others : Y → List ℤ) (whole : X) (rest : Y) (old : Value) (outer : Value → X) (inner : Value → Y) (first : List ℤ) (a b : ℕ)
     → cells whole ≡ first ++ others rest → ((new : Value) → cells (outer new) ≡ first ++ others (inner new)) → length first ≡ a → Lies others rest old inner b → Lies cells whole old outer (a + b)
 lies-behind cells others whole rest old outer inner first a b e each n k = record {
@@ -38,7 +38,7 @@ lies-behind cells others whole rest old outer inner first a b e each n k = recor
   is_written = λ new. each new ∙ (ap (λ l. first ++ l) (k.is_written new) ∙ sym (append_assoc first k.before (cells_of new ++ k.after)));
 }
 
--- in front of others
+-- before others
 pub lies-first : {X : Type 0} (cells : X → List ℤ) (whole : X) (old : Value) (write : Value → X) (others : List ℤ)
     → cells whole ≡ cells_of old ++ others → ((new : Value) → cells (write new) ≡ cells_of new ++ others) → Lies cells whole old write 0
 lies-first cells whole old write others e each = record { before = []; after = others; is_split = e; begins = refl; is_written = each }

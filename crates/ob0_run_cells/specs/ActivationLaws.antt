@@ -1,4 +1,4 @@
--- Calls of lowered procedures do what calls of the module's do that give up their variables; runs are the same runs.
+-- Calls of lowered procedures do what calls of the module's do that drop their variables; runs are the same runs.
 -- Rule: none; laws of lowered programs.
 use Rattle.std.specs.Prelude.{◌≡◌, ℕ, suc, ◌+◌, ◌*◌, ◌<◌, ◌^◌, List, map, ℤ}
 use Rattle.ob0_tree.specs.Tree.{Tree, module_text}
@@ -18,7 +18,7 @@ use Rattle.ob0_run_cells.specs.LoweredStatements.{CallsRepresent, HaveNumbers, w
 use Rattle.ob0_run_cells.specs.Lowering.{end_of}
 
 -- with so many calls left to open, each of at most so many cells, as many as have addresses; a call that returns gives its cells up,
--- as one of the module's that gives up its variables
+-- as one of the module's that drops its variables
 abbrev pub CallsLowered : Type 0
 CallsLowered =
     (table : List lowered.Procedure) (most c t : ℕ) (typing : StoreTyping) (ls : Levels) (checked : TypeEnvironment Label) (placing : Placing Label) (active : Activation Label)

@@ -1,4 +1,4 @@
--- Where lowered code finds what names stand for, and what it means that a table of procedures is lowered from a module's blocks.
+-- Where lowered code finds what names mean, and what it means that a table of procedures is lowered from a module's blocks.
 -- Rule: none; for contracts of lowering, against docs/LANGUAGE.md, Runs 6.
 use Rattle.std.specs.Prelude.{◌≡◌, ℕ, suc, ◌+◌, ◌≤◌, true, false, List, [], ◌∷◌, drop, slice_get, Some, Option, option_and_then}
 use Rattle.ob0_tree.specs.Tree.{Tree, begins, block, body, declares, declares_procedure, declares_variable, end, has_body, item, items, maybe, module_text, more, none, one, procedure, variable}
@@ -146,7 +146,7 @@ abbrev mutual
   pub ProcedureMeans : {N : Type 0} → List lowered.Procedure → ℕ → Naming N → TypeEnvironment N → Placed N → ℕ → lowered.Procedure → Tree N (item procedure) → Type 0
   ProcedureMeans table most naming checked p k entry (declares_procedure x fs b closing) = BlockMeans table most naming (held 0) checked p (k + formals_constructors (formal_sections fs)) entry.cells entry.body b
 
--- one binding, over those behind it: a variable's slot has its place's address, and a procedure's code means its block, where it is
+-- one binding, over those after it: a variable's slot has its place's address, and a procedure's code means its block, where it is
 -- declared
 abbrev pub IsPlaced : {N : Type 0} → List lowered.Procedure → ℕ → Naming N → StoreTyping → Levels → TypeEnvironment N → (Levels → Placing N → Type 0) → N → Object Shape Signature → Whereabouts → Object Place (Code N) → Type 0
 IsPlaced table most naming typing ls checked Fits x (a_variable s) (in_slot slot) (a_variable p) = PlaceFits typing p s × (slot_address ls slot ≡ address typing p)
@@ -158,7 +158,7 @@ IsPlaced table most naming typing ls checked Fits x (a_constant v) nowhere (a_co
 IsPlaced table most naming typing ls checked Fits x (a_standard p) nowhere (a_standard q) = Unit {0}
 IsPlaced table most naming typing ls checked Fits x _ _ _ = ⊥
 
--- a placing tells where an activation's bindings are, at levels
+-- a placing says where an activation's bindings are, at levels
 abbrev pub PlacingFits : {N : Type 0} → List lowered.Procedure → ℕ → Naming N → StoreTyping → Levels → TypeEnvironment N → Placing N → Activation N → Type 0
 PlacingFits table most naming typing ls [] [] [] = Unit {0}
 PlacingFits table most naming typing ls (b ∷ checked) (w ∷ placing) (d ∷ active) =

@@ -7,8 +7,8 @@ use Rattle.ob0_run_rules.specs.Fitting.{HasShape, PlaceFits, StoreFits, StoreTyp
 use Rattle.ob0_run_cells.specs.Cells.{address, all_cells, cells_at, cells_of, cells_with, offset, size, sizes, truth_cell}
 
 -- a value of a type has as many cells as the type says, and a store as many as its types say
-abbrev pub TypesTellSizes : Type 0
-TypesTellSizes =
+abbrev pub TypesGiveSizes : Type 0
+TypesGiveSizes =
     ((v : Value) (s : Shape) → HasShape v s → length (cells_of v) ≡ size s)
     × ((typing : StoreTyping) (store : Store) → StoreFits typing store → length (all_cells store) ≡ sizes typing)
 
@@ -54,7 +54,7 @@ TruthsAreCells =
     → ((b : Bool) × (read_place store p ≡ Some (truth b)) × (slice_get (all_cells store) (address typing p) ≡ Some (truth_cell b)))
     × ((b : Bool) → (after : Store) × (write_place store p (truth b) ≡ Some after) × StoreFits typing after × (all_cells after ≡ slice_set (all_cells store) (address typing p) (truth_cell b)))
 
--- a part of what a place holds has its offset behind the place's address, and the type at the end of its path
+-- a part of what a place holds has its offset after the place's address, and the type at the end of its path
 abbrev pub PartsHaveAddresses : Type 0
 PartsHaveAddresses =
     (typing : StoreTyping) (p : Place) (path : List Step) (s t : Shape) → PlaceFits typing p s → shape_at_path path s ≡ Some t
@@ -76,7 +76,7 @@ CellsDetermineValues =
 abbrev pub InitialCellsAreZero : Type 0
 InitialCellsAreZero = (s : Shape) → HasShape (initial s) s × (cells_of (initial s) ≡ replicate (size s) (pos 0))
 
--- a new variable's cells come behind those of all others, from the size of their types on
+-- a new variable's cells come after those of all others, from the size of their types on
 abbrev pub VariablesAreAdded : Type 0
 VariablesAreAdded =
     (typing : StoreTyping) (store : Store) (s : Shape) (v : Value) → StoreFits typing store → HasShape v s
@@ -85,7 +85,7 @@ VariablesAreAdded =
     × (address (typing ++ s ∷ []) record { variable = length store; path = [] } ≡ sizes typing)
 
 -- variables given up are cells given up: a store cut back to the variables of an older one has as many cells as that
-abbrev pub VariablesAreGivenUp : Type 0
-VariablesAreGivenUp =
+abbrev pub VariablesAreDropped : Type 0
+VariablesAreDropped =
     (typing others : StoreTyping) (old new : Store) → StoreFits typing old → StoreFits (typing ++ others) new
     → StoreFits typing (take (length old) new) × (all_cells (take (length old) new) ≡ take (length (all_cells old)) (all_cells new))

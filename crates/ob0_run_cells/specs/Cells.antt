@@ -48,7 +48,7 @@ abbrev pub sizes : StoreTyping → ℕ
 sizes [] = 0
 sizes (s ∷ typing) = size s + sizes typing
 
--- a field lies behind those before it, an element behind those of a lower index
+-- a field lies after those before it, an element after those of a lower index
 abbrev pub field_offset : FieldShapes → Name → ℕ
 field_offset no_field_shape x = 0
 field_offset (next_field_shape y s rest) x = if same_name x y then 0 else size s + field_offset rest x

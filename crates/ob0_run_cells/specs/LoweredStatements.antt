@@ -56,7 +56,7 @@ pub record Target : Type 0 where
   pub procedure : ℕ
   pub up : ℕ
 
--- what stays as it is while the statements of a body run: the types of the store, what names stand for, the activations that
+-- what stays as it is while the statements of a body run: the types of the store, what names mean, the activations that
 -- lowered code sees, and what calls do
 pub record Body (N : Type 0) : Type 0 where
   pub typing : StoreTyping
@@ -92,7 +92,7 @@ StatementMeans checked slots targets c a = Does checked slots targets (λ b t. e
 abbrev pub SequenceMeans : {N : Type 0} → Typed N → (N → Slot) → (N → Target) → lowered.Statements → Tree N sequence → Type 0
 SequenceMeans checked slots targets cs a = Does checked slots targets (λ b t. execution.execute_all b.lowered_enters t b.levels cs) (λ b t. execute_all b.active b.enters t a)
 
--- the statements behind the first
+-- the statements after the first
 abbrev pub FurtherMean : {N : Type 0} → Typed N → (N → Slot) → (N → Target) → lowered.Statements → Tree N (items further_statement) → Type 0
 FurtherMean checked slots targets cs rest = Does checked slots targets (λ b t. execution.execute_all b.lowered_enters t b.levels cs) (λ b t. execute_further b.active b.enters t rest)
 
@@ -100,7 +100,7 @@ FurtherMean checked slots targets cs rest = Does checked slots targets (λ b t. 
 abbrev pub ElseMeans : {N : Type 0} → Typed N → (N → Slot) → (N → Target) → lowered.Statements → Tree N (maybe else_part) → Type 0
 ElseMeans checked slots targets cs last = Does checked slots targets (λ b t. execution.execute_all b.lowered_enters t b.levels cs) (λ b t. execute_else b.active b.enters t last)
 
--- the ELSIF parts, and the ELSE part behind them
+-- the ELSIF parts, and the ELSE part after them
 abbrev pub ElsifsMean : {N : Type 0} → Typed N → (N → Slot) → (N → Target) → lowered.Branches → lowered.Statements → Tree N (items elsif_part) → Tree N (maybe else_part) → Type 0
 ElsifsMean checked slots targets bs cs rest last =
     Does checked slots targets (λ b t. execution.execute_branches b.lowered_enters t b.levels bs (execution.execute_all b.lowered_enters t b.levels cs)) (λ b t. execute_elsifs b.active b.enters t rest (execute_else b.active b.enters t last))

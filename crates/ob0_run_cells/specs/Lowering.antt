@@ -33,7 +33,7 @@ slot_place (held zero offset) = lowered.here offset
 slot_place (held (suc up) offset) = lowered.outside (suc up) offset
 slot_place (lent up index) = lowered.passed up index
 
--- a moment of a run: the store and its types, the cells of the arguments that a call has been passed so far, what names stand for,
+-- a moment of a run: the store and its types, the cells of the arguments that a call has been passed so far, what names mean,
 -- and the activations that lowered code sees
 pub record Moment (N : Type 0) : Type 0 where
   pub typing : StoreTyping
@@ -78,7 +78,7 @@ abbrev pub Has32Bits : machine.Outcome ℤ → Type 0
 Has32Bits (machine.gives n) = machine.fits n ≡ true
 Has32Bits (machine.ends e) = Unit {0}
 
--- a number of lowered code that is worth what is evaluated, and one of 32 bits
+-- a number of lowered code that evaluates to what is evaluated, and one of 32 bits
 abbrev pub NumberMeans : {N : Type 0} → Typed N → (N → Slot) → lowered.Number → Evaluated N Value → Type 0
 NumberMeans {N} checked slots n worth =
     (m : Moment N) → Shows checked slots m → (outcome_of number (machine.number m.levels (cells_in m) n) ≡ worth m) × Has32Bits (machine.number m.levels (cells_in m) n)
@@ -125,15 +125,15 @@ abbrev pub place_of_designator : {N : Type 0} → N → Tree N (items selector) 
 place_of_designator x path m = designate m.active m.store x path
 
 -- what comes of what was evaluated so far, with the operators or selectors that are left
-abbrev pub Rest : Type 0 → Type 0 → Type 0
-Rest N A = Moment N → A → Outcome A
+abbrev pub RestOfChain : Type 0 → Type 0 → Type 0
+RestOfChain N A = Moment N → A → Outcome A
 
 -- what the addends that are left make of a value
-abbrev pub addends_left : {N : Type 0} → Tree N (items addend) → Rest N Value
+abbrev pub addends_left : {N : Type 0} → Tree N (items addend) → RestOfChain N Value
 addends_left rest m v = evaluate_addends m.active m.store v rest
 
 -- what the factors that are left make of a value
-abbrev pub multipliers_left : {N : Type 0} → Tree N (items multiplier) → Rest N Value
+abbrev pub multipliers_left : {N : Type 0} → Tree N (items multiplier) → RestOfChain N Value
 multipliers_left rest m v = evaluate_multipliers m.active m.store v rest
 
 -- a place, some steps further in
@@ -141,11 +141,11 @@ abbrev pub further : Place → List Step → Place
 further p steps = record { variable = p.variable; path = p.path ++ steps }
 
 -- what the selectors that are left make of a place
-abbrev pub selectors_left : {N : Type 0} → Tree N (items selector) → Rest N Place
+abbrev pub selectors_left : {N : Type 0} → Tree N (items selector) → RestOfChain N Place
 selectors_left rest m p = or_stuck (read_place m.store p) >>= (λ v. follow m.active m.store v rest >>= (λ steps. gives (further p steps)))
 
 -- a place, a number or a truth so far, and what is left: together they come to what is evaluated as a whole
-abbrev pub Leads : {N A : Type 0} → Typed N → (N → Slot) → (Evaluated N A → Type 0) → Rest N A → Evaluated N A → Type 0
+abbrev pub Leads : {N A : Type 0} → Typed N → (N → Slot) → (Evaluated N A → Type 0) → RestOfChain N A → Evaluated N A → Type 0
 Leads {N} {A} checked slots Means rest whole =
     (so_far : Evaluated N A) × Means so_far × ((m : Moment N) → Shows checked slots m → (so_far m >>= rest m) ≡ whole m)
 
@@ -154,11 +154,11 @@ abbrev pub PlaceLeads : {N : Type 0} → Typed N → (N → Slot) → lowered.Pl
 PlaceLeads checked slots q s rest = Leads checked slots (PlaceMeans checked slots q s) (selectors_left rest)
 
 -- the number so far and what is left of the chain come to the whole
-abbrev pub NumberLeads : {N : Type 0} → Typed N → (N → Slot) → lowered.Number → Rest N Value → Evaluated N Value → Type 0
+abbrev pub NumberLeads : {N : Type 0} → Typed N → (N → Slot) → lowered.Number → RestOfChain N Value → Evaluated N Value → Type 0
 NumberLeads checked slots n = Leads checked slots (NumberMeans checked slots n)
 
 -- the truth value so far and what is left of the chain come to the whole
-abbrev pub TruthLeads : {N : Type 0} → Typed N → (N → Slot) → lowered.Truth → Rest N Value → Evaluated N Value → Type 0
+abbrev pub TruthLeads : {N : Type 0} → Typed N → (N → Slot) → lowered.Truth → RestOfChain N Value → Evaluated N Value → Type 0
 TruthLeads checked slots t = Leads checked slots (TruthMeans checked slots t)
 
 -- relations of numbers

@@ -81,7 +81,7 @@ TermsLower =
     → ((n : lowered.Number) → NumberMeans checked slots n (value_of_factor f) → NumberLeads checked slots n (multipliers_left rest) (value_of_term (product f rest)))
     × ((t : lowered.Truth) → TruthMeans checked slots t (value_of_factor f) → TruthLeads checked slots t (multipliers_left rest) (value_of_term (product f rest)))
 
--- `*`, DIV and MOD are operations with what stands before them
+-- `*`, DIV and MOD are operations with what precedes them
 abbrev pub ProductsLower : Type 0
 ProductsLower =
     (checked : Typed Label) (slots : Label → Slot) (m n : lowered.Number) (f : Tree Label factor) (rest : Tree Label (items multiplier)) (whole : Evaluated Label Value) → NumberMeans checked slots n (value_of_factor f)

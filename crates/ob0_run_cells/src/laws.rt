@@ -1,10 +1,10 @@
 //! The laws. Each function does nothing: its contract is the law.
 
-ghost use Rattle.ob0_run_cells.specs.CellLaws.{AddressesStay, CellsDetermineValues, InitialCellsAreZero, NumbersAreCells, PartsAreSlices, PartsHaveAddresses, PlacesAreSlices, SizesAreLimited, TruthsAreCells, TypesTellSizes, VariablesAreAdded, VariablesAreGivenUp, WritingPartsWritesSlices, WritingPlacesWritesSlices};
+ghost use Rattle.ob0_run_cells.specs.CellLaws.{AddressesStay, CellsDetermineValues, InitialCellsAreZero, NumbersAreCells, PartsAreSlices, PartsHaveAddresses, PlacesAreSlices, SizesAreLimited, TruthsAreCells, TypesGiveSizes, VariablesAreAdded, VariablesAreDropped, WritingPartsWritesSlices, WritingPlacesWritesSlices};
 
 /// A value of a type has as many cells as the type says, and a store as many as its types say.
-pub fn types_tell_sizes()
-    ensures { TypesTellSizes }
+pub fn types_give_sizes()
+    ensures { TypesGiveSizes }
 {}
 
 /// No type has more cells than scalars.
@@ -42,7 +42,7 @@ pub fn truths_are_cells()
     ensures { TruthsAreCells }
 {}
 
-/// A part of what a place holds has its offset behind the place's address.
+/// A part of what a place holds has its offset after the place's address.
 pub fn parts_have_addresses()
     ensures { PartsHaveAddresses }
 {}
@@ -62,12 +62,12 @@ pub fn initial_cells_are_zero()
     ensures { InitialCellsAreZero }
 {}
 
-/// A new variable's cells come behind those of all others.
+/// A new variable's cells come after those of all others.
 pub fn variables_are_added()
     ensures { VariablesAreAdded }
 {}
 
 /// Variables given up are cells given up.
-pub fn variables_are_given_up()
-    ensures { VariablesAreGivenUp }
+pub fn variables_are_dropped()
+    ensures { VariablesAreDropped }
 {}

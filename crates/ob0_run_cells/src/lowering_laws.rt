@@ -52,7 +52,7 @@ pub fn terms_lower()
     ensures { TermsLower }
 {}
 
-/// `*`, DIV and MOD are operations with what stands before them.
+/// `*`, DIV and MOD are operations with what precedes them.
 pub fn products_lower()
     ensures { ProductsLower }
 {}
@@ -72,7 +72,7 @@ pub fn sums_lower()
     ensures { SumsLower }
 {}
 
-/// `+` and `-` are operations with what stands before them.
+/// `+` and `-` are operations with what precedes them.
 pub fn addends_lower()
     ensures { AddendsLower }
 {}

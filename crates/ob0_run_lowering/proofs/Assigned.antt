@@ -19,7 +19,7 @@ use Rattle.ob0_run_cells.specs.LoweredStatements.{StatementMeans, Target}
 use Rattle.ob0_run_cells.specs.Lowering.{PlaceMeans, Slot, ValueAt, place_of_designator, value_of_expression}
 use Rattle.ob0_run_cells.proofs.StatementsLowered.{assignments_lower-holds}
 use Rattle.ob0_run_lowering.specs.Means.{Locates, Lowers, Means}
-use Rattle.ob0_run_lowering.specs.declared.lowered.Located.{Located}
+use Rattle.ob0_run_lowering.specs.declared.lowered.TypedPlace.{TypedPlace}
 use Rattle.ob0_run_lowering.specs.declared.lowered.Lowered.TheVariants as code
 use Rattle.ob0_run_lowering.specs.declared.scene.Scene.{Scene}
 use Rattle.ob0_run_lowering.specs.LoweredBodies.{StatementLowers}
@@ -55,7 +55,7 @@ module _ (checked : Typed Label) (slots : Label → Slot) (targets : Label → T
   nothing c (record_shape k fs) h = absurd h
 
 -- where an assignment fits, both sides have one type
-module _ (scene : Scene) (x : ℕ) (path : Tree ℕ (items selector)) (e : Expression) (l : Located) where
+module _ (scene : Scene) (x : ℕ) (path : Tree ℕ (items selector)) (e : Expression) (l : TypedPlace) where
   abbrev target : Label
   target = label_in scene.resolved.now x
 

@@ -1,4 +1,4 @@
--- Calls, by what their names stand for, and their arguments.
+-- Calls, by what their names mean, and their arguments.
 use Rattle.std.proofs.Common.{◌≡◌, ℕ, ◌+◌, ◌<◌, min, true, false, List, [], ◌∷◌, ◌++◌, length, get_or, drop, map, slice_get, Some, None, Option, refl, sym, ap, ◌∙◌, subst, append-nil, length-drop, arith}
 use Rattle.std.proofs.lemmas.List.{drop_more}
 use Rattle.std.specs.declared.alloc.Global.{Global}
@@ -29,17 +29,17 @@ use Rattle.ob0_run_cells.specs.Lowering.{Slot}
 use Rattle.ob0_run_cells.proofs.StatementsLowered.{calls_lower-holds, standard_calls_lower-holds}
 use Rattle.ob0_run_lowering.specs.Means.{LocatesAlone, LowersArgument, LowersNumber}
 use Rattle.ob0_run_lowering.specs.Scenes.{Sees, object_at, target_at}
-use Rattle.ob0_run_lowering.specs.declared.lowered.Located.{Located}
+use Rattle.ob0_run_lowering.specs.declared.lowered.TypedPlace.{TypedPlace}
 use Rattle.ob0_run_lowering.specs.declared.scene.Scene.{Scene}
 use Rattle.ob0_run_lowering.specs.LoweredBodies.{ArgumentsLower, StatementLowers, given_in}
 
--- what is called stands for something
+-- what is called means something
 found : (checked : Typed Label) (x : Label) (es : List (Tree Label expression)) (o : Option (Object Shape Signature)) → checked.stands_for x ≡ o → call_fits checked (signature_of o) es ≡ true → (p : Object Shape Signature) × (checked.stands_for x ≡ Some p)
 unfolding call_fits
 found checked x es None e h = absurd (cc)
 found checked x es (Some p) e h = (p, e)
 
--- so it stands for what its declaration is
+-- so it means what its declaration is
 module _ (scene : Scene) (x : Label) (es : Tree Label (maybe arguments)) (o : Option (Object Shape Signature)) (declared : object_at scene.types.now x ≡ o) where
   called_as : (checked : Typed Label) (slots : Label → Slot) (targets : Label → Target) → Sees scene checked slots targets → statement_fits checked (calls x es) ≡ true → checked.stands_for x ≡ o
   unfolding statement_fits
@@ -55,7 +55,7 @@ unfolding call_fits
 no_signature checked None es e h = cc
 no_signature checked (Some s) es e h = cc
 
--- what is no procedure isn't called
+-- what isn't a procedure isn't called
 pub uncallable : (scene : Scene) (x : Label) (es : Tree Label (maybe arguments)) (c : lowered.Statement) → signature_of (object_at scene.types.now x) ≡ None → StatementLowers scene c (calls x es)
 uncallable scene x es c none_there checked slots targets sees fits =
     absurd (no_signature checked (signature_of (object_at scene.types.now x)) (arguments_listed es) none_there (called_with scene x es (object_at scene.types.now x) refl checked slots targets sees fits))
@@ -119,7 +119,7 @@ module _ (scene : Scene) (x : Label) (given : Option (Vec Expression Global)) wh
       sym (ap (arguments_fit checked signature) (given_listed scene.resolved.now given))
       ∙ signed checked signature (arguments_listed written_arguments) (sym (ap (λ s. call_fits checked s (arguments_listed written_arguments)) is) ∙ called_with scene x written_arguments (Some s) declared checked slots targets sees fits)
 
-  pub read : (e : Expression) (l : Located) → slice_get (given_in given) 0 ≡ Some e → LocatesAlone scene (expression_of e) l → object_at scene.types.now x ≡ Some (a_standard reads) → StatementLowers scene (lowered.reads (place_of l.place)) (calls x written_arguments)
+  pub read : (e : Expression) (l : TypedPlace) → slice_get (given_in given) 0 ≡ Some e → LocatesAlone scene (expression_of e) l → object_at scene.types.now x ≡ Some (a_standard reads) → StatementLowers scene (lowered.reads (place_of l.place)) (calls x written_arguments)
   read e l here hl declared checked slots targets sees fits =
       let f : Formal = record { mode = by_place; shape = integer_shape } in
       let one = one_fits checked scene.resolved.now f (given_in given) e here (all_fit (a_standard reads) (f ∷ []) refl declared checked slots targets sees fits) in

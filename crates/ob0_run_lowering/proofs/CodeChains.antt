@@ -7,7 +7,7 @@ use Rattle.ob0_tree.specs.View.{items_of}
 use Rattle.ob0_scope_rules.specs.Names.{Label}
 use Rattle.ob0_scope_rules.specs.Resolution.{Resolution}
 use Rattle.ob0_types_rules.specs.InLabels.{in_labels}
-use Rattle.ob0_run_lowering.specs.Codes.{Code, Found, added, multiplied}
+use Rattle.ob0_run_lowering.specs.Codes.{Code, FoundPlace, added, multiplied}
 use Rattle.ob0_run_lowering.specs.Trees.{addends_code, factor_code, multipliers_code, selected_once, selected_place, term_code}
 use Rattle.ob0_run_lowering.specs.declared.scene.Scene.{Scene}
 
@@ -51,7 +51,7 @@ added-stepped scene c (adds o t) ts = refl
 multiplied-stepped : (scene : Scene) (c : Code) (t : Tree Label (item multiplier)) (ts : Tree Label (items multiplier)) → multipliers_code scene c (more t ts) ≡ multipliers_code scene (multiplied_once scene c t) ts
 multiplied-stepped scene c (multiplies o f) ts = refl
 
-selected-stepped : (scene : Scene) (o : Option Found) (t : Tree Label (item selector)) (ts : Tree Label (items selector)) → selected_place scene o (more t ts) ≡ selected_place scene (selected_once scene o t) ts
+selected-stepped : (scene : Scene) (o : Option FoundPlace) (t : Tree Label (item selector)) (ts : Tree Label (items selector)) → selected_place scene o (more t ts) ≡ selected_place scene (selected_once scene o t) ts
 selected-stepped scene o (field x) ts = refl
 selected-stepped scene o (index e) ts = refl
 

@@ -16,7 +16,7 @@ use Rattle.ob0_types_rules.specs.WellTyped.{Typed}
 use Rattle.ob0_values.specs.Values.{Outcome, Shape, Value, array_shape, boolean_shape, ends, gives, integer_shape, record_shape, ◌>>=◌}
 use Rattle.ob0_run_machine.specs.Lowered as lowered
 use Rattle.ob0_run_cells.specs.Cells.{size}
-use Rattle.ob0_run_cells.specs.Lowering.{Evaluated, Leads, NumberLeads, NumberMeans, Rest, Slot, TruthLeads, TruthMeans, ValueAt, addends_left, multipliers_left, value_of_expression, value_of_factor, value_of_simple, value_of_term}
+use Rattle.ob0_run_cells.specs.Lowering.{Evaluated, Leads, NumberLeads, NumberMeans, RestOfChain, Slot, TruthLeads, TruthMeans, ValueAt, addends_left, multipliers_left, value_of_expression, value_of_factor, value_of_simple, value_of_term}
 use Rattle.ob0_run_cells.proofs.Lowered.{addends_lower-holds, conjunctions_lower-holds, disjunctions_lower-holds, expressions_lower-holds, negations_lower-holds, operators_end-holds, parentheses_lower-holds, products_lower-holds, relations_lower-holds, sums_lower-holds, terms_lower-holds}
 use Rattle.ob0_run_cells.proofs.LoweredOutcomes.{gives-then}
 use Rattle.ob0_run_lowering.specs.Codes.{Code, CodeMeans, a_block, a_number, a_truth, added, multiplied, negated, no_code, related, signed}
@@ -25,7 +25,7 @@ pub some_inj : {A : Type 0} {x y : A} → Some x ≡ Some y → x ≡ y
 some_inj e = cc
 
 -- a code so far, and what is left of a chain
-abbrev pub CodeLeads : Typed Label → (Label → Slot) → Code → Shape → Rest Label Value → Evaluated Label Value → Type 0
+abbrev pub CodeLeads : Typed Label → (Label → Slot) → Code → Shape → RestOfChain Label Value → Evaluated Label Value → Type 0
 CodeLeads checked slots (a_number n) integer_shape rest whole = NumberLeads checked slots n rest whole
 CodeLeads checked slots (a_truth t) boolean_shape rest whole = TruthLeads checked slots t rest whole
 CodeLeads checked slots (a_block q n) (array_shape k m s) rest whole = (n ≡ size (array_shape k m s)) × Leads checked slots (ValueAt checked slots q (array_shape k m s)) rest whole
@@ -50,13 +50,13 @@ module _ (checked : Typed Label) (slots : Label → Slot) where
   truth-code (a_block q n) value h = absurd h
   truth-code no_code value h = absurd h
 
-  pub number-leads : (c : Code) (rest : Rest Label Value) (whole : Evaluated Label Value) → CodeLeads checked slots c integer_shape rest whole → (n : lowered.Number) × (c ≡ a_number n) × NumberLeads checked slots n rest whole
+  pub number-leads : (c : Code) (rest : RestOfChain Label Value) (whole : Evaluated Label Value) → CodeLeads checked slots c integer_shape rest whole → (n : lowered.Number) × (c ≡ a_number n) × NumberLeads checked slots n rest whole
   number-leads (a_number n) rest whole h = (n, refl, h)
   number-leads (a_truth t) rest whole h = absurd h
   number-leads (a_block q n) rest whole h = absurd h
   number-leads no_code rest whole h = absurd h
 
-  pub truth-leads : (c : Code) (rest : Rest Label Value) (whole : Evaluated Label Value) → CodeLeads checked slots c boolean_shape rest whole → (t : lowered.Truth) × (c ≡ a_truth t) × TruthLeads checked slots t rest whole
+  pub truth-leads : (c : Code) (rest : RestOfChain Label Value) (whole : Evaluated Label Value) → CodeLeads checked slots c boolean_shape rest whole → (t : lowered.Truth) × (c ≡ a_truth t) × TruthLeads checked slots t rest whole
   truth-leads (a_number n) rest whole h = absurd h
   truth-leads (a_truth t) rest whole h = (t, refl, h)
   truth-leads (a_block q n) rest whole h = absurd h
@@ -203,7 +203,7 @@ module _ (checked : Typed Label) (slots : Label → Slot) where
 
   -- where nothing is left, what was found is the whole
 
-  value-whole : (q : lowered.Place) (s : Shape) (rest : Rest Label Value) (whole : Evaluated Label Value) → ((z : _) (v : Value) → rest z v ≡ gives v) → Leads checked slots (ValueAt checked slots q s) rest whole → ValueAt checked slots q s whole
+  value-whole : (q : lowered.Place) (s : Shape) (rest : RestOfChain Label Value) (whole : Evaluated Label Value) → ((z : _) (v : Value) → rest z v ≡ gives v) → Leads checked slots (ValueAt checked slots q s) rest whole → ValueAt checked slots q s whole
   value-whole q s rest whole ends_here h =
       let (v, hv, ev) = h in
       (hv.0, hv.1, λ z shown. sym (ev z shown) ∙ given-end (v z) (rest z) (ends_here z) ∙ hv.2 z shown)
@@ -212,7 +212,7 @@ module _ (checked : Typed Label) (slots : Label → Slot) where
       given-end (gives v) k h = h v
       given-end (ends x) k h = refl
 
-  pub leads-end : (c : Code) (x : Shape) (rest : Rest Label Value) (whole : Evaluated Label Value) → ((z : _) (v : Value) → rest z v ≡ gives v)
+  pub leads-end : (c : Code) (x : Shape) (rest : RestOfChain Label Value) (whole : Evaluated Label Value) → ((z : _) (v : Value) → rest z v ≡ gives v)
       → ((n : lowered.Number) → NumberLeads checked slots n rest whole → NumberMeans checked slots n whole) → ((t : lowered.Truth) → TruthLeads checked slots t rest whole → TruthMeans checked slots t whole)
       → CodeLeads checked slots c x rest whole → CodeMeans checked slots c x whole
   leads-end (a_number n) integer_shape rest whole ends_here numbers truths h = numbers n h
@@ -241,7 +241,7 @@ module _ (checked : Typed Label) (slots : Label → Slot) where
       let ended = operators_end-holds checked slots whole in
       leads-end c x (multipliers_left end) whole (λ z v. refl) (λ n. ended.0 n) (λ t. ended.2 t) h
 
-  -- an expression without a relation is its sum, and what stands in parentheses is worth the same
+  -- an expression without a relation is its sum, and what is in parentheses evaluates to the same
 
   pub alone-means : (c : Code) (s : Shape) (a : Tree Label simple) → CodeMeans checked slots c s (value_of_simple a) → CodeMeans checked slots c s (value_of_expression (compares a none))
   unfolding evaluate

@@ -21,7 +21,7 @@ use Rattle.ob0_run_lowering.specs.declared.scene.Scene.{Scene}
 use Rattle.ob0_run_lowering.specs.LoweredBodies.{BodyLowers, ConditionLowers, ElseLowers, ElsifsLower, FurtherLower, SequenceLowers, StatementLowers}
 
 module _ (scene : Scene) where
-  -- sequences, from the front
+  -- sequences, from the beginning
   pub none-left : FurtherLower scene lowered.no_statement end
   none-left checked slots targets sees fits = sequences_end-holds checked slots targets
 

@@ -14,11 +14,11 @@ use Rattle.ob0_types_table.specs.FieldPlaces.{field_selected, place_of_field}
 use Rattle.ob0_types_table.specs.Tables.{fields_shape, made_shape, no_shape, object_in, only_array, only_record, shapes_from, type_shape}
 use Rattle.ob0_types_table.proofs.Tables.{shapes_from-push}
 use Rattle.ob0_types_table.specs.declared.known.FieldOf.{FieldOf}
-use Rattle.ob0_types_table.specs.declared.known.Shape as code
+use Rattle.ob0_types_table.specs.declared.known.TypeEntry as code
 use Rattle.ob0_types_table.specs.declared.known.Field.{Field}
 use Rattle.ob0_values.specs.Values.{FieldShapes, Shape, array_shape, boolean_shape, integer_shape, next_field_shape, no_field_shape, number, record_shape}
 use Rattle.ob0_run_cells.specs.Cells.{field_offset, field_sizes, size}
-use Rattle.ob0_run_lowering.specs.Layouts.{AreLaidOut, LaysOut, LayOut, RecordAt, offsets_from}
+use Rattle.ob0_run_lowering.specs.Layouts.{AreLaidOut, HasLayout, LayOut, RecordAt, offsets_from}
 use Rattle.ob0_run_lowering.specs.declared.types.Layout.{Layout}
 use Rattle.ob0_run_lowering.specs.declared.types.Layout.TheVariants as layout
 use Rattle.ob0_run_lowering.specs.declared.types.RecordLayout.{RecordLayout}
@@ -30,7 +30,7 @@ array_size None = 0
 array_size (Some (layout.Array cells)) = cells
 array_size (Some (layout.Record r)) = 0
 
-array-entry : (s : Shape) (l : Layout) → LaysOut s l → array_size (Some l) ≡ size (only_array s)
+array-entry : (s : Shape) (l : Layout) → HasLayout s l → array_size (Some l) ≡ size (only_array s)
 array-entry (array_shape k n s) (layout.Array cells) h = h
 array-entry (record_shape k fs) (layout.Record r) h = refl
 array-entry integer_shape (layout.Array cells) h = absurd h
@@ -53,7 +53,7 @@ HasRecord (Some (layout.Record r)) s = (k : ℕ) × (fs : FieldShapes) × (s ≡
 HasRecord (Some (layout.Array cells)) s = s ≡ no_shape
 HasRecord None s = s ≡ no_shape
 
-record-entry : (s : Shape) (l : Layout) → LaysOut s l → HasRecord (Some l) (only_record s)
+record-entry : (s : Shape) (l : Layout) → HasLayout s l → HasRecord (Some l) (only_record s)
 record-entry (array_shape k n s) (layout.Array cells) h = refl
 record-entry (record_shape k fs) (layout.Record r) h = (k, fs, refl, h)
 record-entry integer_shape (layout.Array cells) h = absurd h
@@ -71,7 +71,7 @@ record-there [] (l ∷ layouts) i h = absurd h
 record-there (s ∷ shapes) [] i h = absurd h
 
 -- one more entry
-pub one_more : (shapes : List Shape) (layouts : List Layout) (s : Shape) (l : Layout) → LayOut shapes layouts → LaysOut s l → LayOut (shapes ++ s ∷ []) (layouts ++ l ∷ [])
+pub one_more : (shapes : List Shape) (layouts : List Layout) (s : Shape) (l : Layout) → LayOut shapes layouts → HasLayout s l → LayOut (shapes ++ s ∷ []) (layouts ++ l ∷ [])
 one_more [] [] s l h more = (more, tt)
 one_more (t ∷ shapes) (m ∷ layouts) s l h more = (h.0, one_more shapes layouts s l h.1 more)
 one_more [] (m ∷ layouts) s l h more = absurd h
@@ -134,15 +134,15 @@ laid_ends {shapes} {fields} {done} {cells} {offsets} h all =
     )
 
 -- the types so far
-pub table_goes_on : (entries : List code.Shape) (done : ℕ) (layouts : List Layout) (x : code.Shape) (next : Layout) (read layouts' : List Layout) → LayOut (shapes_from [] (take done entries)) layouts → done < length entries → x ≡ get_or entries done x
-    → read ≡ layouts → ((shapes : List Shape) → LayOut shapes read → LaysOut (made_shape shapes x) next) → layouts' ≡ layouts ++ next ∷ [] → LayOut (shapes_from [] (take (done + 1) entries)) layouts'
+pub table_goes_on : (entries : List code.TypeEntry) (done : ℕ) (layouts : List Layout) (x : code.TypeEntry) (next : Layout) (read layouts' : List Layout) → LayOut (shapes_from [] (take done entries)) layouts → done < length entries → x ≡ get_or entries done x
+    → read ≡ layouts → ((shapes : List Shape) → LayOut shapes read → HasLayout (made_shape shapes x) next) → layouts' ≡ layouts ++ next ∷ [] → LayOut (shapes_from [] (take (done + 1) entries)) layouts'
 table_goes_on entries done layouts x next read layouts' h less here same made pushed =
     let so_far = shapes_from [] (take done entries) in
     let split : take (done + 1) entries ≡ take done entries ++ x ∷ [] = ap (λ n. take n entries) (add-one done) ∙ take-suc entries done x less ∙ ap (λ y. take done entries ++ y ∷ []) (sym here) in
     let shapes : shapes_from [] (take (done + 1) entries) ≡ so_far ++ made_shape so_far x ∷ [] = ap (shapes_from []) split ∙ shapes_from-push [] (take done entries) x in
     subst (λ ss. LayOut ss layouts') (sym shapes) (subst (λ ls. LayOut (so_far ++ made_shape so_far x ∷ []) ls) (sym pushed) (one_more so_far layouts (made_shape so_far x) next h (made so_far (subst (λ ls. LayOut so_far ls) (sym same) h))))
 
-pub table_ends : (entries : List code.Shape) (done : ℕ) (layouts : List Layout) (all : List code.Shape) → LayOut (shapes_from [] (take done entries)) layouts → length entries ≤ done → entries ≡ all → LayOut (shapes_from [] all) layouts
+pub table_ends : (entries : List code.TypeEntry) (done : ℕ) (layouts : List Layout) (all : List code.TypeEntry) → LayOut (shapes_from [] (take done entries)) layouts → length entries ≤ done → entries ≡ all → LayOut (shapes_from [] all) layouts
 table_ends entries done layouts all h past same = subst (λ es. LayOut (shapes_from [] es) layouts) (take_all done entries past ∙ same) h
 
 -- where a field of a record begins

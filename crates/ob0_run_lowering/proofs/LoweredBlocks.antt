@@ -36,10 +36,10 @@ use Rattle.ob0_run_lowering.specs.declared.scene.Scene.{Scene}
 use Rattle.ob0_run_lowering.specs.declared.scene.Site.TheVariants as site
 use Rattle.ob0_run_lowering.specs.KnownBlocks.{AreDeclared, BlockDeclared, Objects}
 use Rattle.ob0_run_lowering.specs.Blocks.{Goes, Grown, Later, LowersBlock, Ready, BlockState}
-use Rattle.ob0_run_lowering.specs.Placed.{Follows, GoesBack, Holds, IsFrame, Matches, Places, declared_size, place_groups, place_sections, put_at, slots_at}
+use Rattle.ob0_run_lowering.specs.Placed.{Follows, IsRestored, LocatesAll, IsFrame, Matches, Places, declared_size, place_groups, place_sections, put_at, slots_at}
 use Rattle.ob0_run_lowering.specs.declared.programs.Lowering.{Lowering}
-use Rattle.ob0_run_lowering.specs.declared.sight.Frame.{Frame}
-use Rattle.ob0_run_lowering.specs.declared.sight.Sight.{Sight}
+use Rattle.ob0_run_lowering.specs.declared.visible_sites.Frame.{Frame}
+use Rattle.ob0_run_lowering.specs.declared.visible_sites.VisibleSites.{VisibleSites}
 use Rattle.ob0_run_lowering.proofs.DeclaredBlocks.{module-declared}
 use Rattle.ob0_run_lowering.proofs.Placings.{first_match, groups_match, groups_placed, holds_bound, holds_hidden, holds_inward, holds_same, matches_inward, parameters_match, sections_placed, sees, typed_before}
 use Rattle.ob0_run_lowering.proofs.Sights.{follows_back, follows_itself, follows_then}
@@ -119,8 +119,8 @@ pub record IsProcedure (t : Tables) (w v u after : Lowering) (depth index : ℕ)
   pub announced : Follows w.sight v.sight
   pub pushed : (e : Procedure) × (v.procedures.items ≡ w.procedures.items ++ e ∷ [])
   pub first_is : first ≡ record { depth = suc depth; cells = 0; lent = 0 }
-  pub placed : (inside : Sight) × Places v.sight inside first (place_sections (slots_at first.depth) (declared_size t) (formal_sections fs)) f × LowersBlock t (record { sight = inside; procedures = v.procedures; most = v.most }) u f b entry
-  pub back : GoesBack v.sight u.sight after.sight
+  pub placed : (inside : VisibleSites) × Places v.sight inside first (place_sections (slots_at first.depth) (declared_size t) (formal_sections fs)) f × LowersBlock t (record { sight = inside; procedures = v.procedures; most = v.most }) u f b entry
+  pub back : IsRestored v.sight u.sight after.sight
   pub kept : after.procedures.items ≡ set u.procedures.items index entry
   pub most_announced : v.most ≡ w.most
   pub most_kept : after.most ≡ u.most
@@ -147,12 +147,12 @@ procedure_goes t w v u after depth index o name fs b closing rest first f entry 
           let outer : Placing Label = (x, own_target index) ∷ s.placing in
           let none : depth - depth ≡ 0 = omega arith in
           let seen : seen_from depth (site.Procedure depth index) ≡ own_target index = ap (λ n. at_target (record { procedure = index; up = n })) none in
-          let held_there : Holds v.sight.sites.items depth outer = holds_bound w.sight.sites.items v.sight.sites.items depth s.placing o name (site.Procedure depth index) (own_target index) (le_refl depth, seen) is.sites ready.holds in
+          let held_there : LocatesAll v.sight.sites.items depth outer = holds_bound w.sight.sites.items v.sight.sites.items depth s.placing o name (site.Procedure depth index) (own_target index) (le_refl depth, seen) is.sites ready.holds in
           let matched : Matches headed outer = (refl, (record { procedure = index; up = 0 }, refl), ready.matches) in
           let now : BlockState = record { env = headed; placing = outer; next = s.next + procedure_constructors (declares_procedure x fs b closing) } in
           let empty : Placed Label = record { placing = inward outer; cells = 0; lent_places = 0 } in
           let begun : IsFrame v.sight.sites.items first empty = record {
-            holds = subst (λ d. Holds v.sight.sites.items d (inward outer)) (sym deep) (holds_inward v.sight.sites.items depth outer held_there);
+            holds = subst (λ d. LocatesAll v.sight.sites.items d (inward outer)) (sym deep) (holds_inward v.sight.sites.items depth outer held_there);
             cells = ap (λ (z : Frame). z.cells) is.first_is;
             lent_places = ap (λ (z : Frame). z.lent) is.first_is;
           } in
@@ -193,7 +193,7 @@ body-fits : (env : TypeEnvironment Label) (k : ℕ) (statements : Tree Label (ma
 unfolding block_fits
 body-fits env k statements h = h
 
-pub block_lowers : (t : Tables) (w v : Lowering) (inside : Sight) (cs : Tree Label (maybe constants)) (ts : Tree Label (maybe type_names)) (vs : Tree Label (maybe variables)) (ps : Tree Label (items procedure)) (statements : Tree Label (maybe body)) (f own : Frame) (scene : Scene) (entry : Procedure)
+pub block_lowers : (t : Tables) (w v : Lowering) (inside : VisibleSites) (cs : Tree Label (maybe constants)) (ts : Tree Label (maybe type_names)) (vs : Tree Label (maybe variables)) (ps : Tree Label (items procedure)) (statements : Tree Label (maybe body)) (f own : Frame) (scene : Scene) (entry : Procedure)
     → Places w.sight inside f (place_groups (slots_at f.depth) (declared_size t) (section_variables vs)) own → (m : ℕ) → w.most ≤ m → own.cells ≤ m → Goes t (record { sight = inside; procedures = w.procedures; most = m }) v own.depth ps end
     → scene.types.now ≡ t → scene.sites.now ≡ v.sight.sites.items → scene.depth ≡ own.depth → BodyLowers scene (sequence_of entry.body.items) statements → entry.cells ≡ own.cells - f.cells
     → LowersBlock t w v f (has_body (declares cs ts vs ps) statements) entry
@@ -222,7 +222,7 @@ block_lowers t w v inside cs ts vs ps statements f own scene entry places m grow
       let now : BlockState = gone.0 in
       let last = gone.1 in
       let seen = sees scene now.env now.placing (subst (λ z. AreDeclared (declared_in z) now.env) (sym types) last.declared_there) last.matches
-      (subst (λ d. Holds scene.sites.now d now.placing) (sym deep) (subst (λ xs. Holds xs own.depth now.placing) (sym sites) last.holds)) in (
+      (subst (λ d. LocatesAll scene.sites.now d now.placing) (sym deep) (subst (λ xs. LocatesAll xs own.depth now.placing) (sym sites) last.holds)) in (
         first,
         inner,
         q,
@@ -248,7 +248,7 @@ goes_on t w v u d r xs done x all a less here b =
     goes_then t w v u d all (in_labels r (items_of tree_procedure_of (drop done xs))) rest a
     (subst (λ ys. Goes t v u d (in_labels r (items_of tree_procedure_of ys)) rest) (sym (split done xs x less here)) (b rest))
 
-pub block_means : (t : Tables) (w v : Lowering) (inside : Sight) (b : tree_block.Block) (xs : List tree.Procedure) (done : ℕ) (f own : Frame) (scene : Scene) (entry : Procedure) (r : Resolution)
+pub block_means : (t : Tables) (w v : Lowering) (inside : VisibleSites) (b : tree_block.Block) (xs : List tree.Procedure) (done : ℕ) (f own : Frame) (scene : Scene) (entry : Procedure) (r : Resolution)
     → Places w.sight inside f (place_groups (slots_at f.depth) (declared_size t) (section_variables (in_labels r (variables_of (tree_block.out-Block b).variables)))) own
     → (m : ℕ) → w.most ≤ m → own.cells ≤ m
     → Goes t (record { sight = inside; procedures = w.procedures; most = m }) v own.depth (in_labels r (items_of tree_procedure_of xs)) (in_labels r (items_of tree_procedure_of (drop done xs))) → length xs ≤ done → xs ≡ (tree_block.out-Block b).procedures.items
@@ -275,7 +275,7 @@ procedure_means t w v u after depth index p r first f entry rest is =
 outermost-matches : Matches (outermost as_labels) (outermost_placing as_labels)
 outermost-matches = (refl, tt, (refl, tt, (refl, tt, (refl, tt, (refl, tt, (refl, tt, (refl, tt, tt)))))))
 
-outermost-holds : Holds [] 0 (outermost_placing as_labels)
+outermost-holds : LocatesAll [] 0 (outermost_placing as_labels)
 outermost-holds = holds_hidden [] 0 (as_labels.predeclared 0 ∷ as_labels.predeclared 1 ∷ as_labels.predeclared 2 ∷ as_labels.predeclared 3 ∷ as_labels.predeclared 4 ∷ as_labels.predeclared 5 ∷ as_labels.predeclared 6 ∷ []) [] (λ k. tt)
 
 all-later : (ps : List Procedure) → Later (map procedure_of ps) 0 ps
@@ -294,6 +294,6 @@ program_means t m w v b entry program well known is sites procedures lowers made
     subst (ProgramMeans v.most as_labels (numbered m)) (sym made)
     (subst (λ z. BlockMeans (map procedure_of v.procedures.items) v.most as_labels of_module (outermost as_labels) start 0 entry.cells (sequence_of entry.body.items) z) (sym is)
     (lowers.means (outermost as_labels) start 0 outermost-matches
-    (record { holds = subst (λ xs. Holds xs 0 (outermost_placing as_labels)) (sym sites) outermost-holds; cells = refl; lent_places = refl })
+    (record { holds = subst (λ xs. LocatesAll xs 0 (outermost_placing as_labels)) (sym sites) outermost-holds; cells = refl; lent_places = refl })
     (subst (λ z. block_fits as_labels (outermost as_labels) 0 z ≡ true) is (module-fits m well)) (subst (λ z. BlockDeclared (declared_in t) (outermost as_labels) 0 z) is known_blocks)
     (map procedure_of v.procedures.items) v.most (le_refl v.most) (λ i e le get. all-later v.procedures.items i e (omega arith) get)))

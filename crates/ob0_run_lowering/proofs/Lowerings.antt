@@ -28,12 +28,12 @@ use Rattle.ob0_run_machine.specs.declared.code.Truth.{Truth}
 use Rattle.ob0_run_cells.specs.Cells.{size}
 use Rattle.ob0_run_cells.specs.LoweredStatements.{ArgumentMeans, IsAt}
 use Rattle.ob0_run_cells.specs.Lowering.{NumberMeans, PlaceMeans, Slot, TruthMeans, ValueAt, place_of_designator, value_of_expression}
-use Rattle.ob0_run_lowering.specs.Codes.{Code, CodeMeans, Found, a_block, a_number, a_truth, no_code}
+use Rattle.ob0_run_lowering.specs.Codes.{Code, CodeMeans, FoundPlace, a_block, a_number, a_truth, no_code}
 use Rattle.ob0_run_lowering.specs.Means.{Locates, LocatesAlone, Lowers, LowersArgument, LowersNumber, LowersTruth}
 use Rattle.ob0_run_lowering.specs.Parts.{IsNumberOf, IsPlaceOf, IsTruthOf, IsValueOf}
 use Rattle.ob0_run_lowering.specs.Scenes.{HasSmall, Sees, object_at}
 use Rattle.ob0_run_lowering.specs.Trees.{base_found, code_of, expression_code, found_of, selected_place}
-use Rattle.ob0_run_lowering.specs.declared.lowered.Located.{Located}
+use Rattle.ob0_run_lowering.specs.declared.lowered.TypedPlace.{TypedPlace}
 use Rattle.ob0_run_lowering.specs.declared.lowered.Lowered.{Lowered}
 use Rattle.ob0_run_lowering.specs.declared.lowered.Lowered.TheVariants as code
 use Rattle.ob0_run_lowering.specs.declared.scene.Scene.{Scene}
@@ -90,13 +90,13 @@ variable-typed checked x path s (Some (a_constant v)) e h = let none : None ≡ 
 variable-typed checked x path s (Some (a_procedure p)) e h = let none : None ≡ Some s = sym (ap (λ (o : Option (Object Shape Signature)). elim o [ Some (a_variable s) ↦ type_at checked s path | _ ↦ None ]) e) ∙ h in absurd (cc)
 variable-typed checked x path s (Some (a_standard p)) e h = let none : None ≡ Some s = sym (ap (λ (o : Option (Object Shape Signature)). elim o [ Some (a_variable s) ↦ type_at checked s path | _ ↦ None ]) e) ∙ h in absurd (cc)
 
-there : (shapes : List Shape) (found : Option Located) (l : Located) (q : lowered.Place) (s : Shape) → IsPlaceOf found l → option_map (found_of shapes) found ≡ Some (record { place = q; shape = s }) → (place_of l.place ≡ q) × (type_shape shapes l.of ≡ s)
+there : (shapes : List Shape) (found : Option TypedPlace) (l : TypedPlace) (q : lowered.Place) (s : Shape) → IsPlaceOf found l → option_map (found_of shapes) found ≡ Some (record { place = q; shape = s }) → (place_of l.place ≡ q) × (type_shape shapes l.of ≡ s)
 there shapes None l q s same h = absurd (cc)
 there shapes (Some m) l q s same h =
     let both : found_of shapes l ≡ record { place = q; shape = s } = ap (found_of shapes) (sym same) ∙ some_inj h in
-    (ap (λ (f : Found). f.place) both, ap (λ (f : Found). f.shape) both)
+    (ap (λ (f : FoundPlace). f.place) both, ap (λ (f : FoundPlace). f.shape) both)
 
-pub locates-by : (scene : Scene) (x : ℕ) (path : Tree ℕ (items selector)) (found : Option Located) (l : Located) → HasSmall scene → IsPlaceOf found l
+pub locates-by : (scene : Scene) (x : ℕ) (path : Tree ℕ (items selector)) (found : Option TypedPlace) (l : TypedPlace) → HasSmall scene → IsPlaceOf found l
     → option_map (found_of (shapes_of scene.types.now)) found ≡ selected_place scene (base_found scene (label_in scene.resolved.now x)) (in_labels scene.resolved.now path) → Locates scene x path l
 locates-by scene x path found l small same h checked slots targets sees s typed =
     let y = label_in scene.resolved.now x in
@@ -105,7 +105,7 @@ locates-by scene x path found l small same h checked slots targets sees s typed 
     let (place, shape) = there (shapes_of scene.types.now) found l q s same (h ∙ eq) in
     (shape, subst (λ q. PlaceMeans checked slots q s (place_of_designator y (in_labels scene.resolved.now path))) (sym place) hq)
 
-pub alone-by : (scene : Scene) (e : Tree ℕ expression) (x : ℕ) (path : Tree ℕ (items selector)) (l : Located) → designated (in_labels scene.resolved.now e) ≡ Some (label_in scene.resolved.now x, in_labels scene.resolved.now path) → Locates scene x path l → LocatesAlone scene e l
+pub alone-by : (scene : Scene) (e : Tree ℕ expression) (x : ℕ) (path : Tree ℕ (items selector)) (l : TypedPlace) → designated (in_labels scene.resolved.now e) ≡ Some (label_in scene.resolved.now x, in_labels scene.resolved.now path) → Locates scene x path l → LocatesAlone scene e l
 alone-by scene e x path l is h checked slots targets sees s typed =
     let y = label_in scene.resolved.now x in
     let there = ap (variable_type checked) (sym is) ∙ typed in
@@ -117,7 +117,7 @@ nothing-typed : (checked : Typed Label) (s : Shape) → variable_type checked No
 unfolding variable_type
 nothing-typed checked s h = absurd (cc)
 
-pub alone-not : (scene : Scene) (e : Tree ℕ expression) (l : Located) → designated (in_labels scene.resolved.now e) ≡ None → LocatesAlone scene e l
+pub alone-not : (scene : Scene) (e : Tree ℕ expression) (l : TypedPlace) → designated (in_labels scene.resolved.now e) ≡ None → LocatesAlone scene e l
 alone-not scene e l is checked slots targets sees s typed = absurd (nothing-typed checked s (ap (variable_type checked) (sym is) ∙ typed))
 
 -- arguments
@@ -134,7 +134,7 @@ fits-place : (checked : Typed Label) (f : typing.Formal) (e : Tree Label express
 unfolding argument_fits
 fits-place checked f e mode h = agreed f.shape (variable_type checked (designated e)) (sym (ap (λ (m : Mode). agree (Some f.shape) (elim m [ by_value ↦ type_of checked e | by_place ↦ variable_type checked (designated e) ])) mode) ∙ h)
 
-pub place-argument : (scene : Scene) (f : Formal) (e : Tree ℕ expression) (l : Located) → f.by_place ≡ true → LocatesAlone scene e l → LowersArgument scene f e (argument.Place l.place)
+pub place-argument : (scene : Scene) (f : Formal) (e : Tree ℕ expression) (l : TypedPlace) → f.by_place ≡ true → LocatesAlone scene e l → LowersArgument scene f e (argument.Place l.place)
 place-argument scene f e l by h checked slots targets sees fits =
     let formal = formal_in (shapes_of scene.types.now) f in
     let mode : formal.mode ≡ by_place = ap mode_of by in

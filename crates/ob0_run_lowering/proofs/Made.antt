@@ -1,4 +1,4 @@
--- Code that is made in a loop, from the front: with the code of what is left, what was made so far is the code of the whole.
+-- Code that is made in a loop, from the beginning: with the code of what is left, what was made so far is the code of the whole.
 use Rattle.std.proofs.Common.{◌≡◌, ℕ, ◌+◌, ◌<◌, ◌≤◌, List, [], ◌∷◌, ◌++◌, length, get_or, drop, Some, None, Option, option_map, option_to_list, refl, sym, ap, ◌∙◌, subst}
 use Rattle.std.proofs.lemmas.List.{drop_all, drop_more}
 use Rattle.std.specs.declared.alloc.Global.{Global}
@@ -21,7 +21,7 @@ use Rattle.ob0_run_lowering.specs.declared.scene.Scene.{Scene}
 use Rattle.ob0_run_lowering.specs.LoweredBodies.{CodeLowers, ConditionLowers, ElseLowers, ElsifsLower, FurtherLower, SequenceLowers, StatementLowers}
 use Rattle.ob0_run_lowering.proofs.InScene.{branches-lower, else-lowers, elsif-lowers, empty-alone, empty-more, from-first, no-else, no-elsif, none-left, one-more}
 
--- statements, with code behind them
+-- statements, with code after them
 abbrev pub joined : List code.Statement → lowered.Statements → lowered.Statements
 joined [] cs = cs
 joined (s ∷ ss) cs = lowered.before (statement_of s) (joined ss cs)
@@ -30,7 +30,7 @@ joined-alone : (ss : List code.Statement) → joined ss lowered.no_statement ≡
 joined-alone [] = refl
 joined-alone (x ∷ ss) = ap (lowered.before (statement_of x)) (joined-alone ss)
 
--- branches, with branches behind them
+-- branches, with branches after them
 abbrev pub all_joined : List branch.Branch → lowered.Branches → lowered.Branches
 all_joined [] bs = bs
 all_joined (b ∷ rest) bs = lowered.branch (truth_of b.condition) (sequence_of b.body.items) (all_joined rest bs)

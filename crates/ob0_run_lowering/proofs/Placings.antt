@@ -1,4 +1,4 @@
--- Where what is in sight is placed, and what the code's table has of it.
+-- Where what is in scope is placed, and what the code's table has of it.
 use Rattle.std.proofs.Common.{◌≡◌, ℕ, suc, ◌+◌, ◌-◌, ◌≤◌, ◌==◌, Bool, true, false, List, [], ◌∷◌, ◌++◌, map, Some, None, Option, option_and_then, if◌then◌else◌, refl, sym, ap, ◌∙◌, subst, arith, eqb-true, true≢false}
 use Rattle.ob0_tree.specs.Tree.{Tree, block, constant, declares_constant, declares_type, declares_variable, end, further_section, items, more, section, then_section, type_name, variable}
 use Rattle.ob0_scope_rules.specs.Names.{Label, Name, as_labels, as_names, as_written, declared, same_label}
@@ -22,32 +22,32 @@ use Rattle.ob0_run_lowering.specs.declared.scene.Scene.{Scene}
 use Rattle.ob0_run_lowering.specs.declared.scene.Site.{Site}
 use Rattle.ob0_run_lowering.specs.declared.scene.Site.TheVariants as site
 use Rattle.ob0_run_lowering.specs.KnownBlocks.{AreDeclared, Objects}
-use Rattle.ob0_run_lowering.specs.Placed.{Holds, Matches, Suits, Tells, declared_size, first_placed, found, place_each, place_groups, place_one, place_sections, put_at, shape_size, site_depth}
+use Rattle.ob0_run_lowering.specs.Placed.{LocatesAll, Matches, Suits, LocatesAs, declared_size, first_placed, found, place_each, place_groups, place_one, place_sections, put_at, shape_size, site_depth}
 
 -- bindings
 
-pub holds_bound : (sites later : List Site) (d : ℕ) (placing : Placing Label) (o : Option ℕ) (name : Name) (s : Site) (w : Whereabouts) → Tells d s w → ((k : ℕ) → site_at later k ≡ put_at o s (site_at sites) k) → Holds sites d placing → Holds later d ((as_label as_names o name, w) ∷ placing)
-holds_bound sites later d placing None name s w new put h = λ k. subst (λ z. Tells d z (found placing (declared k))) (sym (put k)) (h k)
+pub holds_bound : (sites later : List Site) (d : ℕ) (placing : Placing Label) (o : Option ℕ) (name : Name) (s : Site) (w : Whereabouts) → LocatesAs d s w → ((k : ℕ) → site_at later k ≡ put_at o s (site_at sites) k) → LocatesAll sites d placing → LocatesAll later d ((as_label as_names o name, w) ∷ placing)
+holds_bound sites later d placing None name s w new put h = λ k. subst (λ z. LocatesAs d z (found placing (declared k))) (sym (put k)) (h k)
 holds_bound sites later d placing (Some j) name s w new put h = λ k.
-    subst (λ z. Tells d z (found ((declared j, w) ∷ placing) (declared k))) (sym (put k))
+    subst (λ z. LocatesAs d z (found ((declared j, w) ∷ placing) (declared k))) (sym (put k))
     (by k (k == j))
   where
-    by : (k : ℕ) (t : Bool) → Tells d (if t then s else site_at sites k) (first_placed (elim t [ true ↦ (declared j, w) ∷ placing | false ↦ from_name as_labels placing (declared k) ]))
+    by : (k : ℕ) (t : Bool) → LocatesAs d (if t then s else site_at sites k) (first_placed (elim t [ true ↦ (declared j, w) ∷ placing | false ↦ from_name as_labels placing (declared k) ]))
     by k true = new
     by k false = h k
 
-pub holds_same : (sites later : List Site) (d : ℕ) (placing : Placing Label) → ((k : ℕ) → site_at later k ≡ site_at sites k) → Holds sites d placing → Holds later d placing
-holds_same sites later d placing same h = λ k. subst (λ z. Tells d z (found placing (declared k))) (sym (same k)) (h k)
+pub holds_same : (sites later : List Site) (d : ℕ) (placing : Placing Label) → ((k : ℕ) → site_at later k ≡ site_at sites k) → LocatesAll sites d placing → LocatesAll later d placing
+holds_same sites later d placing same h = λ k. subst (λ z. LocatesAs d z (found placing (declared k))) (sym (same k)) (h k)
 
 -- what is nowhere needs no site
-holds_nowhere : (sites : List Site) (d : ℕ) (x : Label) (placing : Placing Label) → Holds sites d placing → Holds sites d ((x, nowhere) ∷ placing)
+holds_nowhere : (sites : List Site) (d : ℕ) (x : Label) (placing : Placing Label) → LocatesAll sites d placing → LocatesAll sites d ((x, nowhere) ∷ placing)
 holds_nowhere sites d x placing h = λ k. by k (same_label (declared k) x)
   where
-    by : (k : ℕ) (t : Bool) → Tells d (site_at sites k) (first_placed (elim t [ true ↦ (x, nowhere) ∷ placing | false ↦ from_name as_labels placing (declared k) ]))
+    by : (k : ℕ) (t : Bool) → LocatesAs d (site_at sites k) (first_placed (elim t [ true ↦ (x, nowhere) ∷ placing | false ↦ from_name as_labels placing (declared k) ]))
     by k true = tt
     by k false = h k
 
-pub holds_hidden : (sites : List Site) (d : ℕ) (xs : List Label) (placing : Placing Label) → Holds sites d placing → Holds sites d (hide_names xs placing)
+pub holds_hidden : (sites : List Site) (d : ℕ) (xs : List Label) (placing : Placing Label) → LocatesAll sites d placing → LocatesAll sites d (hide_names xs placing)
 holds_hidden sites d [] placing h = h
 holds_hidden sites d (x ∷ xs) placing h = holds_hidden sites d xs ((x, nowhere) ∷ placing) (holds_nowhere sites d x placing h)
 
@@ -60,7 +60,7 @@ seen_inward d (site.Held at offset) le = let e : suc d - at ≡ suc (d - at) = o
 seen_inward d (site.Lent at index) le = let e : suc d - at ≡ suc (d - at) = omega arith in ap (λ up. in_slot (lent up index)) e
 seen_inward d (site.Procedure at index) le = let e : suc d - at ≡ suc (d - at) = omega arith in ap (λ up. at_target (record { procedure = index; up = up })) e
 
-tells_inward : (d : ℕ) (s : Site) (w : Whereabouts) → Tells d s w → Tells (suc d) s (inward_whereabouts w)
+tells_inward : (d : ℕ) (s : Site) (w : Whereabouts) → LocatesAs d s w → LocatesAs (suc d) s (inward_whereabouts w)
 tells_inward d s nowhere h = tt
 tells_inward d s (in_slot slot) h = (omega (arith, h.0), seen_inward d s h.0 ∙ ap inward_whereabouts h.1)
 tells_inward d s (at_target t) h = (omega (arith, h.0), seen_inward d s h.0 ∙ ap inward_whereabouts h.1)
@@ -71,8 +71,8 @@ found_inward (b ∷ placing) x =
     elim (same_label x b.0) as (λ t. first_placed (elim t [ true ↦ (b.0, inward_whereabouts b.1) ∷ inward placing | false ↦ from_name as_labels (inward placing) x ]) ≡ inward_whereabouts (first_placed (elim t [ true ↦ b ∷ placing | false ↦ from_name as_labels placing x ])))
     [ true ↦ refl | false ↦ found_inward placing x ]
 
-pub holds_inward : (sites : List Site) (d : ℕ) (placing : Placing Label) → Holds sites d placing → Holds sites (suc d) (inward placing)
-holds_inward sites d placing h = λ k. subst (Tells (suc d) (site_at sites k)) (sym (found_inward placing (declared k))) (tells_inward d (site_at sites k) (found placing (declared k)) (h k))
+pub holds_inward : (sites : List Site) (d : ℕ) (placing : Placing Label) → LocatesAll sites d placing → LocatesAll sites (suc d) (inward placing)
+holds_inward sites d placing h = λ k. subst (LocatesAs (suc d) (site_at sites k)) (sym (found_inward placing (declared k))) (tells_inward d (site_at sites k) (found placing (declared k)) (h k))
 
 suits_inward : (o : Object Shape Signature) (w : Whereabouts) → Suits o w → Suits o (inward_whereabouts w)
 suits_inward (a_variable s) w h = (inward_slot h.0, ap inward_whereabouts h.1)
@@ -120,14 +120,14 @@ target_found : (placing : Placing Label) → first_target placing ≡ target_of 
 target_found [] = refl
 target_found (b ∷ placing) = refl
 
-tells_slot : (d : ℕ) (s : Site) (w : Whereabouts) (slot : Slot) → w ≡ in_slot slot → Tells d s w → seen_from d s ≡ w
-tells_slot d s w slot e h = (subst (Tells d s) e h).1 ∙ sym e
+tells_slot : (d : ℕ) (s : Site) (w : Whereabouts) (slot : Slot) → w ≡ in_slot slot → LocatesAs d s w → seen_from d s ≡ w
+tells_slot d s w slot e h = (subst (LocatesAs d s) e h).1 ∙ sym e
 
-tells_target : (d : ℕ) (s : Site) (w : Whereabouts) (t : Target) → w ≡ at_target t → Tells d s w → seen_from d s ≡ w
-tells_target d s w t e h = (subst (Tells d s) e h).1 ∙ sym e
+tells_target : (d : ℕ) (s : Site) (w : Whereabouts) (t : Target) → w ≡ at_target t → LocatesAs d s w → seen_from d s ≡ w
+tells_target d s w t e h = (subst (LocatesAs d s) e h).1 ∙ sym e
 
 -- a scene is right at a body whose names are known and whose placing is held
-pub sees : (scene : Scene) (env : TypeEnvironment Label) (placing : Placing Label) → AreDeclared (declared_in scene.types.now) env → Matches env placing → Holds scene.sites.now scene.depth placing → Sees scene (meanings as_labels env) (slots_in as_labels placing) (targets_in as_labels placing)
+pub sees : (scene : Scene) (env : TypeEnvironment Label) (placing : Placing Label) → AreDeclared (declared_in scene.types.now) env → Matches env placing → LocatesAll scene.sites.now scene.depth placing → Sees scene (meanings as_labels env) (slots_in as_labels placing) (targets_in as_labels placing)
 sees scene env placing known m h = record {
   bound = λ x o e. let f = declared_found (declared_in scene.types.now) env known x o e in ap (object_at scene.types.now) f.1 ∙ f.2;
   written = refl;

@@ -19,10 +19,10 @@ use Rattle.ob0_types_table.specs.Tables.{mode_of}
 use Rattle.ob0_scope_rules.specs.Names.{Label, Name, as_names}
 use Rattle.ob0_scope_rules.specs.Scopes.{as_label}
 use Rattle.ob0_types_rules.specs.WellTyped.{by_place, by_value}
-use Rattle.ob0_run_lowering.specs.Placed.{AllWithin, Follows, GoesBack, Holds, IsFrame, IsNextSite, Places, Tells, before_all, place_each, place_one, place_sections, put_at, put_site, slots_at}
-use Rattle.ob0_run_lowering.specs.declared.sight.Frame.{Frame}
-use Rattle.ob0_run_lowering.specs.declared.sight.Hidden.{Hidden}
-use Rattle.ob0_run_lowering.specs.declared.sight.Sight.{Sight}
+use Rattle.ob0_run_lowering.specs.Placed.{AllWithin, Follows, IsRestored, LocatesAll, IsFrame, IsNextSite, Places, LocatesAs, before_all, place_each, place_one, place_sections, put_at, put_site, slots_at}
+use Rattle.ob0_run_lowering.specs.declared.visible_sites.Frame.{Frame}
+use Rattle.ob0_run_lowering.specs.declared.visible_sites.Hidden.{Hidden}
+use Rattle.ob0_run_lowering.specs.declared.visible_sites.VisibleSites.{VisibleSites}
 use Rattle.ob0_run_lowering.proofs.Placings.{holds_bound}
 
 within-weaken : (m n : ℕ) (hs : List Hidden) → m ≤ n → AllWithin m hs → AllWithin n hs
@@ -49,10 +49,10 @@ before_all-append (x ∷ xs) ys f = ap (put_site x.ordinal x.before) (before_all
 before_all-same : (xs : List Hidden) (f g : ℕ → Site) → ((k : ℕ) → f k ≡ g k) → (k : ℕ) → before_all xs f k ≡ before_all xs g k
 before_all-same xs f g same k = ap (λ (h : ℕ → Site). before_all xs h k) (λ i j. same j i)
 
-pub follows_itself : (w : Sight) → Follows w w
+pub follows_itself : (w : VisibleSites) → Follows w w
 follows_itself w = record { more = []; added = sym (append-nil w.hidden.items); within = tt; longer = le_refl (length w.sites.items); goes_back = λ k. refl }
 
-pub follows_then : (w v u : Sight) → Follows w v → Follows v u → Follows w u
+pub follows_then : (w v u : VisibleSites) → Follows w v → Follows v u → Follows w u
 follows_then w v u a b = record {
   more = a.more ++ b.more;
   added = b.added ∙ ap (λ hs. hs ++ b.more) a.added ∙ append_assoc w.hidden.items a.more b.more;
@@ -65,7 +65,7 @@ follows_then w v u a b = record {
 }
 
 -- what was bound in between is gone
-pub follows_back : (w v u after : Sight) → Follows w v → Follows v u → GoesBack v u after → Follows w after
+pub follows_back : (w v u after : VisibleSites) → Follows w v → Follows v u → IsRestored v u after → Follows w after
 follows_back w v u after a b g = record {
   more = a.more;
   added = g.0 ∙ a.added;
@@ -83,12 +83,12 @@ site-set xs j s k room = by (k == j) refl
     by true same = ap (site_at (set xs j s)) (eqb-true k j same) ∙ get_or-set_same xs j s site.Nowhere (omega (arith, room))
     by false other = get_or-set_other xs j k s site.Nowhere (λ e. true≢false (sym (eq-eqb k j e) ∙ other))
 
-pub bound_sites : (w mid v : Sight) (j : ℕ) (s : Site) → ((k : ℕ) → site_at mid.sites.items k ≡ site_at w.sites.items k) → suc j ≤ length mid.sites.items → v.sites.items ≡ set mid.sites.items j s
+pub bound_sites : (w mid v : VisibleSites) (j : ℕ) (s : Site) → ((k : ℕ) → site_at mid.sites.items k ≡ site_at w.sites.items k) → suc j ≤ length mid.sites.items → v.sites.items ≡ set mid.sites.items j s
     → (k : ℕ) → site_at v.sites.items k ≡ put_at (Some j) s (site_at w.sites.items) k
 bound_sites w mid v j s same room put k =
     ap (λ xs. site_at xs k) put ∙ site-set mid.sites.items j s k room ∙ ap (λ z. if k == j then s else z) (same k)
 
-pub bound_follows : (w mid v : Sight) (j : ℕ) (s before : Site) → ((k : ℕ) → site_at mid.sites.items k ≡ site_at w.sites.items k) → mid.hidden.items ≡ w.hidden.items → length w.sites.items ≤ length mid.sites.items → suc j ≤ length mid.sites.items
+pub bound_follows : (w mid v : VisibleSites) (j : ℕ) (s before : Site) → ((k : ℕ) → site_at mid.sites.items k ≡ site_at w.sites.items k) → mid.hidden.items ≡ w.hidden.items → length w.sites.items ≤ length mid.sites.items → suc j ≤ length mid.sites.items
     → before ≡ site_at mid.sites.items j → v.sites.items ≡ set mid.sites.items j s → v.hidden.items ≡ mid.hidden.items ++ record { ordinal = j; before = before } ∷ [] → Follows w v
 bound_follows w mid v j s before same hidden longer room is put pushed =
     let long : length v.sites.items ≡ length mid.sites.items = ap length put ∙ length-set mid.sites.items j s in
@@ -105,13 +105,13 @@ bound_follows w mid v j s before same hidden longer room is put pushed =
     by k false e = bound_sites w mid v j s same room put k ∙ ap (λ t. if t then s else site_at w.sites.items k) e
 
 -- one hidden site less
-abbrev pub AllBack : Sight → ℕ → Sight → Type 0
-AllBack start mark now = (w : Sight) → Follows w start → mark ≡ length w.hidden.items → Follows w now × (length now.sites.items ≡ length start.sites.items)
+abbrev pub AllBack : VisibleSites → ℕ → VisibleSites → Type 0
+AllBack start mark now = (w : VisibleSites) → Follows w start → mark ≡ length w.hidden.items → Follows w now × (length now.sites.items ≡ length start.sites.items)
 
-pub back_begins : (start : Sight) (mark : ℕ) → AllBack start mark start
+pub back_begins : (start : VisibleSites) (mark : ℕ) → AllBack start mark start
 back_begins start mark = λ w f is. (f, refl)
 
-pub back_on : (start now v : Sight) (mark : ℕ) (last : Hidden) → AllBack start mark now → mark < length now.hidden.items → now.hidden.items ≡ v.hidden.items ++ last ∷ [] → v.sites.items ≡ set now.sites.items last.ordinal last.before → AllBack start mark v
+pub back_on : (start now v : VisibleSites) (mark : ℕ) (last : Hidden) → AllBack start mark now → mark < length now.hidden.items → now.hidden.items ≡ v.hidden.items ++ last ∷ [] → v.sites.items ≡ set now.sites.items last.ordinal last.before → AllBack start mark v
 back_on start now v mark last back less popped put = λ w f is.
     let so_far = back w f is in
     let a : Follows w now = so_far.0 in
@@ -137,7 +137,7 @@ nil_of : {A : Type 0} (xs ys : List A) → length (xs ++ ys) ≤ length xs → y
 nil_of xs [] h = refl
 nil_of xs (y ∷ ys) h = absurd (omega (arith, h, length-append xs (y ∷ ys)))
 
-pub back_ends : (start now : Sight) (mark : ℕ) → AllBack start mark now → length now.hidden.items ≤ mark → (w : Sight) → Follows w start → mark ≡ length w.hidden.items → GoesBack w start now
+pub back_ends : (start now : VisibleSites) (mark : ℕ) → AllBack start mark now → length now.hidden.items ≤ mark → (w : VisibleSites) → Follows w start → mark ≡ length w.hidden.items → IsRestored w start now
 back_ends start now mark back all w f is =
     let so_far = back w f is in
     let a : Follows w now = so_far.0 in
@@ -149,10 +149,10 @@ back_ends start now mark back all w f is =
 
 -- steps of placing
 
-pub places_nothing : (w : Sight) (f : Frame) → Places w w f (λ p. p) f
+pub places_nothing : (w : VisibleSites) (f : Frame) → Places w w f (λ p. p) f
 places_nothing w f = record { placed = λ p h. h; follows = follows_itself w; depth = refl; more_cells = le_refl f.cells }
 
-pub places_then : (w v u : Sight) (f g h : Frame) (first second : Placed Label → Placed Label) → Places w v f first g → Places v u g second h → Places w u f (λ p. second (first p)) h
+pub places_then : (w v u : VisibleSites) (f g h : Frame) (first second : Placed Label → Placed Label) → Places w v f first g → Places v u g second h → Places w u f (λ p. second (first p)) h
 places_then w v u f g h first second a b = record {
   placed = λ p is. b.placed (first p) (a.placed p is);
   follows = follows_then w v u a.follows b.follows;
@@ -160,11 +160,11 @@ places_then w v u f g h first second a b = record {
   more_cells = omega (arith, a.more_cells, b.more_cells);
 }
 
-pub places_as : (w v : Sight) (f g : Frame) (first second : Placed Label → Placed Label) → ((p : Placed Label) → first p ≡ second p) → Places w v f first g → Places w v f second g
+pub places_as : (w v : VisibleSites) (f g : Frame) (first second : Placed Label → Placed Label) → ((p : Placed Label) → first p ≡ second p) → Places w v f first g → Places w v f second g
 places_as w v f g first second same a = subst (λ (step : Placed Label → Placed Label). Places w v f step g) (λ i p. same p i) a
 
 -- one name
-pub place-lent : (w v : Sight) (f g : Frame) (size_of : Label → ℕ) (o : Option ℕ) (name : Name) → ((k : ℕ) → site_at v.sites.items k ≡ put_at o (site.Lent f.depth f.lent) (site_at w.sites.items) k) → Follows w v → g ≡ record f { lent = f.lent + 1 }
+pub place-lent : (w v : VisibleSites) (f g : Frame) (size_of : Label → ℕ) (o : Option ℕ) (name : Name) → ((k : ℕ) → site_at v.sites.items k ≡ put_at o (site.Lent f.depth f.lent) (site_at w.sites.items) k) → Follows w v → g ≡ record f { lent = f.lent + 1 }
     → Places w v f (place_one (slots_at f.depth) size_of by_place (as_label as_names o name)) g
 place-lent w v f g size_of o name put follows is =
     let none : f.depth - f.depth ≡ 0 = omega arith in
@@ -181,16 +181,16 @@ place-lent w v f g size_of o name put follows is =
       more_cells = le_refl f.cells;
     }
 
-next-tells : (f : Frame) (s : Site) (n : ℕ) → IsNextSite f s → f.cells ≡ n → Tells f.depth s (in_slot (slots_at f.depth n))
+next-tells : (f : Frame) (s : Site) (n : ℕ) → IsNextSite f s → f.cells ≡ n → LocatesAs f.depth s (in_slot (slots_at f.depth n))
 next-tells f s n next e = (next.0, next.1 ∙ ap (λ m. in_slot (slots_at f.depth m)) e)
 
-pub place-held : (w v : Sight) (f g : Frame) (size_of : Label → ℕ) (o : Option ℕ) (name : Name) (s : Site) (n : ℕ) → IsNextSite f s → ((k : ℕ) → site_at v.sites.items k ≡ put_at o s (site_at w.sites.items) k) → Follows w v → g ≡ record f { cells = f.cells + n }
+pub place-held : (w v : VisibleSites) (f g : Frame) (size_of : Label → ℕ) (o : Option ℕ) (name : Name) (s : Site) (n : ℕ) → IsNextSite f s → ((k : ℕ) → site_at v.sites.items k ≡ put_at o s (site_at w.sites.items) k) → Follows w v → g ≡ record f { cells = f.cells + n }
     → n ≡ size_of (as_label as_names o name) → Places w v f (place_one (slots_at f.depth) size_of by_value (as_label as_names o name)) g
 place-held w v f g size_of o name s n next put follows is size =
     let cells : g.cells ≡ f.cells + n = ap (λ (z : Frame). z.cells) is in
     record {
       placed = λ p h. record {
-        holds = subst (λ d. Holds v.sites.items d ((as_label as_names o name, in_slot (slots_at f.depth p.cells)) ∷ p.placing)) (sym (ap (λ (z : Frame). z.depth) is))
+        holds = subst (λ d. LocatesAll v.sites.items d ((as_label as_names o name, in_slot (slots_at f.depth p.cells)) ∷ p.placing)) (sym (ap (λ (z : Frame). z.depth) is))
             (holds_bound w.sites.items v.sites.items f.depth p.placing o name s (in_slot (slots_at f.depth p.cells)) (next-tells f s p.cells next h.cells) put h.holds);
         cells = cells ∙ (λ i. h.cells i + size i);
         lent_places = ap (λ (z : Frame). z.lent) is ∙ h.lent_places;
@@ -201,16 +201,16 @@ place-held w v f g size_of o name s n next put follows is size =
     }
 
 -- names one after the other: what is left to place, over what is placed so far, gives what all give
-pub record InPlaces {A : Type 0} (fold : List A → Placed Label → Placed Label) (xs : List A) (w v : Sight) (f g : Frame) (done : ℕ) : Type 0 where
+pub record InPlaces {A : Type 0} (fold : List A → Placed Label → Placed Label) (xs : List A) (w v : VisibleSites) (f g : Frame) (done : ℕ) : Type 0 where
   pub on : (p : Placed Label) → IsFrame w.sites.items f p → (now : Placed Label) × IsFrame v.sites.items g now × (fold (drop done xs) now ≡ fold xs p)
   pub follows : Follows w v
   pub depth : g.depth ≡ f.depth
   pub more_cells : f.cells ≤ g.cells
 
-pub in_begins : {A : Type 0} (fold : List A → Placed Label → Placed Label) (xs : List A) (w : Sight) (f : Frame) → InPlaces fold xs w w f f 0
+pub in_begins : {A : Type 0} (fold : List A → Placed Label → Placed Label) (xs : List A) (w : VisibleSites) (f : Frame) → InPlaces fold xs w w f f 0
 in_begins fold xs w f = record { on = λ p h. (p, h, refl); follows = follows_itself w; depth = refl; more_cells = le_refl f.cells }
 
-pub in_on : {A : Type 0} {fold : List A → Placed Label → Placed Label} {xs : List A} {w v : Sight} {f g : Frame} {done : ℕ} (step : A → Placed Label → Placed Label) (u : Sight) (h : Frame) (x d : A)
+pub in_on : {A : Type 0} {fold : List A → Placed Label → Placed Label} {xs : List A} {w v : VisibleSites} {f g : Frame} {done : ℕ} (step : A → Placed Label → Placed Label) (u : VisibleSites) (h : Frame) (x d : A)
     → ((x : A) (xs : List A) (p : Placed Label) → fold (x ∷ xs) p ≡ fold xs (step x p)) → InPlaces fold xs w v f g done → done < length xs → x ≡ get_or xs done d → Places v u g (step x) h → InPlaces fold xs w u f h (done + 1)
 in_on {fold = fold} {xs = xs} {w = w} {v = v} {f = f} {g = g} {done = done} step u h x d folds a less here b =
     let cut : drop done xs ≡ x ∷ drop (done + 1) xs = drop_more xs done d less ∙ ap (λ y. y ∷ drop (done + 1) xs) (sym here) in
@@ -222,7 +222,7 @@ in_on {fold = fold} {xs = xs} {w = w} {v = v} {f = f} {g = g} {done = done} step
       more_cells = omega (arith, a.more_cells, b.more_cells);
     }
 
-pub in_ends : {A : Type 0} {fold : List A → Placed Label → Placed Label} {xs : List A} {w v : Sight} {f g : Frame} {done : ℕ} → ((p : Placed Label) → fold [] p ≡ p) → InPlaces fold xs w v f g done → length xs ≤ done → Places w v f (fold xs) g
+pub in_ends : {A : Type 0} {fold : List A → Placed Label → Placed Label} {xs : List A} {w v : VisibleSites} {f g : Frame} {done : ℕ} → ((p : Placed Label) → fold [] p ≡ p) → InPlaces fold xs w v f g done → length xs ≤ done → Places w v f (fold xs) g
 in_ends {fold = fold} {xs = xs} {v = v} {g = g} {done = done} ended a all = record {
   placed = λ p is.
       let at = a.on p is in
@@ -233,7 +233,7 @@ in_ends {fold = fold} {xs = xs} {v = v} {g = g} {done = done} ended a all = reco
 }
 
 -- a step of an activation as deep
-pub as_deep : (w v : Sight) (f g : Frame) (m n : ℕ) (step : ℕ → Placed Label → Placed Label) → m ≡ n → Places w v f (step m) g → Places w v f (step n) g
+pub as_deep : (w v : VisibleSites) (f g : Frame) (m n : ℕ) (step : ℕ → Placed Label → Placed Label) → m ≡ n → Places w v f (step m) g → Places w v f (step n) g
 as_deep w v f g m n step same a = subst (λ k. Places w v f (step k) g) same a
 
 -- the names of a section, by how it is written

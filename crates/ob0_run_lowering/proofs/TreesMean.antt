@@ -16,13 +16,13 @@ use Rattle.ob0_run_cells.specs.LoweredStatements.{Target}
 use Rattle.ob0_run_cells.specs.Lowering.{Evaluated, PlaceLeads, PlaceMeans, Slot, place_of_designator, slot_place, value_of_expression, value_of_factor, value_of_simple, value_of_term}
 use Rattle.ob0_run_cells.specs.Lowering as lowering
 use Rattle.ob0_run_cells.proofs.Lowered.{blocks_lower-holds, cells_lower-holds, constants_lower-holds, fields_lower-holds, indexes_lower-holds, integers_lower-holds, selectors_end-holds, variables_lower-holds}
-use Rattle.ob0_run_lowering.specs.Codes.{Code, CodeMeans, Found, a_block, a_number, a_truth, added, constant_code, element_found, element_of, field_found, multiplied, named_code, negated, no_code, related, signed, standing}
+use Rattle.ob0_run_lowering.specs.Codes.{Code, CodeMeans, FoundPlace, a_block, a_number, a_truth, added, constant_code, element_found, element_of, field_found, multiplied, named_code, negated, no_code, related, signed, code_at_place}
 use Rattle.ob0_run_lowering.specs.Scenes.{HasSmall, Sees, object_at, slot_at}
 use Rattle.ob0_run_lowering.specs.Trees.{addends_code, base_found, expression_code, factor_code, multipliers_code, selected_place, simple_code, term_code, variable_found}
 use Rattle.ob0_run_lowering.specs.declared.scene.Scene.{Scene}
 use Rattle.ob0_run_lowering.proofs.CodesMean.{CodeLeads, added-leads, addends-end, alone-means, multiplied-leads, multipliers-end, negated-means, number-code, parenthesised-means, related-means, some_inj, sum-begins, term-begins}
 
-abbrev found_at : lowered.Place → Shape → Found
+abbrev found_at : lowered.Place → Shape → FoundPlace
 found_at q s = record { place = q; shape = s }
 
 -- a constant has no selectors
@@ -61,10 +61,10 @@ module _ (checked : Typed Label) (slots : Label → Slot) where
   constant-means x (elements vs) path s e fit h = absurd (cc)
   constant-means x (members k ms) path s e fit h = absurd (cc)
 
-  -- what stands at the place of a designator
+  -- what is at the place of a designator
 
   standing-means : (x : Label) (v : Shape) (path : Tree Label (items selector)) (q : lowered.Place) (s : Shape) → checked.stands_for x ≡ Some (a_variable v) → PlaceMeans checked slots q s (place_of_designator x path)
-      → CodeMeans checked slots (standing q s) s (value_of_factor (designator x path))
+      → CodeMeans checked slots (code_at_place q s) s (value_of_factor (designator x path))
   standing-means x v path q integer_shape e h = (cells_lower-holds checked slots x v path q e).0 h
   standing-means x v path q boolean_shape e h = (cells_lower-holds checked slots x v path q e).1 h
   standing-means x v path q (array_shape k n t) e h = (refl, (blocks_lower-holds checked slots q (array_shape k n t)).0 x v path e h)

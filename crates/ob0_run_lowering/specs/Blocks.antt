@@ -1,4 +1,4 @@
--- What the code of procedures and blocks means, wherever they stand in a well-typed module.
+-- What the code of procedures and blocks means, wherever they are in a well-typed module.
 -- Rule: none; for contracts of lowering.
 use Rattle.std.specs.Prelude.{◌≡◌, ℕ, ◌≤◌, true, List, length, Some, slice_get}
 use Rattle.ob0_tree.specs.Tree.{Tree, block, body, items, maybe, procedure}
@@ -11,9 +11,9 @@ use Rattle.ob0_run_machine.specs.declared.code.Procedure.{Procedure}
 use Rattle.ob0_run_cells.specs.Activations.{BlockMeans, Placed, Placing, ProceduresMean}
 use Rattle.ob0_run_lowering.specs.declared.scene.Site.{Site}
 use Rattle.ob0_run_lowering.specs.KnownBlocks.{AreDeclared, BlockDeclared, ProceduresDeclared}
-use Rattle.ob0_run_lowering.specs.Placed.{Follows, Holds, IsFrame, Matches, slots_at}
+use Rattle.ob0_run_lowering.specs.Placed.{Follows, LocatesAll, IsFrame, Matches, slots_at}
 use Rattle.ob0_run_lowering.specs.declared.programs.Lowering.{Lowering}
-use Rattle.ob0_run_lowering.specs.declared.sight.Frame.{Frame}
+use Rattle.ob0_run_lowering.specs.declared.visible_sites.Frame.{Frame}
 
 -- from an index on, a table has the code of procedures
 abbrev pub Later : List lowered.Procedure → ℕ → List Procedure → Type 0
@@ -33,7 +33,7 @@ pub record BlockState : Type 0 where
 pub record Ready (t : Tables) (sites : List Site) (depth : ℕ) (s : BlockState) (statements : Tree Label (maybe body)) (ps : Tree Label (items procedure)) : Type 0 where
   pub declared_there : AreDeclared (declared_in t) s.env
   pub matches : Matches s.env s.placing
-  pub holds : Holds sites depth s.placing
+  pub holds : LocatesAll sites depth s.placing
   pub fits : procedures_fit as_labels s.env s.next statements ps ≡ true
   pub declared_behind : ProceduresDeclared (declared_in t) s.env s.next ps
 
@@ -41,7 +41,7 @@ pub record Ready (t : Tables) (sites : List Site) (depth : ℕ) (s : BlockState)
 abbrev pub AllMean : List lowered.Procedure → ℕ → BlockState → lowered.Statements → Tree Label (maybe body) → Tree Label (items procedure) → Type 0
 AllMean table most s code statements ps = ProceduresMean table most as_labels s.env s.placing s.next code statements ps
 
--- procedures are lowered, of which some are left: where what is left means what stands there, all do, and no activation has more
+-- procedures are lowered, of which some are left: where what is left means what is there, all do, and no activation has more
 -- cells than is known of then
 pub record Goes (t : Tables) (w v : Lowering) (depth : ℕ) (ps left : Tree Label (items procedure)) : Type 0 where
   pub on : (s : BlockState) (statements : Tree Label (maybe body)) → Ready t w.sight.sites.items depth s statements ps

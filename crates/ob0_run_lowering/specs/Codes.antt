@@ -1,4 +1,4 @@
--- The code of values by their types: of what stands at a place, of an operation on two, of a part.
+-- The code of values by their types: of what is at a place, of an operation on two, of a part.
 -- Rule: none; for contracts of lowering.
 use Rattle.std.specs.Prelude.{◌≡◌, ℕ, Some, None, Option, option_map}
 use Rattle.ob0_tree.specs.declared.tree.Relation.{Relation}
@@ -33,21 +33,21 @@ CodeMeans checked slots (a_block q n) (record_shape k fs) value = (n ≡ size (r
 CodeMeans checked slots _ _ value = ⊥
 
 -- a place, and the type of what is there
-pub record Found : Type 0 where
+pub record FoundPlace : Type 0 where
   pub place : lowered.Place
   pub shape : Shape
 
--- what stands at a place
-abbrev pub standing : lowered.Place → Shape → Code
-standing q integer_shape = a_number (lowered.cell q)
-standing q boolean_shape = a_truth (lowered.flag q)
-standing q (array_shape k n s) = a_block q (size (array_shape k n s))
-standing q (record_shape k fs) = a_block q (size (record_shape k fs))
+-- what is at a place
+abbrev pub code_at_place : lowered.Place → Shape → Code
+code_at_place q integer_shape = a_number (lowered.cell q)
+code_at_place q boolean_shape = a_truth (lowered.flag q)
+code_at_place q (array_shape k n s) = a_block q (size (array_shape k n s))
+code_at_place q (record_shape k fs) = a_block q (size (record_shape k fs))
 
 -- the code of what was found at a place
-abbrev pub standing_there : Option Found → Code
-standing_there None = no_code
-standing_there (Some f) = standing f.place f.shape
+abbrev pub code_at : Option FoundPlace → Code
+code_at None = no_code
+code_at (Some f) = code_at_place f.place f.shape
 
 -- the code of a constant's value
 abbrev pub constant_code : Value → Code
@@ -56,10 +56,10 @@ constant_code (truth b) = a_truth (lowered.constant b)
 constant_code (elements vs) = no_code
 constant_code (members k ms) = no_code
 
--- a constant is its value, a variable what stands at its place
-abbrev pub named_code : Option Value → Option Found → Code
+-- a constant is its value, a variable what is at its place
+abbrev pub named_code : Option Value → Option FoundPlace → Code
 named_code (Some v) found = constant_code v
-named_code None found = standing_there found
+named_code None found = code_at found
 
 -- an operation on two numbers
 abbrev pub operated : lowered.Operator → Code → Code → Code
@@ -104,15 +104,15 @@ related relation.NotEqual (a_truth t) (a_truth u) = a_truth (lowered.different t
 related _ _ _ = no_code
 
 -- a field is a part at its offset
-abbrev pub field_found : Name → Found → Option Found
+abbrev pub field_found : Name → FoundPlace → Option FoundPlace
 field_found x f = option_map (λ t. record { place = lowered.part f.place (step_offset f.shape (at_field x)); shape = t }) (field_type f.shape x)
 
 -- an element is one of so many, each of so many cells
-abbrev pub element_found : Code → lowered.Place → Shape → Option Found
+abbrev pub element_found : Code → lowered.Place → Shape → Option FoundPlace
 element_found (a_number i) q (array_shape k n s) = Some (record { place = lowered.element q i n (size s); shape = s })
 element_found _ _ _ = None
 
 -- an element of the array that was found
-abbrev pub element_of : Code → Option Found → Option Found
+abbrev pub element_of : Code → Option FoundPlace → Option FoundPlace
 element_of c None = None
 element_of c (Some f) = element_found c f.place f.shape

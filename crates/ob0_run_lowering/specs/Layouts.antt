@@ -20,15 +20,15 @@ pub record AreLaidOut (fs : FieldShapes) (r : RecordLayout) : Type 0 where
   pub offsets : r.offsets.items ≡ offsets_from 0 fs
 
 -- an entry of the table has the sizes of a shape
-abbrev pub LaysOut : Shape → Layout → Type 0
-LaysOut (array_shape k n s) (layout.Array cells) = cells ≡ size (array_shape k n s)
-LaysOut (record_shape k fs) (layout.Record r) = AreLaidOut fs r
-LaysOut _ _ = ⊥
+abbrev pub HasLayout : Shape → Layout → Type 0
+HasLayout (array_shape k n s) (layout.Array cells) = cells ≡ size (array_shape k n s)
+HasLayout (record_shape k fs) (layout.Record r) = AreLaidOut fs r
+HasLayout _ _ = ⊥
 
 -- the layouts of a table of types: for each its cells, and the offsets of its fields
 abbrev pub LayOut : List Shape → List Layout → Type 0
 LayOut [] [] = Unit {0}
-LayOut (s ∷ shapes) (l ∷ layouts) = LaysOut s l × LayOut shapes layouts
+LayOut (s ∷ shapes) (l ∷ layouts) = HasLayout s l × LayOut shapes layouts
 LayOut _ _ = ⊥
 
 -- the record at a place, where there is one

@@ -46,7 +46,7 @@ CodeLowers scene (Some c) a = StatementLowers scene c a
 abbrev pub SequenceLowers : Scene → lowered.Statements → Tree Label sequence → Type 0
 SequenceLowers scene cs a = InScene scene (λ checked. sequence_fits checked a) (λ checked slots targets. SequenceMeans checked slots targets cs a)
 
--- the statements behind the first
+-- the statements after the first
 abbrev pub FurtherLower : Scene → lowered.Statements → Tree Label (items further_statement) → Type 0
 FurtherLower scene cs rest = InScene scene (λ checked. statements_fit checked rest) (λ checked slots targets. FurtherMean checked slots targets cs rest)
 
@@ -54,12 +54,12 @@ FurtherLower scene cs rest = InScene scene (λ checked. statements_fit checked r
 abbrev pub ElseLowers : Scene → lowered.Statements → Tree Label (maybe else_part) → Type 0
 ElseLowers scene cs last = InScene scene (λ checked. else_fits checked last) (λ checked slots targets. ElseMeans checked slots targets cs last)
 
--- the ELSIF parts, and the ELSE part behind them
+-- the ELSIF parts, and the ELSE part after them
 abbrev pub ElsifsLower : Scene → lowered.Branches → lowered.Statements → Tree Label (items elsif_part) → Tree Label (maybe else_part) → Type 0
 ElsifsLower scene bs cs rest last =
     InScene scene (λ checked. elsifs_fit checked rest && else_fits checked last) (λ checked slots targets. ElsifsMean checked slots targets bs cs rest last)
 
--- the code of a body means it where it stands: in each environment and at each placing that the scene sees
+-- the code of a body means it where it is: in each environment and at each placing that the scene sees
 abbrev pub BodyLowers : Scene → lowered.Statements → Tree Label (maybe body) → Type 0
 BodyLowers scene cs b =
     (env : TypeEnvironment Label) (placing : Placing Label) → Sees scene (meanings as_labels env) (slots_in as_labels placing) (targets_in as_labels placing) → IsTrue (body_fits as_labels env b)

@@ -20,7 +20,7 @@ use Rattle.ob0_run_cells.specs.Lowering.{Evaluated, NumberMeans, PlaceMeans, Slo
 use Rattle.ob0_run_lowering.specs.Codes.{CodeMeans}
 use Rattle.ob0_run_lowering.specs.Scenes.{Sees}
 use Rattle.ob0_run_lowering.specs.Trees.{code_of}
-use Rattle.ob0_run_lowering.specs.declared.lowered.Located.{Located}
+use Rattle.ob0_run_lowering.specs.declared.lowered.TypedPlace.{TypedPlace}
 use Rattle.ob0_run_lowering.specs.declared.lowered.Lowered.{Lowered}
 use Rattle.ob0_run_lowering.specs.declared.scene.Scene.{Scene}
 
@@ -48,13 +48,13 @@ LowersTruth scene e t =
     WhereSeen scene (λ checked slots. type_of checked (in_labels scene.resolved.now e) ≡ Some boolean_shape → TruthMeans checked slots (truth_of t) (value_of_expression (in_labels scene.resolved.now e)))
 
 -- the place of a variable with its selectors, and its type
-abbrev pub Locates : Scene → ℕ → Tree ℕ (items selector) → Located → Type 0
+abbrev pub Locates : Scene → ℕ → Tree ℕ (items selector) → TypedPlace → Type 0
 Locates scene x path l =
     WhereSeen scene (λ checked slots. (s : Shape) → variable_type checked (Some (label_in scene.resolved.now x, in_labels scene.resolved.now path)) ≡ Some s
     → (type_shape (shapes_of scene.types.now) l.of ≡ s) × PlaceMeans checked slots (place_of l.place) s (place_of_designator (label_in scene.resolved.now x) (in_labels scene.resolved.now path)))
 
 -- the same of an expression that is a designator alone
-abbrev pub LocatesAlone : Scene → Tree ℕ expression → Located → Type 0
+abbrev pub LocatesAlone : Scene → Tree ℕ expression → TypedPlace → Type 0
 LocatesAlone scene e l =
     WhereSeen scene (λ checked slots. (s : Shape) → variable_type checked (designated (in_labels scene.resolved.now e)) ≡ Some s
     → (type_shape (shapes_of scene.types.now) l.of ≡ s) × IsAt checked slots (place_of l.place) s (in_labels scene.resolved.now e))

@@ -5,7 +5,7 @@ use Rattle.ob0_run_machine.specs.declared.code.Argument.{Argument}
 use Rattle.ob0_run_machine.specs.declared.code.Argument.TheVariants as argument
 use Rattle.ob0_run_machine.specs.declared.code.Number.{Number}
 use Rattle.ob0_run_machine.specs.declared.code.Truth.{Truth}
-use Rattle.ob0_run_lowering.specs.declared.lowered.Located.{Located}
+use Rattle.ob0_run_lowering.specs.declared.lowered.TypedPlace.{TypedPlace}
 use Rattle.ob0_run_lowering.specs.declared.lowered.Lowered.{Lowered}
 use Rattle.ob0_run_lowering.specs.declared.lowered.Lowered.TheVariants as code
 
@@ -31,7 +31,7 @@ IsValueOf (code.Block q k) a = argument.Block q k ≡ a
 IsValueOf code.Nothing a = Unit {0}
 
 -- the place that was found
-abbrev pub IsPlaceOf : Option Located → Located → Type 0
+abbrev pub IsPlaceOf : Option TypedPlace → TypedPlace → Type 0
 IsPlaceOf (Some m) l = m ≡ l
 IsPlaceOf None l = Unit {0}
 

@@ -16,9 +16,9 @@ use Rattle.ob0_run_cells.specs.Lowering.{Slot, held, lent, of_module}
 use Rattle.ob0_run_lowering.specs.Scenes.{object_at, seen_from, site_at}
 use Rattle.ob0_run_lowering.specs.declared.scene.Site.{Site}
 use Rattle.ob0_run_lowering.specs.declared.scene.Site.TheVariants as site
-use Rattle.ob0_run_lowering.specs.declared.sight.Frame.{Frame}
-use Rattle.ob0_run_lowering.specs.declared.sight.Hidden.{Hidden}
-use Rattle.ob0_run_lowering.specs.declared.sight.Sight.{Sight}
+use Rattle.ob0_run_lowering.specs.declared.visible_sites.Frame.{Frame}
+use Rattle.ob0_run_lowering.specs.declared.visible_sites.Hidden.{Hidden}
+use Rattle.ob0_run_lowering.specs.declared.visible_sites.VisibleSites.{VisibleSites}
 
 -- where a name is placed
 abbrev pub first_placed : Placing Label → Whereabouts
@@ -37,15 +37,15 @@ site_depth (site.Held at offset) = at
 site_depth (site.Lent at index) = at
 site_depth (site.Procedure at index) = at
 
--- a site tells where something is that is somewhere, as it is seen from a depth
-abbrev pub Tells : ℕ → Site → Whereabouts → Type 0
-Tells depth s nowhere = Unit {0}
-Tells depth s (in_slot slot) = (site_depth s ≤ depth) × (seen_from depth s ≡ in_slot slot)
-Tells depth s (at_target t) = (site_depth s ≤ depth) × (seen_from depth s ≡ at_target t)
+-- a site says where something is that is somewhere, as it is seen from a depth
+abbrev pub LocatesAs : ℕ → Site → Whereabouts → Type 0
+LocatesAs depth s nowhere = Unit {0}
+LocatesAs depth s (in_slot slot) = (site_depth s ≤ depth) × (seen_from depth s ≡ in_slot slot)
+LocatesAs depth s (at_target t) = (site_depth s ≤ depth) × (seen_from depth s ≡ at_target t)
 
 -- the table has what is placed
-abbrev pub Holds : List Site → ℕ → Placing Label → Type 0
-Holds sites depth placing = (k : ℕ) → Tells depth (site_at sites k) (found placing (declared k))
+abbrev pub LocatesAll : List Site → ℕ → Placing Label → Type 0
+LocatesAll sites depth placing = (k : ℕ) → LocatesAs depth (site_at sites k) (found placing (declared k))
 
 -- variables are placed in slots and procedures at targets
 abbrev pub Suits : Object Shape Signature → Whereabouts → Type 0
@@ -61,7 +61,7 @@ Matches [] [] = Unit {0}
 Matches (b ∷ env) (w ∷ placing) = (b.0 ≡ w.0) × Suits b.1 w.1 × Matches env placing
 Matches _ _ = ⊥
 
--- how many cells a variable has, as the table of declarations tells
+-- how many cells a variable has, as the table of declarations says
 abbrev pub shape_size : Option Shape → ℕ
 shape_size None = 0
 shape_size (Some s) = size s
@@ -99,7 +99,7 @@ abbrev pub place_sections : (ℕ → Slot) → (Label → ℕ) → Tree Label (i
 place_sections at size_of end p = p
 place_sections at size_of (more (then_section f) fs) p = place_sections at size_of fs (place_each at size_of (section_mode f) (section_names f) p)
 
--- what ordinals stand for, but for one that stands for something else
+-- what ordinals mean, but for one that means something else
 abbrev pub put_site : ℕ → Site → (ℕ → Site) → ℕ → Site
 put_site ordinal s sites k = if k == ordinal then s else sites k
 
@@ -118,26 +118,26 @@ abbrev pub AllWithin : ℕ → List Hidden → Type 0
 AllWithin n [] = Unit {0}
 AllWithin n (h ∷ hs) = (suc h.ordinal ≤ n) × AllWithin n hs
 
--- farther on: what is in sight now goes back to what was in sight
-pub record Follows (w v : Sight) : Type 0 where
+-- farther on: what is in scope now goes back to what was in scope
+pub record Follows (w v : VisibleSites) : Type 0 where
   pub more : List Hidden
   pub added : v.hidden.items ≡ w.hidden.items ++ more
   pub within : AllWithin (length v.sites.items) more
   pub longer : length w.sites.items ≤ length v.sites.items
   pub goes_back : (k : ℕ) → before_all more (site_at v.sites.items) k ≡ site_at w.sites.items k
 
--- what was in sight is in sight again, and nothing more is hidden than was then
-abbrev pub GoesBack : Sight → Sight → Sight → Type 0
-GoesBack w u v = (v.hidden.items ≡ w.hidden.items) × ((k : ℕ) → site_at v.sites.items k ≡ site_at w.sites.items k) × (length v.sites.items ≡ length u.sites.items)
+-- what was in scope is in scope again, and nothing more is hidden than was then
+abbrev pub IsRestored : VisibleSites → VisibleSites → VisibleSites → Type 0
+IsRestored w u v = (v.hidden.items ≡ w.hidden.items) × ((k : ℕ) → site_at v.sites.items k ≡ site_at w.sites.items k) × (length v.sites.items ≡ length u.sites.items)
 
 -- an activation that is laid out so far, as it is placed
 pub record IsFrame (sites : List Site) (f : Frame) (p : Placed Label) : Type 0 where
-  pub holds : Holds sites f.depth p.placing
+  pub holds : LocatesAll sites f.depth p.placing
   pub cells : f.cells ≡ p.cells
   pub lent_places : f.lent ≡ p.lent_places
 
 -- a step places something more in an activation
-pub record Places (w v : Sight) (f : Frame) (step : Placed Label → Placed Label) (g : Frame) : Type 0 where
+pub record Places (w v : VisibleSites) (f : Frame) (step : Placed Label → Placed Label) (g : Frame) : Type 0 where
   pub placed : (p : Placed Label) → IsFrame w.sites.items f p → IsFrame v.sites.items g (step p)
   pub follows : Follows w v
   pub depth : g.depth ≡ f.depth

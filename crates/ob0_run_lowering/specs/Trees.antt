@@ -12,14 +12,14 @@ use Rattle.ob0_values.specs.Values.{Shape}
 use Rattle.ob0_run_machine.specs.Lowered as lowered
 use Rattle.ob0_run_machine.specs.View.{number_of, place_of, truth_of}
 use Rattle.ob0_run_cells.specs.Lowering.{slot_place}
-use Rattle.ob0_run_lowering.specs.Codes.{Code, Found, a_block, a_number, a_truth, added, element_of, field_found, multiplied, named_code, negated, no_code, related, signed}
+use Rattle.ob0_run_lowering.specs.Codes.{Code, FoundPlace, a_block, a_number, a_truth, added, element_of, field_found, multiplied, named_code, negated, no_code, related, signed}
 use Rattle.ob0_run_lowering.specs.Scenes.{object_at, slot_at}
-use Rattle.ob0_run_lowering.specs.declared.lowered.Located.{Located}
+use Rattle.ob0_run_lowering.specs.declared.lowered.TypedPlace.{TypedPlace}
 use Rattle.ob0_run_lowering.specs.declared.lowered.Lowered.{Lowered}
 use Rattle.ob0_run_lowering.specs.declared.lowered.Lowered.TheVariants as code
 use Rattle.ob0_run_lowering.specs.declared.scene.Scene.{Scene}
 
--- what values of the code's types stand for
+-- what values of the code's types mean
 abbrev pub code_of : Lowered → Code
 code_of (code.Number n) = a_number (number_of n)
 code_of (code.Truth t) = a_truth (truth_of t)
@@ -27,11 +27,11 @@ code_of (code.Block q n) = a_block (place_of q) n
 code_of code.Nothing = no_code
 
 -- a place of the code with its type
-abbrev pub found_of : List Shape → Located → Found
+abbrev pub found_of : List Shape → TypedPlace → FoundPlace
 found_of shapes l = record { place = place_of l.place; shape = type_shape shapes l.of }
 
 -- the whole of a variable
-abbrev pub variable_found : lowered.Place → Option (Object Shape Signature) → Option Found
+abbrev pub variable_found : lowered.Place → Option (Object Shape Signature) → Option FoundPlace
 variable_found q None = None
 variable_found q (Some (a_variable s)) = Some (record { place = q; shape = s })
 variable_found q (Some (a_type s)) = None
@@ -40,7 +40,7 @@ variable_found q (Some (a_procedure p)) = None
 variable_found q (Some (a_standard p)) = None
 
 -- the place of a variable or parameter, before its selectors
-abbrev pub base_found : Scene → Label → Option Found
+abbrev pub base_found : Scene → Label → Option FoundPlace
 base_found scene x = variable_found (slot_place (slot_at scene x)) (object_at scene.types.now x)
 
 abbrev mutual
@@ -69,12 +69,12 @@ abbrev mutual
   factor_code scene (negation f) = negated (factor_code scene f)
 
   -- the place at the end of selectors
-  pub selected_place : Scene → Option Found → Tree Label (items selector) → Option Found
+  pub selected_place : Scene → Option FoundPlace → Tree Label (items selector) → Option FoundPlace
   selected_place scene found end = found
   selected_place scene found (more (field x) rest) = selected_place scene (option_and_then (field_found (label_text x)) found) rest
   selected_place scene found (more (index e) rest) = selected_place scene (element_of (expression_code scene e) found) rest
 
 -- one selector more
-abbrev pub selected_once : Scene → Option Found → Tree Label (item selector) → Option Found
+abbrev pub selected_once : Scene → Option FoundPlace → Tree Label (item selector) → Option FoundPlace
 selected_once scene found (field x) = option_and_then (field_found (label_text x)) found
 selected_once scene found (index e) = element_of (expression_code scene e) found

@@ -31,8 +31,13 @@ pub(crate) fn call(
     match scene.object(c.procedure) {
         None => Ok(Statement::WriteLine),
         Some(object) => match object {
-            Object::Procedure(formals) => called(alloc, scene, c, formals.as_slice()),
-            Object::Standard(standard) => standard_called(alloc, scene, *standard, &c.arguments),
+            Object::Procedure(formals) => lower_call(alloc, scene, c, formals.as_slice()),
+            Object::Standard(standard) => lower_standard_call(
+                alloc,
+                scene,
+                *standard,
+                &c.arguments,
+            ),
             Object::Named(_) => Ok(Statement::WriteLine),
             Object::Constant(_) => Ok(Statement::WriteLine),
             Object::FaultyConstant => Ok(Statement::WriteLine),
@@ -42,7 +47,7 @@ pub(crate) fn call(
 }
 
 /// The code of a call of a procedure with these parameters.
-fn called(
+fn lower_call(
     alloc: Global,
     scene: &Scene<'_, '_, '_>,
     c: &Call,
@@ -101,7 +106,7 @@ fn first(given: &Option<Vec<Expression>>) -> Option<&Expression>
 }
 
 /// The code of a call of a standard procedure.
-fn standard_called(
+fn lower_standard_call(
     alloc: Global,
     scene: &Scene<'_, '_, '_>,
     standard: Standard,

@@ -1,4 +1,4 @@
-//! Operations in a row: a few stand one inside the other, many in a list.
+//! Operations in a row: a few are one inside the other, many in a list.
 
 ghost use Rattle.std.specs.Prelude.{◌≡◌, IfOk};
 ghost use Rattle.ob0_run_machine.specs.Lowered as machine;

@@ -8,7 +8,7 @@ ghost use Rattle.ob0_run_lowering.specs.Means.{Locates, LocatesAlone, Lowers, Lo
 ghost use Rattle.ob0_run_lowering.specs.Parts.{IsNumberOf, IsPlaceOf, IsTruthOf, IsValueOf};
 ghost use Rattle.ob0_run_lowering.specs.Scenes.{HasSmall};
 
-use crate::lowered::{Located, Lowered};
+use crate::lowered::{Lowered, TypedPlace};
 use crate::scene::Scene;
 use ob0_run_machine::code::{Argument, Number, Place, Truth, Variable};
 use ob0_tree::{Designator, Expression};
@@ -52,15 +52,15 @@ fn value_of(lowered: Lowered) -> Argument
     }
 }
 
-fn nowhere() -> Located {
-    Located {
+fn nowhere() -> TypedPlace {
+    TypedPlace {
         place: Place::Variable(Variable::Module(0)),
         of: TypeId::Unknown,
     }
 }
 
 /// A place that was found.
-fn place_of(found: Option<Located>) -> Located
+fn place_of(found: Option<TypedPlace>) -> TypedPlace
     ensures { IsPlaceOf found result }
 {
     match found {
@@ -91,7 +91,7 @@ impl<'s, 'k, 't> Scene<'s, 'k, 't> {
         let _text = self.resolved.tokens().text();
     }
 
-    /// The code of an expression that is worth a number.
+    /// The code of an expression that evaluates to a number.
     pub fn number(&self, alloc: Global, e: &Expression) -> Result<Number, AllocError>
         ensures { IfOk result (LowersNumber self.now (expression_of e.now)) }
     {
@@ -108,16 +108,16 @@ impl<'s, 'k, 't> Scene<'s, 'k, 't> {
     }
 
     /// The place of a variable with its selectors, and its type.
-    pub fn place(&self, alloc: Global, d: &Designator) -> Result<Located, AllocError>
+    pub fn place(&self, alloc: Global, d: &Designator) -> Result<TypedPlace, AllocError>
         ensures { IfOk result (Locates self.now (out-Designator d.now).name (selectors_in d.now)) }
     {
         self.has_small();
-        let found = self.located(alloc, d)?;
+        let found = self.locate(alloc, d)?;
         Ok(place_of(found))
     }
 
     /// The place of an argument for a VAR parameter: a designator alone.
-    pub fn passed(&self, alloc: Global, e: &Expression) -> Result<Located, AllocError>
+    pub fn passed(&self, alloc: Global, e: &Expression) -> Result<TypedPlace, AllocError>
         ensures { IfOk result (LocatesAlone self.now (expression_of e.now)) }
     {
         match designated(e) {

@@ -5,19 +5,19 @@
 mod assigning;
 mod calling;
 mod chains;
+mod contexts;
 mod expressions;
-mod ground;
 mod lowered;
 mod lowering;
 mod operators;
 mod places;
 mod programs;
 mod scene;
-mod sight;
 mod statements;
 mod types;
+mod visible_sites;
 
-pub use lowered::{Located, Lowered};
+pub use lowered::{Lowered, TypedPlace};
 pub use programs::{Program, lower};
 pub use scene::{Scene, Site};
 pub use statements::body;

@@ -16,7 +16,7 @@ pub enum Lowered {
 
 /// Where a designator leads, and the type of what is there.
 #[derive(Drop)]
-pub struct Located {
+pub struct TypedPlace {
     pub place: Place,
     pub of: TypeId,
 }

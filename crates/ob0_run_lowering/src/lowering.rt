@@ -13,12 +13,12 @@ ghost use Rattle.ob0_types_rules.specs.Selected.{selectors_in};
 ghost use Rattle.ob0_types_rules.specs.Typing.{constant_of};
 ghost use Rattle.ob0_values.specs.Scalars.{scalar_value};
 ghost use Rattle.ob0_run_machine.specs.View.{number_of};
-ghost use Rattle.ob0_run_lowering.specs.Codes.{a_number, constant_code, element_found, element_of, field_found, standing, standing_there};
+ghost use Rattle.ob0_run_lowering.specs.Codes.{a_number, constant_code, element_found, element_of, field_found, code_at_place, code_at};
 ghost use Rattle.ob0_run_lowering.specs.Scenes.{object_at};
 ghost use Rattle.ob0_run_lowering.specs.Trees.{base_found, code_of, expression_code, factor_code, found_of, selected_once, selected_place, simple_code, term_code};
 
-use crate::lowered::{Located, Lowered};
-use crate::operators::{added, multiplied, negated, related, signed};
+use crate::lowered::{Lowered, TypedPlace};
+use crate::operators::{added, lower_relation, multiplied, negated, signed};
 use crate::places::{content, element};
 use crate::scene::Scene;
 use ob0_run_machine::code::{Number, Place, Truth};
@@ -37,7 +37,7 @@ fn constant(value: Scalar) -> Lowered
 }
 
 impl<'s, 'k, 't> Scene<'s, 'k, 't> {
-    /// The type of the variable that a name stands for.
+    /// The type of the variable that a name means.
     fn variable_type(&self, name: usize) -> Option<TypeId>
         ensures { option_map (type_shape (shapes_of self.now.types.now)) result ≡ variable_of (object_at self.now.types.now (label_in self.now.resolved.now name)) }
     {
@@ -51,7 +51,7 @@ impl<'s, 'k, 't> Scene<'s, 'k, 't> {
         }
     }
 
-    /// The value of the constant that a name stands for.
+    /// The value of the constant that a name means.
     fn constant(&self, name: usize) -> Option<Scalar>
         ensures { option_map scalar_value result ≡ constant_of (object_at self.now.types.now (label_in self.now.resolved.now name)) }
     {
@@ -65,7 +65,7 @@ impl<'s, 'k, 't> Scene<'s, 'k, 't> {
         }
     }
 
-    /// How a field's name is written. Nothing where a declaration binds the name: that is no field's.
+    /// How a field's name is written. Nothing where a declaration binds the name: that isn't a field's.
     fn written(&self, token: usize) -> &'t str
         ensures { result.now ≡ label_text (label_in self.now.resolved.now token) }
     {
@@ -83,19 +83,19 @@ impl<'s, 'k, 't> Scene<'s, 'k, 't> {
     }
 
     /// The whole of a variable.
-    fn base(&self, name: usize) -> Option<Located>
+    fn base(&self, name: usize) -> Option<TypedPlace>
         ensures { option_map (found_of (shapes_of self.now.types.now)) result ≡ base_found self.now (label_in self.now.resolved.now name) }
     {
         let of = self.variable_type(name)?;
         let place = self.variable(name);
-        Some(Located { place, of })
+        Some(TypedPlace { place, of })
     }
 
-    /// What stands at a place.
-    fn standing(&self, at: Located) -> Lowered
-        ensures { code_of result ≡ standing (found_of (shapes_of self.now.types.now) at).place (found_of (shapes_of self.now.types.now) at).shape }
+    /// What is at a place.
+    fn code_at_place(&self, at: TypedPlace) -> Lowered
+        ensures { code_of result ≡ code_at_place (found_of (shapes_of self.now.types.now) at).place (found_of (shapes_of self.now.types.now) at).shape }
     {
-        let Located { place, of } = at;
+        let TypedPlace { place, of } = at;
         match of {
             TypeId::Integer => Lowered::Number(content(place)),
             TypeId::Boolean => Lowered::Truth(Truth::Flag(place)),
@@ -105,27 +105,32 @@ impl<'s, 'k, 't> Scene<'s, 'k, 't> {
         }
     }
 
-    fn standing_there(&self, at: Option<Located>) -> Lowered
-        ensures { code_of result ≡ standing_there (option_map (found_of (shapes_of self.now.types.now)) at) }
+    fn code_at(&self, at: Option<TypedPlace>) -> Lowered
+        ensures { code_of result ≡ code_at (option_map (found_of (shapes_of self.now.types.now)) at) }
     {
         match at {
             None => Lowered::Nothing,
-            Some(at) => self.standing(at),
+            Some(at) => self.code_at_place(at),
         }
     }
 
     /// A field of what is at a place.
-    fn field(&self, alloc: Global, at: Located, name: usize) -> Result<Option<Located>, AllocError>
+    fn field(
+        &self,
+        alloc: Global,
+        at: TypedPlace,
+        name: usize,
+    ) -> Result<Option<TypedPlace>, AllocError>
         ensures { IfOk result (λ o. option_map (found_of (shapes_of self.now.types.now)) o ≡ field_found (label_text (label_in self.now.resolved.now name)) (found_of (shapes_of self.now.types.now) at)) }
     {
-        let Located { place, of } = at;
+        let TypedPlace { place, of } = at;
         let name = self.written(name);
         match self.types.known().field(of, name) {
             None => Ok(None),
             Some(field) => {
                 let offset = self.types.offset(of, name);
                 let place = Place::Part(Box::new(alloc, place)?, offset);
-                Ok(Some(Located { place, of: field }))
+                Ok(Some(TypedPlace { place, of: field }))
             }
         }
     }
@@ -134,17 +139,17 @@ impl<'s, 'k, 't> Scene<'s, 'k, 't> {
     fn element(
         &self,
         alloc: Global,
-        at: Located,
+        at: TypedPlace,
         index: Number,
-    ) -> Result<Option<Located>, AllocError>
+    ) -> Result<Option<TypedPlace>, AllocError>
         ensures { IfOk result (λ o. option_map (found_of (shapes_of self.now.types.now)) o ≡ element_found (a_number (number_of index)) (found_of (shapes_of self.now.types.now) at).place (found_of (shapes_of self.now.types.now) at).shape) }
     {
-        let Located { place, of } = at;
+        let TypedPlace { place, of } = at;
         match self.types.known().parts(of) {
             Parts::Array(array) => {
                 let stride = self.types.size(array.element);
                 let place = element(alloc, place, index, array.length, stride)?;
-                Ok(Some(Located {
+                Ok(Some(TypedPlace {
                     place,
                     of: array.element,
                 }))
@@ -159,9 +164,9 @@ impl<'s, 'k, 't> Scene<'s, 'k, 't> {
     fn element_there(
         &self,
         alloc: Global,
-        at: Option<Located>,
+        at: Option<TypedPlace>,
         index: Lowered,
-    ) -> Result<Option<Located>, AllocError>
+    ) -> Result<Option<TypedPlace>, AllocError>
         ensures { IfOk result (λ o. option_map (found_of (shapes_of self.now.types.now)) o ≡ element_of (code_of index) (option_map (found_of (shapes_of self.now.types.now)) at)) }
     {
         match at {
@@ -178,9 +183,9 @@ impl<'s, 'k, 't> Scene<'s, 'k, 't> {
     fn field_there(
         &self,
         alloc: Global,
-        at: Option<Located>,
+        at: Option<TypedPlace>,
         name: usize,
-    ) -> Result<Option<Located>, AllocError>
+    ) -> Result<Option<TypedPlace>, AllocError>
         ensures { IfOk result (λ o. option_map (found_of (shapes_of self.now.types.now)) o ≡ option_and_then (field_found (label_text (label_in self.now.resolved.now name))) (option_map (found_of (shapes_of self.now.types.now)) at)) }
     {
         match at {
@@ -200,7 +205,7 @@ impl<'s, 'k, 't> Scene<'s, 'k, 't> {
             Some(compared) => {
                 let compared: &Comparison = compared;
                 let right = self.simple(alloc, &compared.right)?;
-                related(alloc, compared.relation, left, right)
+                lower_relation(alloc, compared.relation, left, right)
             }
         }
     }
@@ -245,7 +250,7 @@ impl<'s, 'k, 't> Scene<'s, 'k, 't> {
         }
     }
 
-    /// A constant, or what stands at a designator's place.
+    /// A constant, or what is at a designator's place.
     #[cycle(lowering)]
     fn named(&self, alloc: Global, d: &Designator) -> Result<Lowered, AllocError>
         ensures { IfOk result (λ l. code_of l ≡ factor_code self.now (in_labels self.now.resolved.now (designator_of d.now))) }
@@ -253,19 +258,19 @@ impl<'s, 'k, 't> Scene<'s, 'k, 't> {
         match self.constant(d.name) {
             Some(value) => Ok(constant(value)),
             None => {
-                let at = self.located(alloc, d)?;
-                Ok(self.standing_there(at))
+                let at = self.locate(alloc, d)?;
+                Ok(self.code_at(at))
             }
         }
     }
 
     /// The place of a variable with its selectors.
     #[cycle(lowering)]
-    pub(crate) fn located(
+    pub(crate) fn locate(
         &self,
         alloc: Global,
         d: &Designator,
-    ) -> Result<Option<Located>, AllocError>
+    ) -> Result<Option<TypedPlace>, AllocError>
         ensures { IfOk result (λ o. option_map (found_of (shapes_of self.now.types.now)) o ≡ selected_place self.now (base_found self.now (label_in self.now.resolved.now (out-Designator d.now).name)) (in_labels self.now.resolved.now (selectors_in d.now))) }
     {
         let mut at = self.base(d.name);
@@ -279,9 +284,9 @@ impl<'s, 'k, 't> Scene<'s, 'k, 't> {
     fn selected(
         &self,
         alloc: Global,
-        at: Option<Located>,
+        at: Option<TypedPlace>,
         s: &Selector,
-    ) -> Result<Option<Located>, AllocError>
+    ) -> Result<Option<TypedPlace>, AllocError>
         ensures { IfOk result (λ o. option_map (found_of (shapes_of self.now.types.now)) o ≡ selected_once self.now (option_map (found_of (shapes_of self.now.types.now)) at) (in_labels self.now.resolved.now (selector_of s.now))) }
     {
         match s {

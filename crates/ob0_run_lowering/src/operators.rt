@@ -221,7 +221,7 @@ fn alike(
 }
 
 /// A relation of a number with what should be one.
-fn number_related(
+fn compare_numbers(
     alloc: Global,
     relation: Relation,
     left: Number,
@@ -237,7 +237,7 @@ fn number_related(
 }
 
 /// A relation of a truth with what should be one.
-fn truth_related(
+fn compare_truths(
     alloc: Global,
     relation: Relation,
     left: Truth,
@@ -251,7 +251,7 @@ fn truth_related(
     alike(alloc, relation, left, second)
 }
 
-pub(crate) fn related(
+pub(crate) fn lower_relation(
     alloc: Global,
     relation: Relation,
     left: Lowered,
@@ -260,8 +260,8 @@ pub(crate) fn related(
     ensures { IfOk result (λ l. code_of l ≡ codes.related relation (code_of left) (code_of right)) }
 {
     match left {
-        Lowered::Number(number) => number_related(alloc, relation, number, right),
-        Lowered::Truth(truth) => truth_related(alloc, relation, truth, right),
+        Lowered::Number(number) => compare_numbers(alloc, relation, number, right),
+        Lowered::Truth(truth) => compare_truths(alloc, relation, truth, right),
         Lowered::Block(_, _) => Ok(Lowered::Nothing),
         Lowered::Nothing => Ok(Lowered::Nothing),
     }

@@ -14,8 +14,8 @@ ghost use Rattle.ob0_run_machine.specs.View.{program_of};
 ghost use Rattle.ob0_run_cells.specs.Activations.{ProgramMeans};
 ghost use Rattle.ob0_run_lowering.specs.Blocks.{Goes, LowersBlock};
 
-use crate::ground::Ground;
-use crate::sight::{Frame, Sight};
+use crate::contexts::LoweringContext;
+use crate::visible_sites::{Frame, VisibleSites};
 use crate::{Scene, Site, Types, body};
 use ob0_run_machine::code;
 use ob0_scope_rules::Resolved;
@@ -27,7 +27,7 @@ use std::alloc::{AllocError, Global};
 /// far.
 #[derive(Drop)]
 pub(crate) struct Lowering {
-    pub(crate) sight: Sight,
+    pub(crate) sight: VisibleSites,
     pub(crate) procedures: Vec<code::Procedure>,
     pub(crate) most: usize,
 }
@@ -72,7 +72,7 @@ impl Lowering {
     /// A procedure's place in the program, which its name has from its heading on. Its code comes later.
     fn announce(
         &mut self,
-        ground: &Ground<'_, '_, '_>,
+        ground: &LoweringContext<'_, '_, '_>,
         depth: usize,
         name: usize,
     ) -> Result<usize, AllocError>
@@ -92,12 +92,12 @@ impl Lowering {
         Ok(index)
     }
 
-    /// A procedure is in sight behind its heading, and so in its own body; its parameters and what it declares are in sight up to
+    /// A procedure is in scope after its heading, and so in its own body; its parameters and what it declares are in scope up to
     /// its end.
     #[cycle(blocks)]
     fn procedure(
         &mut self,
-        ground: &Ground<'_, '_, '_>,
+        ground: &LoweringContext<'_, '_, '_>,
         depth: usize,
         p: &Procedure,
     ) -> Result<(), AllocError>
@@ -124,7 +124,7 @@ impl Lowering {
     #[cycle(blocks)]
     fn block(
         &mut self,
-        ground: &Ground<'_, '_, '_>,
+        ground: &LoweringContext<'_, '_, '_>,
         frame: Frame,
         b: &Block,
     ) -> Result<code::Procedure, AllocError>
@@ -162,13 +162,13 @@ pub fn lower<'t>(
     ensures { IfOk result (λ made. WellTyped (named_tree_of resolved.now.module_read) → ((k : ℕ) → declared_in known.now k ≡ declared_object (named_tree_of resolved.now.module_read) k) → ProgramMeans made.most_cells as_labels (numbered (named_tree_of resolved.now.module_read)) (program_of made.code)) }
 {
     let types = Types::new(alloc, known)?;
-    let ground = Ground {
+    let ground = LoweringContext {
         alloc,
         resolved,
         types: &types,
     };
     let mut lowering = Lowering {
-        sight: Sight::new(alloc),
+        sight: VisibleSites::new(alloc),
         procedures: Vec::new(alloc),
         most: 0,
     };

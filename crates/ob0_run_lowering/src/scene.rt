@@ -1,4 +1,4 @@
-//! Where lowering stands.
+//! What lowering knows where it is.
 
 ghost use Rattle.std.specs.Prelude.{◌≡◌};
 ghost use Rattle.ob0_run_machine.specs.View.{place_of};
@@ -64,7 +64,7 @@ impl<'s, 'k, 't> Scene<'s, 'k, 't> {
         }
     }
 
-    /// Which procedure a name stands for: its index, and how many levels out it is declared.
+    /// Which procedure a name means: its index, and how many levels out it is declared.
     pub fn target(&self, name: usize) -> (usize, usize)
         ensures { record { procedure = result.0; up = result.1 } ≡ target_at self.now (label_in self.now.resolved.now name) }
     {

@@ -9,9 +9,9 @@ ghost use Rattle.ob0_types_table.specs.KnownTables.{declared_in, shapes_of};
 ghost use Rattle.ob0_types_table.specs.Tables.{fields_shape, made_shape, no_shape, only_array, only_record, type_shape};
 ghost use Rattle.ob0_types_rules.specs.Expressions.{a_constant};
 ghost use Rattle.ob0_values.specs.Values as values;
-ghost use Rattle.ob0_run_lowering.specs.Layouts.{AreLaidOut, LayOut, LaysOut, RecordAt};
+ghost use Rattle.ob0_run_lowering.specs.Layouts.{AreLaidOut, LayOut, HasLayout, RecordAt};
 
-use ob0_types_table::{Field, FieldOf, Known, Shape, TypeId};
+use ob0_types_table::{Field, FieldOf, Known, TypeEntry, TypeId};
 use ob0_values::Scalar;
 use std::alloc::{AllocError, Global};
 use std::marker::Model;
@@ -105,7 +105,7 @@ fn size_in(layouts: &[Layout], of: TypeId) -> usize
     }
 }
 
-/// The fields of a record one behind the other.
+/// The fields of a record one after the other.
 fn laid_out(alloc: Global, layouts: &[Layout], fields: &[Field]) -> Result<RecordLayout, AllocError>
     ensures { (shapes : List values.Shape) → LayOut shapes layouts.now → IfOk result (AreLaidOut (fields_shape shapes fields.now)) }
 {
@@ -119,15 +119,15 @@ fn laid_out(alloc: Global, layouts: &[Layout], fields: &[Field]) -> Result<Recor
 }
 
 /// An entry of the table, by those before it.
-fn entry(alloc: Global, layouts: &[Layout], shape: &Shape) -> Result<Layout, AllocError>
-    ensures { (shapes : List values.Shape) → LayOut shapes layouts.now → IfOk result (LaysOut (made_shape shapes shape.now)) }
+fn entry(alloc: Global, layouts: &[Layout], shape: &TypeEntry) -> Result<Layout, AllocError>
+    ensures { (shapes : List values.Shape) → LayOut shapes layouts.now → IfOk result (HasLayout (made_shape shapes shape.now)) }
 {
     match shape {
-        Shape::Array(array) => {
+        TypeEntry::Array(array) => {
             let cells = times(array.length, size_in(layouts, array.element))?;
             Ok(Layout::Array(cells))
         }
-        Shape::Record(record) => {
+        TypeEntry::Record(record) => {
             let layout = laid_out(alloc, layouts, record.fields.as_slice())?;
             Ok(Layout::Record(layout))
         }

@@ -3,7 +3,7 @@ use Rattle.std.proofs.Common.{◌≡◌, ℕ, zero, suc, arith, Bool, true, fals
 use Rattle.std.proofs.lemmas.List.{drop_all, drop_more}
 use Rattle.ob0_run_machine.specs.declared.code.Argument.{Argument}
 use Rattle.ob0_run_machine.specs.declared.level.Level as level
-use Rattle.ob0_run_machine.specs.Levels.{levels_behind, levels_of, levels_seen}
+use Rattle.ob0_run_machine.specs.Levels.{levels_after, levels_of, levels_seen}
 use Rattle.ob0_run_machine.specs.declared.code.Branch.{Branch}
 use Rattle.ob0_run_machine.specs.declared.code.Call as call
 use Rattle.ob0_run_machine.specs.declared.code.If.{If, out-If}
@@ -17,26 +17,26 @@ use Rattle.ob0_run_machine.specs.declared.ending.Stop.TheVariants as stop
 use Rattle.ob0_run_machine.specs.declared.machine.Machine.{Machine}
 use Rattle.ob0_run_machine.specs.Answers.{end_of}
 use Rattle.ob0_run_machine.specs.Evaluation.{Levels, Outcome, TurnBound, ends, gives, truth}
-use Rattle.ob0_run_machine.specs.Execution.{Calls, Progress, State, choose, entered, execute, execute_all, execute_branches, go_on, pass_all, running, stopped, turns, turns_until, use_in}
+use Rattle.ob0_run_machine.specs.Execution.{Calls, Progress, State, choose, entered, execute, execute_all, execute_branches, continue_with, pass_all, running, stopped, turns, turns_until, use_in}
 use Rattle.ob0_run_machine.specs.Lowered as lowered
-use Rattle.ob0_run_machine.specs.Machines.{Does, Doing, Passes, Performs, Post, Steps, executed, executed_all, entering, items_out, moved, passed_in, state_of}
+use Rattle.ob0_run_machine.specs.Machines.{MachineDoes, Doing, Passes, Performs, Post, MachineSteps, executed, executed_all, entering, items_out, moved, passed_in, state_of}
 use Rattle.ob0_run_machine.specs.View.{all_branches, argument_of, branches_in, call_of, repeat_of, sequence_of, statement_of, truth_of, while_of}
 
-failed_then : (e : Stop) (m : Machine) (p : Progress) (k : State → Progress) → Steps (Err e) m p → Steps (Err e) m (go_on p k)
-failed_then (stop.Ended x) m p k h = ap (λ p. go_on p k) h
+failed_then : (e : Stop) (m : Machine) (p : Progress) (k : State → Progress) → MachineSteps (Err e) m p → MachineSteps (Err e) m (continue_with p k)
+failed_then (stop.Ended x) m p k h = ap (λ p. continue_with p k) h
 failed_then stop.Memory m p k h = tt
 
 -- the exit of a `?`
-pub leaving : {post : Post} {r : Result (Unit {0}) Stop} {e : Stop} {m m' : Machine} {f : Doing} → (y : Stop) × (r ≡ Err y) × (y ≡ e) → Does post (Err e) m m' f → Does post r m m' f
-leaving {post = post} {r = r} {m = m} {m' = m'} {f = f} q h = subst (λ r. Does post r m m' f) (sym q.1) (subst (λ y. Does post (Err y) m m' f) (sym q.2) h)
+pub leaving : {post : Post} {r : Result (Unit {0}) Stop} {e : Stop} {m m' : Machine} {f : Doing} → (y : Stop) × (r ≡ Err y) × (y ≡ e) → MachineDoes post (Err e) m m' f → MachineDoes post r m m' f
+leaving {post = post} {r = r} {m = m} {m' = m'} {f = f} q h = subst (λ r. MachineDoes post r m m' f) (sym q.1) (subst (λ y. MachineDoes post (Err y) m m' f) (sym q.2) h)
 
-pub does_as : {post : Post} {r : Result (Unit {0}) Stop} {m m' : Machine} {f g : Doing} → Does post r m m' f → ((enters : Calls) (s : State) → f enters s ≡ g enters s) → Does post r m m' g
-does_as {r = r} {m = m} {m' = m'} h e = record { as_defined = λ enters p. subst (Steps r m') (e enters (state_of m)) (h.as_defined enters p) }
+pub does_as : {post : Post} {r : Result (Unit {0}) Stop} {m m' : Machine} {f g : Doing} → MachineDoes post r m m' f → ((enters : Calls) (s : State) → f enters s ≡ g enters s) → MachineDoes post r m m' g
+does_as {r = r} {m = m} {m' = m'} h e = record { as_defined = λ enters p. subst (MachineSteps r m') (e enters (state_of m)) (h.as_defined enters p) }
 
-pub does_moved : {post : Post} {m m' : Machine} (r : Result (Unit {0}) Ending) (e : Ending) (f : Doing) → r ≡ Err e → ((enters : Calls) → moved r m' ≡ f enters (state_of m)) → Does post (Err (stop.Ended e)) m m' f
+pub does_moved : {post : Post} {m m' : Machine} (r : Result (Unit {0}) Ending) (e : Ending) (f : Doing) → r ≡ Err e → ((enters : Calls) → moved r m' ≡ f enters (state_of m)) → MachineDoes post (Err (stop.Ended e)) m m' f
 does_moved {m' = m'} r e f is h = record { as_defined = λ enters p. sym (h enters) ∙ ap (λ r. moved r m') is }
 
-pub does_done : {post : Post} {m m' : Machine} (u : Unit {0}) (r : Result (Unit {0}) Ending) (f : Doing) → r ≡ Ok u → ((enters : Calls) → moved r m' ≡ f enters (state_of m)) → Does post (Ok u) m m' f
+pub does_done : {post : Post} {m m' : Machine} (u : Unit {0}) (r : Result (Unit {0}) Ending) (f : Doing) → r ≡ Ok u → ((enters : Calls) → moved r m' ≡ f enters (state_of m)) → MachineDoes post (Ok u) m m' f
 does_done {m' = m'} u r f is h = record { as_defined = λ enters p. sym (h enters) ∙ ap (λ r. moved r m') is }
 
 -- a truth that is known
@@ -44,11 +44,11 @@ pub settled : {a b : Bool} {o : Outcome Bool} → gives a ≡ o → a ≡ b → 
 settled h e = sym (ap gives e) ∙ h
 
 -- the exit of a `?` at a condition
-pub stopped_by : {post : Post} {r : Result (Unit {0}) Stop} {m m' : Machine} {f : Doing} (e : Ending) → (y : Stop) × (r ≡ Err y) × (y ≡ stop.Ended e) → Does post (Err (stop.Ended e)) m m' f → Does post r m m' f
+pub stopped_by : {post : Post} {r : Result (Unit {0}) Stop} {m m' : Machine} {f : Doing} (e : Ending) → (y : Stop) × (r ≡ Err y) × (y ≡ stop.Ended e) → MachineDoes post (Err (stop.Ended e)) m m' f → MachineDoes post r m m' f
 stopped_by e q h = leaving q h
 
-pub does_statement : {post : Post} {r : Result (Unit {0}) Stop} {m m' : Machine} (t : ℕ) (ls : Levels) {a b : lowered.Statement} → a ≡ b → Does post r m m' (executed t ls a) → Does post r m m' (executed t ls b)
-does_statement {post = post} {r = r} {m = m} {m' = m'} t ls e h = subst (λ a. Does post r m m' (executed t ls a)) e h
+pub does_statement : {post : Post} {r : Result (Unit {0}) Stop} {m m' : Machine} (t : ℕ) (ls : Levels) {a b : lowered.Statement} → a ≡ b → MachineDoes post r m m' (executed t ls a) → MachineDoes post r m m' (executed t ls b)
+does_statement {post = post} {r = r} {m = m} {m' = m'} t ls e h = subst (λ a. MachineDoes post r m m' (executed t ls a)) e h
 
 -- sequences
 
@@ -57,7 +57,7 @@ pub record InSequence (post : Post) (start now : Machine) (t : ℕ) (ls : Levels
   pub so_far : (enters : Calls) → Performs post enters → execute_all enters t ls (sequence_of xs) (state_of start) ≡ execute_all enters t ls (sequence_of (drop k xs)) (state_of now)
 
 execute-next : (enters : Calls) (t : ℕ) (ls : Levels) (xs : List Statement) (k : ℕ) (x : Statement) (s : State) → k < length xs → x ≡ get_or xs k x
-    → execute_all enters t ls (sequence_of (drop k xs)) s ≡ go_on (execute enters t ls (statement_of x) s) (execute_all enters t ls (sequence_of (drop (k + 1) xs)))
+    → execute_all enters t ls (sequence_of (drop k xs)) s ≡ continue_with (execute enters t ls (statement_of x) s) (execute_all enters t ls (sequence_of (drop (k + 1) xs)))
 unfolding execute
 execute-next enters t ls xs k x s less is = ap (λ ys. execute_all enters t ls (sequence_of ys) s) (drop_more xs k x less ∙ ap (λ z. z ∷ drop (k + 1) xs) (sym is))
 
@@ -69,21 +69,21 @@ pub sequence_begins : {post : Post} {start : Machine} {t : ℕ} {ls : Levels} {x
 sequence_begins = record { so_far = λ enters p. refl }
 
 pub sequence_on : {post : Post} {start now m : Machine} {t : ℕ} {ls : Levels} {xs : List Statement} {k : ℕ} (u : Unit {0}) (x : Statement) → InSequence post start now t ls xs k → k < length xs → x ≡ get_or xs k x
-    → Does post (Ok u) now m (executed t ls (statement_of x)) → InSequence post start m t ls xs (k + 1)
+    → MachineDoes post (Ok u) now m (executed t ls (statement_of x)) → InSequence post start m t ls xs (k + 1)
 sequence_on {now = now} {t = t} {ls = ls} {xs = xs} {k = k} u x c less is h = record {
   so_far = λ enters p.
-      c.so_far enters p ∙ execute-next enters t ls xs k x (state_of now) less is ∙ ap (λ q. go_on q (execute_all enters t ls (sequence_of (drop (k + 1) xs)))) (h.as_defined enters p);
+      c.so_far enters p ∙ execute-next enters t ls xs k x (state_of now) less is ∙ ap (λ q. continue_with q (execute_all enters t ls (sequence_of (drop (k + 1) xs)))) (h.as_defined enters p);
 }
 
 pub sequence_fails : {post : Post} {start now m : Machine} {t : ℕ} {ls : Levels} {xs : List Statement} {k : ℕ} (e : Stop) (x : Statement) → InSequence post start now t ls xs k → k < length xs → x ≡ get_or xs k x
-    → Does post (Err e) now m (executed t ls (statement_of x)) → Does post (Err e) start m (executed_all t ls (sequence_of xs))
+    → MachineDoes post (Err e) now m (executed t ls (statement_of x)) → MachineDoes post (Err e) start m (executed_all t ls (sequence_of xs))
 sequence_fails {now = now} {m = m} {t = t} {ls = ls} {xs = xs} {k = k} e x c less is h = record {
   as_defined = λ enters p.
-      subst (Steps (Err e) m) (sym (c.so_far enters p ∙ execute-next enters t ls xs k x (state_of now) less is))
+      subst (MachineSteps (Err e) m) (sym (c.so_far enters p ∙ execute-next enters t ls xs k x (state_of now) less is))
       (failed_then e m (execute enters t ls (statement_of x) (state_of now)) (execute_all enters t ls (sequence_of (drop (k + 1) xs))) (h.as_defined enters p));
 }
 
-pub sequence_ends : {post : Post} {start now : Machine} {t : ℕ} {ls : Levels} {xs : List Statement} {k : ℕ} (u : Unit {0}) → InSequence post start now t ls xs k → length xs ≤ k → Does post (Ok u) start now (executed_all t ls (sequence_of xs))
+pub sequence_ends : {post : Post} {start now : Machine} {t : ℕ} {ls : Levels} {xs : List Statement} {k : ℕ} (u : Unit {0}) → InSequence post start now t ls xs k → length xs ≤ k → MachineDoes post (Ok u) start now (executed_all t ls (sequence_of xs))
 sequence_ends {now = now} {t = t} {ls = ls} {xs = xs} {k = k} u c all = record { as_defined = λ enters p. c.so_far enters p ∙ execute-last enters t ls xs k (state_of now) all }
 
 -- branches
@@ -115,26 +115,26 @@ branches_on {now = now} {t = t} {ls = ls} {i = i} {xs = xs} {k = k} x c less is 
 }
 
 pub branches_fail : {post : Post} {start now : Machine} {t : ℕ} {ls : Levels} {i : If} {xs : List Branch} {k : ℕ} (e : Ending) (x : Branch) → InBranches post start now t ls i xs k → k < length xs → x ≡ get_or xs k x
-    → ends (end_of e) ≡ truth ls now.cells.items (truth_of x.condition) → Does post (Err (stop.Ended e)) start now (executed t ls (branches_in i))
+    → ends (end_of e) ≡ truth ls now.cells.items (truth_of x.condition) → MachineDoes post (Err (stop.Ended e)) start now (executed t ls (branches_in i))
 branches_fail {now = now} {t = t} {ls = ls} {i = i} {xs = xs} {k = k} e x c less is h = record {
   as_defined = λ enters p. c.so_far enters p ∙ branch-next enters t ls i xs k x (state_of now) less is
       ∙ ap (λ o. choose (state_of now) o (execute_all enters t ls (sequence_of x.body.items)) (from_branches enters t ls i (drop (k + 1) xs))) (sym h);
 }
 
 pub branch_taken : {post : Post} {start now m : Machine} {t : ℕ} {ls : Levels} {i : If} {xs : List Branch} {k : ℕ} (r : Result (Unit {0}) Stop) (ss : List Statement) (x : Branch) → InBranches post start now t ls i xs k → k < length xs → x ≡ get_or xs k x
-    → gives true ≡ truth ls now.cells.items (truth_of x.condition) → ss ≡ x.body.items → Does post r now m (executed_all t ls (sequence_of ss)) → Does post r start m (executed t ls (branches_in i))
+    → gives true ≡ truth ls now.cells.items (truth_of x.condition) → ss ≡ x.body.items → MachineDoes post r now m (executed_all t ls (sequence_of ss)) → MachineDoes post r start m (executed t ls (branches_in i))
 branch_taken {now = now} {m = m} {t = t} {ls = ls} {i = i} {xs = xs} {k = k} r ss x c less is h same d = record {
   as_defined = λ enters p.
-      subst (Steps r m) (sym (c.so_far enters p ∙ branch-next enters t ls i xs k x (state_of now) less is
+      subst (MachineSteps r m) (sym (c.so_far enters p ∙ branch-next enters t ls i xs k x (state_of now) less is
       ∙ ap (λ o. choose (state_of now) o (execute_all enters t ls (sequence_of x.body.items)) (from_branches enters t ls i (drop (k + 1) xs))) (sym h)
       ∙ ap (λ ss. execute_all enters t ls (sequence_of ss) (state_of now)) (sym same))) (d.as_defined enters p);
 }
 
 pub branches_end : {post : Post} {start now m : Machine} {t : ℕ} {ls : Levels} {i : If} {xs : List Branch} {k : ℕ} (r : Result (Unit {0}) Stop) (ss : List Statement) → InBranches post start now t ls i xs k → length xs ≤ k
-    → ss ≡ (out-If i).otherwise.items → Does post r now m (executed_all t ls (sequence_of ss)) → Does post r start m (executed t ls (branches_in i))
+    → ss ≡ (out-If i).otherwise.items → MachineDoes post r now m (executed_all t ls (sequence_of ss)) → MachineDoes post r start m (executed t ls (branches_in i))
 branches_end {now = now} {m = m} {t = t} {ls = ls} {i = i} {xs = xs} {k = k} r ss c all same d = record {
   as_defined = λ enters p.
-      subst (Steps r m) (sym (c.so_far enters p ∙ branch-last enters t ls i xs k (state_of now) all ∙ ap (λ ss. execute_all enters t ls (sequence_of ss) (state_of now)) (sym same))) (d.as_defined enters p);
+      subst (MachineSteps r m) (sym (c.so_far enters p ∙ branch-last enters t ls i xs k (state_of now) all ∙ ap (λ ss. execute_all enters t ls (sequence_of ss) (state_of now)) (sym same))) (d.as_defined enters p);
 }
 
 -- WHILE
@@ -152,7 +152,7 @@ while_begins = record { so_far = λ enters p. refl }
 -- a turn more, or the bound
 pub once_more : Calls → ℕ → ℕ → Levels → While → State → Progress
 once_more enters zero t ls w s = stopped TurnBound s.output
-once_more enters (suc left) t ls w s = go_on (execute_all enters t ls (sequence_of w.body.items) s) (turning enters left t ls w)
+once_more enters (suc left) t ls w s = continue_with (execute_all enters t ls (sequence_of w.body.items) s) (turning enters left t ls w)
 
 turning-goes : (enters : Calls) (left t : ℕ) (ls : Levels) (w : While) (s : State) → turning enters left t ls w s ≡ choose s (truth ls s.cells (truth_of w.condition)) (once_more enters left t ls w) running
 unfolding once_more
@@ -167,7 +167,7 @@ one_less : (n : ℕ) → n ≢ 0 → n ≡ suc (n - 1)
 one_less zero h = absurd (h refl)
 one_less (suc n) h = omega arith
 
-once-more : (enters : Calls) (left t : ℕ) (ls : Levels) (w : While) (s : State) → left ≢ 0 → once_more enters left t ls w s ≡ go_on (execute_all enters t ls (sequence_of w.body.items) s) (turning enters (left - 1) t ls w)
+once-more : (enters : Calls) (left t : ℕ) (ls : Levels) (w : While) (s : State) → left ≢ 0 → once_more enters left t ls w s ≡ continue_with (execute_all enters t ls (sequence_of w.body.items) s) (turning enters (left - 1) t ls w)
 unfolding once_more
 once-more enters left t ls w s e = ap (λ left. once_more enters left t ls w s) (one_less left e)
 
@@ -176,30 +176,30 @@ while-chosen : {post : Post} {start now : Machine} {t : ℕ} {ls : Levels} {w : 
 while-chosen {now = now} {t = t} {ls = ls} {w = w} {left = left} o c h enters p = c.so_far enters p ∙ turning-goes enters left t ls w (state_of now) ∙ ap (λ o. choose (state_of now) o (once_more enters left t ls w) running) (sym h)
 
 pub while_fails : {post : Post} {start now : Machine} {t : ℕ} {ls : Levels} {w : While} {left : ℕ} (e : Ending) → InWhile post start now t ls w left → ends (end_of e) ≡ truth ls now.cells.items (truth_of w.condition)
-    → Does post (Err (stop.Ended e)) start now (executed t ls (while_of w))
+    → MachineDoes post (Err (stop.Ended e)) start now (executed t ls (while_of w))
 while_fails e c h = record { as_defined = while-chosen (ends (end_of e)) c h }
 
 pub while_ends : {post : Post} {start now : Machine} {t : ℕ} {ls : Levels} {w : While} {left : ℕ} (u : Unit {0}) → InWhile post start now t ls w left → gives false ≡ truth ls now.cells.items (truth_of w.condition)
-    → Does post (Ok u) start now (executed t ls (while_of w))
+    → MachineDoes post (Ok u) start now (executed t ls (while_of w))
 while_ends u c h = record { as_defined = while-chosen (gives false) c h }
 
 pub while_bound : {post : Post} {start now : Machine} {t : ℕ} {ls : Levels} {w : While} {left : ℕ} → InWhile post start now t ls w left → gives true ≡ truth ls now.cells.items (truth_of w.condition) → left ≡ 0
-    → Does post (Err (stop.Ended ending.TurnBound)) start now (executed t ls (while_of w))
+    → MachineDoes post (Err (stop.Ended ending.TurnBound)) start now (executed t ls (while_of w))
 while_bound {now = now} {t = t} {ls = ls} {w = w} {left = left} c h e = record { as_defined = λ enters p. while-chosen (gives true) c h enters p ∙ once-none enters left t ls w (state_of now) e }
 
 pub while_on : {post : Post} {start now m : Machine} {t : ℕ} {ls : Levels} {w : While} {left : ℕ} (u : Unit {0}) (ss : List Statement) → InWhile post start now t ls w left → gives true ≡ truth ls now.cells.items (truth_of w.condition) → left ≢ 0
-    → ss ≡ w.body.items → Does post (Ok u) now m (executed_all t ls (sequence_of ss)) → InWhile post start m t ls w (left - 1)
+    → ss ≡ w.body.items → MachineDoes post (Ok u) now m (executed_all t ls (sequence_of ss)) → InWhile post start m t ls w (left - 1)
 while_on {now = now} {t = t} {ls = ls} {w = w} {left = left} u ss c h e same d = record {
   so_far = λ enters p. while-chosen (gives true) c h enters p ∙ once-more enters left t ls w (state_of now) e
-      ∙ ap (λ q. go_on q (turning enters (left - 1) t ls w)) (ap (λ ss. execute_all enters t ls (sequence_of ss) (state_of now)) (sym same) ∙ d.as_defined enters p);
+      ∙ ap (λ q. continue_with q (turning enters (left - 1) t ls w)) (ap (λ ss. execute_all enters t ls (sequence_of ss) (state_of now)) (sym same) ∙ d.as_defined enters p);
 }
 
 pub while_body_fails : {post : Post} {start now m : Machine} {t : ℕ} {ls : Levels} {w : While} {left : ℕ} (x : Stop) (ss : List Statement) → InWhile post start now t ls w left → gives true ≡ truth ls now.cells.items (truth_of w.condition) → left ≢ 0
-    → ss ≡ w.body.items → Does post (Err x) now m (executed_all t ls (sequence_of ss)) → Does post (Err x) start m (executed t ls (while_of w))
+    → ss ≡ w.body.items → MachineDoes post (Err x) now m (executed_all t ls (sequence_of ss)) → MachineDoes post (Err x) start m (executed t ls (while_of w))
 while_body_fails {now = now} {m = m} {t = t} {ls = ls} {w = w} {left = left} x ss c h e same d = record {
   as_defined = λ enters p.
-      subst (Steps (Err x) m) (sym (while-chosen (gives true) c h enters p ∙ once-more enters left t ls w (state_of now) e
-      ∙ ap (λ q. go_on q (turning enters (left - 1) t ls w)) (ap (λ ss. execute_all enters t ls (sequence_of ss) (state_of now)) (sym same))))
+      subst (MachineSteps (Err x) m) (sym (while-chosen (gives true) c h enters p ∙ once-more enters left t ls w (state_of now) e
+      ∙ ap (λ q. continue_with q (turning enters (left - 1) t ls w)) (ap (λ ss. execute_all enters t ls (sequence_of ss) (state_of now)) (sym same))))
       (failed_then x m (execute_all enters t ls (sequence_of ss) (state_of now)) (turning enters (left - 1) t ls w) (d.as_defined enters p));
 }
 
@@ -223,7 +223,7 @@ again enters (suc left) t ls r s = turning_until enters left t ls r s
 abbrev pub turned : Calls → ℕ → ℕ → Levels → Repeat → State → Progress
 turned enters left t ls r s = choose s (truth ls s.cells (truth_of r.condition)) running (again enters left t ls r)
 
-until-goes : (enters : Calls) (left t : ℕ) (ls : Levels) (r : Repeat) (s : State) → turning_until enters left t ls r s ≡ go_on (execute_all enters t ls (sequence_of r.body.items) s) (turned enters left t ls r)
+until-goes : (enters : Calls) (left t : ℕ) (ls : Levels) (r : Repeat) (s : State) → turning_until enters left t ls r s ≡ continue_with (execute_all enters t ls (sequence_of r.body.items) s) (turned enters left t ls r)
 unfolding again
 until-goes enters zero t ls r s = refl
 until-goes enters (suc left) t ls r s = refl
@@ -237,11 +237,11 @@ unfolding again
 again-more enters left t ls r s e = ap (λ left. again enters left t ls r s) (one_less left e)
 
 pub repeat_body_fails : {post : Post} {start now m : Machine} {t : ℕ} {ls : Levels} {r : Repeat} {left : ℕ} (x : Stop) (ss : List Statement) → InRepeat post start now t ls r left
-    → ss ≡ r.body.items → Does post (Err x) now m (executed_all t ls (sequence_of ss)) → Does post (Err x) start m (executed t ls (repeat_of r))
+    → ss ≡ r.body.items → MachineDoes post (Err x) now m (executed_all t ls (sequence_of ss)) → MachineDoes post (Err x) start m (executed t ls (repeat_of r))
 repeat_body_fails {now = now} {m = m} {t = t} {ls = ls} {r = r} {left = left} x ss c same d = record {
   as_defined = λ enters p.
-      subst (Steps (Err x) m) (sym (c.so_far enters p ∙ until-goes enters left t ls r (state_of now)
-      ∙ ap (λ q. go_on q (turned enters left t ls r)) (ap (λ ss. execute_all enters t ls (sequence_of ss) (state_of now)) (sym same))))
+      subst (MachineSteps (Err x) m) (sym (c.so_far enters p ∙ until-goes enters left t ls r (state_of now)
+      ∙ ap (λ q. continue_with q (turned enters left t ls r)) (ap (λ ss. execute_all enters t ls (sequence_of ss) (state_of now)) (sym same))))
       (failed_then x m (execute_all enters t ls (sequence_of ss) (state_of now)) (turned enters left t ls r) (d.as_defined enters p));
 }
 
@@ -250,10 +250,10 @@ pub record Turned (post : Post) (start now : Machine) (t : ℕ) (ls : Levels) (r
   pub so_far : (enters : Calls) → Performs post enters → execute enters t ls (repeat_of r) (state_of start) ≡ turned enters left t ls r (state_of now)
 
 pub turn_made : {post : Post} {start now m : Machine} {t : ℕ} {ls : Levels} {r : Repeat} {left : ℕ} (u : Unit {0}) (ss : List Statement) → InRepeat post start now t ls r left
-    → ss ≡ r.body.items → Does post (Ok u) now m (executed_all t ls (sequence_of ss)) → Turned post start m t ls r left
+    → ss ≡ r.body.items → MachineDoes post (Ok u) now m (executed_all t ls (sequence_of ss)) → Turned post start m t ls r left
 turn_made {now = now} {t = t} {ls = ls} {r = r} {left = left} u ss c same d = record {
   so_far = λ enters p. c.so_far enters p ∙ until-goes enters left t ls r (state_of now)
-      ∙ ap (λ q. go_on q (turned enters left t ls r)) (ap (λ ss. execute_all enters t ls (sequence_of ss) (state_of now)) (sym same) ∙ d.as_defined enters p);
+      ∙ ap (λ q. continue_with q (turned enters left t ls r)) (ap (λ ss. execute_all enters t ls (sequence_of ss) (state_of now)) (sym same) ∙ d.as_defined enters p);
 }
 
 turned-chosen : {post : Post} {start now : Machine} {t : ℕ} {ls : Levels} {r : Repeat} {left : ℕ} (o : Outcome Bool) → Turned post start now t ls r left → o ≡ truth ls now.cells.items (truth_of r.condition)
@@ -261,15 +261,15 @@ turned-chosen : {post : Post} {start now : Machine} {t : ℕ} {ls : Levels} {r :
 turned-chosen {now = now} {t = t} {ls = ls} {r = r} {left = left} o c h enters p = c.so_far enters p ∙ ap (λ o. choose (state_of now) o running (again enters left t ls r)) (sym h)
 
 pub repeat_fails : {post : Post} {start now : Machine} {t : ℕ} {ls : Levels} {r : Repeat} {left : ℕ} (e : Ending) → Turned post start now t ls r left → ends (end_of e) ≡ truth ls now.cells.items (truth_of r.condition)
-    → Does post (Err (stop.Ended e)) start now (executed t ls (repeat_of r))
+    → MachineDoes post (Err (stop.Ended e)) start now (executed t ls (repeat_of r))
 repeat_fails e c h = record { as_defined = turned-chosen (ends (end_of e)) c h }
 
 pub repeat_ends : {post : Post} {start now : Machine} {t : ℕ} {ls : Levels} {r : Repeat} {left : ℕ} (u : Unit {0}) → Turned post start now t ls r left → gives true ≡ truth ls now.cells.items (truth_of r.condition)
-    → Does post (Ok u) start now (executed t ls (repeat_of r))
+    → MachineDoes post (Ok u) start now (executed t ls (repeat_of r))
 repeat_ends u c h = record { as_defined = turned-chosen (gives true) c h }
 
 pub repeat_bound : {post : Post} {start now : Machine} {t : ℕ} {ls : Levels} {r : Repeat} {left : ℕ} → Turned post start now t ls r left → gives false ≡ truth ls now.cells.items (truth_of r.condition) → left ≡ 0
-    → Does post (Err (stop.Ended ending.TurnBound)) start now (executed t ls (repeat_of r))
+    → MachineDoes post (Err (stop.Ended ending.TurnBound)) start now (executed t ls (repeat_of r))
 repeat_bound {now = now} {t = t} {ls = ls} {r = r} {left = left} c h e = record { as_defined = λ enters p. turned-chosen (gives false) c h enters p ∙ again-none enters left t ls r (state_of now) e }
 
 pub repeat_on : {post : Post} {start now : Machine} {t : ℕ} {ls : Levels} {r : Repeat} {left : ℕ} → Turned post start now t ls r left → gives false ≡ truth ls now.cells.items (truth_of r.condition) → left ≢ 0
@@ -285,7 +285,7 @@ call-goes t ls c enters s = refl
 
 pub call_fails : {post : Post} {m m' : Machine} (cells : List ℤ) (addresses : List ℕ) (e : Stop) (t : ℕ) (ls : Levels) (c : call.Call) (xs : List Argument) (none : List ℕ)
     → none ≡ [] → xs ≡ c.arguments.items → Passes (Err e) cells addresses (pass_all ls (map argument_of xs) (passed_in m.cells.items none)) → m'.output ≡ m.output
-    → Does post (Err e) m m' (executed t ls (call_of c))
+    → MachineDoes post (Err e) m m' (executed t ls (call_of c))
 call_fails {m = m} cells addresses (stop.Ended x) t ls c xs none empty same h out = record {
   as_defined = λ enters p.
       call-goes t ls c enters (state_of m)
@@ -298,11 +298,11 @@ call_fails cells addresses stop.Memory t ls c xs none empty same h out = record 
 pub call_enters : {post : Post} {m m' : Machine} {r : Result (Unit {0}) Stop} (cells : List ℤ) (addresses : List ℕ) (t : ℕ) (ls inner : Levels) (c : call.Call) (xs : List Argument) (none : List ℕ)
     → none ≡ [] → xs ≡ c.arguments.items → pass_all ls (map argument_of xs) (passed_in m.cells.items none) ≡ gives (passed_in cells addresses)
     → inner ≡ entered ls (length m.cells.items) c.up (passed_in cells addresses)
-    → ((enters : Calls) → Performs post enters → Steps r m' (enters c.procedure inner (record (state_of m) { cells = cells })))
-    → Does post r m m' (executed t ls (call_of c))
+    → ((enters : Calls) → Performs post enters → MachineSteps r m' (enters c.procedure inner (record (state_of m) { cells = cells })))
+    → MachineDoes post r m m' (executed t ls (call_of c))
 call_enters {m = m} {m' = m'} {r = r} cells addresses t ls inner c xs none empty same h seen done = record {
   as_defined = λ enters p.
-      subst (Steps r m') (sym (call-goes t ls c enters (state_of m)
+      subst (MachineSteps r m') (sym (call-goes t ls c enters (state_of m)
       ∙ ap (λ o. use_in (state_of m) o (λ p. enters c.procedure (entered ls (length m.cells.items) c.up p) record (state_of m) { cells = p.cells }))
       (ap (λ xs. pass_all ls (map argument_of xs) (passed_in m.cells.items [])) (sym same) ∙ ap (λ none. pass_all ls (map argument_of xs) (passed_in m.cells.items none)) (sym empty) ∙ h)
       ∙ ap (λ ls. enters c.procedure ls record (state_of m) { cells = cells }) (sym seen)))
@@ -310,11 +310,11 @@ call_enters {m = m} {m' = m'} {r = r} cells addresses t ls inner c xs none empty
 }
 
 pub enters_as : {post : Post} {m m' : Machine} {r : Result (Unit {0}) Stop} (k up base : ℕ) (addresses : List ℕ) (ls inner : Levels) → inner ≡ entered ls base up (passed_in m.cells.items addresses)
-    → ((enters : Calls) → Performs post enters → Steps r m' (enters k inner (state_of m))) → Does post r m m' (entering k up ls base addresses)
-enters_as {m = m} {m' = m'} {r = r} k up base addresses ls inner seen done = record { as_defined = λ enters p. subst (λ seen. Steps r m' (enters k seen (state_of m))) seen (done enters p) }
+    → ((enters : Calls) → Performs post enters → MachineSteps r m' (enters k inner (state_of m))) → MachineDoes post r m m' (entering k up ls base addresses)
+enters_as {m = m} {m' = m'} {r = r} k up base addresses ls inner seen done = record { as_defined = λ enters p. subst (λ seen. MachineSteps r m' (enters k seen (state_of m))) seen (done enters p) }
 
 -- the levels of an activation that is made
-behind : (o : _) → levels_behind (level.back-Level-enclosing o) ≡ levels_seen o
+behind : (o : _) → levels_after (level.back-Level-enclosing o) ≡ levels_seen o
 behind None = refl
 behind (Some l) = refl
 
@@ -324,5 +324,5 @@ level_made x = ap levels_of (level.rolls-Level' x) ∙ ap (λ outer. record { ba
 pub entered_as : {base n : ℕ} {addresses given : List ℕ} {outer seen : Levels} → base ≡ n → addresses ≡ given → outer ≡ seen → record { base = base; addresses = addresses } ∷ outer ≡ record { base = n; addresses = given } ∷ seen
 entered_as {base} {n} {addresses} {given} {outer} {seen} a b c = cc
 
-pub does_sequence : {post : Post} {r : Result (Unit {0}) Stop} {m m' : Machine} (t : ℕ) (ls : Levels) {xs ys : List Statement} → xs ≡ ys → Does post r m m' (executed_all t ls (sequence_of xs)) → Does post r m m' (executed_all t ls (sequence_of ys))
-does_sequence {post = post} {r = r} {m = m} {m' = m'} t ls e h = subst (λ xs. Does post r m m' (executed_all t ls (sequence_of xs))) e h
+pub does_sequence : {post : Post} {r : Result (Unit {0}) Stop} {m m' : Machine} (t : ℕ) (ls : Levels) {xs ys : List Statement} → xs ≡ ys → MachineDoes post r m m' (executed_all t ls (sequence_of xs)) → MachineDoes post r m m' (executed_all t ls (sequence_of ys))
+does_sequence {post = post} {r = r} {m = m} {m' = m'} t ls e h = subst (λ xs. MachineDoes post r m m' (executed_all t ls (sequence_of xs))) e h

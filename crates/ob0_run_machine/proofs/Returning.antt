@@ -10,7 +10,7 @@ use Rattle.ob0_run_machine.specs.Evaluation.{CallBound, Levels, innermost}
 use Rattle.ob0_run_machine.specs.Execution.{Progress, State, Written, activate, call, execute_all, finished, drop_variables, outermost, run, running, stopped, zeros}
 use Rattle.ob0_run_machine.specs.Levels.{levels_of}
 use Rattle.ob0_run_machine.specs.Lowered.{Procedure}
-use Rattle.ob0_run_machine.specs.Machines.{Does, Enters, Performs, Post, Steps, activated, executed_all, items_out, state_of}
+use Rattle.ob0_run_machine.specs.Machines.{MachineDoes, Enters, Performs, Post, MachineSteps, activated, executed_all, items_out, state_of}
 use Rattle.ob0_run_machine.specs.declared.machine.Item.{Item}
 use Rattle.ob0_run_machine.specs.Lowered as lowered
 use Rattle.ob0_run_machine.specs.Answers.{end_of}
@@ -43,15 +43,15 @@ module _ (m m₂ : Machine) (program : Program) (c t k : ℕ) (l : level.Level) 
   goes = call-goes (program_of program).procedures c t k (levels_of l) (state_of m) more
       ∙ ap (λ o. drop_variables (innermost (levels_of l)).base (activate (call (program_of program).procedures (c - 1) t) t (levels_of l) o (state_of m))) (sym found)
 
-  pub call_fails : (e : Stop) → Does post (Err e) m m₂ (activated o t (levels_of l)) → Enters (Err e) m m₂ program c t k l
+  pub call_fails : (e : Stop) → MachineDoes post (Err e) m m₂ (activated o t (levels_of l)) → Enters (Err e) m m₂ program c t k l
   call_fails (stop.Ended x) d = goes ∙ ap (drop_variables (innermost (levels_of l)).base) (d.as_defined _ performs)
   call_fails stop.Memory d = tt
 
-  pub call_returns : (m₃ : Machine) (u v : Unit {0}) → Does post (Ok u) m m₂ (activated o t (levels_of l)) → state_of m₃ ≡ record (state_of m₂) { cells = take (innermost (levels_of l)).base m₂.cells.items } → Enters (Ok v) m m₃ program c t k l
+  pub call_returns : (m₃ : Machine) (u v : Unit {0}) → MachineDoes post (Ok u) m m₂ (activated o t (levels_of l)) → state_of m₃ ≡ record (state_of m₂) { cells = take (innermost (levels_of l)).base m₂.cells.items } → Enters (Ok v) m m₃ program c t k l
   call_returns m₃ u v d cut = goes ∙ ap (drop_variables (innermost (levels_of l)).base) (d.as_defined _ performs) ∙ ap running (sym cut)
 
 -- the body
-pub activates_none : {post : Post} {m : Machine} {o : Option Procedure} (u : Unit {0}) (t : ℕ) (ls : Levels) → o ≡ None → Does post (Ok u) m m (activated o t ls)
+pub activates_none : {post : Post} {m : Machine} {o : Option Procedure} (u : Unit {0}) (t : ℕ) (ls : Levels) → o ≡ None → MachineDoes post (Ok u) m m (activated o t ls)
 unfolding activate
 activates_none {m = m} u t ls e = record { as_defined = λ enters p. ap (λ o. activate enters t ls o (state_of m)) e }
 
@@ -60,21 +60,21 @@ unfolding activate
 activate-goes enters t ls o p s e = ap (λ o. activate enters t ls o s) e
 
 pub activates : {post : Post} {r : Result (Unit {0}) Stop} {m m₂ m' : Machine} {o : Option Procedure} (t : ℕ) (ls : Levels) (p : Procedure) → o ≡ Some p → state_of m₂ ≡ record (state_of m) { cells = m.cells.items ++ zeros p.cells }
-    → Does post r m₂ m' (executed_all t ls p.body) → Does post r m m' (activated o t ls)
+    → MachineDoes post r m₂ m' (executed_all t ls p.body) → MachineDoes post r m m' (activated o t ls)
 activates {r = r} {m = m} {m' = m'} {o = o} t ls p e more d = record {
   as_defined = λ enters performs.
-      subst (Steps r m') (sym (activate-goes enters t ls o p (state_of m) e ∙ ap (execute_all enters t ls p.body) (sym more))) (d.as_defined enters performs);
+      subst (MachineSteps r m') (sym (activate-goes enters t ls o p (state_of m) e ∙ ap (execute_all enters t ls p.body) (sym more))) (d.as_defined enters performs);
 }
 
-pub leaving_steps : (r : Result (Unit {0}) Stop) (e : Stop) (m : Machine) (p : Progress) → (y : Stop) × (r ≡ Err y) × (y ≡ e) → Steps (Err e) m p → Steps r m p
-leaving_steps r e m p q h = subst (λ r. Steps r m p) (sym q.1) (subst (λ y. Steps (Err y) m p) (sym q.2) h)
+pub leaving_steps : (r : Result (Unit {0}) Stop) (e : Stop) (m : Machine) (p : Progress) → (y : Stop) × (r ≡ Err y) × (y ≡ e) → MachineSteps (Err e) m p → MachineSteps r m p
+leaving_steps r e m p q h = subst (λ r. MachineSteps r m p) (sym q.1) (subst (λ y. MachineSteps (Err y) m p) (sym q.2) h)
 
 -- the statements of a program
 pub block_runs : (m m' : Machine) (program : Program) (c t : ℕ) (r : Result (Unit {0}) Stop) (post : Post) (inner : Levels) (xs : List Statement) → Performs post (call (program_of program).procedures c t)
-    → inner ≡ outermost → xs ≡ program.body.items → Does post r m m' (executed_all t inner (sequence_of xs)) → Steps r m' (block_run (program_of program) c t (state_of m))
+    → inner ≡ outermost → xs ≡ program.body.items → MachineDoes post r m m' (executed_all t inner (sequence_of xs)) → MachineSteps r m' (block_run (program_of program) c t (state_of m))
 block_runs m m' program c t r post inner xs performs seen same d =
-    subst (λ xs. Steps r m' (executed_all t outermost (sequence_of xs) (call (program_of program).procedures c t) (state_of m))) same
-    (subst (λ inner. Steps r m' (executed_all t inner (sequence_of xs) (call (program_of program).procedures c t) (state_of m))) seen (d.as_defined _ performs))
+    subst (λ xs. MachineSteps r m' (executed_all t outermost (sequence_of xs) (call (program_of program).procedures c t) (state_of m))) same
+    (subst (λ inner. MachineSteps r m' (executed_all t inner (sequence_of xs) (call (program_of program).procedures c t) (state_of m))) seen (d.as_defined _ performs))
 
 -- whole runs
 abbrev pub state_with : List ℤ → List ℤ → List Written → State
@@ -87,7 +87,7 @@ given d (Err e) = d
 ok-same : {A E : Type 0} {a b : A} (r : Result A E) → r ≡ Ok a → r ≡ Ok b → a ≡ b
 ok-same {a = a} r h k = sym (ap (given a) h) ∙ ap (given a) k
 
-pub ended_by : (m : Machine) (p : Progress) (executed : Result (Unit {0}) Stop) (r : Result End AllocError) (end : End) → r ≡ Ok end → IsEndOf executed r → Steps executed m p
+pub ended_by : (m : Machine) (p : Progress) (executed : Result (Unit {0}) Stop) (r : Result End AllocError) (end : End) → r ≡ Ok end → IsEndOf executed r → MachineSteps executed m p
     → record { output = items_out m.output.items; ending = end_in end } ≡ finished p
 ended_by m p (Ok done) r end is h steps = ap (λ e. record { output = items_out m.output.items; ending = end_in e }) (ok-same r is h) ∙ sym (ap finished steps)
 ended_by m p (Err (stop.Ended x)) r end is h steps = ap (λ e. record { output = items_out m.output.items; ending = end_in e }) (ok-same r is h) ∙ sym (ap finished steps)

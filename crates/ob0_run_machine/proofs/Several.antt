@@ -1,4 +1,4 @@
--- Many truths in a row, between which `&` or `OR` stands, from left to right.
+-- Many truths in a row, between which `&` or `OR` is, from left to right.
 use Rattle.std.proofs.Common.{◌≡◌, ℕ, ◌+◌, ◌<◌, ◌≤◌, ℤ, Bool, true, false, List, [], ◌∷◌, length, get_or, drop, refl, sym, ap, ◌∙◌, if◌then◌else◌}
 use Rattle.std.proofs.lemmas.List.{drop_all, drop_more}
 use Rattle.ob0_run_machine.specs.declared.code.Several.{out-Several}

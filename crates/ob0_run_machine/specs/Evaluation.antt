@@ -1,4 +1,4 @@
--- What places, numbers and truths of lowered code are worth, in activations and over cells.
+-- The value of places, numbers and truths of lowered code, in activations and over cells.
 -- Rule: none; for contracts of the machine: what lowered expressions mean, by the rules of docs/LANGUAGE.md, Runs 2 to 4.
 use Rattle.std.specs.Prelude.{ℕ, zero, suc, ◌+◌, ◌-◌, ◌*◌, ◌/◌, ◌%◌, ◌^◌, Bool, true, false, not, ◌&&◌, List, [], ◌∷◌, ℤ, pos, negsuc, ◌+ℤ◌, ◌-ℤ◌, ◌*ℤ◌, neg_ℤ, if◌then◌else◌, nat_lt, slice_index_or, int_lt, int_le, drop}
 use Rattle.ob0_run_machine.specs.Lowered.{Place, in_module, here, outside, passed, element, part, Number, literal, cell, negative, operation, Operator, sum, difference, product, quotient, remainder, Relation, equal, not_equal, less, less_equal, greater, greater_equal, Truth, constant, flag, negation, both, either, related, same, different}
@@ -45,7 +45,7 @@ abbrev pub element_at : ℕ → ℕ → ℕ → ℤ → Outcome ℕ
 element_at address length stride (pos i) = if nat_lt i length then gives (forward address (i * stride)) else ends Index
 element_at address length stride (negsuc i) = ends Index
 
--- what isn't there is worth 0
+-- the value of isn't there 0
 abbrev pub cell_at : List ℤ → ℕ → ℤ
 cell_at cells address = slice_index_or cells address (pos 0)
 

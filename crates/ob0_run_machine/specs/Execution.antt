@@ -16,7 +16,7 @@ pub record State : Type 0 where
   pub input : List ℤ
   pub output : List Written
 
--- a run goes on, or it has ended; what was put out before stands
+-- a run goes on, or it has ended; what was output before remains
 pub data Progress : Type 0 where
   running : State → Progress
   stopped : End → List Written → Progress
@@ -27,9 +27,9 @@ use_in s (gives a) next = next a
 use_in s (ends e) next = stopped e s.output
 
 -- a run that goes on is continued; one that has ended stays so
-abbrev pub go_on : Progress → (State → Progress) → Progress
-go_on (running s) next = next s
-go_on (stopped e out) next = stopped e out
+abbrev pub continue_with : Progress → (State → Progress) → Progress
+continue_with (running s) next = next s
+continue_with (stopped e out) next = stopped e out
 
 -- one of two ways, by a condition
 abbrev pub choose : State → Outcome Bool → (State → Progress) → (State → Progress) → Progress
@@ -38,8 +38,8 @@ choose s (gives false) when_true when_false = when_false s
 choose s (ends e) when_true when_false = stopped e s.output
 
 -- the state with one more item of output
-abbrev pub put_out : State → Written → State
-put_out s i = record s { output = s.output ++ i ∷ [] }
+abbrev pub append_output : State → Written → State
+append_output s i = record s { output = s.output ++ i ∷ [] }
 
 -- a cell that isn't there stays so
 abbrev pub store_at : State → ℕ → ℤ → State
@@ -90,15 +90,15 @@ pass_all ls (a ∷ as_given) done = pass ls a done >>= pass_all ls as_given
 abbrev pub turns : ℕ → (State → Outcome Bool) → (State → Progress) → State → Progress
 turns zero condition statements s = choose s (condition s) (λ s'. stopped TurnBound s'.output) running
 turns (suc t) condition statements s =
-    choose s (condition s) (λ s'. go_on (statements s') (turns t condition statements)) running
+    choose s (condition s) (λ s'. continue_with (statements s') (turns t condition statements)) running
 
 -- REPEAT makes a turn and then evaluates its condition: TRUE ends the statement; FALSE ends it with TurnBound where no more
 -- turns may be made, t more after this one; else one more turn is made
 abbrev pub turns_until : ℕ → (State → Outcome Bool) → (State → Progress) → State → Progress
 turns_until zero condition turn s =
-    go_on (turn s) (λ s'. choose s' (condition s') running (λ s''. stopped TurnBound s''.output))
+    continue_with (turn s) (λ s'. choose s' (condition s') running (λ s''. stopped TurnBound s''.output))
 turns_until (suc t) condition turn s =
-    go_on (turn s) (λ s'. choose s' (condition s') running (turns_until t condition turn))
+    continue_with (turn s) (λ s'. choose s' (condition s') running (turns_until t condition turn))
 
 -- what a procedure does where it is called: the activations that its body sees, its own first, whose arguments are passed
 abbrev pub Calls : Type 0
@@ -118,8 +118,8 @@ unfoldable mutual
   execute enter t ls (copies p q n) s =
       use_in s (address ls s.cells p) (λ to. use_in s (address ls s.cells q) (λ from. running record s { cells = copied s.cells to from n }))
   execute enter t ls (reads p) s = use_in s (address ls s.cells p) (λ a. read_number s a s.input)
-  execute enter t ls (writes n) s = use_in s (number ls s.cells n) (λ v. running (put_out s (number_out v)))
-  execute enter t ls writes_line s = running (put_out s line_out)
+  execute enter t ls (writes n) s = use_in s (number ls s.cells n) (λ v. running (append_output s (number_out v)))
+  execute enter t ls writes_line s = running (append_output s line_out)
   execute enter t ls (chooses bs otherwise) s = execute_branches enter t ls bs (execute_all enter t ls otherwise) s
   execute enter t ls (while_loop c body) s = turns t (λ s'. truth ls s'.cells c) (execute_all enter t ls body) s
   execute enter t ls (repeat_loop body c) s = turns_until (t - 1) (λ s'. truth ls s'.cells c) (execute_all enter t ls body) s
@@ -129,19 +129,19 @@ unfoldable mutual
 
   pub execute_all : Calls → ℕ → Levels → Statements → State → Progress
   execute_all enter t ls no_statement s = running s
-  execute_all enter t ls (before a rest) s = go_on (execute enter t ls a s) (execute_all enter t ls rest)
+  execute_all enter t ls (before a rest) s = continue_with (execute enter t ls a s) (execute_all enter t ls rest)
 
   pub execute_branches : Calls → ℕ → Levels → Branches → (State → Progress) → State → Progress
   execute_branches enter t ls no_branch otherwise s = otherwise s
   execute_branches enter t ls (branch c body rest) otherwise s =
       choose s (truth ls s.cells c) (execute_all enter t ls body) (execute_branches enter t ls rest otherwise)
 
--- a call that returns gives up its cells: the first n stay
+-- a call that returns drops its cells: the first n stay
 abbrev pub drop_variables : ℕ → Progress → Progress
 drop_variables n (running s) = running record s { cells = take n s.cells }
 drop_variables n (stopped e out) = stopped e out
 
--- the body of a procedure runs with its own cells behind its arguments; what isn't there does nothing
+-- the body of a procedure runs with its own cells after its arguments; what isn't there does nothing
 unfoldable pub activate : Calls → ℕ → Levels → Option Procedure → State → Progress
 unfolding execute_all
 activate enter t ls None s = running s

@@ -9,11 +9,11 @@ use Rattle.ob0_run_machine.specs.Evaluation.{Levels}
 
 abbrev mutual
   pub levels_of : code.Level → Levels
-  levels_of (code.Level' base addresses enclosing) = record { base = base; addresses = addresses.now } ∷ levels_behind enclosing
+  levels_of (code.Level' base addresses enclosing) = record { base = base; addresses = addresses.now } ∷ levels_after enclosing
 
-  pub levels_behind : code.Held-Level-enclosing → Levels
-  levels_behind code.None' = []
-  levels_behind (code.Some' pointer l) = levels_of l
+  pub levels_after : code.Held-Level-enclosing → Levels
+  levels_after code.None' = []
+  levels_after (code.Some' pointer l) = levels_of l
 
 -- the activations that one of the code sees
 abbrev pub levels_seen : Option (Bor code.Level) → Levels

@@ -1,4 +1,4 @@
--- What the machine stands for, and what a step of it says of the run.
+-- What the machine means, and what a step of it says of the run.
 -- Rule: none; for contracts of the machine.
 use Rattle.std.specs.Prelude.{◌≡◌, ℕ, ℤ, List, map, Ok, Err, Option, Result}
 use denote.MutBor.{MutBor}
@@ -31,16 +31,16 @@ items_out = map item_of
 abbrev pub state_of : Machine → State
 state_of m = record { cells = m.cells.items; input = m.input.now; output = items_out m.output.items }
 
--- a step that takes no memory goes on in the state that it leaves, or ends the run with what was put out
+-- a step that takes no memory goes on in the state that it leaves, or ends the run with what was output
 abbrev pub moved : Result (Unit {0}) Ending → Machine → Progress
 moved (Ok done) m = running (state_of m)
 moved (Err e) m = stopped (end_of e) (items_out m.output.items)
 
--- the same of any step, but where memory was refused
-abbrev pub Steps : Result (Unit {0}) Stop → Machine → Progress → Type 0
-Steps (Ok done) m p = p ≡ running (state_of m)
-Steps (Err (stop.Ended e)) m p = p ≡ stopped (end_of e) (items_out m.output.items)
-Steps (Err stop.Memory) m p = Unit {0}
+-- the same of any step, but where an allocation failed
+abbrev pub MachineSteps : Result (Unit {0}) Stop → Machine → Progress → Type 0
+MachineSteps (Ok done) m p = p ≡ running (state_of m)
+MachineSteps (Err (stop.Ended e)) m p = p ≡ stopped (end_of e) (items_out m.output.items)
+MachineSteps (Err stop.Memory) m p = Unit {0}
 
 -- what a closure that performs calls does: the machine before it, the procedure, the activation, its answer and the machine after it
 abbrev pub Post : Type 1
@@ -50,7 +50,7 @@ Post = MutBor Machine → ℕ → Bor level.Level → Result (Unit {0}) Stop →
 abbrev pub Performs : Post → Calls → Type 0
 Performs post enters =
     (at : MutBor Machine) (k : ℕ) (l : Bor level.Level) (r : Result (Unit {0}) Stop) (after : MutBor Machine)
-    → post at k l r after → Steps r after.now (enters k (levels_of l.now) (state_of at.now))
+    → post at k l r after → MachineSteps r after.now (enters k (levels_of l.now) (state_of at.now))
 
 -- what a part of a program does, by what calls do
 abbrev pub Doing : Type 0
@@ -65,8 +65,8 @@ abbrev pub executed_all : ℕ → Levels → Statements → Doing
 executed_all t ls as_listed enters s = execute_all enters t ls as_listed s
 
 -- a step of the machine does what `doing` says, where calls do what they say
-pub record Does (post : Post) (r : Result (Unit {0}) Stop) (m m' : Machine) (doing : Doing) : Type 0 where
-  pub as_defined : (enters : Calls) → Performs post enters → Steps r m' (doing enters (state_of m))
+pub record MachineDoes (post : Post) (r : Result (Unit {0}) Stop) (m m' : Machine) (doing : Doing) : Type 0 where
+  pub as_defined : (enters : Calls) → Performs post enters → MachineSteps r m' (doing enters (state_of m))
 
 -- what was passed, on top of what was there
 abbrev pub passed_in : List ℤ → List ℕ → Passed
@@ -76,7 +76,7 @@ passed_in cells addresses = record { cells = cells; addresses = addresses }
 abbrev pub entering : ℕ → ℕ → Levels → ℕ → List ℕ → Doing
 entering k up ls base addresses enters s = enters k (entered ls base up (passed_in s.cells addresses)) s
 
--- an argument is passed, or it ends the run, but where memory was refused
+-- an argument is passed, or it ends the run, but where an allocation failed
 abbrev pub Passes : Result (Unit {0}) Stop → List ℤ → List ℕ → Outcome Passed → Type 0
 Passes (Ok done) cells addresses o = o ≡ gives (passed_in cells addresses)
 Passes (Err (stop.Ended e)) cells addresses o = o ≡ ends (end_of e)
@@ -88,4 +88,4 @@ activated o t ls enters s = activate enters t ls o s
 
 -- a call, of which c may be open, does what it does in the program
 abbrev pub Enters : Result (Unit {0}) Stop → Machine → Machine → Program → ℕ → ℕ → ℕ → level.Level → Type 0
-Enters r m m' program c t k l = Steps r m' (call (program_of program).procedures c t k (levels_of l) (state_of m))
+Enters r m m' program c t k l = MachineSteps r m' (call (program_of program).procedures c t k (levels_of l) (state_of m))

@@ -1,4 +1,4 @@
--- What the code's outcome of a run stands for.
+-- What the code's outcome of a run means.
 -- Rule: none; for contracts: what values of the code mean.
 use Rattle.std.specs.Prelude.{◌≡◌, ℕ, IsErr, Ok, Err, Result}
 use Rattle.std.specs.declared.alloc.AllocError.{AllocError}

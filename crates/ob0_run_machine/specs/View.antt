@@ -1,4 +1,4 @@
--- The lowered code that a value of the code's types stands for, and the activations.
+-- The lowered code that a value of the code's types means, and the activations.
 -- Rule: none; for contracts: what values of the code mean.
 use Rattle.std.specs.Prelude.{List, [], ◌∷◌, map}
 use Rattle.ob0_run_machine.specs.declared.code.Place as place

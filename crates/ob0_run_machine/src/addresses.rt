@@ -5,7 +5,7 @@ ghost use Rattle.ob0_run_machine.specs.Levels.{addresses_in};
 
 use std::alloc::{AllocError, Global};
 
-/// Addresses in order. One or two stand here, more in a list: most calls allocate nothing for them.
+/// Addresses in order. One or two are here, more in a list: most calls allocate nothing for them.
 #[derive(Drop)]
 pub enum Addresses {
     Empty,

@@ -3,7 +3,7 @@
 ghost use Rattle.std.specs.Prelude.{◌≡◌, length, map, option_map, slice_get, take};
 ghost use Rattle.ob0_run_machine.specs.Evaluation.{innermost};
 ghost use Rattle.ob0_run_machine.specs.Levels.{levels_of};
-ghost use Rattle.ob0_run_machine.specs.Machines.{Does, Enters, activated, state_of};
+ghost use Rattle.ob0_run_machine.specs.Machines.{MachineDoes, Enters, activated, state_of};
 ghost use Rattle.ob0_run_machine.specs.View.{procedure_of, program_of};
 
 use crate::code::{Procedure, Program};
@@ -23,7 +23,7 @@ fn procedure_at<'p>(procedures: &'p [Procedure], procedure: usize) -> Option<&'p
     Some(&procedures[procedure])
 }
 
-/// The body of a procedure, with its own cells behind its arguments.
+/// The body of a procedure, with its own cells after its arguments.
 fn activate<F: Fn(&mut Machine<'_>, usize, &Level<'_>) -> Result<(), Stop>>(
     procedure: Option<&Procedure>,
     level: &Level<'_>,
@@ -32,7 +32,7 @@ fn activate<F: Fn(&mut Machine<'_>, usize, &Level<'_>) -> Result<(), Stop>>(
     enter: &F,
 ) -> Result<(), Stop>
     requires { F.IsAlwaysCallable enter.now }
-    ensures { Does (F.post enter.now) result machine.old machine.new (activated (option_map (λ p. procedure_of p.now) procedure.entry) turns (levels_of level.now)) }
+    ensures { MachineDoes (F.post enter.now) result machine.old machine.new (activated (option_map (λ p. procedure_of p.now) procedure.entry) turns (levels_of level.now)) }
 {
     match procedure {
         None => Ok(()),

@@ -131,9 +131,9 @@ pub enum Truth {
     Negation(Box<Truth>),
     Both(Box<Truths>),
     Either(Box<Truths>),
-    /// Many truths between which `&` stands.
+    /// Many truths joined by `&`.
     All(Box<Several>),
-    /// Many truths between which `OR` stands.
+    /// Many truths joined by `OR`.
     Any(Box<Several>),
     Related(Relation, Box<Operands>),
     Same(Box<Truths>),

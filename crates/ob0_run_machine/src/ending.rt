@@ -25,7 +25,7 @@ pub enum Ending {
 #[derive(Clone, Copy, PartialEq, Eq, Debug)]
 pub enum Stop {
     Ended(Ending),
-    /// Memory was refused.
+    /// an allocation failed.
     Memory,
 }
 

@@ -229,7 +229,7 @@ pub(crate) fn evaluate_truth(t: &Truth, level: &Level<'_>, cells: &[i32]) -> Res
 {
     match t {
         Truth::Constant(b) => Ok(*b),
-        Truth::Related(relation, operands) => related(*relation, operands, level, cells),
+        Truth::Related(relation, operands) => compare_operands(*relation, operands, level, cells),
         _ => truth(t, level, cells),
     }
 }
@@ -269,7 +269,7 @@ fn any_truth(t: &Truth, level: &Level<'_>, cells: &[i32]) -> Result<bool, Ending
         Truth::Either(operands) => either(operands, level, cells),
         Truth::All(several) => all(several, level, cells),
         Truth::Any(several) => any(several, level, cells),
-        Truth::Related(relation, operands) => related(*relation, operands, level, cells),
+        Truth::Related(relation, operands) => compare_operands(*relation, operands, level, cells),
         Truth::Same(operands) => same(operands, level, cells),
         Truth::Different(operands) => different(operands, level, cells),
     }
@@ -277,7 +277,7 @@ fn any_truth(t: &Truth, level: &Level<'_>, cells: &[i32]) -> Result<bool, Ending
 
 /// Whether a relation holds between two numbers.
 #[inline(always)]
-fn related(
+fn compare_operands(
     relation: Relation,
     operands: &Operands,
     level: &Level<'_>,

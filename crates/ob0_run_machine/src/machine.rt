@@ -1,13 +1,13 @@
-//! The machine: the cells of all variables, the rest of the input, and what was put out.
+//! The machine: the cells of all variables, the rest of the input, and what was output.
 
 ghost use Rattle.std.specs.Prelude.{◌≡◌, ◌++◌, IsOk, OnOk, length, slice_set};
-ghost use Rattle.ob0_run_machine.specs.Execution.{block_at, copied, put_out, read_number, zeros};
-ghost use Rattle.ob0_run_machine.specs.Machines.{Steps, item_of, moved, state_of};
+ghost use Rattle.ob0_run_machine.specs.Execution.{block_at, copied, append_output, read_number, zeros};
+ghost use Rattle.ob0_run_machine.specs.Machines.{MachineSteps, item_of, moved, state_of};
 
 use crate::ending::{Ending, Stop};
 use std::alloc::{AllocError, Global};
 
-/// What a run puts out.
+/// What a run outputs.
 #[derive(Clone, Copy, PartialEq, Eq, Debug)]
 pub enum Item {
     Number(i32),
@@ -91,8 +91,8 @@ impl<'i> Machine<'i> {
         }
     }
 
-    pub(crate) fn put_out(&mut self, item: Item) -> Result<(), AllocError>
-        ensures { OnOk result (state_of self.new ≡ put_out (state_of self.old) (item_of item)) }
+    pub(crate) fn append_output(&mut self, item: Item) -> Result<(), AllocError>
+        ensures { OnOk result (state_of self.new ≡ append_output (state_of self.old) (item_of item)) }
     {
         self.output.push(item)?;
         Ok(())

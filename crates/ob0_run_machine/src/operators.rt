@@ -111,7 +111,7 @@ pub(crate) fn as_cell(truth: bool) -> i32
     if truth { 1 } else { 0 }
 }
 
-/// The address so far behind another one.
+/// The address so far after another one.
 #[inline(always)]
 pub(crate) fn forward(address: usize, offset: usize) -> usize
     ensures { result ≡ forward address offset }

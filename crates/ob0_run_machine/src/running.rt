@@ -3,7 +3,7 @@
 ghost use Rattle.std.specs.Prelude.{◌≡◌, IfOk};
 ghost use Rattle.ob0_run_machine.specs.Execution.{run};
 ghost use Rattle.ob0_run_machine.specs.Outcomes.{IsEndOf, block_run, run_of};
-ghost use Rattle.ob0_run_machine.specs.Machines.{Steps, state_of};
+ghost use Rattle.ob0_run_machine.specs.Machines.{MachineSteps, state_of};
 ghost use Rattle.ob0_run_machine.specs.View.{program_of};
 
 use crate::calls::call;
@@ -22,7 +22,7 @@ pub enum End {
     Ended(Ending),
 }
 
-/// What a run put out, and how it ended.
+/// What a run output, and how it ended.
 #[derive(Drop)]
 pub struct Outcome {
     pub output: Vec<Item>,
@@ -31,7 +31,7 @@ pub struct Outcome {
 
 /// The statements of a program.
 fn execute(program: &Program, calls: u32, turns: u32, machine: &mut Machine<'_>) -> Result<(), Stop>
-    ensures { Steps result machine.new (block_run (program_of program.now) calls turns (state_of machine.old)) }
+    ensures { MachineSteps result machine.new (block_run (program_of program.now) calls turns (state_of machine.old)) }
 {
     let level = Level {
         base: 0,

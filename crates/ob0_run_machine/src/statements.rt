@@ -6,7 +6,7 @@ ghost use Rattle.ob0_run_machine.specs.Evaluation.{truth};
 ghost use Rattle.ob0_run_machine.specs.Execution.{Calls, execute};
 ghost use Rattle.ob0_run_machine.specs.Levels.{levels_of};
 ghost use Rattle.ob0_run_machine.specs.Lowered as lowered;
-ghost use Rattle.ob0_run_machine.specs.Machines.{Does, Steps, entering, executed, executed_all, moved, state_of};
+ghost use Rattle.ob0_run_machine.specs.Machines.{MachineDoes, MachineSteps, entering, executed, executed_all, moved, state_of};
 ghost use Rattle.ob0_run_machine.specs.View.{applied, branches_in, call_of, number_of, place_of, repeat_of, sequence_of, statement_of, truth_of, variable_of, while_of};
 
 use crate::addresses::Addresses;
@@ -108,24 +108,24 @@ fn read(place: &Place, level: &Level<'_>, machine: &mut Machine<'_>) -> Result<(
 
 #[tactic(auto, unfolding(crate::specs::Execution::execute))]
 fn write(n: &Number, level: &Level<'_>, machine: &mut Machine<'_>) -> Result<(), Stop>
-    ensures { (enters : Calls) (t : ℕ) → Steps result machine.new (execute enters t (levels_of level.now) (lowered.writes (number_of n.now)) (state_of machine.old)) }
+    ensures { (enters : Calls) (t : ℕ) → MachineSteps result machine.new (execute enters t (levels_of level.now) (lowered.writes (number_of n.now)) (state_of machine.old)) }
 {
     let v = evaluate_number(n, level, machine.cells.as_slice())?;
-    machine.put_out(Item::Number(v))?;
+    machine.append_output(Item::Number(v))?;
     Ok(())
 }
 
 #[tactic(auto, unfolding(crate::specs::Execution::execute))]
 fn write_line(level: &Level<'_>, machine: &mut Machine<'_>) -> Result<(), Stop>
-    ensures { (enters : Calls) (t : ℕ) → Steps result machine.new (execute enters t (levels_of level.now) lowered.writes_line (state_of machine.old)) }
+    ensures { (enters : Calls) (t : ℕ) → MachineSteps result machine.new (execute enters t (levels_of level.now) lowered.writes_line (state_of machine.old)) }
 {
-    machine.put_out(Item::Line)?;
+    machine.append_output(Item::Line)?;
     Ok(())
 }
 
 /// Enters the procedure of a call, whose arguments are passed.
 #[inline(always)]
-fn go_in<F: Fn(&mut Machine<'_>, usize, &Level<'_>) -> Result<(), Stop>>(
+fn run_body<F: Fn(&mut Machine<'_>, usize, &Level<'_>) -> Result<(), Stop>>(
     c: &Call,
     base: usize,
     addresses: &[usize],
@@ -134,7 +134,7 @@ fn go_in<F: Fn(&mut Machine<'_>, usize, &Level<'_>) -> Result<(), Stop>>(
     enter: &F,
 ) -> Result<(), Stop>
     requires { F.IsAlwaysCallable enter.now }
-    ensures { Does (F.post enter.now) result machine.old machine.new (entering c.now.procedure c.now.up (levels_of level.now) base addresses.now) }
+    ensures { MachineDoes (F.post enter.now) result machine.old machine.new (entering c.now.procedure c.now.up (levels_of level.now) base addresses.now) }
 {
     let entered = Level {
         base,
@@ -153,7 +153,7 @@ fn run_call<F: Fn(&mut Machine<'_>, usize, &Level<'_>) -> Result<(), Stop>>(
     enter: &F,
 ) -> Result<(), Stop>
     requires { F.IsAlwaysCallable enter.now }
-    ensures { (t : ℕ) → Does (F.post enter.now) result machine.old machine.new (executed t (levels_of level.now) (call_of c.now)) }
+    ensures { (t : ℕ) → MachineDoes (F.post enter.now) result machine.old machine.new (executed t (levels_of level.now) (call_of c.now)) }
 {
     let base = machine.size();
     let mut addresses = Addresses::Empty;
@@ -165,16 +165,20 @@ fn run_call<F: Fn(&mut Machine<'_>, usize, &Level<'_>) -> Result<(), Stop>>(
         &mut addresses,
     )?;
     match &addresses {
-        Addresses::Empty => go_in(c, base, &[], level, machine, enter),
-        Addresses::One(a) => go_in(c, base, &[*a], level, machine, enter),
-        Addresses::Two(a, b) => go_in(c, base, &[*a, *b], level, machine, enter),
-        Addresses::More(all) => go_in(c, base, all.as_slice(), level, machine, enter),
+        Addresses::Empty => run_body(c, base, &[], level, machine, enter),
+        Addresses::One(a) => run_body(c, base, &[*a], level, machine, enter),
+        Addresses::Two(a, b) => run_body(c, base, &[*a, *b], level, machine, enter),
+        Addresses::More(all) => run_body(c, base, all.as_slice(), level, machine, enter),
     }
 }
 
 /// Whether a condition holds, now.
 #[inline(always)]
-fn holds(condition: &Truth, level: &Level<'_>, machine: &Machine<'_>) -> Result<bool, Ending>
+fn evaluate_condition(
+    condition: &Truth,
+    level: &Level<'_>,
+    machine: &Machine<'_>,
+) -> Result<bool, Ending>
     ensures { outcome_of_result result ≡ truth (levels_of level.now) machine.now.cells.items (truth_of condition.now) }
 {
     evaluate_truth(condition, level, machine.cells.as_slice())
@@ -190,7 +194,7 @@ fn statement<F: Fn(&mut Machine<'_>, usize, &Level<'_>) -> Result<(), Stop>>(
     enter: &F,
 ) -> Result<(), Stop>
     requires { F.IsAlwaysCallable enter.now }
-    ensures { Does (F.post enter.now) result machine.old machine.new (executed turns (levels_of level.now) (statement_of s.now)) }
+    ensures { MachineDoes (F.post enter.now) result machine.old machine.new (executed turns (levels_of level.now) (statement_of s.now)) }
 {
     match s {
         Statement::StoreNumber(place, n) => Ok(store_number(place, n, level, machine)?),
@@ -218,7 +222,7 @@ pub(crate) fn sequence<F: Fn(&mut Machine<'_>, usize, &Level<'_>) -> Result<(), 
     enter: &F,
 ) -> Result<(), Stop>
     requires { F.IsAlwaysCallable enter.now }
-    ensures { Does (F.post enter.now) result machine.old machine.new (executed_all turns (levels_of level.now) (sequence_of statements.now)) }
+    ensures { MachineDoes (F.post enter.now) result machine.old machine.new (executed_all turns (levels_of level.now) (sequence_of statements.now)) }
 {
     for s in statements {
         statement(s, level, turns, machine, enter)?;
@@ -226,7 +230,7 @@ pub(crate) fn sequence<F: Fn(&mut Machine<'_>, usize, &Level<'_>) -> Result<(), 
     Ok(())
 }
 
-/// IF: the statements behind the first condition that is TRUE.
+/// IF: the statements after the first condition that is TRUE.
 #[inline(never)]
 #[cycle(execution)]
 fn branches<F: Fn(&mut Machine<'_>, usize, &Level<'_>) -> Result<(), Stop>>(
@@ -237,10 +241,10 @@ fn branches<F: Fn(&mut Machine<'_>, usize, &Level<'_>) -> Result<(), Stop>>(
     enter: &F,
 ) -> Result<(), Stop>
     requires { F.IsAlwaysCallable enter.now }
-    ensures { Does (F.post enter.now) result machine.old machine.new (executed turns (levels_of level.now) (branches_in i.now)) }
+    ensures { MachineDoes (F.post enter.now) result machine.old machine.new (executed turns (levels_of level.now) (branches_in i.now)) }
 {
     for branch in &i.branches {
-        if holds(&branch.condition, level, machine)? {
+        if evaluate_condition(&branch.condition, level, machine)? {
             return sequence(&branch.body, level, turns, machine, enter);
         }
     }
@@ -258,11 +262,11 @@ fn run_loop<F: Fn(&mut Machine<'_>, usize, &Level<'_>) -> Result<(), Stop>>(
     enter: &F,
 ) -> Result<(), Stop>
     requires { F.IsAlwaysCallable enter.now }
-    ensures { Does (F.post enter.now) result machine.old machine.new (executed turns (levels_of level.now) (while_of w.now)) }
+    ensures { MachineDoes (F.post enter.now) result machine.old machine.new (executed turns (levels_of level.now) (while_of w.now)) }
 {
     let mut left = turns;
     loop {
-        if !holds(&w.condition, level, machine)? {
+        if !evaluate_condition(&w.condition, level, machine)? {
             return Ok(());
         }
         if left == 0 {
@@ -284,12 +288,12 @@ fn until<F: Fn(&mut Machine<'_>, usize, &Level<'_>) -> Result<(), Stop>>(
     enter: &F,
 ) -> Result<(), Stop>
     requires { F.IsAlwaysCallable enter.now }
-    ensures { Does (F.post enter.now) result machine.old machine.new (executed turns (levels_of level.now) (repeat_of r.now)) }
+    ensures { MachineDoes (F.post enter.now) result machine.old machine.new (executed turns (levels_of level.now) (repeat_of r.now)) }
 {
     let mut further = turns.saturating_sub(1);
     loop {
         sequence(&r.body, level, turns, machine, enter)?;
-        if holds(&r.condition, level, machine)? {
+        if evaluate_condition(&r.condition, level, machine)? {
             return Ok(());
         }
         if further == 0 {

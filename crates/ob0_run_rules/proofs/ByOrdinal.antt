@@ -20,7 +20,7 @@ use Rattle.ob0_run_rules.specs.Runs.{Activation, Argument, Calls, Code, Frame, P
 use Rattle.ob0_run_rules.proofs.Noted.{Below, Below-from, Noted, OwnName, by_name, by_name-from, by_ordinal, by_ordinal-from, noted_from, numbered_code, numbered_object, scope_of}
 use Rattle.ob0_run_rules.proofs.RunNaturality.{execute_all-map}
 
--- a name and its ordinal stand for the same
+-- a name and its ordinal mean the same
 
 pub label_names-modes : {N M : Type 0} (label : Labels N M) (m : Mode) (k : ℕ) (xs : List N) → map (λ x. m) (label_names label k xs) ≡ map (λ x. m) xs
 label_names-modes label m k [] = refl

@@ -42,7 +42,7 @@ before k t = t.code
 abbrev pub after : Edit → ℕ → Text → Code Name
 after edit k t = record { first_constructor = t.code.first_constructor; text = edited_procedure edit t.at (suc k) t.code.text }
 
--- what is known of a procedure bound in a run: its name, its occurrences, and where in it the constant is worth what
+-- what is known of a procedure bound in a run: its name, its occurrences, and where in it the constant evaluates to what
 pub record IsText (edit : Edit) (w : Value) (marks : Marks Place Text) (x : Name) (k : ℕ) (t : Text) : Type 0 where
   pub from_seven : 7 ≤ k
   pub named : procedure_name t.code.text ≡ x
@@ -89,7 +89,7 @@ seen-passing env (number n) e = tt
 seen-passing env (elements vs) e = tt
 seen-passing env (members k ms) e = tt
 
--- a name with what it stands for and what it does where it is called
+-- a name with what it means and what it does where it is called
 pub record RunTag : Type 0 where
   pub object : Option (Object Place (List Mode))
   pub text : Name

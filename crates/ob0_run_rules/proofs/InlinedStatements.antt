@@ -12,9 +12,9 @@ use Rattle.ob0_types_rules.specs.WellTyped.{Mode, by_place, by_value}
 use Rattle.ob0_types_rules.proofs.FitInlined.{alone, compared-no_designator, product-no_designator, sum-no_designator}
 use Rattle.ob0_types_rules.proofs.Inlined.{Stands, evaluate-inlined, follow-inlined, uses-split}
 use Rattle.ob0_run_rules.specs.Laws.{InliningKeepsExecution}
-use Rattle.ob0_run_rules.specs.Runs.{Calls, Progress, State, choose, evaluate_argument, evaluate_arguments, execute, execute_all, execute_else, execute_elsifs, execute_further, go_on, modes_of, perform, place_argument, store_at, turns, turns_until, use_in, value_argument}
+use Rattle.ob0_run_rules.specs.Runs.{Calls, Progress, State, choose, evaluate_argument, evaluate_arguments, execute, execute_all, execute_else, execute_elsifs, execute_further, continue_with, modes_of, perform, place_argument, store_at, turns, turns_until, use_in, value_argument}
 
--- what stays the same while values are written in: the factor is worth the value in every store
+-- what stays the same while values are written in: the factor evaluates to the value in every store
 pub record Worth (meaning : Meanings Name Place (List Mode)) (v : Tree Name factor) (w : Value) : Type 0 where
   pub in_store : (store : Store) → evaluate_factor meaning store v ≡ gives w
 
@@ -39,7 +39,7 @@ place_at meaning store d = or_stuck d >>= (λ d. designate meaning store d.0 d.1
 pub constant-no_place : (o : Option (Object Place (List Mode))) (w : Value) → o ≡ Some (a_constant w) → place_of o ≡ ends Stuck
 constant-no_place o w e = ap place_of e
 
--- a name that is worth a value in every store is no variable
+-- a name that evaluates to a value in every store is no variable
 pub worth-no_place : (o : Option (Object Place (List Mode))) (next : Value → Outcome Value) (w : Value) → value_of {P = List Mode} [] o >>= next ≡ gives w → place_of o ≡ ends Stuck
 worth-no_place None next w e = refl
 worth-no_place (Some (a_type s)) next w e = refl
@@ -140,14 +140,14 @@ mutual
       → IsUse meaning w uses k (occurrences a) → execute_all meaning enter t (inline_in uses v k a) ≡ execute_all meaning enter t a
   execute_all-written meaning enter t uses v w h k (runs a rest) u =
       let s = uses-split uses (Stands meaning w) k (occurrences a) (occurrences rest) u in
-      λ i state. go_on (execute-written meaning enter t uses v w h k a s.0 i state) (execute_further-written meaning enter t uses v w h (k + length (occurrences a)) rest s.1 i)
+      λ i state. continue_with (execute-written meaning enter t uses v w h k a s.0 i state) (execute_further-written meaning enter t uses v w h (k + length (occurrences a)) rest s.1 i)
 
   pub execute_further-written : (meaning : Meanings Name Place (List Mode)) (enter : Calls Name) (t : ℕ) (uses : Uses) (v : Tree Name factor) (w : Value) → Worth meaning v w → (k : ℕ) (a : Tree Name (items further_statement))
       → IsUse meaning w uses k (occurrences a) → execute_further meaning enter t (inline_in uses v k a) ≡ execute_further meaning enter t a
   execute_further-written meaning enter t uses v w h k end u = refl
   execute_further-written meaning enter t uses v w h k (more (then_statement a) rest) u =
       let s = uses-split uses (Stands meaning w) k (occurrences a) (occurrences rest) u in
-      λ i state. go_on (execute-written meaning enter t uses v w h k a s.0 i state) (execute_further-written meaning enter t uses v w h (k + length (occurrences a)) rest s.1 i)
+      λ i state. continue_with (execute-written meaning enter t uses v w h k a s.0 i state) (execute_further-written meaning enter t uses v w h (k + length (occurrences a)) rest s.1 i)
 
   pub execute_elsifs-written : (meaning : Meanings Name Place (List Mode)) (enter : Calls Name) (t : ℕ) (uses : Uses) (v : Tree Name factor) (w : Value) → Worth meaning v w → (k : ℕ) (a : Tree Name (items elsif_part))
       → IsUse meaning w uses k (occurrences a) → (there here : State → Progress) → there ≡ here → execute_elsifs meaning enter t (inline_in uses v k a) there ≡ execute_elsifs meaning enter t a here

@@ -118,7 +118,7 @@ pub record FrameIs {N : Type 0} (at : List ℕ) (f g : Frame N) : Type 0 where
   pub same_variables : StoreIs at f.store g.store
   pub same_bindings : EnvironmentIs at f.env g.env
 
--- frames with new variables behind those at the given places
+-- frames with new variables after those at the given places
 abbrev pub FrameGrown : {N : Type 0} → List ℕ → Frame N → Frame N → Type 0
 FrameGrown at f g = (others : List ℕ) × FrameIs (at ++ others) f g
 
@@ -244,7 +244,7 @@ module _ {N : Type 0} (naming : Naming N) where
       record { stand_for = λ x. passing-is at (newest (from_binding naming env x)) (newest (from_binding naming other x)) (newest-is at (from_binding naming env x) (from_binding naming other x) (from_binding-is naming at env other x h)); are_written = λ x. refl }
       (known at env other h) t statements s u is
 
-  -- what a run goes on with, with new variables behind those at the given places
+  -- what a run goes on with, with new variables after those at the given places
   abbrev ProgressGrown : List ℕ → Progress → Progress → Type 0
   ProgressGrown at p q = (others : List ℕ) × ProgressIs (at ++ others) p q
 

@@ -46,7 +46,7 @@ abbrev pub OwnName : {N : Type 0} → N → Object Place (Code N) → Type 0
 OwnName x (a_procedure code) = procedure_name code.text ≡ x
 OwnName x _ = Unit {0}
 
--- newer bindings have greater ordinals, all below n: so no ordinal stands twice
+-- newer bindings have greater ordinals, all below n: so no ordinal is twice
 abbrev pub Below : {N : Type 0} → ℕ → Noted N → Type 0
 Below n [] = Unit {0}
 Below n (b ∷ noted) = (b.ordinal < n) × OwnName b.name b.object × Below b.ordinal noted

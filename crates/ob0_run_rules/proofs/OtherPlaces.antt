@@ -1,4 +1,4 @@
--- A store whose variables stand elsewhere in a larger store: what reads and writes them does the same in both.
+-- A store whose variables are elsewhere in a larger store: what reads and writes them does the same in both.
 use Rattle.std.proofs.Common.{◌≡◌, ℕ, zero, suc, ◌-◌, true, false, ◌≢◌, List, [], ◌∷◌, ◌++◌, length, take, ℤ, slice_get, slice_set, Some, None, Option, option_map, option_and_then, sym, refl, ap, ◌∙◌, subst}
 use Rattle.ob0_tree.specs.Tree.{Tree, addend, adds, assigns, branches, calls, compares, designator, else_branch, else_part, elsif_branch, elsif_part, empty, end, expression, factor, field, further_statement, index, integer, items, maybe, more, multiplier, multiplies, negation, none, one, parenthesised, product, relates, repeat_loop, runs, selector, sequence, simple, statement, sum, term, then_statement, while_loop}
 use Rattle.ob0_types_rules.specs.Arguments.{arguments_listed}
@@ -6,7 +6,7 @@ use Rattle.ob0_types_rules.specs.Expressions.{Meanings, Object, Standard, a_cons
 use Rattle.ob0_types_rules.specs.Typing.{designated}
 use Rattle.ob0_types_rules.specs.WellTyped.{Mode, by_place, by_value}
 use Rattle.ob0_values.specs.Values.{Outcome, Place, Store, TurnBound, Value, add, add_is_settled, at_field, at_path, elements, ends, gives, members, multiply, multiply_is_settled, negated, number, or_stuck, part, read_place, relate, signed, truth, with_at_path, ◌>>=◌}
-use Rattle.ob0_run_rules.specs.Runs.{Argument, Calls, Progress, State, Written, choose, evaluate_argument, evaluate_arguments, execute, execute_all, execute_else, execute_elsifs, execute_further, go_on, line_out, modes_of, number_out, perform, place_argument, put_out, read_number, running, stopped, store_at, turns, turns_until, use_in, value_argument}
+use Rattle.ob0_run_rules.specs.Runs.{Argument, Calls, Progress, State, Written, choose, evaluate_argument, evaluate_arguments, execute, execute_all, execute_else, execute_elsifs, execute_further, continue_with, line_out, modes_of, number_out, perform, place_argument, append_output, read_number, running, stopped, store_at, turns, turns_until, use_in, value_argument}
 use Rattle.ob0_run_rules.proofs.SoundCalls.{some-inverse}
 use Rattle.ob0_run_rules.proofs.SoundStatements.{slice_get-grows}
 
@@ -96,7 +96,7 @@ variable-last [] (w ∷ small) large k h = absurd h
 variable-last (r ∷ at) [] large k h = absurd h
 variable-last (r ∷ at) (w ∷ small) large k h = variable-last at small large k h.2
 
--- the smaller store gives up its last variables, the larger one keeps all
+-- the smaller store drops its last variables, the larger one keeps all
 pub variables-cut : (at others : List ℕ) (old new before after : Store) → StoreIs at old before → StoreIs (at ++ others) new after → StoreIs at (take (length old) new) after
 variables-cut [] others [] new before after h g = tt
 variables-cut [] others (v ∷ old) new before after h g = absurd h
@@ -104,7 +104,7 @@ variables-cut (r ∷ at) others [] new before after h g = absurd h
 variables-cut (r ∷ at) others (v ∷ old) [] before after h g = absurd g
 variables-cut (r ∷ at) others (v ∷ old) (w ∷ new) before after h g = (g.0, not-among-cut r at others g.1, variables-cut at others old new before after h.2 g.2)
 
--- places and what names stand for
+-- places and what names mean
 
 pub record PlaceIs (at : List ℕ) (p q : Place) : Type 0 where
   pub variable_is : slice_get at p.variable ≡ Some q.variable
@@ -207,7 +207,7 @@ module _ {N P : Type 0} (here there : Meanings N Place P) (small large : Store) 
     follow-same v (more (index e) rest) = λ i.
         evaluate-same e i >>= (λ j. element_step v j >>= (λ s. or_stuck (part v s) >>= (λ w. follow-same w rest i >>= (λ steps. gives (s ∷ steps)))))
 
--- what names stand for in both stores
+-- what names mean in both stores
 pub record NamesAre {N P : Type 0} (at : List ℕ) (here there : Meanings N Place P) : Type 0 where
   pub stand_for : (x : N) → MeaningIs at (here.stands_for x) (there.stands_for x)
   pub are_written : (x : N) → here.written x ≡ there.written x
@@ -297,7 +297,7 @@ choose-is at s u (number n) f g f' g' h is is' = (refl, h.same_output)
 choose-is at s u (elements vs) f g f' g' h is is' = (refl, h.same_output)
 choose-is at s u (members k ms) f g f' g' h is is' = (refl, h.same_output)
 
-pub go_on-is : (at : List ℕ) (p q : Progress) (f g : State → Progress) → ProgressIs at p q → Alike at f g → ProgressIs at (go_on p f) (go_on q g)
+pub go_on-is : (at : List ℕ) (p q : Progress) (f g : State → Progress) → ProgressIs at p q → Alike at f g → ProgressIs at (continue_with p f) (continue_with q g)
 go_on-is at (running s) (running u) f g h alike = alike s u h
 go_on-is at (stopped e out) (stopped x written) f g h alike = h
 go_on-is at (running s) (stopped x written) f g h alike = absurd h
@@ -328,7 +328,7 @@ read-is at s u p q [] h is = (refl, h.same_output)
 read-is at s u p q (n ∷ rest) h is =
     store_at-is at record s { input = rest } record u { input = rest } p q (number n) record { same_variables = h.same_variables; same_input = refl; same_output = h.same_output } is
 
-put_out-is : (at : List ℕ) (s u : State) (w : Written) → StateIs at s u → StateIs at (put_out s w) (put_out u w)
+put_out-is : (at : List ℕ) (s u : State) (w : Written) → StateIs at s u → StateIs at (append_output s w) (append_output u w)
 put_out-is at s u w h = record { same_variables = h.same_variables; same_input = h.same_input; same_output = ap (λ out. out ++ w ∷ []) h.same_output }
 
 -- calls
@@ -424,8 +424,8 @@ turns-alike at zero test test' f g same alike s u h =
     use_same at s u (test s) (test' u) (λ v. choose s v (λ s'. stopped TurnBound s'.output) running) (λ v. choose u v (λ s'. stopped TurnBound s'.output) running) h.same_output (same s u h)
     (λ v. choose-is at s u v (λ s'. stopped TurnBound s'.output) running (λ s'. stopped TurnBound s'.output) running h (refl, h.same_output) h)
 turns-alike at (suc t) test test' f g same alike s u h =
-    use_same at s u (test s) (test' u) (λ v. choose s v (λ s'. go_on (f s') (turns t test f)) running) (λ v. choose u v (λ s'. go_on (g s') (turns t test' g)) running) h.same_output (same s u h)
-    (λ v. choose-is at s u v (λ s'. go_on (f s') (turns t test f)) running (λ s'. go_on (g s') (turns t test' g)) running h
+    use_same at s u (test s) (test' u) (λ v. choose s v (λ s'. continue_with (f s') (turns t test f)) running) (λ v. choose u v (λ s'. continue_with (g s') (turns t test' g)) running) h.same_output (same s u h)
+    (λ v. choose-is at s u v (λ s'. continue_with (f s') (turns t test f)) running (λ s'. continue_with (g s') (turns t test' g)) running h
     (go_on-is at (f s) (g u) (turns t test f) (turns t test' g) (alike s u h) (turns-alike at t test test' f g same alike)) h)
 
 turns_until-alike : (at : List ℕ) (t : ℕ) (test test' : State → Outcome Value) (f g : State → Progress) → ((s u : State) → StateIs at s u → test s ≡ test' u) → Alike at f g → Alike at (turns_until t test f) (turns_until t test' g)

@@ -8,7 +8,7 @@ use Rattle.ob0_types_rules.specs.Typing.{designated}
 use Rattle.ob0_values.specs.Values.{Place, Store, gives, or_stuck, ◌>>=◌}
 use Rattle.ob0_types_rules.specs.WellTyped.{Mode, by_place, by_value}
 use Rattle.ob0_types_rules.proofs.Naturality.{arguments-map, designate-map, designated-map, evaluate-map, map_designator, through}
-use Rattle.ob0_run_rules.specs.Runs.{Calls, Progress, State, choose, evaluate_argument, evaluate_arguments, execute, execute_all, execute_else, execute_elsifs, execute_further, go_on, modes_of, perform, place_argument, store_at, turns, turns_until, use_in, value_argument}
+use Rattle.ob0_run_rules.specs.Runs.{Calls, Progress, State, choose, evaluate_argument, evaluate_arguments, execute, execute_all, execute_else, execute_elsifs, execute_further, continue_with, modes_of, perform, place_argument, store_at, turns, turns_until, use_in, value_argument}
 
 pub evaluate_argument-map : {N M P : Type 0} (f h : N → M) (meaning : Meanings M Place P) (store : Store) (m : Mode) (e : Tree N expression) → evaluate_argument meaning store m (with_names f h e) ≡ evaluate_argument (through f h meaning) store m e
 unfolding evaluate_argument
@@ -48,11 +48,11 @@ mutual
       turns_until (t - 1) (λ s'. evaluate-map f h meaning s'.store e i) (execute_all-map f h meaning enter t statements i) s
 
   pub execute_all-map : {N M : Type 0} (f h : N → M) (meaning : Meanings M Place (List Mode)) (enter : Calls M) (t : ℕ) (a : Tree N sequence) → execute_all meaning enter t (with_names f h a) ≡ execute_all (through f h meaning) (λ x. enter (f x)) t a
-  execute_all-map f h meaning enter t (runs a rest) = λ i s. go_on (execute-map f h meaning enter t a i s) (execute_further-map f h meaning enter t rest i)
+  execute_all-map f h meaning enter t (runs a rest) = λ i s. continue_with (execute-map f h meaning enter t a i s) (execute_further-map f h meaning enter t rest i)
 
   pub execute_further-map : {N M : Type 0} (f h : N → M) (meaning : Meanings M Place (List Mode)) (enter : Calls M) (t : ℕ) (a : Tree N (items further_statement)) → execute_further meaning enter t (with_names f h a) ≡ execute_further (through f h meaning) (λ x. enter (f x)) t a
   execute_further-map f h meaning enter t end = refl
-  execute_further-map f h meaning enter t (more (then_statement a) rest) = λ i s. go_on (execute-map f h meaning enter t a i s) (execute_further-map f h meaning enter t rest i)
+  execute_further-map f h meaning enter t (more (then_statement a) rest) = λ i s. continue_with (execute-map f h meaning enter t a i s) (execute_further-map f h meaning enter t rest i)
 
   pub execute_elsifs-map : {N M : Type 0} (f h : N → M) (meaning : Meanings M Place (List Mode)) (enter : Calls M) (t : ℕ) (a : Tree N (items elsif_part)) (there here : State → Progress) → there ≡ here → execute_elsifs meaning enter t (with_names f h a) there ≡ execute_elsifs (through f h meaning) (λ x. enter (f x)) t a here
   execute_elsifs-map f h meaning enter t end there here e = λ i s. e i s

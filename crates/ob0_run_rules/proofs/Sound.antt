@@ -1,4 +1,4 @@
--- An expression of a type is worth a value of that type, or ends otherwise than stuck.
+-- An expression of a type evaluates to a value of that type, or ends otherwise than stuck.
 use Rattle.std.proofs.Common.{◌≡◌, ℕ, zero, suc, ◌<◌, Bool, true, false, T, List, [], ◌∷◌, ℤ, pos, negsuc, ◌+ℤ◌, ◌-ℤ◌, ◌*ℤ◌, neg_ℤ, if◌then◌else◌, nat_lt, slice_get, Some, None, Option, option_and_then, sym, refl, ap, ◌∙◌, subst, subst₂, arith, ltb→lt}
 use Rattle.ob0_tree.specs.declared.tree.Relation.{Relation}
 use Rattle.ob0_tree.specs.declared.tree.Relation.TheVariants as relation
@@ -161,7 +161,7 @@ place-fits typing store p s h e =
     let (w, ew, hw) = path-fits p.path v t s hv e₁ in
     (w, ap (option_and_then (at_path p.path)) ev ∙ ew, hw)
 
--- a constant or a variable is worth a value of its type
+-- a constant or a variable evaluates to a value of its type
 pub object-fits : (typing : StoreTyping) (store : Store) (checked : Option (Object Shape Signature)) (active : Option (Object Place (List Mode))) (s : Shape)
     → StoreFits typing store → ObjectFits typing checked active → object_type checked ≡ Some s → OutcomeFits (λ v. HasShape v s) (value_of store active)
 object-fits typing store (Some (a_constant v)) (Some (a_constant w)) s h o e =
@@ -209,7 +209,7 @@ pub field_part : (t : Shape) (x : Name) (u : Shape) → field_type t x ≡ Some 
 field_part (record_shape k fs) x u e = e
 field_part _ x u e = absurd (cc)
 
--- the store fits its typing, and what names stand for fits what the checker takes them for
+-- the store fits its typing, and what names mean fits what the checker takes them for
 pub record Fitting {N : Type 0} (typing : StoreTyping) (checked : Typed N) (active : Meanings N Place (List Mode)) (store : Store) : Type 0 where
   pub store_fits : StoreFits typing store
   pub names_fit : MeaningsFit typing checked active

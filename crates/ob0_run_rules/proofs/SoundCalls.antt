@@ -9,7 +9,7 @@ use Rattle.ob0_types_rules.specs.Environments.{from_binding, meanings, newest, o
 use Rattle.ob0_types_rules.specs.Expressions.{Object, a_constant, a_procedure, a_standard, a_type, a_variable}
 use Rattle.ob0_types_rules.specs.Typing.{constant_of, constant_value, constructors, denoted, type_of_name}
 use Rattle.ob0_values.specs.Values.{FieldShapes, Place, Shape, Store, Stuck, Value, array_shape, boolean_shape, copies, count_values, fits, initial, initial_members, integer_shape, next_field_shape, no_field_shape, record_shape}
-use Rattle.ob0_types_rules.specs.WellTyped.{Formal, Mode, Signature, TypeEnvironment, TypedParameter, WellTyped, bind_names, bind_typed, block_fits, body_fits, declare_typed, fits_over, heading, hold, procedure_fits, procedures_fit, section_mode, signature_of, typed_parameters}
+use Rattle.ob0_types_rules.specs.WellTyped.{Formal, Mode, Signature, TypeEnvironment, TypedParameter, WellTyped, bind_names, bind_typed, block_fits, body_fits, declare_typed, fits_over, heading, some_and, procedure_fits, procedures_fit, section_mode, signature_of, typed_parameters}
 use Rattle.ob0_types_rules.proofs.TypeNaturality.{constant_value-map, denoted-map}
 use Rattle.ob0_types_rules.proofs.TypesByOrdinal.{typed_parameter}
 use Rattle.ob0_run_rules.specs.Laws.{NeverStuck}
@@ -218,7 +218,7 @@ variables-run {N} naming typing checked k (more (declares_variable ns u) ds) aft
     let (g, eg, fit) = variables-run naming (typing ++ inner.0) (bind_names (names_listed ns) (a_variable s) checked) (k + constructors u) ds after (allocate (names_listed ns) (initial s) f) inner.1 inner.2 e₁ in
     (g, ap (option_and_then (λ s. declare_variables naming (k + constructors u) ds (allocate (names_listed ns) (initial s) f))) (denoted-same naming typing checked f.env env k u ∙ es) ∙ eg, frame-grown naming typing inner.0 after g fit)
 
-pub hold-true : {A : Type 0} (o : Option A) (test : A → Bool) → hold o test ≡ true → (a : A) × (o ≡ Some a) × (test a ≡ true)
+pub hold-true : {A : Type 0} (o : Option A) (test : A → Bool) → some_and o test ≡ true → (a : A) × (o ≡ Some a) × (test a ≡ true)
 hold-true None test e = absurd (cc)
 hold-true (Some a) test e = (a, refl, e)
 

@@ -7,7 +7,7 @@ use Rattle.ob0_types_rules.specs.Expressions.{Meanings, Object, a_constant, a_pr
 use Rattle.ob0_types_rules.specs.Typing.{designated, shape_of_field, type_at, type_of}
 use Rattle.ob0_values.specs.Values.{FieldShapes, Members, Outcome, Place, Shape, Step, Store, TurnBound, Value, Values, array_shape, at_field, at_index, boolean_shape, count_values, elements, ends, gives, integer_shape, members, next_field_shape, next_member, next_value, no_field_shape, no_member, no_value, number, or_stuck, read_place, record_shape, truth, with_at_path, with_named_member, with_nth_value, with_part, write_place, ◌>>=◌}
 use Rattle.ob0_types_rules.specs.WellTyped.{Formal, Mode, Signature, Typed, agree, argument_fits, arguments_fit, by_place, by_value, call_fits, condition_fits, else_fits, elsifs_fit, same_fields, same_shape, sequence_fits, signature_of, statement_fits, statements_fit, variable_type}
-use Rattle.ob0_run_rules.specs.Runs.{Argument, Calls, Progress, State, choose, evaluate_argument, evaluate_arguments, execute, execute_all, execute_else, execute_elsifs, execute_further, go_on, line_out, modes_of, number_out, perform, place_argument, put_out, read_number, running, stopped, store_at, turns, turns_until, use_in, value_argument}
+use Rattle.ob0_run_rules.specs.Runs.{Argument, Calls, Progress, State, choose, evaluate_argument, evaluate_arguments, execute, execute_all, execute_else, execute_elsifs, execute_further, continue_with, line_out, modes_of, number_out, perform, place_argument, append_output, read_number, running, stopped, store_at, turns, turns_until, use_in, value_argument}
 use Rattle.ob0_run_rules.proofs.Sound.{Fitting, evaluate-sound, fits-then, follow-sound, is_number, of_some, or_stuck-fits, part-fits, place-fits, some-gives, variable-fits}
 use Rattle.ob0_run_rules.specs.Fitting.{ArgumentsFit, EachHasShape, HasShape, HaveShapes, MeaningsFit, ObjectFits, PlaceFits, StoreFits, StoreTyping, modes_in, part_shape, shape_at_path}
 use Rattle.ob0_run_rules.proofs.Soundness.{CallsFit, OutcomeFits, ProgressFits, StatementsFit}
@@ -261,14 +261,14 @@ pub write_arguments : (typing : StoreTyping) (enter : List Argument → State �
     → ProgressFits typing (perform (Some (a_standard writes)) enter args s)
 write_arguments typing enter (value_argument v ∷ []) s h fit =
     let (n, ev) = is_number v fit.1 in
-    subst (λ v. ProgressFits typing (perform (Some (a_standard writes)) enter (value_argument v ∷ []) s)) (sym ev) (same_store-fits typing (put_out s (number_out n)) h)
+    subst (λ v. ProgressFits typing (perform (Some (a_standard writes)) enter (value_argument v ∷ []) s)) (sym ev) (same_store-fits typing (append_output s (number_out n)) h)
 write_arguments typing enter [] s h fit = absurd fit
 write_arguments typing enter (place_argument v ∷ args) s h fit = let e : by_value ≡ by_place = fit.0 in absurd (cc)
 write_arguments typing enter (value_argument v ∷ a ∷ args) s h fit = absurd (fit.2)
 
 pub line_arguments : (typing : StoreTyping) (enter : List Argument → State → Progress) (args : List Argument) (s : State) → StoreFits typing s.store → ArgumentsFit typing [] args
     → ProgressFits typing (perform (Some (a_standard writes_line)) enter args s)
-line_arguments typing enter [] s h fit = same_store-fits typing (put_out s line_out) h
+line_arguments typing enter [] s h fit = same_store-fits typing (append_output s line_out) h
 line_arguments typing enter (a ∷ args) s h fit = absurd fit
 
 pub perform-fits : (typing : StoreTyping) (checked : Option (Object Shape Signature)) (active : Option (Object Place (List Mode))) (signature : Signature) (enter : List Argument → State → Progress) (args : List Argument) (s : State)
@@ -306,7 +306,7 @@ pub keeps-here : (typing : StoreTyping) (statements : State → Progress) → Ke
 keeps-here typing statements keeps s h =
     subst (λ all. ProgressFits all (statements s)) (append-nil typing) (keeps [] s (subst (λ all. StoreFits all s.store) (sym (append-nil typing)) h))
 
-pub go_on-fits : (typing : StoreTyping) (p : Progress) (next : State → Progress) → ProgressFits typing p → Keeps typing next → ProgressFits typing (go_on p next)
+pub go_on-fits : (typing : StoreTyping) (p : Progress) (next : State → Progress) → ProgressFits typing p → Keeps typing next → ProgressFits typing (continue_with p next)
 go_on-fits typing (running s) next h keeps = ProgressFits-grown typing h.0 (next s) (keeps h.0 s h.1)
 go_on-fits typing (stopped e out) next h keeps = h
 
@@ -317,7 +317,7 @@ choose-fits typing s (number n) yes' no' h hy hn = absurd h
 choose-fits typing s (elements vs) yes' no' h hy hn = absurd h
 choose-fits typing s (members k ms) yes' no' h hy hn = absurd h
 
--- a condition that is worth a truth value in every store that grew
+-- a condition that evaluates to a truth value in every store that grew
 abbrev pub IsCondition : StoreTyping → (State → Outcome Value) → Type 0
 IsCondition typing condition = (others : StoreTyping) (s : State) → StoreFits (typing ++ others) s.store → OutcomeFits (λ v. HasShape v boolean_shape) (condition s)
 
@@ -326,8 +326,8 @@ turns-keep zero typing condition statements is keeps others s h =
     use_in-fits (typing ++ others) (λ v. HasShape v boolean_shape) s (condition s) (λ v. choose s v (λ s'. stopped TurnBound s'.output) running) (is others s h)
     (λ v hv. choose-fits (typing ++ others) s v (λ s'. stopped TurnBound s'.output) running hv (λ e. cc) (same_store-fits (typing ++ others) s h))
 turns-keep (suc t) typing condition statements is keeps others s h =
-    use_in-fits (typing ++ others) (λ v. HasShape v boolean_shape) s (condition s) (λ v. choose s v (λ s'. go_on (statements s') (turns t condition statements)) running) (is others s h)
-    (λ v hv. choose-fits (typing ++ others) s v (λ s'. go_on (statements s') (turns t condition statements)) running hv
+    use_in-fits (typing ++ others) (λ v. HasShape v boolean_shape) s (condition s) (λ v. choose s v (λ s'. continue_with (statements s') (turns t condition statements)) running) (is others s h)
+    (λ v hv. choose-fits (typing ++ others) s v (λ s'. continue_with (statements s') (turns t condition statements)) running hv
     (go_on-fits (typing ++ others) (statements s) (turns t condition statements) (keeps others s h)
     (λ later s' h'. subst (λ all. ProgressFits all (turns t condition statements s')) (sym (append_assoc typing others later))
     (turns-keep t typing condition statements is keeps (others ++ later) s' (subst (λ all. StoreFits all s'.store) (append_assoc typing others later) h'))))

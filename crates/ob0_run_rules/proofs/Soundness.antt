@@ -24,7 +24,7 @@ CallsFit {N} typing checked enter =
     (x : N) (signature : Signature) → checked.stands_for x ≡ Some (a_procedure signature) → (others : StoreTyping) (args : List Argument) (s : State)
     → ArgumentsFit (typing ++ others) signature args → StoreFits (typing ++ others) s.store → ProgressFits (typing ++ others) (enter x args s)
 
--- an expression of a type is worth a value of that type
+-- an expression of a type evaluates to a value of that type
 abbrev pub ExpressionsFit : Type 1
 ExpressionsFit =
     (N : Type 0) (typing : StoreTyping) (checked : Typed N) (active : Meanings N Place (List Mode)) (store : Store) (e : Tree N expression) (s : Shape)

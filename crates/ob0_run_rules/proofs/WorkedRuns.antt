@@ -122,7 +122,7 @@ pub store_of_calls-run-1 : run store_of_calls [] 2 1 ≡ record { output = numbe
 unfolding run
 store_of_calls-run-1 = refl
 
--- each call's variables begin anew and its VAR parameter stays where it is, whether calls give up their variables or not
+-- each call's variables begin again and its VAR parameter stays where it is, whether calls drop their variables or not
 pub store_of_calls-given_up-1 : run_giving_up as_names store_of_calls [] 2 1 ≡ record { output = number_out (pos 10) ∷ number_out (pos 10) ∷ number_out (pos 10) ∷ []; ending = Done }
 unfolding run_giving_up
 store_of_calls-given_up-1 = refl

@@ -7,7 +7,7 @@ use Rattle.ob0_scope_rules.specs.Names.{Name}
 use Rattle.ob0_scope_rules.specs.Occurrences.{Free, binds}
 use Rattle.ob0_scope_rules.specs.Scopes.{renamed}
 use Rattle.ob0_values.specs.Values.{Value}
-use Rattle.ob0_types_rules.specs.EditLaws.{AreUsesOf, IsConstantWritten, IsShown}
+use Rattle.ob0_types_rules.specs.EditLaws.{AreUsesOf, IsConstantWritten, IsPredeclaredTruth}
 use Rattle.ob0_types_rules.specs.WellTyped.{WellTyped}
 use Rattle.ob0_run_rules.specs.Runs.{run}
 
@@ -35,4 +35,4 @@ LeavingOutKeepsModules =
 abbrev pub InliningEverywhereKeepsModules : Type 0
 InliningEverywhereKeepsModules =
     (m : Tree Name module_text) (d : ℕ) (w : Value) (v : Tree Name factor)
-    → IsConstantWritten m d w v → ((k : ℕ) → binds m k ≡ Some d → IsShown m k w) → WellTyped m → WellTyped (inlined_everywhere m d v) × SameRuns (inlined_everywhere m d v) m
+    → IsConstantWritten m d w v → ((k : ℕ) → binds m k ≡ Some d → IsPredeclaredTruth m k w) → WellTyped m → WellTyped (inlined_everywhere m d v) × SameRuns (inlined_everywhere m d v) m

@@ -1,4 +1,4 @@
--- Values, places and what names stand for, by the types that a checked module gives them.
+-- Values, places and what names mean, by the types that a checked module gives them.
 -- Rule: docs/LANGUAGE.md, Runs 11.
 use Rattle.std.specs.Prelude.{◌≡◌, true, List, [], ◌∷◌, map, if◌then◌else◌, nat_lt, slice_get, Some, None, Option, option_and_then}
 use Rattle.ob0_scope_rules.specs.Names.{Naming}
@@ -56,7 +56,7 @@ PlaceFits typing p s = option_and_then (shape_at_path p.path) (slice_get typing 
 abbrev pub modes_in : Signature → List Mode
 modes_in = map (λ f. f.mode)
 
--- what a name stands for in the checked module and in the run
+-- what a name means in the checked module and in the run
 abbrev pub ObjectFits : StoreTyping → Option (Object Shape Signature) → Option (Object Place (List Mode)) → Type 0
 ObjectFits typing None None = Unit {0}
 ObjectFits typing (Some (a_type s)) (Some (a_type t)) = s ≡ t

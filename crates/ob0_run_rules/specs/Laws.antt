@@ -25,7 +25,7 @@ RunsByShape = (a b : Tree Name module_text) → numbered a ≡ numbered b → (i
 abbrev pub FreeKeepsRuns : Type 0
 FreeKeepsRuns = (m : Tree Name module_text) (d : ℕ) (new : Name) → Free m d new → (input : List ℤ) (c t : ℕ) → run (renamed m d new) input c t ≡ run m input c t
 
--- giving up a call's variables at its return leaves every run of every tree as it is, whatever tells its names or labels apart
+-- dropping a call's variables at its return leaves every run of every tree as it is, whatever distinguishes its names or labels
 abbrev pub GivingUpKeepsRuns : Type 0
 GivingUpKeepsRuns =
     ((naming : Naming Name) (m : Tree Name module_text) (input : List ℤ) (c t : ℕ) → run_giving_up naming m input c t ≡ run_over naming m input c t)

@@ -23,7 +23,7 @@ pub record State : Type 0 where
   pub input : List ℤ
   pub output : List Written
 
--- a run goes on, or it has ended; what was put out before stands
+-- a run goes on, or it has ended; what was output before remains
 pub data Progress : Type 0 where
   running : State → Progress
   stopped : End → List Written → Progress
@@ -39,9 +39,9 @@ use_in s (gives a) next = next a
 use_in s (ends e) next = stopped e s.output
 
 -- a run that goes on is continued; one that has ended stays so
-abbrev pub go_on : Progress → (State → Progress) → Progress
-go_on (running s) next = next s
-go_on (stopped e out) next = stopped e out
+abbrev pub continue_with : Progress → (State → Progress) → Progress
+continue_with (running s) next = next s
+continue_with (stopped e out) next = stopped e out
 
 -- one of two ways, by a condition
 abbrev pub choose : State → Value → (State → Progress) → (State → Progress) → Progress
@@ -50,8 +50,8 @@ choose s (truth false) when_true when_false = when_false s
 choose s _ when_true when_false = stopped Stuck s.output
 
 -- the state with one more item of output
-abbrev pub put_out : State → Written → State
-put_out s i = record s { output = s.output ++ i ∷ [] }
+abbrev pub append_output : State → Written → State
+append_output s i = record s { output = s.output ++ i ∷ [] }
 
 -- a value is stored at a place
 abbrev pub store_at : State → Place → Value → Progress
@@ -95,8 +95,8 @@ evaluate_arguments meaning store _ _ = ends Stuck
 abbrev pub perform : Option (Object Place (List Mode)) → (List Argument → State → Progress) → List Argument → State → Progress
 perform (Some (a_procedure modes)) enter args s = enter args s
 perform (Some (a_standard reads)) enter (place_argument p ∷ []) s = read_number s p s.input
-perform (Some (a_standard writes)) enter (value_argument (number n) ∷ []) s = running (put_out s (number_out n))
-perform (Some (a_standard writes_line)) enter [] s = running (put_out s line_out)
+perform (Some (a_standard writes)) enter (value_argument (number n) ∷ []) s = running (append_output s (number_out n))
+perform (Some (a_standard writes_line)) enter [] s = running (append_output s line_out)
 perform _ enter args s = stopped Stuck s.output
 
 -- a loop evaluates its condition; where it is TRUE and t turns were made, it ends with TurnBound; else one more turn is made
@@ -104,7 +104,7 @@ abbrev pub turns : ℕ → (State → Outcome Value) → (State → Progress) �
 turns zero condition statements s =
     use_in s (condition s) (λ v. choose s v (λ s'. stopped TurnBound s'.output) running)
 turns (suc t) condition statements s =
-    use_in s (condition s) (λ v. choose s v (λ s'. go_on (statements s') (turns t condition statements)) running)
+    use_in s (condition s) (λ v. choose s v (λ s'. continue_with (statements s') (turns t condition statements)) running)
 
 -- what a name does where it is called, over its arguments
 abbrev pub Calls : Type 0 → Type 0
@@ -114,9 +114,9 @@ Calls N = N → List Argument → State → Progress
 -- turns may be made, t more after this one; else one more turn is made
 abbrev pub turns_until : ℕ → (State → Outcome Value) → (State → Progress) → State → Progress
 turns_until zero condition turn s =
-    go_on (turn s) (λ s'. use_in s' (condition s') (λ v. choose s' v running (λ s''. stopped TurnBound s''.output)))
+    continue_with (turn s) (λ s'. use_in s' (condition s') (λ v. choose s' v running (λ s''. stopped TurnBound s''.output)))
 turns_until (suc t) condition turn s =
-    go_on (turn s) (λ s'. use_in s' (condition s') (λ v. choose s' v running (turns_until t condition turn)))
+    continue_with (turn s) (λ s'. use_in s' (condition s') (λ v. choose s' v running (turns_until t condition turn)))
 
 -- an assignment finds its place, then evaluates its right side, then stores a copy
 unfoldable mutual
@@ -137,11 +137,11 @@ unfoldable mutual
       turns_until (t - 1) (λ s'. evaluate meaning s'.store e) (execute_all meaning enter t statements) s
 
   pub execute_all : {N : Type 0} → Meanings N Place (List Mode) → Calls N → ℕ → Tree N sequence → State → Progress
-  execute_all meaning enter t (runs a rest) s = go_on (execute meaning enter t a s) (execute_further meaning enter t rest)
+  execute_all meaning enter t (runs a rest) s = continue_with (execute meaning enter t a s) (execute_further meaning enter t rest)
 
   pub execute_further : {N : Type 0} → Meanings N Place (List Mode) → Calls N → ℕ → Tree N (items further_statement) → State → Progress
   execute_further meaning enter t end s = running s
-  execute_further meaning enter t (more (then_statement a) rest) s = go_on (execute meaning enter t a s) (execute_further meaning enter t rest)
+  execute_further meaning enter t (more (then_statement a) rest) s = continue_with (execute meaning enter t a s) (execute_further meaning enter t rest)
 
   -- the ELSIF parts, and what follows them
   pub execute_elsifs : {N : Type 0} → Meanings N Place (List Mode) → Calls N → ℕ → Tree N (items elsif_part) → (State → Progress) → State → Progress
@@ -251,7 +251,7 @@ in_frame s None next = stopped Stuck s.output
 in_frame s (Some f) next = next f record s { store = f.store }
 
 -- the body of the procedure at the head of an environment runs with its own variables, in the bindings that were
--- visible at its declaration, in the activation in which that stood
+-- visible at its declaration, in the activation in which that was
 unfoldable pub activate : {N : Type 0} → Naming N → (Activation N → Calls N) → ℕ → Activation N → List Argument → State → Progress
 unfolding declare_block execute_body
 activate naming enter t ((x, a_procedure code) ∷ rest) args s =
@@ -284,7 +284,7 @@ run_by naming enter t m input =
     finished (in_frame start (declare_block naming 0 (module_block m) record { env = outermost naming; store = [] })
     (λ f. execute_body naming f.env (enter f.env) t (block_statements (module_block m))))
 
--- the run of a tree over any names that can be told apart
+-- the run of a tree over any names that can be distinguished
 unfoldable pub run_over : {N : Type 0} → Naming N → Tree N module_text → List ℤ → ℕ → ℕ → Run
 unfolding run_by call
 run_over naming m input c t = run_by naming (call naming c t) t m input

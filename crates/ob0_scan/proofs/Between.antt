@@ -6,9 +6,9 @@ use Rattle.ob0_scan.specs.declared.lexeme.Span.{Span}
 use Rattle.ob0_scan.specs.declared.lexeme.Token.{Token}
 use Rattle.ob0_scan.specs.declared.scanner.Scanner.{Scanner}
 use Rattle.ob0_scan.specs.Scanned.{Scanned, IsScan, max_text, span_from, token_at, comment_at, tokens_from, comments_from}
-use Rattle.ob0_scan.specs.Reused.{IsReplaced, NoneBegins, IsNew, Reuses, moved, moved_token, front_tokens, front_comments, back_tokens, back_comments}
+use Rattle.ob0_scan.specs.Reused.{IsReplaced, NoOldBegins, IsNew, Reuses, moved, moved_token, tokens_before_change, comments_before_change, back_tokens, back_comments}
 use Rattle.ob0_scan.specs.Rescanning.{token_begins, comment_begins, IsMovable, TakesOne, ReadsOn, IsMet}
-use Rattle.ob0_scan.specs.Progress.{Progress}
+use Rattle.ob0_scan.specs.Progress.{ScanProgress}
 use Rattle.ob0_scan.specs.UnderWay.{IsUnderWay}
 use Rattle.ob0_scan.proofs.Spans.{token_with, comment_with}
 use Rattle.ob0_scan.proofs.Standing.{of_tokens, of_comments, full, Ascending, ascending, first_at, none_at, at_first, Border, begin_at_borders}
@@ -40,7 +40,7 @@ reads_none old from removed added s = record {
   comments_new = All-nil (λ (c : Span). IsNew old from removed added c);
 }
 
-pub reads_more : (old : Scanned) (from removed added : ℕ) (s t u : Scanner) → ReadsOn old from removed added s t → TakesOne t u → (from + added ≤ t.at → NoneBegins old (t.at + removed - added)) → ReadsOn old from removed added s u
+pub reads_more : (old : Scanned) (from removed added : ℕ) (s t u : Scanner) → ReadsOn old from removed added s t → TakesOne t u → (from + added ≤ t.at → NoOldBegins old (t.at + removed - added)) → ReadsOn old from removed added s u
 reads_more old from removed added s t u r w new =
     let place = span_from t.at w.len in
     record {
@@ -53,7 +53,7 @@ reads_more old from removed added s t u r w new =
     }
 
 module _ (old : Scanned) (o : IsScan old) where
-  pub none_begins : (place : ℕ) → (token_begins place (back_tokens place old.tokens) || comment_begins place (back_comments place old.comments)) ≡ false → NoneBegins old place
+  pub none_begins : (place : ℕ) → (token_begins place (back_tokens place old.tokens) || comment_begins place (back_comments place old.comments)) ≡ false → NoOldBegins old place
   none_begins place e =
       let parts = either_false (token_begins place (back_tokens place old.tokens)) (comment_begins place (back_comments place old.comments)) e in
       let some = full o.lexemes [] o.lexed.each in
@@ -99,7 +99,7 @@ module _ (old : Scanned) (o : IsScan old) where
         m.border
 
 -- what was kept, read and taken over
-pub reused : (old new : Scanned) (from removed added : ℕ) (s t : Scanner) (tokens : List Token) (comments : List Span) (end : ℕ) (fs : List Token) (gs : List Span) → fs ≡ front_tokens from old.tokens → gs ≡ front_comments from old.comments → s.tokens.items ≡ [] → s.comments.items ≡ []
+pub reused : (old new : Scanned) (from removed added : ℕ) (s t : Scanner) (tokens : List Token) (comments : List Span) (end : ℕ) (fs : List Token) (gs : List Span) → fs ≡ tokens_before_change from old.tokens → gs ≡ comments_before_change from old.comments → s.tokens.items ≡ [] → s.comments.items ≡ []
     → ReadsOn old from removed added s t → IsMet old end from removed added t.at tokens comments
     → new.tokens ≡ (fs ++ t.tokens.items) ++ map (moved_token removed added) tokens → new.comments ≡ (gs ++ t.comments.items) ++ map (moved removed added) comments
     → (read : ℕ) → read ≡ length t.tokens.items + length t.comments.items → Reuses old new from removed added read
@@ -134,7 +134,7 @@ settled old o new from removed added r t tokens comments text under none short f
     let met : IsMet old (length new) from removed added t.at tokens comments = subst (λ x. IsMet old (length x) from removed added t.at tokens comments) text (found none) in
     let ts = t.front.tokens.now ++ t.tokens.items in
     let cs = t.front.comments.now ++ t.comments.items in
-    let p : Progress new t.at ts cs t.faults.items = subst (λ x. Progress x t.at ts cs t.faults.items) text under in
+    let p : ScanProgress new t.at ts cs t.faults.items = subst (λ x. ScanProgress x t.at ts cs t.faults.items) text under in
     let place : ℕ = t.at + removed - added in
     let border = met_border old o new from removed added r t.at tokens comments met in
     let low : removed ≤ place = omega (arith, met.behind) in

@@ -9,10 +9,10 @@ use Rattle.std.proofs.lemmas.Bool.{lt-ltb, ltb-true}
 use Rattle.ob0_scan.specs.declared.lexeme.Span.{Span}
 use Rattle.ob0_scan.specs.declared.lexeme.Token.{Token}
 use Rattle.ob0_scan.specs.declared.scanner.Scanner.{Scanner}
-use Rattle.ob0_scan.specs.declared.changed.Between.{Between}
+use Rattle.ob0_scan.specs.declared.rescanning.Between.{Between}
 use Rattle.ob0_scan.specs.Lexed.{Lexeme, joined}
 use Rattle.ob0_scan.specs.Scanned.{Scanned, IsScan}
-use Rattle.ob0_scan.specs.Reused.{moved, moved_token, front_tokens, front_comments}
+use Rattle.ob0_scan.specs.Reused.{moved, moved_token, tokens_before_change, comments_before_change}
 use Rattle.ob0_scan.specs.Rescanning.{IsMovable, IsBetween, ReadsOn, with_between}
 use Rattle.ob0_scan.proofs.Standing.{Standing, of_tokens, of_comments, Full, Lies, full, lies}
 use Rattle.ob0_scan.proofs.Between.{Settled, reused}
@@ -56,7 +56,7 @@ parts xs fs rs p q n m less ef er en em =
     }
 
 module _ (old : Scanned) (o : IsScan old) (new : List ℕ) (from removed added : ℕ) (s t : Scanner) (fs rs : List Token) (gs qs : List Span) (b : Between) where
-  token_parts : fs ≡ front_tokens from old.tokens → Settled old new from removed added t rs qs → b.front.tokens ≡ length fs → b.behind.tokens ≡ length old.tokens - length rs → Parts old.tokens fs rs b.front.tokens b.behind.tokens
+  token_parts : fs ≡ tokens_before_change from old.tokens → Settled old new from removed added t rs qs → b.front.tokens ≡ length fs → b.behind.tokens ≡ length old.tokens - length rs → Parts old.tokens fs rs b.front.tokens b.behind.tokens
   token_parts ef w en em =
       let place : ℕ = t.at + removed - added in
       let less = apart of_tokens from place o.lexemes (full o.lexemes [] o.lexed.each) (omega (arith, w.met.behind)) in
@@ -64,7 +64,7 @@ module _ (old : Scanned) (o : IsScan old) (new : List ℕ) (from removed added :
       (subst (λ (xs : List Token). prefix_len (λ (x : Token). ltb x.span.end from) xs ≤ prefix_len (λ (x : Token). ltb x.span.start place) xs) (sym o.tokens) less)
       ef w.met.tokens_are en em
 
-  comment_parts : gs ≡ front_comments from old.comments → Settled old new from removed added t rs qs → b.front.comments ≡ length gs → b.behind.comments ≡ length old.comments - length qs → Parts old.comments gs qs b.front.comments b.behind.comments
+  comment_parts : gs ≡ comments_before_change from old.comments → Settled old new from removed added t rs qs → b.front.comments ≡ length gs → b.behind.comments ≡ length old.comments - length qs → Parts old.comments gs qs b.front.comments b.behind.comments
   comment_parts ef w en em =
       let place : ℕ = t.at + removed - added in
       let less = apart of_comments from place o.lexemes (full o.lexemes [] o.lexed.each) (omega (arith, w.met.behind)) in
@@ -73,7 +73,7 @@ module _ (old : Scanned) (o : IsScan old) (new : List ℕ) (from removed added :
       ef w.met.comments_are en em
 
   -- what was read by a scanner that went on after the front lies between
-  pub lies_between : fs ≡ front_tokens from old.tokens → gs ≡ front_comments from old.comments → t.front.tokens.now ≡ fs → t.front.comments.now ≡ gs → s.tokens.items ≡ [] → s.comments.items ≡ []
+  pub lies_between : fs ≡ tokens_before_change from old.tokens → gs ≡ comments_before_change from old.comments → t.front.tokens.now ≡ fs → t.front.comments.now ≡ gs → s.tokens.items ≡ [] → s.comments.items ≡ []
       → ReadsOn old from removed added s t → Settled old new from removed added t rs qs
       → b.front.tokens ≡ length fs → b.behind.tokens ≡ length old.tokens - length rs → b.front.comments ≡ length gs → b.behind.comments ≡ length old.comments - length qs
       → b.tokens.items ≡ t.tokens.items → b.comments.items ≡ t.comments.items → IsBetween old new from removed added b

@@ -11,8 +11,8 @@ use Rattle.ob0_scan.specs.Lexed.{Lexeme, joined, IsFirst, AreLexemes}
 use Rattle.ob0_scan.specs.Ends.{EndsBefore}
 use Rattle.ob0_scan.specs.Scanned.{tokens_from, comments_from, IsRangeOf, Scanned, IsScan, max_text}
 use Rattle.ob0_scan.specs.Faults.{FaultsFrom, lexeme}
-use Rattle.ob0_scan.specs.Progress.{IsCutTo, Progress}
-use Rattle.ob0_scan.specs.Reused.{IsReplaced, moved, moved_token, front_tokens, front_comments, back_tokens, back_comments}
+use Rattle.ob0_scan.specs.Progress.{IsCutTo, ScanProgress}
+use Rattle.ob0_scan.specs.Reused.{IsReplaced, moved, moved_token, tokens_before_change, comments_before_change, back_tokens, back_comments}
 use Rattle.ob0_scan.specs.Rescanning.{last_end, IsMovable}
 use Rattle.ob0_scan.proofs.Borders.{first_from_end, end_from_first}
 use Rattle.ob0_scan.proofs.Spans.{StandFrom, next_from}
@@ -73,7 +73,7 @@ told_behind {room = room} {faults = faults} s text (l ∷ ls) after f e h =
     (told_behind (s + length l.text) (joined ls ++ after) ls after f.1 refl (subst (λ n. FaultsFrom room n after faults) place h))
 
 -- a scanner may begin after what is cut already
-pub progress_behind : (text : List ℕ) (at : ℕ) (tokens : List Token) (comments : List Span) → IsUtf8 text → at ≤ length text → IsCutTo text at tokens comments → Progress text at tokens comments []
+pub progress_behind : (text : List ℕ) (at : ℕ) (tokens : List Token) (comments : List Span) → IsUtf8 text → at ≤ length text → IsCutTo text at tokens comments → ScanProgress text at tokens comments []
 progress_behind text at tokens comments utf8 inside cut =
     let whole : joined cut.lexemes ++ drop at text ≡ text = ap (λ t. t ++ drop at text) cut.front ∙ take-append-drop at text in
     let place : 0 + length (joined cut.lexemes) ≡ at = omega (arith, ap length cut.front, length-take-le at text inside) in
@@ -93,7 +93,7 @@ module _ (old : Scanned) (o : IsScan old) (new : List ℕ) (from removed added :
   some_each = full o.lexemes [] o.lexed.each
 
   -- The tokens and comments that end before the change are those of the new text up to where the last of them ends.
-  pub front_cut : (last_end (front_tokens from old.tokens) (front_comments from old.comments) ≤ length new) × IsCutTo new (last_end (front_tokens from old.tokens) (front_comments from old.comments)) (front_tokens from old.tokens) (front_comments from old.comments)
+  pub front_cut : (last_end (tokens_before_change from old.tokens) (comments_before_change from old.comments) ≤ length new) × IsCutTo new (last_end (tokens_before_change from old.tokens) (comments_before_change from old.comments)) (tokens_before_change from old.tokens) (comments_before_change from old.comments)
   front_cut =
       let f = find_front from 0 o.lexemes some_each in
       let parts = full_parts f.front f.back (subst Full f.split some_each) in
@@ -101,9 +101,9 @@ module _ (old : Scanned) (o : IsScan old) (new : List ℕ) (from removed added :
       let whole : joined f.front ++ joined f.back ≡ old.text = sym (joined_append f.front f.back) ∙ ap joined (sym f.split) ∙ o.lexed.whole in
       let long : length (joined f.front) ≡ f.at = omega (arith, f.at_is) in
       let close : f.at ≤ from = ⊎_elim (λ e. omega (arith, long, ap (λ t. length (joined t)) e)) (λ last. omega (arith, f.near (omega (arith, ap length last.are, length-append last.init (last.last ∷ []))))) f.shape in
-      let tokens : front_tokens from old.tokens ≡ tokens_from 0 f.front = ap (front_tokens from) (o.tokens ∙ ap (tokens_from 0) f.split) ∙ front_split of_tokens 0 f.at from f.front f.back parts.0 (λ h. subst (λ n. n < from) (sym f.at_is) (f.near h)) f.at_is f.tokens_done in
-      let comments : front_comments from old.comments ≡ comments_from 0 f.front = ap (front_comments from) (o.comments ∙ ap (comments_from 0) f.split) ∙ front_split of_comments 0 f.at from f.front f.back parts.0 (λ h. subst (λ n. n < from) (sym f.at_is) (f.near h)) f.at_is f.comments_done in
-      let ends : last_end (front_tokens from old.tokens) (front_comments from old.comments) ≡ f.at = ap₂ last_end tokens comments ∙ front_end f.front parts.0 f.shape ∙ long in
+      let tokens : tokens_before_change from old.tokens ≡ tokens_from 0 f.front = ap (tokens_before_change from) (o.tokens ∙ ap (tokens_from 0) f.split) ∙ front_split of_tokens 0 f.at from f.front f.back parts.0 (λ h. subst (λ n. n < from) (sym f.at_is) (f.near h)) f.at_is f.tokens_done in
+      let comments : comments_before_change from old.comments ≡ comments_from 0 f.front = ap (comments_before_change from) (o.comments ∙ ap (comments_from 0) f.split) ∙ front_split of_comments 0 f.at from f.front f.back parts.0 (λ h. subst (λ n. n < from) (sym f.at_is) (f.near h)) f.at_is f.comments_done in
+      let ends : last_end (tokens_before_change from old.tokens) (comments_before_change from old.comments) ≡ f.at = ap₂ last_end tokens comments ∙ front_end f.front parts.0 f.shape ∙ long in
       let behind : drop f.at old.text ≡ joined f.back = ap (drop f.at) (sym whole) ∙ drop_at (joined f.front) (joined f.back) f.at long in
       let same : 0 < length f.front → get_or (joined f.back ++ []) 0 0 ≡ get_or (drop f.at new) 0 0 = λ some.
       ap (λ t. get_or t 0 0) (append-nil (joined f.back) ∙ sym behind)

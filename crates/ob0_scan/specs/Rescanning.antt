@@ -6,7 +6,7 @@ use Rattle.ob0_scan.specs.declared.lexeme.Span.{Span}
 use Rattle.ob0_scan.specs.declared.lexeme.Token.{Token}
 use Rattle.ob0_scan.specs.declared.lexeme.LexemeKind.{LexemeKind}
 use Rattle.ob0_scan.specs.declared.scanner.Scanner.{Scanner}
-use Rattle.ob0_scan.specs.declared.changed.Between.{Between}
+use Rattle.ob0_scan.specs.declared.rescanning.Between.{Between}
 use Rattle.ob0_scan.specs.Scanned.{Scanned, IsScan, span_from, token_at, comment_at}
 use Rattle.ob0_scan.specs.Reused.{back_tokens, back_comments, moved, moved_token, Reuses, IsNew}
 

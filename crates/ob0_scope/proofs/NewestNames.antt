@@ -16,7 +16,7 @@ use Rattle.ob0_scope_rules.specs.Names.{Name, same_name}
 use Rattle.ob0_scope_rules.proofs.NameEquality.{same_name-comm, same_name-refl}
 use Rattle.ob0_scope.specs.NewestNames.{ArePlaces, IsAdded, IsRenewed, KeepsFirst, newest_in, place_of}
 
--- names that are told apart: of the first, of a later one, of none
+-- names that are reported apart: of the first, of a later one, of none
 first_place : (same : Bool) (o : Option ℕ) → (if same then Some zero else option_map suc o) ≡ Some zero → same ≡ true
 first_place true o e = refl
 first_place false None e = absurd (cc)
@@ -40,7 +40,7 @@ if_false : (same : Bool) (v w : Option ℕ) → same ≡ false → (if same then
 if_false true v w e = absurd (cc)
 if_false false v w e = refl
 
--- what stands at a name's place
+-- what is at a name's place
 pub record StandsAt (es : List Entry) (x : Name) (i : ℕ) (d : Entry) : Type 0 where
   pub below : i < length es
   pub named : (get_or es i d).name.now ≡ x

@@ -9,27 +9,27 @@ use Rattle.ob0_tree.specs.Order.{names_only}
 use Rattle.ob0_tree.specs.Places.{value_at}
 use Rattle.ob0_scope.specs.Written.{Writing, name_at, spelled_by}
 use Rattle.ob0_tree.proofs.Occurring.{looked_up_only, looked_up_only-append}
-use Rattle.ob0_scope.specs.Marks.{Mark}
+use Rattle.ob0_scope.specs.Marks.{OrdinalMark}
 use Rattle.ob0_scope_rules.specs.Names.{Name, as_names}
 use Rattle.ob0_scope_rules.specs.Parts.{constant_names, formal_names, formal_sections, further_names, module_block, named_types, names_listed, procedure_name, section_constants, section_names, section_types, section_variables, variable_names}
 use Rattle.ob0_scope_rules.specs.Resolution.{declaring_only}
 use Rattle.ob0_scope_rules.specs.Scopes.{Labels, Scope, after_block, after_names, after_procedure, after_procedures, body_scope, declare_names, declare_procedure_names, ordinal_of, predeclared_scope, relabel_block, relabel_constant_section, relabel_constants, relabel_formals, relabel_further, relabel_names, relabel_procedure, relabel_procedures, relabel_section, relabel_sections, relabel_type_section, relabel_types, relabel_uses, relabel_variable_section, relabel_variables, relabelled}
-use Rattle.ob0_scope.specs.Marking.{Visit, behind_block, behind_heading, found, found_all, left_to, marked, numbered_all, numbered_at, shown_from, used, visit_block, visit_constant, visit_constant_section, visit_constants, visit_formals, visit_module, visit_procedure, visit_procedures, visit_section, visit_sections, visit_type, visit_type_section, visit_types, visit_variable, visit_variable_section, visit_variables}
+use Rattle.ob0_scope.specs.Marking.{Visit, leave_block, after_heading, found, found_all, left_to, marked, numbered_all, numbered_at, visible_from, used, visit_block, visit_constant, visit_constant_section, visit_constants, visit_formals, visit_module, visit_procedure, visit_procedures, visit_section, visit_sections, visit_type, visit_type_section, visit_types, visit_variable, visit_variable_section, visit_variables}
 use Rattle.ob0_scope.proofs.Agreed.{AllFit, agreed}
 use Rattle.ob0_scope_rules.proofs.Ordinals.{after_names-append, declare_names-append}
 use Rattle.ob0_scope_rules.proofs.Peeling.{Two}
 use Rattle.ob0_scope_rules.proofs.Plain.{IsPlain, declares_nothing, declaring_only-append}
 
 -- a table has each mark's ordinal at its token
-abbrev pub HasMarks : (ℕ → Option ℕ) → List Mark → Type 0
+abbrev pub HasMarks : (ℕ → Option ℕ) → List OrdinalMark → Type 0
 HasMarks table [] = Unit {0}
 HasMarks table (m ∷ ms) = (table m.token ≡ m.ordinal) × HasMarks table ms
 
-marks_split : (table : ℕ → Option ℕ) (xs ys : List Mark) → HasMarks table (xs ++ ys) → HasMarks table xs × HasMarks table ys
+marks_split : (table : ℕ → Option ℕ) (xs ys : List OrdinalMark) → HasMarks table (xs ++ ys) → HasMarks table xs × HasMarks table ys
 marks_split table [] ys h = (tt, h)
 marks_split table (x ∷ xs) ys h = let rest = marks_split table xs ys h.1 in ((h.0, rest.0), rest.1)
 
-abbrev pub tokens_of : List Mark → List ℕ
+abbrev pub tokens_of : List OrdinalMark → List ℕ
 tokens_of ms = map (λ m. m.token) ms
 
 pub record At (v : Visit) (src : Writing) (s : Scope Name) (k : ℕ) : Type 0 where
@@ -86,7 +86,7 @@ record FoundAll (table : ℕ → Option ℕ) (src : Writing) (v w : Visit) (xs :
   tokens : tokens_of w.marks ≡ tokens_of v.marks ++ names_only xs
   agree : v.writing ≡ src → HasMarks table w.marks → HasMarks table v.marks × AllFit table src v.scope xs
 
-mark_added : (ms : List Mark) (m : Mark) → tokens_of (ms ++ (m ∷ [])) ≡ tokens_of ms ++ (m.token ∷ [])
+mark_added : (ms : List OrdinalMark) (m : OrdinalMark) → tokens_of (ms ++ (m ∷ [])) ≡ tokens_of ms ++ (m.token ∷ [])
 mark_added ms m = map-append (λ m. m.token) ms (m ∷ [])
 
 found_none : (table : ℕ → Option ℕ) (src : Writing) (i : ℕ) (v : Visit) → HasMarks table (marked i None v).marks → HasMarks table v.marks × (table i ≡ None) × Unit {0}
@@ -94,7 +94,7 @@ found_none table src i v h = let m = marks_split table v.marks (record { token =
 
 found_one : (table : ℕ → Option ℕ) (src : Writing) (r : Role) (i : ℕ) (v : Visit) → FoundAll table src v (found r i v) ((r, i) ∷ [])
 found_one table src role.LookedUp i v =
-    let m : Mark = record { token = i; ordinal = ordinal_of as_names v.scope (name_at v.writing i) } in
+    let m : OrdinalMark = record { token = i; ordinal = ordinal_of as_names v.scope (name_at v.writing i) } in
     record {
       writing = refl;
       scope = refl;
@@ -127,7 +127,7 @@ found_every table src (x ∷ xs) v =
           (now.0, (now.1.0, subst (λ s. AllFit table src s xs) a.scope later.1));
     }
 
--- what a part has passed on, with the identifiers in it, the names visible behind it, the next ordinal, and what a table with all marks tells
+-- what a part has passed on, with the identifiers in it, the names visible after it, the next ordinal, and what a table with all marks tells
 pub record Passed (table : ℕ → Option ℕ) (src : Writing) (v w : Visit) (ids : List (Role × ℕ)) (s : Scope Name) (k : ℕ) (P : Type 0) : Type 0 where
   pub at : At w src s k
   pub declared : w.declarations ≡ v.declarations ++ declaring_only ids
@@ -186,7 +186,7 @@ module _ {M : Type 0} (table : ℕ → Option ℕ) (label : Labels Name M) (src 
 
   number_passed : (x : ℕ) (v : Visit) (s : Scope Name) (k : ℕ) → At v src s k → Passes v (numbered_at x v) ((role.Declaring, x) ∷ []) s (suc k) (table x ≡ Some k)
   number_passed x v s k at =
-      let m : Mark = record { token = x; ordinal = Some (7 + length v.declarations) } in
+      let m : OrdinalMark = record { token = x; ordinal = Some (7 + length v.declarations) } in
       record {
         at = record { writing = at.writing; scope = at.scope; next = omega (arith, length-append v.declarations (x ∷ []), at.next) };
         declared = refl;
@@ -198,7 +198,7 @@ module _ {M : Type 0} (table : ℕ → Option ℕ) (label : Labels Name M) (src 
   mark_passed : (r : Role) (x : ℕ) (ordinal : Option ℕ) (v : Visit) (s : Scope Name) (k : ℕ) → declaring_only ((r, x) ∷ []) ≡ [] → looked_up_only ((r, x) ∷ []) ≡ [] → At v src s k
       → Passes v (marked x ordinal v) ((r, x) ∷ []) s k (table x ≡ ordinal)
   mark_passed r x ordinal v s k no_declaration no_use at =
-      let m : Mark = record { token = x; ordinal = ordinal } in
+      let m : OrdinalMark = record { token = x; ordinal = ordinal } in
       record {
         at = record { writing = at.writing; scope = at.scope; next = at.next };
         declared = sym (append-nil v.declarations) ∙ ap (λ ds. v.declarations ++ ds) (sym no_declaration);
@@ -250,9 +250,9 @@ module _ {M : Type 0} (table : ℕ → Option ℕ) (label : Labels Name M) (src 
   drop_past : (xs ys : List ℕ) → drop (length xs) (xs ++ ys) ≡ ys
   drop_past xs ys = let n : length xs + 0 ≡ length xs = omega arith in ap (λ n. drop n (xs ++ ys)) (sym n) ∙ drop-append-add xs ys 0
 
-  -- what was declared in a part is visible behind it
+  -- what was declared in a part is visible after it
   show_passed : {a b : Visit} {xs : List (Role × ℕ)} {s s' : Scope Name} {k k' : ℕ} {P : Type 0} (ns : List Name) → At a src s k → map (name_at src) (declaring_only xs) ≡ ns → Passes a b xs s' k' P
-      → Passes a (shown_from (length a.declarations) b) xs (declare_names k ns s') k' P
+      → Passes a (visible_from (length a.declarations) b) xs (declare_names k ns s') k' P
   show_passed {a = a} {b = b} {xs = xs} {s' = s'} {k = k} ns at are p =
       let left : drop (length a.declarations) b.declarations ≡ declaring_only xs = ap (drop (length a.declarations)) p.declared ∙ drop_past a.declarations (declaring_only xs) in
       let visible : declare_names (7 + length a.declarations) (map (name_at b.writing) (drop (length a.declarations) b.declarations)) b.scope ≡ declare_names k ns s' =
@@ -268,9 +268,9 @@ module _ {M : Type 0} (table : ℕ → Option ℕ) (label : Labels Name M) (src 
       declaring_only-append (identifiers role.Declaring ns) (identifiers role.Declaring t)
       ∙ ((λ i. declaring_only (sym (names_declaring ns) i) ++ (declares_nothing tt t).plain i) ∙ (append-nil (declaring_only (all_declaring (names_listed ns))) ∙ listed_declaring (names_listed ns)))
 
-  -- names of one type, visible behind it
+  -- names of one type, visible after it
   group_passed : (ns : Tree ℕ names) (t : Tree ℕ written_type) (v : Visit) (s : Scope Name) (k : ℕ) → At v src s k
-      → Passes v (shown_from (length v.declarations) (used t (numbered_all (names_listed ns) v))) (identifiers role.Declaring ns ++ identifiers role.Declaring t)
+      → Passes v (visible_from (length v.declarations) (used t (numbered_all (names_listed ns) v))) (identifiers role.Declaring ns ++ identifiers role.Declaring t)
       (declare_names k (names_listed (spelled_by src ns)) s) (after_names k (names_listed (spelled_by src ns)))
       (Two (relabel_names label k (spelled_by src ns) ≡ by_table ns) (relabel_uses as_names label s (spelled_by src t) ≡ by_table t))
   group_passed ns t v s k at =
@@ -432,16 +432,16 @@ module _ {M : Type 0} (table : ℕ → Option ℕ) (label : Labels Name M) (src 
         let f = formals_passed fs v₁ s (suc k) a.at in
         let heading = left_passed outside count (names_extend (suc k) formal s) (pass_then a f) in
         let h = show_passed (name ∷ formal) at (ap (λ xs. name ∷ xs) (formals_declaring fs)) heading in
-        let v₃ = behind_heading own outside v₂ in
+        let v₃ = after_heading own outside v₂ in
         let g = block_passed b v₃ inside k₁ h.at in
         let whole = pass_then h g in
         let e = extends_then (extends_then (one_extends (name, k) s) (names_extend (suc k) formal ((name, k) ∷ s))) (block_extends k₁ (spelled_by src b) inside) in
         let behind = left_passed outside count e whole in
-        let shown_again : At (behind_block x (7 + own) outside (visit_block b v₃)) src ((name, k) ∷ s) (after_block k₁ (spelled_by src b)) =
+        let shown_again : At (leave_block x (7 + own) outside (visit_block b v₃)) src ((name, k) ∷ s) (after_block k₁ (spelled_by src b)) =
         record { writing = behind.at.writing; scope = (λ i. (name_at (behind.at.writing i) x, at.next i) ∷ behind.at.scope i); next = behind.at.next } in
-        let visible : Passes v (behind_block x (7 + own) outside (visit_block b v₃)) (((role.Declaring, x) ∷ identifiers role.Declaring fs) ++ identifiers role.Declaring b) ((name, k) ∷ s) (after_block k₁ (spelled_by src b)) _ =
+        let visible : Passes v (leave_block x (7 + own) outside (visit_block b v₃)) (((role.Declaring, x) ∷ identifiers role.Declaring fs) ++ identifiers role.Declaring b) ((name, k) ∷ s) (after_block k₁ (spelled_by src b)) _ =
         record { at = shown_again; declared = behind.declared; used = behind.used; tokens = behind.tokens; agree = behind.agree } in
-        let last = mark_passed role.ClosingName closing (Some (7 + own)) (behind_block x (7 + own) outside (visit_block b v₃)) ((name, k) ∷ s) (after_block k₁ (spelled_by src b)) refl refl shown_again in
+        let last = mark_passed role.ClosingName closing (Some (7 + own)) (leave_block x (7 + own) outside (visit_block b v₃)) ((name, k) ∷ s) (after_block k₁ (spelled_by src b)) refl refl shown_again in
         pass_is (append_assoc ((role.Declaring, x) ∷ identifiers role.Declaring fs) (identifiers role.Declaring b) ((role.ClosingName, closing) ∷ []) ∙ append_assoc ((role.Declaring, x) ∷ []) (identifiers role.Declaring fs) (identifiers role.Declaring b ++ ((role.ClosingName, closing) ∷ []))) refl refl
         (pass_to (pass_then visible last)
         (λ p i. declares_procedure (label (sym p.first.first.first i) name) (p.first.first.second i) (p.first.second i) (label (sym (p.second ∙ ap Some at.next) i) (name_at src closing))))

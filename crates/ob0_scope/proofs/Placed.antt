@@ -8,7 +8,7 @@ use Rattle.ob0_scan.specs.declared.lexeme.TokenKind.{TokenKind}
 use Rattle.ob0_scan.specs.declared.lexeme.TokenKind.TheVariants as kind
 use Rattle.ob0_tree.proofs.Leaves.{leaves_parsed, leaves_spelled, lexeme_names}
 use Rattle.ob0_tree.proofs.Mapped.{spell_mapped}
-use Rattle.ob0_tree.specs.Lexeme.{EndOfText, Lexeme, Mark, Name, Number, relabelled}
+use Rattle.ob0_tree.specs.Lexeme.{EndOfText, Terminal, Mark, Name, Number, relabelled}
 use Rattle.ob0_tree.specs.Order.{identifier_at, identifiers_from, leaves, names_only}
 use Rattle.ob0_tree.specs.Parsed.{tree_of}
 use Rattle.ob0_tree.specs.Places.{text_at, value_at}
@@ -23,9 +23,9 @@ use Rattle.ob0_scope_rules.specs.Scopes.{as_label, same_ordinal}
 use Rattle.ob0_scope.specs.declared.naming.Named as named
 use Rattle.ob0_scope.specs.Listing.{is_identifier, is_listed, is_name_on, tokens_listed}
 use Rattle.ob0_scope_rules.specs.Spans.{is_on}
-use Rattle.ob0_scope.specs.Standing.{BoundIdentifier, is_declaring, name_on, named_by, refers, bound_identifiers, tokens_bound}
+use Rattle.ob0_scope.specs.NamesAtPlaces.{BoundIdentifier, is_declaring, name_on, named_by, refers, bound_identifiers, tokens_bound}
 
-names_mapped : {N M : Type 0} (f : N → M) (g : ℕ → ℕ) (xs : List (Lexeme N)) → lexeme_names (map (relabelled f g) xs) ≡ map f (lexeme_names xs)
+names_mapped : {N M : Type 0} (f : N → M) (g : ℕ → ℕ) (xs : List (Terminal N)) → lexeme_names (map (relabelled f g) xs) ≡ map f (lexeme_names xs)
 names_mapped f g [] = refl
 names_mapped f g (Name n ∷ xs) = ap (λ z. f n ∷ z) (names_mapped f g xs)
 names_mapped f g (Number n ∷ xs) = names_mapped f g xs

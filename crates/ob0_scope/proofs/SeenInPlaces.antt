@@ -1,4 +1,4 @@
--- What one name would be bound to in the place of each occurrence: what it is bound to where all occurrences are written so.
+-- What one name would be bound to in place of each occurrence: what it is bound to where all occurrences are written so.
 use Rattle.std.proofs.Common.{◌≡◌, ◌≢◌, ℕ, suc, ◌+◌, ◌<◌, ◌≤◌, Option, Some, None, List, [], ◌∷◌, ◌++◌, map, length, replicate, set, refl, sym, ap, ◌∙◌, subst, arith, le_refl, get_or-set_other, get_or-set_same, true, false, if◌then◌else◌, nat_lt, option_and_then, option_map, slice_get}
 use Rattle.std.proofs.Math.ListN.{length-set}
 use Rattle.std.proofs.lemmas.Bool.{ltb-true, ltb-false}
@@ -392,7 +392,7 @@ all_sought source table y ((role.ClosingName, i) ∷ xs) a = (ap (λ o. if same_
 all_sought source table y ((role.FieldName, i) ∷ xs) a = (ap (λ o. if same_ordinal o 0 then y else text_at source i) a.0, all_sought source table y xs a.1)
 all_sought source table y ((role.ModuleName, i) ∷ xs) a = (ap (λ o. if same_ordinal o 0 then y else text_at source i) a.0, all_sought source table y xs a.1)
 
--- a module gone through with one name at all occurrences gives what the name would be bound to in the place of each
+-- a module gone through with one name at all occurrences gives what the name would be bound to in place of each
 pub seen_in_places : (r : Resolution) (y : Name) (v : Visit) (sought ordinals : List (Option ℕ)) → IsResolution r → sought ≡ with_marks (replicate (length r.module_read.source.tokens) None) (map first_at r.uses)
     → v ≡ visit_module (tree_of r.module_read) (started (record { source = r.module_read.source; ordinals = sought; declaration = Some 0; new = y }))
     → ordinals ≡ with_marks (replicate (length r.module_read.source.tokens) None) v.marks → map (ordinal_in ordinals) r.uses ≡ ordinals_seen (named_tree_of r.module_read) y

@@ -4,14 +4,14 @@ use Rattle.ob0_tree.specs.declared.tree.Role.{Role}
 use Rattle.ob0_tree.specs.declared.tree.Role.TheVariants as role
 use Rattle.ob0_tree.specs.Tree.{Sort, Tree, block, constant, constants, declares, declares_constant, declares_constants, declares_procedure, declares_type, declares_types, declares_variable, declares_variables, end, formals, further_section, has_body, identifiers, is_module, item, items, maybe, module_text, more, no_formals, none, one, procedure, section, some_formals, then_section, type_name, type_names, value_section, variable, variable_section, variables}
 use Rattle.ob0_scope.specs.Marking as listing
-use Rattle.ob0_scope.specs.Marks.{Mark, with_marks}
+use Rattle.ob0_scope.specs.Marks.{OrdinalMark, with_marks}
 use Rattle.ob0_scope_rules.specs.Names.{as_names}
 use Rattle.ob0_scope_rules.specs.Parts.{names_listed}
 use Rattle.ob0_scope_rules.specs.Scopes.{ordinal_of}
 use Rattle.ob0_scope.specs.Tabling as tabling
 use Rattle.ob0_scope.specs.Written.{Writing, name_at}
 
-with_marks-added : (table : List (Option ℕ)) (ms : List Mark) (i : ℕ) (ordinal : Option ℕ) → set (with_marks table ms) i ordinal ≡ with_marks table (ms ++ (record { token = i; ordinal = ordinal } ∷ []))
+with_marks-added : (table : List (Option ℕ)) (ms : List OrdinalMark) (i : ℕ) (ordinal : Option ℕ) → set (with_marks table ms) i ordinal ≡ with_marks table (ms ++ (record { token = i; ordinal = ordinal } ∷ []))
 with_marks-added table [] i ordinal = refl
 with_marks-added table (m ∷ ms) i ordinal = with_marks-added (set table m.token m.ordinal) ms i ordinal
 
@@ -44,10 +44,10 @@ module _ (table : List (Option ℕ)) where
   used-tabled : {s : Sort} (t : Tree ℕ s) (v : listing.Visit) → tabling.used t (tabled table v) ≡ tabled table (listing.used t v)
   used-tabled t v = found_all-tabled (identifiers role.Declaring t) v
 
-  -- names with a part behind them
+  -- names with a part after them
   names-tabled : {s : Sort} (is : List ℕ) (t : Tree ℕ s) (v : listing.Visit)
-      → tabling.shown_from (length v.declarations) (tabling.used t (tabling.numbered_all is (tabled table v))) ≡ tabled table (listing.shown_from (length v.declarations) (listing.used t (listing.numbered_all is v)))
-  names-tabled is t v = ap (tabling.shown_from (length v.declarations)) (ap (tabling.used t) (numbered_all-tabled is v) ∙ used-tabled t (listing.numbered_all is v))
+      → tabling.visible_from (length v.declarations) (tabling.used t (tabling.numbered_all is (tabled table v))) ≡ tabled table (listing.visible_from (length v.declarations) (listing.used t (listing.numbered_all is v)))
+  names-tabled is t v = ap (tabling.visible_from (length v.declarations)) (ap (tabling.used t) (numbered_all-tabled is v) ∙ used-tabled t (listing.numbered_all is v))
 
   constant-tabled : (c : Tree ℕ (item constant)) (v : listing.Visit) → tabling.visit_constant c (tabled table v) ≡ tabled table (listing.visit_constant c v)
   constant-tabled (declares_constant x e) v = names-tabled (x ∷ []) e v
@@ -106,10 +106,10 @@ module _ (table : List (Option ℕ)) where
 
   -- what comes before a procedure's block
   heading-tabled : (x : ℕ) (fs : Tree ℕ (maybe formals)) (v : listing.Visit)
-      → tabling.behind_heading (length v.declarations) (length v.scope) (tabling.visit_formals fs (tabling.numbered_at x (tabled table v)))
-      ≡ tabled table (listing.behind_heading (length v.declarations) (length v.scope) (listing.visit_formals fs (listing.numbered_at x v)))
+      → tabling.after_heading (length v.declarations) (length v.scope) (tabling.visit_formals fs (tabling.numbered_at x (tabled table v)))
+      ≡ tabled table (listing.after_heading (length v.declarations) (length v.scope) (listing.visit_formals fs (listing.numbered_at x v)))
   heading-tabled x fs v =
-      ap (tabling.behind_heading (length v.declarations) (length v.scope)) (ap (tabling.visit_formals fs) (numbered_at-tabled x v) ∙ formals-tabled fs (listing.numbered_at x v))
+      ap (tabling.after_heading (length v.declarations) (length v.scope)) (ap (tabling.visit_formals fs) (numbered_at-tabled x v) ∙ formals-tabled fs (listing.numbered_at x v))
 
   mutual
     block-tabled : (b : Tree ℕ block) (v : listing.Visit) → tabling.visit_block b (tabled table v) ≡ tabled table (listing.visit_block b v)
@@ -125,9 +125,9 @@ module _ (table : List (Option ℕ)) where
     procedure-tabled (declares_procedure x fs b closing) v =
         let ordinal = 7 + length v.declarations in
         let outside = length v.scope in
-        let w = listing.behind_heading (length v.declarations) outside (listing.visit_formals fs (listing.numbered_at x v)) in
-        ap (λ w. tabling.marked closing (Some ordinal) (tabling.behind_block x ordinal outside w)) (ap (tabling.visit_block b) (heading-tabled x fs v) ∙ block-tabled b w)
-        ∙ marked-tabled closing (Some ordinal) (listing.behind_block x ordinal outside (listing.visit_block b w))
+        let w = listing.after_heading (length v.declarations) outside (listing.visit_formals fs (listing.numbered_at x v)) in
+        ap (λ w. tabling.marked closing (Some ordinal) (tabling.leave_block x ordinal outside w)) (ap (tabling.visit_block b) (heading-tabled x fs v) ∙ block-tabled b w)
+        ∙ marked-tabled closing (Some ordinal) (listing.leave_block x ordinal outside (listing.visit_block b w))
 
   text-tabled : (m : Tree ℕ module_text) (v : listing.Visit) → tabling.visit_module m (tabled table v) ≡ tabled table (listing.visit_module m v)
   text-tabled (is_module x b closing) v =

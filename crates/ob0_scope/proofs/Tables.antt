@@ -6,7 +6,7 @@ use Rattle.std.proofs.lemmas.List.{get_or-replicate, get_or_past, length-replica
 use Rattle.std.specs.List.{list_any}
 use Rattle.std.proofs.Math.ListN.{length-set}
 use Rattle.ob0_tree.specs.Order.{Ascending}
-use Rattle.ob0_scope.specs.Marks.{Mark, with_marks}
+use Rattle.ob0_scope.specs.Marks.{OrdinalMark, with_marks}
 use Rattle.ob0_scope_rules.specs.Resolution.{ordinal_in}
 use Rattle.ob0_scope.proofs.Passing.{HasMarks, tokens_of}
 
@@ -14,15 +14,15 @@ ascends_to : (low : ℕ) (xs : List ℕ) (high : ℕ) → Ascending low xs high 
 ascends_to low [] high h = h
 ascends_to low (x ∷ xs) high h = let later = ascends_to (x + 1) xs high h.1 in omega (arith, h.0, later)
 
--- what stands below the marks stays
-pub kept_below : (ms : List Mark) (table : List (Option ℕ)) (low high i : ℕ) → Ascending low (tokens_of ms) high → i < low → ordinal_in (with_marks table ms) i ≡ ordinal_in table i
+-- what is below the marks stays
+pub kept_below : (ms : List OrdinalMark) (table : List (Option ℕ)) (low high i : ℕ) → Ascending low (tokens_of ms) high → i < low → ordinal_in (with_marks table ms) i ≡ ordinal_in table i
 kept_below [] table low high i ascend below = refl
 kept_below (m ∷ ms) table low high i ascend below =
     let above : i < m.token + 1 = omega (arith, ascend.0) in
     let other : i ≢ m.token = omega (arith, ascend.0) in
     kept_below ms (set table m.token m.ordinal) (m.token + 1) high i ascend.1 above ∙ get_or-set_other table m.token i m.ordinal None other
 
-pub marks_stand : (ms : List Mark) (table : List (Option ℕ)) (low high : ℕ) → Ascending low (tokens_of ms) high → high ≤ length table → HasMarks (ordinal_in (with_marks table ms)) ms
+pub marks_stand : (ms : List OrdinalMark) (table : List (Option ℕ)) (low high : ℕ) → Ascending low (tokens_of ms) high → high ≤ length table → HasMarks (ordinal_in (with_marks table ms)) ms
 marks_stand [] table low high ascend within = tt
 marks_stand (m ∷ ms) table low high ascend within =
     let next : List (Option ℕ) = set table m.token m.ordinal in
@@ -36,8 +36,8 @@ both_false : (a b : Bool) → (a || b) ≡ false → (a ≡ false) × (b ≡ fal
 both_false true b e = absurd (cc)
 both_false false b e = (refl, e)
 
--- what stands at no mark's token stays
-pub kept_elsewhere : (ms : List Mark) (table : List (Option ℕ)) (i : ℕ) → list_any (λ j. j == i) (tokens_of ms) ≡ false → ordinal_in (with_marks table ms) i ≡ ordinal_in table i
+-- what is at no mark's token stays
+pub kept_elsewhere : (ms : List OrdinalMark) (table : List (Option ℕ)) (i : ℕ) → list_any (λ j. j == i) (tokens_of ms) ≡ false → ordinal_in (with_marks table ms) i ≡ ordinal_in table i
 kept_elsewhere [] table i e = refl
 kept_elsewhere (m ∷ ms) table i e =
     let h = both_false (m.token == i) (list_any (λ j. j == i) (tokens_of ms)) e in

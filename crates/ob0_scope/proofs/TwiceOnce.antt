@@ -1,4 +1,4 @@
--- Faults of declarations are told exactly where a name is declared twice or a closing name differs.
+-- Faults of declarations are reported exactly where a name is declared twice or a closing name differs.
 use Rattle.std.proofs.Common.{◌≡◌, ℕ, Bool, true, false, not, ◌&&◌, ◌||◌, List, [], ◌∷◌, ◌++◌, map, refl, sym, ap, ◌∙◌, if◌then◌else◌}
 use Rattle.std.proofs.lemmas.List.{map-append}
 use Rattle.std.proofs.lemmas.List.Folds.{list_any-append}
@@ -131,7 +131,7 @@ five_texts : (text : ℕ → Name) (a b c d e : List ℕ) → map text (a ++ (b 
 five_texts text a b c d e =
     map-append text a (b ++ (c ++ (d ++ e))) ∙ ap (λ z. map text a ++ z) (map-append text b (c ++ (d ++ e)) ∙ ap (λ z. map text b ++ z) (map-append text c (d ++ e) ∙ ap (λ z. map text c ++ z) (map-append text d e)))
 
--- ---- nothing is told exactly where all is declared once
+-- ---- nothing is reported exactly where all is declared once
 
 abbrev fine : List Fault → Bool
 fine fs = not (list_any is_of_declarations fs)
@@ -254,7 +254,7 @@ not_not false b e = ap not e
 pub twice_where : (m : Parsed) → list_any is_of_declarations (twice_in m) ≡ not (declared_once (named_tree_of m))
 twice_where m = not_not (list_any is_of_declarations (twice_in m)) (declared_once (named_tree_of m)) (module-fine m.source (tree_of m))
 
--- ---- nothing else is told
+-- ---- nothing else is reported
 
 abbrev others : List Fault → Bool
 others fs = list_any (λ f. not (is_of_declarations f)) fs

@@ -16,7 +16,7 @@ use Rattle.ob0_scope_rules.specs.Scopes.{same_ordinal}
 use Rattle.ob0_scope.specs.Written.{name_at}
 use Rattle.ob0_scope.proofs.Renumbered.{renamed_spelled}
 use Rattle.ob0_scope.specs.Listing.{is_listed, tokens_listed}
-use Rattle.ob0_scope.specs.Standing.{IsRenamedAt, is_among, tokens_bound}
+use Rattle.ob0_scope.specs.NamesAtPlaces.{IsRenamedAt, is_among, tokens_bound}
 use Rattle.ob0_scope.proofs.Alike.{AllAlike, alike}
 use Rattle.ob0_scope.proofs.Placed.{bound_listed}
 

@@ -1,4 +1,4 @@
--- The keys of names in a map: before each name a number made of its last bytes, which tells most names apart.
+-- The keys of names in a map: before each name a number made of its last bytes, which distinguishes most names.
 -- Rule: none; for private contracts: keys of a map.
 use Rattle.std.specs.Prelude.{ℕ, ◌+◌, ◌-◌, ◌*◌, ◌%◌, ◌^◌, List, [], ◌∷◌, drop, length}
 use Rattle.std.specs.Borrow.{Bor}
@@ -11,7 +11,7 @@ use Rattle.ob0_scope_rules.specs.Names.{Name}
 abbrev pub with_byte : ℕ → ℕ → ℕ
 with_byte number byte = (number * 256 % 2 ^ 64 + byte) % 2 ^ 64
 
--- a number with these bytes behind it, of which the last eight count
+-- a number with these bytes after it, of which the last eight count
 abbrev pub with_bytes : List ℕ → ℕ → ℕ
 with_bytes [] number = number
 with_bytes (byte ∷ bytes) number = with_bytes bytes (with_byte number byte)

@@ -9,7 +9,7 @@ use Rattle.ob0_tree.specs.declared.tree.Role.{Role}
 use Rattle.ob0_scope_rules.specs.Resolution.{ordinal_in}
 use Rattle.ob0_scope_rules.specs.Scopes.{same_ordinal}
 use Rattle.ob0_scope_rules.specs.Spans.{is_on}
-use Rattle.ob0_scope.specs.Standing.{is_declaring}
+use Rattle.ob0_scope.specs.NamesAtPlaces.{is_declaring}
 
 -- a token is an identifier
 abbrev pub is_identifier : TokenKind → Bool

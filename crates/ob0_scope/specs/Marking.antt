@@ -1,7 +1,7 @@
 -- A module's identifiers, gone through in text order, and listed with their ordinals.
 -- Rule: none; for private contracts of the walk over identifiers.
 use Rattle.std.specs.Prelude.{ℕ, List, [], ◌∷◌, ◌++◌, Option}
-use Rattle.ob0_scope.specs.Marks.{Mark}
+use Rattle.ob0_scope.specs.Marks.{OrdinalMark}
 use Rattle.ob0_tree.specs.declared.tree.Role.{Role}
 use Rattle.ob0_tree.specs.Tree.{Sort, Tree, block, constant, constants, formals, further_section, item, items, maybe, module_text, procedure, section, type_name, type_names, variable, variables}
 use Rattle.ob0_scope_rules.specs.Names.{as_names}
@@ -11,10 +11,10 @@ use Rattle.ob0_scope.specs.Written.{Writing}
 
 -- what is known on the way, with a list of marks
 abbrev pub Visit : Type 0
-Visit = visit.Visit (List Mark)
+Visit = visit.Visit (List OrdinalMark)
 
--- behind the others
-abbrev pub put : ℕ → Option ℕ → List Mark → List Mark
+-- after the others
+abbrev pub put : ℕ → Option ℕ → List OrdinalMark → List OrdinalMark
 put i ordinal ms = ms ++ (record { token = i; ordinal = ordinal } ∷ [])
 
 -- `marked` of `Visiting`, with a list of marks
@@ -105,21 +105,21 @@ visit_procedure = visit.visit_procedure put
 abbrev pub visit_module : Tree ℕ module_text → Visit → Visit
 visit_module = visit.visit_module put
 
--- `shown_from` of `Visiting`, with a list of marks
-abbrev pub shown_from : ℕ → Visit → Visit
-shown_from = visit.shown_from
+-- `visible_from` of `Visiting`, with a list of marks
+abbrev pub visible_from : ℕ → Visit → Visit
+visible_from = visit.visible_from
 
 -- `left_to` of `Visiting`, with a list of marks
 abbrev pub left_to : ℕ → Visit → Visit
 left_to = visit.left_to
 
--- `behind_heading` of `Visiting`, with a list of marks
-abbrev pub behind_heading : ℕ → ℕ → Visit → Visit
-behind_heading = visit.behind_heading
+-- `types_after_heading` of `Visiting`, with a list of marks
+abbrev pub after_heading : ℕ → ℕ → Visit → Visit
+after_heading = visit.after_heading
 
--- `behind_block` of `Visiting`, with a list of marks
-abbrev pub behind_block : ℕ → ℕ → ℕ → Visit → Visit
-behind_block = visit.behind_block
+-- `leave_block` of `Visiting`, with a list of marks
+abbrev pub leave_block : ℕ → ℕ → ℕ → Visit → Visit
+leave_block = visit.leave_block
 
 -- before the first identifier
 abbrev pub started : Writing → Visit

@@ -1,12 +1,12 @@
--- A declaration under another name: what each occurrence is then bound to, and which declaration stands against it.
+-- A declaration under another name: what each occurrence is then bound to, and which declaration conflicts with it.
 -- Rule: docs/PROTOCOL.md, Refusals of edits (Duplicate, Captures).
 use Rattle.std.specs.Prelude.{◌≡◌, ℕ, Bool, true, false, not, ◌&&◌, if◌then◌else◌, ◌==◌, List, [], ◌∷◌, Option, Some, None}
 use Rattle.std.specs.Option.{option_or}
 use Rattle.ob0_tree.specs.Tree.{Tree, mapped, module_text}
 use Rattle.ob0_tree.specs.Parsed.{named_tree_of, tree_of}
 use Rattle.ob0_tree.specs.Places.{value_at}
-use Rattle.ob0_scope.specs.declared.capturing.Capture as told
-use Rattle.ob0_scope.specs.declared.capturing.Capture.TheVariants as tells
+use Rattle.ob0_scope.specs.declared.capturing.FirstCapture as told
+use Rattle.ob0_scope.specs.declared.capturing.FirstCapture.TheVariants as tells
 use Rattle.ob0_scope_rules.specs.Names.{Name, as_names, same_name}
 use Rattle.ob0_scope_rules.specs.Occurrences.{Capture, at_declaration, at_occurrence, blocks_in, declares_ordinal}
 use Rattle.ob0_scope_rules.specs.Parts.{module_block}
@@ -29,12 +29,12 @@ abbrev pub namesake : Tree Name module_text → ℕ → Name → Option ℕ
 namesake m d new = namesake_in (blocks_in 7 [] (module_block m)) d new
 
 -- the place of a capture
-abbrev pub place_of : told.Capture → Capture
+abbrev pub place_of : told.FirstCapture → Capture
 place_of (tells.Duplicate other) = at_declaration
 place_of (tells.Occurrence k) = at_occurrence k
 
 -- the other declaration, where a capture is a second declaration in its block
-abbrev pub other_of : Option told.Capture → Option ℕ
+abbrev pub other_of : Option told.FirstCapture → Option ℕ
 other_of None = None
 other_of (Some (tells.Duplicate other)) = Some other
 other_of (Some (tells.Occurrence k)) = None

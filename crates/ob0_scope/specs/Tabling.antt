@@ -105,24 +105,24 @@ abbrev pub visit_module : Tree ℕ module_text → Visit → Visit
 visit_module = visit.visit_module put
 
 -- `shown` of `Visiting`, with a table by token
-abbrev pub shown : ℕ → ℕ → Visit → Visit
-shown = visit.shown
+abbrev pub visible : ℕ → ℕ → Visit → Visit
+visible = visit.visible
 
--- `shown_from` of `Visiting`, with a table by token
-abbrev pub shown_from : ℕ → Visit → Visit
-shown_from = visit.shown_from
+-- `visible_from` of `Visiting`, with a table by token
+abbrev pub visible_from : ℕ → Visit → Visit
+visible_from = visit.visible_from
 
 -- `left_to` of `Visiting`, with a table by token
 abbrev pub left_to : ℕ → Visit → Visit
 left_to = visit.left_to
 
--- `behind_heading` of `Visiting`, with a table by token
-abbrev pub behind_heading : ℕ → ℕ → Visit → Visit
-behind_heading = visit.behind_heading
+-- `types_after_heading` of `Visiting`, with a table by token
+abbrev pub after_heading : ℕ → ℕ → Visit → Visit
+after_heading = visit.after_heading
 
--- `behind_block` of `Visiting`, with a table by token
-abbrev pub behind_block : ℕ → ℕ → ℕ → Visit → Visit
-behind_block = visit.behind_block
+-- `leave_block` of `Visiting`, with a table by token
+abbrev pub leave_block : ℕ → ℕ → ℕ → Visit → Visit
+leave_block = visit.leave_block
 
 -- before the first identifier
 abbrev pub started : Writing → Visit

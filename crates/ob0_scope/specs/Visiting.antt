@@ -19,24 +19,24 @@ pub record Visit (M : Type 0) : Type 0 where
   pub marks : M
 
 -- the name of a declaration of this ordinal is visible
-abbrev pub shown : {M : Type 0} → ℕ → ℕ → Visit M → Visit M
-shown i ordinal v = record v { scope = (name_at v.writing i, ordinal) ∷ v.scope }
+abbrev pub visible : {M : Type 0} → ℕ → ℕ → Visit M → Visit M
+visible i ordinal v = record v { scope = (name_at v.writing i, ordinal) ∷ v.scope }
 
 -- the names of the declarations from this one on are visible
-abbrev pub shown_from : {M : Type 0} → ℕ → Visit M → Visit M
-shown_from first v = record v { scope = declare_names (7 + first) (map (name_at v.writing) (drop first v.declarations)) v.scope }
+abbrev pub visible_from : {M : Type 0} → ℕ → Visit M → Visit M
+visible_from first v = record v { scope = declare_names (7 + first) (map (name_at v.writing) (drop first v.declarations)) v.scope }
 
 -- only so many bindings are left
 abbrev pub left_to : {M : Type 0} → ℕ → Visit M → Visit M
 left_to len v = record v { scope = drop (length v.scope - len) v.scope }
 
--- The parameters of a heading are visible in it without the procedure, and behind it with the procedure beneath them.
-abbrev pub behind_heading : {M : Type 0} → ℕ → ℕ → Visit M → Visit M
-behind_heading own outside v = shown_from own (left_to outside v)
+-- The parameters of a heading are visible in it without the procedure, and after it with the procedure beneath them.
+abbrev pub after_heading : {M : Type 0} → ℕ → ℕ → Visit M → Visit M
+after_heading own outside v = visible_from own (left_to outside v)
 
--- behind a procedure's block only the procedure is visible
-abbrev pub behind_block : {M : Type 0} → ℕ → ℕ → ℕ → Visit M → Visit M
-behind_block x ordinal outside v = shown x ordinal (left_to outside v)
+-- after a procedure's block only the procedure is visible
+abbrev pub leave_block : {M : Type 0} → ℕ → ℕ → ℕ → Visit M → Visit M
+leave_block x ordinal outside v = visible x ordinal (left_to outside v)
 
 -- an identifier's ordinal is put to the others
 module _ {M : Type 0} (put : ℕ → Option ℕ → M → M) where
@@ -68,31 +68,31 @@ module _ {M : Type 0} (put : ℕ → Option ℕ → M → M) where
   abbrev pub used : {s : Sort} → Tree ℕ s → Visit M → Visit M
   used t v = found_all (identifiers role.Declaring t) v
 
-  -- a declaration's names are visible behind it
+  -- a declaration's names are visible after it
   abbrev pub visit_constant : Tree ℕ (item constant) → Visit M → Visit M
-  visit_constant (declares_constant x e) v = shown_from (length v.declarations) (used e (numbered_at x v))
+  visit_constant (declares_constant x e) v = visible_from (length v.declarations) (used e (numbered_at x v))
 
   abbrev pub visit_constants : Tree ℕ (items constant) → Visit M → Visit M
   visit_constants end v = v
   visit_constants (more c cs) v = visit_constants cs (visit_constant c v)
 
   abbrev pub visit_type : Tree ℕ (item type_name) → Visit M → Visit M
-  visit_type (declares_type x t) v = shown_from (length v.declarations) (used t (numbered_at x v))
+  visit_type (declares_type x t) v = visible_from (length v.declarations) (used t (numbered_at x v))
 
   abbrev pub visit_types : Tree ℕ (items type_name) → Visit M → Visit M
   visit_types end v = v
   visit_types (more t ts) v = visit_types ts (visit_type t v)
 
   abbrev pub visit_variable : Tree ℕ (item variable) → Visit M → Visit M
-  visit_variable (declares_variable ns t) v = shown_from (length v.declarations) (used t (numbered_all (names_listed ns) v))
+  visit_variable (declares_variable ns t) v = visible_from (length v.declarations) (used t (numbered_all (names_listed ns) v))
 
   abbrev pub visit_variables : Tree ℕ (items variable) → Visit M → Visit M
   visit_variables end v = v
   visit_variables (more g gs) v = visit_variables gs (visit_variable g v)
 
   abbrev pub visit_section : Tree ℕ section → Visit M → Visit M
-  visit_section (value_section ns t) v = shown_from (length v.declarations) (used t (numbered_all (names_listed ns) v))
-  visit_section (variable_section ns t) v = shown_from (length v.declarations) (used t (numbered_all (names_listed ns) v))
+  visit_section (value_section ns t) v = visible_from (length v.declarations) (used t (numbered_all (names_listed ns) v))
+  visit_section (variable_section ns t) v = visible_from (length v.declarations) (used t (numbered_all (names_listed ns) v))
 
   abbrev pub visit_sections : Tree ℕ (items further_section) → Visit M → Visit M
   visit_sections end v = v
@@ -127,8 +127,8 @@ module _ {M : Type 0} (put : ℕ → Option ℕ → M → M) where
     pub visit_procedure : Tree ℕ (item procedure) → Visit M → Visit M
     visit_procedure (declares_procedure x fs b closing) v =
         marked closing (Some (7 + length v.declarations))
-        (behind_block x (7 + length v.declarations) (length v.scope)
-        (visit_block b (behind_heading (length v.declarations) (length v.scope) (visit_formals fs (numbered_at x v)))))
+        (leave_block x (7 + length v.declarations) (length v.scope)
+        (visit_block b (after_heading (length v.declarations) (length v.scope) (visit_formals fs (numbered_at x v)))))
 
   abbrev pub visit_module : Tree ℕ module_text → Visit M → Visit M
   visit_module (is_module x b closing) v = marked closing None (visit_block b (marked x None v))

@@ -1,4 +1,4 @@
-//! What stands against another name for a declaration.
+//! What conflicts with another name for a declaration.
 
 ghost use Rattle.std.specs.Prelude.{◌≡◌, ◌↔◌, ◌++◌, IfOk, None, not, option_map};
 ghost use Rattle.std.specs.List.{position_from};
@@ -6,7 +6,7 @@ ghost use Rattle.ob0_tree.specs.Parsed.{named_tree_of};
 ghost use Rattle.ob0_tree.specs.View.{block_of, procedure_of};
 ghost use Rattle.ob0_scope_rules.specs.DeclaredOnce.{block_names};
 ghost use Rattle.ob0_scope_rules.specs.Occurrences.{Free, bindings, first_captured, first_difference};
-ghost use Rattle.ob0_scope.specs.declared.capturing.Capture.TheVariants.{Occurrence};
+ghost use Rattle.ob0_scope.specs.declared.capturing.FirstCapture.TheVariants.{Occurrence};
 ghost use Rattle.ob0_scope.specs.Renames.{is_bound_alike, namesake, other_of, place_of};
 ghost use Rattle.ob0_scope_rules.specs.Resolution.{ordinal_in};
 ghost use Rattle.ob0_scope_rules.specs.Scopes.{renamed};
@@ -23,7 +23,7 @@ use std::marker::Model;
 
 /// The first place, in text order, at which another name for a declaration isn't free.
 #[derive(Clone, Copy, Debug, PartialEq, Eq)]
-pub enum Capture {
+pub enum FirstCapture {
     /// Another declaration of its block has the name: the ordinal of that one.
     Duplicate(usize),
     /// An occurrence would be bound to another declaration: its number, counted from 0 in text order.
@@ -37,13 +37,13 @@ pub fn captures(
     names: &Resolved,
     declaration: usize,
     new: &str,
-) -> Result<Option<Capture>, AllocError>
+) -> Result<Option<FirstCapture>, AllocError>
     ensures first { IfOk result (λ found. option_map place_of found ≡ first_captured (named_tree_of names.now.module_read) declaration new.now) }
     ensures other { IfOk result (λ found. other_of found ≡ namesake (named_tree_of names.now.module_read) declaration new.now) }
     ensures free { IfOk result (λ found. found ≡ None ↔ Free (named_tree_of names.now.module_read) declaration new.now) }
 {
     match namesake(alloc, names, declaration, new)? {
-        Some(other) => Ok(Some(Capture::Duplicate(other))),
+        Some(other) => Ok(Some(FirstCapture::Duplicate(other))),
         None => first_capture(alloc, names, declaration, new),
     }
 }
@@ -54,12 +54,12 @@ fn first_capture(
     names: &Resolved,
     declaration: usize,
     new: &str,
-) -> Result<Option<Capture>, AllocError>
+) -> Result<Option<FirstCapture>, AllocError>
     ensures { IfOk result (λ found. found ≡ option_map Occurrence (first_difference (bindings (renamed (named_tree_of names.now.module_read) declaration new.now)) (bindings (named_tree_of names.now.module_read)))) }
 {
     let ordinals = renumber(alloc, names, declaration, new)?;
     match first_changed(names, &ordinals) {
-        Some(occurrence) => Ok(Some(Capture::Occurrence(occurrence))),
+        Some(occurrence) => Ok(Some(FirstCapture::Occurrence(occurrence))),
         None => Ok(None),
     }
 }

@@ -149,7 +149,7 @@ impl Checks {
         faults
     }
 
-    /// Tells of a fault where something doesn't hold.
+    /// Reports a fault where something doesn't hold.
     fn expect(&mut self, holds: bool, fault: Fault) -> Result<(), AllocError>
         ensures { OnOk result (self.new ≡ self.old ++ unless holds fault) }
     {
@@ -170,7 +170,7 @@ impl Checks {
         self.expect(is_same(tokens, name, closing), fault)
     }
 
-    /// No name stands twice.
+    /// No name is twice.
     fn distinct(&mut self, tokens: &Tokens, names: &[usize]) -> Result<(), AllocError>
         ensures { OnOk result (self.new ≡ self.old ++ again tokens.now [] names.now) }
     {

@@ -22,7 +22,7 @@ pub fn seen(alloc: Global, names: &Resolved, name: &str) -> Result<Vec<Option<us
     ordinals_of(alloc, &ordinals, names.occurrences())
 }
 
-/// The ordinal of each identifier, by its token, where `name` stands in the place of each occurrence.
+/// The ordinal of each identifier, by its token, where `name` is in place of each occurrence.
 fn ordinals_in_place(
     alloc: Global,
     names: &Resolved,

@@ -6,7 +6,7 @@ ghost use Rattle.ob0_tree.specs.Order.{AreIdentifiers, Ascending};
 ghost use Rattle.ob0_scope.specs.Listing.{is_identifier, is_name_on, tokens_listed};
 ghost use Rattle.ob0_scope_rules.specs.Resolution.{ordinal_in};
 ghost use Rattle.ob0_scope_rules.specs.Scopes.{same_ordinal};
-ghost use Rattle.ob0_scope.specs.Standing.{IsRenamedAt, is_declaring, name_on, tokens_bound};
+ghost use Rattle.ob0_scope.specs.NamesAtPlaces.{IsRenamedAt, is_declaring, name_on, tokens_bound};
 
 use ob0_scan::{Token, TokenKind};
 use ob0_scope_rules::Resolved;

@@ -12,7 +12,7 @@ use std::marker::Model;
 /// How many names are found without the map. It is a power of two.
 const RECENT: usize = 1024;
 
-/// A name as a key. Before it stands a number made of its last bytes, which tells most names apart.
+/// A name as a key. Before it is a number made of its last bytes, which distinguishes most names.
 type Key<'t> = (u64, &'t str);
 
 /// The key of a name.
@@ -112,7 +112,7 @@ impl<'t> Newest<'t> {
     }
 
     /// The place of a name, where it is the one that is noted here.
-    fn noted(&self, slot: usize, name: &'t str) -> Option<usize>
+    fn find_entry(&self, slot: usize, name: &'t str) -> Option<usize>
         ensures { IfSome result (λ place. place_of self.now name.now ≡ Some place) }
     {
         let place = match self.recent.get(slot) {
@@ -127,7 +127,7 @@ impl<'t> Newest<'t> {
     }
 
     /// Notes the place of a name.
-    fn note(&mut self, slot: usize, place: usize)
+    fn remember(&mut self, slot: usize, place: usize)
         ensures { self.new ≡ self.old }
     {
         if slot < self.recent.len() {
@@ -142,14 +142,14 @@ impl<'t> Newest<'t> {
     {
         let key = key_of(name);
         let slot = slot_of(key.0);
-        if let Some(place) = self.noted(slot, name) {
+        if let Some(place) = self.find_entry(slot, name) {
             return Some(place);
         }
         let place = match self.places.get(&key) {
             None => return None,
             Some(place) => *place,
         };
-        self.note(slot, place);
+        self.remember(slot, place);
         Some(place)
     }
 

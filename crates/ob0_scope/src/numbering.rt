@@ -9,7 +9,7 @@ ghost use Rattle.ob0_scope_rules.specs.Parts.{names_listed};
 ghost use Rattle.ob0_scope_rules.specs.Resolution.{ordinal_in};
 ghost use Rattle.ob0_scope_rules.specs.Scopes.{ordinal_of, predeclared_scope};
 ghost use Rattle.ob0_scope.specs.Written.{is_renamed, name_at};
-ghost use Rattle.ob0_scope.specs.Tabling.{marked, numbered_at, numbered_all, shown, shown_from, left_to, found, found_all, used, visit_constant, visit_constant_section, visit_type, visit_type_section, visit_variable, visit_variable_section, visit_section, visit_formals, visit_procedure, visit_block, visit_module, started};
+ghost use Rattle.ob0_scope.specs.Tabling.{marked, numbered_at, numbered_all, visible, visible_from, left_to, found, found_all, used, visit_constant, visit_constant_section, visit_type, visit_type_section, visit_variable, visit_variable_section, visit_section, visit_formals, visit_procedure, visit_block, visit_module, started};
 
 use crate::visible::Visible;
 use crate::writing::{Writing, is_renamed, token_text};
@@ -151,7 +151,7 @@ impl<'t> Numbering<'t> {
 
     /// Makes the name of a declaration visible.
     fn show(&mut self, token: usize, ordinal: usize) -> Result<(), AllocError>
-        ensures { OnOk result (self.new ≡ shown token ordinal self.old) }
+        ensures { OnOk result (self.new ≡ visible token ordinal self.old) }
     {
         if self.is_renamed(token) {
             self.visible.declare_new(ordinal)
@@ -163,7 +163,7 @@ impl<'t> Numbering<'t> {
 
     /// Makes the names of the declarations from this one on visible.
     fn show_from(&mut self, first: usize) -> Result<(), AllocError>
-        ensures { OnOk result (self.new ≡ shown_from first self.old) }
+        ensures { OnOk result (self.new ≡ visible_from first self.old) }
     {
         for index in first..self.declarations.len() {
             let token = self.declarations[index];
@@ -243,7 +243,7 @@ impl<'t> Numbering<'t> {
     }
 
     /// The same, and keeps the list for its room.
-    fn find_listed(&mut self, found: Found) -> Result<(), AllocError>
+    fn find_names(&mut self, found: Found) -> Result<(), AllocError>
         ensures { OnOk result (self.new ≡ found_all found.items self.old) }
     {
         self.find(&found)?;
@@ -256,7 +256,7 @@ impl<'t> Numbering<'t> {
     {
         let mut found = self.list();
         identifiers::expression(&mut found, e)?;
-        self.find_listed(found)
+        self.find_names(found)
     }
 
     fn written(&mut self, t: &WrittenType) -> Result<(), AllocError>
@@ -264,7 +264,7 @@ impl<'t> Numbering<'t> {
     {
         let mut found = self.list();
         identifiers::written_type(&mut found, t)?;
-        self.find_listed(found)
+        self.find_names(found)
     }
 
     fn body(&mut self, statements: &Option<Vec<Statement>>) -> Result<(), AllocError>
@@ -272,7 +272,7 @@ impl<'t> Numbering<'t> {
     {
         let mut found = self.list();
         identifiers::body(&mut found, statements)?;
-        self.find_listed(found)
+        self.find_names(found)
     }
 
     fn names(&mut self, ns: &Names) -> Result<(), AllocError>

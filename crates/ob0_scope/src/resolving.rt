@@ -13,7 +13,7 @@ use ob0_tree::Module;
 use std::alloc::{AllocError, Global};
 
 /// Binds each name of a module to its declaration, by the rules of scope of Wirth's Compiler Construction: a name is
-/// visible from behind its declaration to the end of its block, and an inner block may declare it anew.
+/// visible from after its declaration to the end of its block, and an inner block may declare it again.
 pub fn resolve<'t>(alloc: Global, module: &'t Module<'t>) -> Result<Resolved<'t>, AllocError>
     ensures { IfOk result (λ r. (r.module_read ≡ «module».now) × IsResolution r) }
 {

@@ -7,7 +7,7 @@ use ob0_scan::{Code, Fault, Tokens};
 use ob0_scope_rules::{ordinal_at, token_span};
 use std::alloc::AllocError;
 
-/// Tells of each occurrence that a table binds to nothing.
+/// Reports each occurrence that a table binds to nothing.
 pub(crate) fn undeclared(
     faults: &mut Vec<Fault>,
     tokens: &Tokens,

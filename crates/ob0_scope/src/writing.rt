@@ -7,7 +7,7 @@ ghost use Rattle.ob0_scope.specs.Written.{as_in, is_renamed};
 use ob0_scan::Tokens;
 use std::marker::Model;
 
-/// A text, and a name that stands in place of each identifier of one declaration, if there is one.
+/// A text, and a name that is in place of each identifier of one declaration, if there is one.
 #[derive(Drop)]
 pub(crate) struct Writing<'t> {
     pub(crate) tokens: &'t Tokens,

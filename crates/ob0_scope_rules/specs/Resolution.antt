@@ -113,7 +113,7 @@ pub record AreFaultsOf (m : Parsed) (faults : List Fault) : Type 0 where
 abbrev pub is_identifier_of : Parsed → ℕ → Bool
 is_identifier_of m token = list_any (λ i. i == token) (leaves (tree_of m))
 
--- a table has no ordinal at a token that is no identifier of the module
+-- a table has no ordinal at a token that isn't an identifier of the module
 abbrev pub NamesAlone : Parsed → List (Option ℕ) → Type 0
 NamesAlone m ordinals = (token : ℕ) → is_identifier_of m token ≡ false → ordinal_in ordinals token ≡ None
 

@@ -6,12 +6,12 @@ use Rattle.ob0_tree.specs.Tree.{Tree, end, item, items, more, selector}
 use Rattle.ob0_tree.specs.View.{items_of, selector_of}
 use Rattle.ob0_types_rules.specs.Expressions.{Meanings}
 use Rattle.ob0_types_rules.specs.WellTyped.{Signature}
-use Rattle.ob0_selections.specs.Selections.{Selected, path_selections, type_behind}
+use Rattle.ob0_selections.specs.Selections.{Selected, path_selections, type_after}
 use Rattle.ob0_selections.specs.SelectionParts.{selected_from}
 use Rattle.ob0_values.specs.Values.{Shape}
 
 path_more : {N P : Type 0} (m : Meanings N Shape P) (base : Option Shape) (a : Tree N (item selector)) (rest : Tree N (items selector))
-    → path_selections m base (more a rest) ≡ selected_from m base a ++ path_selections m (option_and_then (λ s. type_behind m s a) base) rest
+    → path_selections m base (more a rest) ≡ selected_from m base a ++ path_selections m (option_and_then (λ s. type_after m s a) base) rest
 path_more m None a rest = refl
 path_more m (Some s) a rest = refl
 
@@ -27,14 +27,14 @@ pub path_begins : (m : Meanings ℕ Shape Signature) (start : List (Selected ℕ
 path_begins m start base xs = record { so_far = refl }
 
 pub path_goes_on : {m : Meanings ℕ Shape Signature} {start : List (Selected ℕ)} {base : Option Shape} {xs : List Selector} {done : ℕ} {out : List (Selected ℕ)} {at : Option Shape} (x : Selector) (next : List (Selected ℕ)) (behind : Option Shape)
-    → OnPath m start base xs done out at → done < length xs → x ≡ get_or xs done x → next ≡ out ++ selected_from m at (selector_of x) → behind ≡ option_and_then (λ s. type_behind m s (selector_of x)) at → OnPath m start base xs (done + 1) next behind
+    → OnPath m start base xs done out at → done < length xs → x ≡ get_or xs done x → next ≡ out ++ selected_from m at (selector_of x) → behind ≡ option_and_then (λ s. type_after m s (selector_of x)) at → OnPath m start base xs (done + 1) next behind
 path_goes_on {m = m} {xs = xs} {done = done} {out = out} {at = at} x next behind w less here found typed =
     let rest : Tree ℕ (items selector) = items_of selector_of (drop (done + 1) xs) in
     let cut : items_of selector_of (drop done xs) ≡ more (selector_of x) rest = ap (items_of selector_of) (drop_more xs done x less ∙ ap (λ y. y ∷ drop (done + 1) xs) (sym here)) in
     record {
       so_far =
           (λ i. found i ++ path_selections m (typed i) rest)
-          ∙ append_assoc out (selected_from m at (selector_of x)) (path_selections m (option_and_then (λ s. type_behind m s (selector_of x)) at) rest)
+          ∙ append_assoc out (selected_from m at (selector_of x)) (path_selections m (option_and_then (λ s. type_after m s (selector_of x)) at) rest)
           ∙ ap (λ z. out ++ z) (sym (path_more m at (selector_of x) rest) ∙ ap (path_selections m at) (sym cut))
           ∙ w.so_far;
     }

@@ -3,7 +3,7 @@
 -- Rule: docs/PROTOCOL.md, Requests on documents 4 (a field with its type, where it is declared).
 use Rattle.std.specs.Prelude.{ℕ, List, [], ◌∷◌, ◌++◌, Option, Some, None, option_and_then}
 use Rattle.ob0_scope_rules.specs.Parts.{names_listed}
-use Rattle.ob0_selections.specs.Selections.{Selected, noted}
+use Rattle.ob0_selections.specs.Selections.{Selected, selection_of}
 use Rattle.ob0_tree.specs.Tree.{Sort, Tree, names, adds, array_type, assigns, begins, branches, calls, compares, declares, declares_constant, declares_constants, declares_procedure, declares_type, declares_types, declares_variable, declares_variables, designator, else_branch, elsif_branch, empty, end, field, has_body, index, integer, is_module, listed, more, multiplies, named_type, negation, no_arguments, no_fields, no_formals, none, one, parenthesised, product, record_type, relates, repeat_loop, runs, some_arguments, some_fields, some_formals, sum, then_argument, then_fields, then_name, then_section, then_statement, value_section, variable_section, while_loop}
 use Rattle.ob0_types_rules.specs.Typing.{type_declared, element_type, field_type}
 use Rattle.ob0_types_rules.specs.Expressions.{Meanings}
@@ -17,7 +17,7 @@ first_listed (listed x rest) = x
 -- the field that a name selects, where there is a type to select from
 abbrev pub field_named : {N P : Type 0} → Meanings N Shape P → Option Shape → N → List (Selected N)
 field_named m None x = []
-field_named m (Some t) x = noted x (field_selected t (m.written x)) (field_type t (m.written x))
+field_named m (Some t) x = selection_of x (field_selected t (m.written x)) (field_type t (m.written x))
 
 -- names of one declaration as fields of a record's type
 abbrev pub fields_named : {N P : Type 0} → Meanings N Shape P → Option Shape → List N → List (Selected N)

@@ -12,9 +12,9 @@ use Rattle.ob0_types_rules.specs.WellTyped.{Signature}
 use Rattle.ob0_values.specs.Values.{Shape, integer_shape}
 
 -- the type after a selector; every index is an INTEGER
-abbrev pub type_behind : {N P : Type 0} → Meanings N Shape P → Shape → Tree N (item selector) → Option Shape
-type_behind m s (field x) = field_type s (m.written x)
-type_behind m s (index e) = element_type s integer_shape
+abbrev pub type_after : {N P : Type 0} → Meanings N Shape P → Shape → Tree N (item selector) → Option Shape
+type_after m s (field x) = field_type s (m.written x)
+type_after m s (index e) = element_type s integer_shape
 
 -- an identifier, the field that it selects, and the field's type
 pub record Selected (N : Type 0) : Type 0 where
@@ -27,21 +27,21 @@ abbrev pub name_and_field : {N : Type 0} → Selected N → N × FieldOf
 name_and_field s = (s.name, s.selects)
 
 -- an identifier with the field that it selects, where it selects one
-abbrev pub noted : {N : Type 0} → N → Option FieldOf → Option Shape → List (Selected N)
-noted x None t = []
-noted x (Some f) None = []
-noted x (Some f) (Some t) = record { name = x; selects = f; shape = t } ∷ []
+abbrev pub selection_of : {N : Type 0} → N → Option FieldOf → Option Shape → List (Selected N)
+selection_of x None t = []
+selection_of x (Some f) None = []
+selection_of x (Some f) (Some t) = record { name = x; selects = f; shape = t } ∷ []
 
 -- what a selector selects of a value of a type
 abbrev pub selected_by : {N P : Type 0} → Meanings N Shape P → Shape → Tree N (item selector) → List (Selected N)
-selected_by m s (field x) = noted x (field_selected s (m.written x)) (field_type s (m.written x))
+selected_by m s (field x) = selection_of x (field_selected s (m.written x)) (field_type s (m.written x))
 selected_by m s (index e) = []
 
 -- what the selectors of a designator select, of a value of a type and its parts in turn
 abbrev pub path_selections : {N P : Type 0} → Meanings N Shape P → Option Shape → Tree N (items selector) → List (Selected N)
 path_selections m None path = []
 path_selections m (Some s) end = []
-path_selections m (Some s) (more a rest) = selected_by m s a ++ path_selections m (type_behind m s a) rest
+path_selections m (Some s) (more a rest) = selected_by m s a ++ path_selections m (type_after m s a) rest
 
 -- all selections in a tree: those of each designator, before those within its indexes
 abbrev pub selections : {N P : Type 0} {s : Sort} → Meanings N Shape P → Tree N s → List (Selected N)

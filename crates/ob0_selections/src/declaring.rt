@@ -4,7 +4,7 @@ ghost use Rattle.std.specs.Prelude.{◌≡◌, ◌++◌, IfOk, List, None, map, 
 ghost use Rattle.ob0_tree.specs.Parsed.{tree_of};
 ghost use Rattle.ob0_tree.specs.View.{block_of, fields_of, formals_of, names_of, procedure_of, record_in, section_of, type_of, types_of, variables_of};
 ghost use Rattle.ob0_scope_rules.specs.Parts.{names_listed};
-ghost use Rattle.ob0_selections.specs.Selections.{noted, token_meaning};
+ghost use Rattle.ob0_selections.specs.Selections.{selection_of, token_meaning};
 ghost use Rattle.ob0_selections.specs.SelectionParts.{selection_in};
 ghost use Rattle.ob0_types_rules.specs.Typing.{type_declared};
 ghost use Rattle.ob0_types_table.specs.KnownTables.{declared_in, shapes_of};
@@ -36,13 +36,13 @@ pub fn declared_by<'a, 't>(
 }
 
 /// Notes the field that a name declares, where it has a type.
-fn note(
+fn remember(
     found: &mut Vec<Selection>,
     token: usize,
     field: Option<FieldOf>,
     of: Option<TypeId>,
 ) -> Result<(), AllocError>
-    ensures { IfOk result (λ _. (shapes : List Shape) → map (selection_in shapes) found.new.items ≡ map (selection_in shapes) found.old.items ++ noted token field (option_map (type_shape shapes) of)) }
+    ensures { IfOk result (λ _. (shapes : List Shape) → map (selection_in shapes) found.new.items ≡ map (selection_in shapes) found.old.items ++ selection_of token field (option_map (type_shape shapes) of)) }
 {
     match field {
         None => Ok(()),
@@ -99,7 +99,7 @@ impl<'a, 't> Declaring<'a, 't> {
             None => Ok(()),
             Some(of) => {
                 let text = text_at(self.resolved.tokens(), name);
-                note(
+                remember(
                     found,
                     name,
                     self.known.field_of(of, text),

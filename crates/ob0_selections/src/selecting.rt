@@ -10,7 +10,7 @@ ghost use Rattle.ob0_types_rules.specs.Selected.{selectors_in};
 ghost use Rattle.ob0_types_table.specs.Tables.{type_shape};
 ghost use Rattle.ob0_types_rules.specs.Typing.{field_type, object_type};
 ghost use Rattle.ob0_values.specs.Values.{Shape};
-ghost use Rattle.ob0_selections.specs.Selections.{noted, path_selections, selections, type_behind};
+ghost use Rattle.ob0_selections.specs.Selections.{selection_of, path_selections, selections, type_after};
 ghost use Rattle.ob0_selections.specs.SelectionParts.{found_in, meaning_in, selected_from, selection_in};
 
 use ob0_scope_rules::Resolved;
@@ -33,13 +33,13 @@ pub struct Selection {
 type Selections = Vec<Selection>;
 
 /// Notes what a name selects, where that is a field with a type.
-fn note(
+fn remember(
     found: &mut Selections,
     token: usize,
     field: Option<FieldOf>,
     of: Option<TypeId>,
 ) -> Result<(), AllocError>
-    ensures { IfOk result (λ _. (shapes : List Shape) → map (selection_in shapes) found.new.items ≡ map (selection_in shapes) found.old.items ++ noted token field (option_map (type_shape shapes) of)) }
+    ensures { IfOk result (λ _. (shapes : List Shape) → map (selection_in shapes) found.new.items ≡ map (selection_in shapes) found.old.items ++ selection_of token field (option_map (type_shape shapes) of)) }
 {
     match field {
         None => Ok(()),
@@ -83,12 +83,12 @@ impl<'a, 't> Selecting<'a, 't> {
         base: TypeId,
         name: usize,
     ) -> Result<Option<TypeId>, AllocError>
-        ensures found { IfOk result (λ _. found_in self.now found.new.items ≡ found_in self.now found.old.items ++ noted name (field_selected (type_shape (shapes_of self.now.known.now) base) ((meaning_in self.now).written name)) (field_type (type_shape (shapes_of self.now.known.now) base) ((meaning_in self.now).written name))) }
+        ensures found { IfOk result (λ _. found_in self.now found.new.items ≡ found_in self.now found.old.items ++ selection_of name (field_selected (type_shape (shapes_of self.now.known.now) base) ((meaning_in self.now).written name)) (field_type (type_shape (shapes_of self.now.known.now) base) ((meaning_in self.now).written name))) }
         ensures behind { IfOk result (λ t. option_map (type_shape (shapes_of self.now.known.now)) t ≡ field_type (type_shape (shapes_of self.now.known.now) base) ((meaning_in self.now).written name)) }
     {
         let text = text_at(self.resolved.tokens(), name);
         let behind = self.known.field(base, text);
-        note(found, name, self.known.field_of(base, text), behind)?;
+        remember(found, name, self.known.field_of(base, text), behind)?;
         Ok(behind)
     }
 
@@ -100,7 +100,7 @@ impl<'a, 't> Selecting<'a, 't> {
         s: &Selector,
     ) -> Result<Option<TypeId>, AllocError>
         ensures found { IfOk result (λ _. found_in self.now found.new.items ≡ found_in self.now found.old.items ++ selected_from (meaning_in self.now) (option_map (type_shape (shapes_of self.now.known.now)) base) (selector_of s.now)) }
-        ensures behind { IfOk result (λ t. option_map (type_shape (shapes_of self.now.known.now)) t ≡ option_and_then (λ z. type_behind (meaning_in self.now) z (selector_of s.now)) (option_map (type_shape (shapes_of self.now.known.now)) base)) }
+        ensures behind { IfOk result (λ t. option_map (type_shape (shapes_of self.now.known.now)) t ≡ option_and_then (λ z. type_after (meaning_in self.now) z (selector_of s.now)) (option_map (type_shape (shapes_of self.now.known.now)) base)) }
     {
         match base {
             None => Ok(None),

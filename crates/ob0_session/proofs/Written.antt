@@ -9,10 +9,10 @@ use Rattle.std.specs.List.{flat_map}
 use Rattle.ob0_frame.specs.Frames.{frame, written_head}
 use Rattle.std.proofs.KnownBytes.{Appends-trans}
 use Rattle.std.specs.Io.KnownBytes.{Appends}
-use Rattle.ob0_session.specs.Sending.{AppendsFront}
+use Rattle.ob0_session.specs.Sending.{AppendsPrefix}
 
--- a front of the first ones, and of what follows them nothing
-pub front_of_first : (old new : Option (List ℕ)) (head content : List ℕ) → (n : ℕ) × Appends old new (take n head) → AppendsFront old new (head ++ content)
+-- a prefix of the first ones, and of what follows them nothing
+pub front_of_first : (old new : Option (List ℕ)) (head content : List ℕ) → (n : ℕ) × Appends old new (take n head) → AppendsPrefix old new (head ++ content)
 front_of_first old new head content f = (
   take f.0 head,
   drop f.0 head ++ content,
@@ -20,8 +20,8 @@ front_of_first old new head content f = (
   f.1,
 )
 
--- all of the first ones, and a front of what follows them
-pub front_of_later : (old mid new : Option (List ℕ)) (head content : List ℕ) → Appends old mid head → (n : ℕ) × Appends mid new (take n content) → AppendsFront old new (head ++ content)
+-- all of the first ones, and a prefix of what follows them
+pub front_of_later : (old mid new : Option (List ℕ)) (head content : List ℕ) → Appends old mid head → (n : ℕ) × Appends mid new (take n content) → AppendsPrefix old new (head ++ content)
 front_of_later old mid new head content all f = (
   head ++ take f.0 content,
   drop f.0 content,
@@ -34,7 +34,7 @@ pub failing : {T E P Q : Type 0} (r : Result T E) (before after : Bool) → afte
 failing (Ok x) before after noted weaker h = tt
 failing (Err e) before after noted weaker h = (weaker h, noted ∙ or-true before)
 
-pub front_after : (old mid new : Option (List ℕ)) (first part rest all : List ℕ) → Appends old mid first → AppendsFront mid new part → all ≡ first ++ (part ++ rest) → AppendsFront old new all
+pub front_after : (old mid new : Option (List ℕ)) (first part rest all : List ℕ) → Appends old mid first → AppendsPrefix mid new part → all ≡ first ++ (part ++ rest) → AppendsPrefix old new all
 front_after old mid new first part rest all whole f is = (
   first ++ f.0,
   f.1 ++ rest,

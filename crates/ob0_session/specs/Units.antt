@@ -1,8 +1,8 @@
 -- In which unit positions are counted.
 -- Rule: docs/PROTOCOL.md, Capabilities (`positionEncoding`), Positions 1.
 use Rattle.std.specs.Prelude.{if◌then◌else◌}
-use Rattle.ob0_text.specs.declared.positions.Unit.{Unit}
-use Rattle.ob0_text.specs.declared.positions.Unit.TheVariants.{Utf16, Utf8}
+use Rattle.ob0_text.specs.declared.position_types.Unit.{Unit}
+use Rattle.ob0_text.specs.declared.position_types.Unit.TheVariants.{Utf16, Utf8}
 use Rattle.ob0_rpc.specs.declared.clients.Client.{Client}
 
 -- positions count bytes of UTF-8 where the client offers that

@@ -8,7 +8,7 @@ use Rattle.ob0_run_rules.specs.EditLaws.{SameRuns}
 use Rattle.ob0_scope_rules.specs.Names.{Name}
 use Rattle.ob0_scope_rules.specs.Resolution.{Resolution}
 use Rattle.ob0_text.specs.declared.edits.Edit.{Edit}
-use Rattle.ob0_text.specs.declared.positions.Unit.{Unit}
+use Rattle.ob0_text.specs.declared.position_types.Unit.{Unit}
 use Rattle.ob0_text.specs.declared.refusals.EditRefusal.{EditRefusal}
 use Rattle.ob0_tree.specs.Parsed.{Parsed, named_tree_of}
 use Rattle.ob0_tree.specs.Tree.{Tree, module_text}
@@ -21,8 +21,8 @@ use Rattle.ob0_analysis.specs.Texts.{utf8}
 use Rattle.ob0_session_offers.specs.declared.inlining.Inlining.{Inlining}
 use Rattle.ob0_session_offers.specs.declared.inlining.Inlining.TheVariants.{Here, Everywhere}
 use Rattle.ob0_session_edits.specs.declared.actions.Inlinings.{Inlinings}
-use Rattle.ob0_analysis.specs.declared.analysis.Asked.{Asked}
-use Rattle.ob0_analysis.specs.declared.analysis.Asked.TheVariants.{Answered, IllTyped}
+use Rattle.ob0_analysis.specs.declared.analysis.Finding.{Finding}
+use Rattle.ob0_analysis.specs.declared.analysis.Finding.TheVariants.{Answered, IllTyped}
 use Rattle.ob0_analysis.proofs.Scanning.{is_module, utf8_of}
 
 -- ---- what is offered of an answer
@@ -68,7 +68,7 @@ offers : (how : Inlining) (unit : Unit) (text : List ℕ) (offset : ℕ) (edits 
 offers how unit text offset (Some edits) names h inlines = inlines_in how unit text offset edits names h inlines
 offers how unit text offset None names h refused = record { module_read = names.module_read; read = read_as (utf8 text) names h; refused = refused }
 
-pub inlinings_found : (unit : Unit) (bytes text : List ℕ) (offset : ℕ) (found : Asked Inlinings) → IsUtf8 bytes → chars bytes ≡ text
+pub inlinings_found : (unit : Unit) (bytes text : List ℕ) (offset : ℕ) (found : Finding Inlinings) → IsUtf8 bytes → chars bytes ≡ text
     → Finds bytes (λ names answer. Inlines Here unit text names.module_read offset answer.here × Inlines Everywhere unit text names.module_read offset answer.everywhere) found
     → FindsInlinings unit text offset found
 inlinings_found unit bytes text offset (Answered found) u is h =

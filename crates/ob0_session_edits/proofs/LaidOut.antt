@@ -9,13 +9,13 @@ use Rattle.ob0_text.specs.Patches.{patched}
 use Rattle.ob0_text.specs.Units.{width_of}
 use Rattle.ob0_text.specs.declared.edits.Edit.{Edit}
 use Rattle.ob0_text.specs.declared.edits.Indent.{Indent}
-use Rattle.ob0_text.specs.declared.positions.Unit.{Unit}
+use Rattle.ob0_text.specs.declared.position_types.Unit.{Unit}
 use Rattle.ob0_tree.specs.Module.{ModuleOf}
 use Rattle.ob0_tree.specs.Parsed.{Parsed, named_tree_of}
 use Rattle.ob0_tree.specs.Tree.{Tree, module_text}
 use Rattle.ob0_layout.specs.Layout.{laid_out, layout}
-use Rattle.ob0_layout.specs.Sites.{said, edit_of, changed_sites, all_sites}
-use Rattle.ob0_layout.specs.Standings.{line_roles}
+use Rattle.ob0_layout.specs.Sites.{edit_text, edit_of, changed_sites, all_sites}
+use Rattle.ob0_layout.specs.LineRoles.{line_roles}
 use Rattle.ob0_text.specs.declared.refusals.EditRefusal.{EditRefusal}
 use Rattle.ob0_text.specs.declared.refusals.EditRefusal.TheVariants.{TooLong, Memory}
 use Rattle.ob0_analysis.specs.Analysed.{Finds, IsModuleIn}
@@ -23,8 +23,8 @@ use Rattle.ob0_analysis.specs.Diagnosed.{IsTextOf, IsWellTypedModule}
 use Rattle.ob0_analysis.specs.Texts.{utf8}
 use Rattle.ob0_session_offers.specs.Layouts.{IsTooLongLaidOut, LaysOut, changes_of, layout_of}
 use Rattle.ob0_session_edits.specs.Formatted.{Formats}
-use Rattle.ob0_analysis.specs.declared.analysis.Asked.{Asked}
-use Rattle.ob0_analysis.specs.declared.analysis.Asked.TheVariants.{Answered, IllTyped}
+use Rattle.ob0_analysis.specs.declared.analysis.Finding.{Finding}
+use Rattle.ob0_analysis.specs.declared.analysis.Finding.TheVariants.{Answered, IllTyped}
 use Rattle.ob0_analysis.proofs.Scanning.{is_module, utf8_of}
 
 abbrev pub ModuleStays : Type 0
@@ -42,7 +42,7 @@ stays_module indent text m u lexed short law =
     let scan : IsScan t = record { utf8 = u; short = short; lexemes = lexemes; lexed = lexed; tokens = refl; comments = refl } in
     record { scanned = t; scan = record { of = sym (encodes-chars laid u); scan = scan }; module_of = law indent m.text_of.scanned m.text_of.scan.scan m.tree m.text_of.module_of t scan refl }
 
-pub lays_out : (unit : Unit) (indent : Indent) (text : List ℕ) (edits : List Edit) (m : IsWellTypedModule (utf8 text)) → map said edits ≡ changes_of unit indent text m
+pub lays_out : (unit : Unit) (indent : Indent) (text : List ℕ) (edits : List Edit) (m : IsWellTypedModule (utf8 text)) → map edit_text edits ≡ changes_of unit indent text m
     → patched (width_of unit) text edits ≡ Some (chars (layout_of indent m)) → length (layout_of indent m) ≤ max_text
     → IsUtf8 (layout_of indent m) → Lexed (layout_of indent m) (laid_out indent m.tree m.text_of.scan.scan.lexemes) → ModuleStays
     → LaysOut unit indent text edits
@@ -61,7 +61,7 @@ lays_out unit indent text edits m changes made short u lexed law =
 -- what the maker of the edits says of a module that was read
 abbrev pub Made : Unit → Indent → List ℕ → List Edit → Parsed → Type 0
 Made unit indent text edits m =
-    ((scan : IsScan m.source) → map said edits ≡ map (edit_of indent (width_of unit) text) (changed_sites indent m.source.text (all_sites (line_roles 0 (named_tree_of m)) scan.lexemes)))
+    ((scan : IsScan m.source) → map edit_text edits ≡ map (edit_of indent (width_of unit) text) (changed_sites indent m.source.text (all_sites (line_roles 0 (named_tree_of m)) scan.lexemes)))
     × ((scan : IsScan m.source) → length (layout indent (named_tree_of m) scan.lexemes) ≤ max_text)
     × ((scan : IsScan m.source) → text ≡ chars m.source.text → patched (width_of unit) text edits ≡ Some (chars (layout indent (named_tree_of m) scan.lexemes)))
 
@@ -87,11 +87,11 @@ too_long indent text names m refusal is h long (inl longer) other =
     (longer, record { before = is_module (utf8 text) names h; long = subst P is long h.scan.scan longer })
 
 -- what was found of a text that is to be laid out
-abbrev pub FoundOf : Unit → Indent → List ℕ → Asked (Result (Vec Edit Global) EditRefusal) → Type 0
+abbrev pub FoundOf : Unit → Indent → List ℕ → Finding (Result (Vec Edit Global) EditRefusal) → Type 0
 FoundOf unit indent text (Answered outcome) = Formats unit indent text outcome
 FoundOf unit indent text (IllTyped told) = IsWellTypedModule (utf8 text) → ⊥
 
-pub found_of : (unit : Unit) (indent : Indent) (bytes text : List ℕ) (found : Asked (Result (Vec Edit Global) EditRefusal)) → IsUtf8 bytes → chars bytes ≡ text
+pub found_of : (unit : Unit) (indent : Indent) (bytes text : List ℕ) (found : Finding (Result (Vec Edit Global) EditRefusal)) → IsUtf8 bytes → chars bytes ≡ text
     → Finds bytes (λ names outcome. IsModuleIn (utf8 text) names → text ≡ chars names.module_read.source.text → Formats unit indent text outcome) found
     → FoundOf unit indent text found
 found_of unit indent bytes text (Answered outcome) u is h =

@@ -1,4 +1,4 @@
--- The diagnostics of what is told, one after the other.
+-- The diagnostics of what is reported, one after the other.
 use Rattle.std.proofs.Common.{◌≡◌, ◌<◌, ◌+◌, ℕ, List, [], ◌∷◌, ◌++◌, length, take, get_or, map, sym, subst, add-one}
 use Rattle.std.proofs.lemmas.List.{map-append}
 use mathlib.Core.List.{map-map}
@@ -10,7 +10,7 @@ use Rattle.ob0_analysis.specs.Diagnosed.{Complaint, complaint_in}
 use Rattle.ob0_session_json.specs.Shapes.{Diagnostic, DiagnosticsAre, diagnostic_value}
 use Rattle.ob0_session_json.proofs.Lists.{diagnostics_more}
 
--- the diagnostic of the next one that is told
+-- the diagnostic of the next one that is reported
 pub diagnostics_next : (shown : Diagnosis → Diagnostic) (told : List Diagnosis) (i : ℕ) (d : Diagnosis) (vs : List Value) (v : Value) → i < length told
     → DiagnosticsAre (map shown (take i told)) vs → view v ≡ diagnostic_value (shown (get_or told i d)) → DiagnosticsAre (map shown (take (i + 1) told)) (vs ++ v ∷ [])
 diagnostics_next shown told i d vs v h are is =

@@ -12,16 +12,16 @@ use Rattle.ob0_rpc.specs.declared.clients.Client.{Client}
 use Rattle.ob0_text.specs.Texts.{offset_of}
 use Rattle.ob0_text.specs.Units.{width_of}
 use Rattle.ob0_text.specs.declared.edits.Edit.{Edit}
-use Rattle.ob0_text.specs.declared.positions.Range.{Range}
-use Rattle.ob0_text.specs.declared.positions.Unit.{Unit}
+use Rattle.ob0_text.specs.declared.position_types.Range.{Range}
+use Rattle.ob0_text.specs.declared.position_types.Unit.{Unit}
 use Rattle.ob0_text.specs.declared.refusals.EditRefusal.{EditRefusal}
 use Rattle.ob0_text.specs.declared.refusals.EditRefusal.TheVariants.{Memory}
 use Rattle.ob0_analysis.specs.Diagnosed.{IsWellTypedModule}
 use Rattle.ob0_analysis.specs.Texts.{utf8}
 use Rattle.ob0_session_offers.specs.Inlinings.{InlinesIn, IsNotInlinedIn}
 use Rattle.ob0_session_json.specs.Shapes.{action_value, workspace_edit}
-use Rattle.ob0_analysis.specs.declared.analysis.Asked.{Asked}
-use Rattle.ob0_analysis.specs.declared.analysis.Asked.TheVariants.{Answered, IllTyped}
+use Rattle.ob0_analysis.specs.declared.analysis.Finding.{Finding}
+use Rattle.ob0_analysis.specs.declared.analysis.Finding.TheVariants.{Answered, IllTyped}
 use Rattle.ob0_session_edits.specs.declared.actions.ActionsRequest.{ActionsRequest}
 use Rattle.ob0_session_edits.specs.declared.actions.Inlinings.{Inlinings}
 use Rattle.ob0_session_offers.specs.declared.inlining.Inlining.{Inlining}
@@ -51,7 +51,7 @@ abbrev pub allows_inlining : Option (List (List ℕ)) → Bool
 allows_inlining (Some kinds) = list_any is_of_kind kinds
 allows_inlining None = true
 
--- the client takes actions that are no commands, and these among them
+-- the client takes actions that aren't commands, and these among them
 abbrev pub wants_inlining : ActionsAsked → Bool
 wants_inlining asked = asked.client.takes_literal_actions && allows_inlining asked.only
 
@@ -72,7 +72,7 @@ Offers how unit text offset (Some edits) = InlinesIn how unit text offset edits
 Offers how unit text offset None = IsNotInlinedIn how unit text offset
 
 -- what is offered at a place of a text, if it is a well-typed module
-abbrev pub FindsInlinings : Unit → List ℕ → ℕ → Asked Inlinings → Type 0
+abbrev pub FindsInlinings : Unit → List ℕ → ℕ → Finding Inlinings → Type 0
 FindsInlinings unit text offset (Answered found) = Offers Here unit text offset found.here × Offers Everywhere unit text offset found.everywhere
 FindsInlinings unit text offset (IllTyped told) = ¬ IsWellTypedModule (utf8 text)
 
@@ -92,11 +92,11 @@ abbrev pub action_values : ActionsAsked → Inlining → Option (Vec Edit Global
 action_values asked how (Some edits) = action_of asked how edits.items ∷ []
 action_values asked how None = []
 
--- inlining here stands before inlining everywhere
+-- inlining here precedes inlining everywhere
 abbrev pub actions_value : ActionsAsked → Option (Vec Edit Global) → Option (Vec Edit Global) → Data
 actions_value asked here everywhere = array (items_of (action_values asked Here here ++ action_values asked Everywhere everywhere))
 
--- These actions are offered, as a list; none to a client that wants none, and none of a text that is no well-typed module.
+-- These actions are offered, as a list; none to a client that wants none, and none of a text that isn't a well-typed module.
 abbrev pub ListsActions : Unit → ActionsAsked → List ℕ → Data → Type 0
 ListsActions unit asked text value =
     ((here : Option (Vec Edit Global)) × (everywhere : Option (Vec Edit Global)) × (wants_inlining asked ≡ true)

@@ -1,10 +1,10 @@
--- The diagnostics of a text: what is told of it, at positions.
+-- The diagnostics of a text: what is reported of it, at positions.
 -- Rule: docs/PROTOCOL.md, Publishing 3, JSON shapes 2.
 use Rattle.std.specs.Prelude.{◌≡◌, ℕ, List, map}
 use Rattle.ob0_text.specs.Texts.{position_of}
 use Rattle.ob0_text.specs.Units.{width_of}
-use Rattle.ob0_text.specs.declared.positions.Unit.{Unit}
-use Rattle.ob0_analysis.specs.Diagnosed.{Complaint, Tells}
+use Rattle.ob0_text.specs.declared.position_types.Unit.{Unit}
+use Rattle.ob0_analysis.specs.Diagnosed.{Complaint, Reports}
 use Rattle.ob0_analysis.specs.Texts.{utf8}
 use Rattle.ob0_session_json.specs.Shapes.{Diagnostic}
 
@@ -19,4 +19,4 @@ diagnostic_of unit text c = record {
 
 -- these are the diagnostics of the text
 abbrev pub Diagnoses : Unit → List ℕ → List Diagnostic → Type 0
-Diagnoses unit text ds = (told : List Complaint) × Tells (utf8 text) told × (ds ≡ map (diagnostic_of unit text) told)
+Diagnoses unit text ds = (told : List Complaint) × Reports (utf8 text) told × (ds ≡ map (diagnostic_of unit text) told)

@@ -15,7 +15,7 @@ ghost use Rattle.ob0_session_offers.specs.Inlinings.{Inlines};
 ghost use Rattle.ob0_session_edits.specs.Actions.{AnswersActions, FindsInlinings, IsOffered, action_of, action_values, actions_asked, actions_value, allows_inlining as allows, is_of_kind as of_kind, place_of as place_in, title, wants_inlining as wants};
 ghost use Rattle.ob0_session_offers.specs.declared.inlining.Inlining.TheVariants as how;
 
-use ob0_analysis::{Asked, Question, WellTyped, ask};
+use ob0_analysis::{Finding, Question, WellTyped, ask};
 use ob0_inline::{inline_all, inline_here};
 use ob0_rpc::{Client, Id, Written, result, result_of, write_comma, write_piece};
 use ob0_scan::Tokens;
@@ -48,14 +48,14 @@ impl<'a, T: TextStore> Question for InlinedAt<'a, T> {
         × Inlines how.Everywhere (T.unit_of q.store.now) (T.content q.store.now) names.module_read (offset_of (width_of (T.unit_of q.store.now)) (T.content q.store.now) q.place) found.everywhere };
 
     fn answer(&self, alloc: Global, module: &WellTyped<'_, '_>) -> Result<Inlinings, AllocError> {
-        let here = offered(inline_here(alloc, self.store, module, self.place))?;
-        let everywhere = offered(inline_all(alloc, self.store, module, self.place))?;
+        let here = offered_edits(inline_here(alloc, self.store, module, self.place))?;
+        let everywhere = offered_edits(inline_all(alloc, self.store, module, self.place))?;
         Ok(Inlinings { here, everywhere })
     }
 }
 
 /// The edits of an inliner; none where they are refused. Running out of memory is no refusal.
-fn offered(answer: Result<Vec<Edit>, EditRefusal>) -> Result<Option<Vec<Edit>>, AllocError>
+fn offered_edits(answer: Result<Vec<Edit>, EditRefusal>) -> Result<Option<Vec<Edit>>, AllocError>
     ensures { IfOk result (λ edits. IsOffered answer edits) }
 {
     match answer {
@@ -76,7 +76,7 @@ fn inlinings_in<T: TextStore>(
     store: &T,
     kept: Option<&Tokens>,
     range: Range,
-) -> Result<Asked<Inlinings>, AllocError>
+) -> Result<Finding<Inlinings>, AllocError>
     ensures { IfOk result (λ found. FindsInlinings (T.unit_of store.now) (T.content store.now) (place_in (T.unit_of store.now) (T.content store.now) range) found) }
 {
     let place = place_of(store, range);
@@ -120,8 +120,8 @@ pub fn code_actions<T: TextStore>(
         return no_actions(alloc, request.id);
     }
     match inlinings_in(alloc, store, kept, request.range)? {
-        Asked::Answered(found) => listed(alloc, request, &found),
-        Asked::IllTyped(_) => no_actions(alloc, request.id),
+        Finding::Answered(found) => list_actions(alloc, request, &found),
+        Finding::IllTyped(_) => no_actions(alloc, request.id),
     }
 }
 
@@ -131,7 +131,7 @@ fn no_actions(alloc: Global, id: &Id) -> Result<Vec<u8>, AllocError>
     result(alloc, id, Value::Array(Vec::new(alloc)))
 }
 
-/// Whether the client takes actions that are no commands, and these among them.
+/// Whether the client takes actions that aren't commands, and these among them.
 fn wants_inlining(request: &ActionsRequest<'_>) -> bool
     ensures { result ≡ wants (actions_asked request.now) }
 {
@@ -198,7 +198,7 @@ fn write_between(out: &mut Vec<u8>, found: &Inlinings) -> Result<(), AllocError>
 }
 
 /// The actions, inlining here before inlining everywhere.
-fn listed(
+fn list_actions(
     alloc: Global,
     request: &ActionsRequest<'_>,
     found: &Inlinings,

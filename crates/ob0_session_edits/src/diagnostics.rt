@@ -2,7 +2,7 @@
 
 ghost use Rattle.std.specs.Prelude.{◌≡◌, List, IfOk, OnOk, map};
 ghost use Rattle.serde_json.specs.View.{view};
-ghost use Rattle.ob0_analysis.specs.Diagnosed.{Keeps, complaint_in};
+ghost use Rattle.ob0_analysis.specs.Diagnosed.{KeepsTokens, complaint_in};
 ghost use Rattle.ob0_analysis.specs.Texts.{utf8};
 ghost use Rattle.ob0_session_json.specs.Shapes.{DiagnosticsAre};
 ghost use Rattle.ob0_session_edits.specs.Diagnostics.{Diagnoses, diagnostic_of};
@@ -25,7 +25,7 @@ pub fn diagnostics<T: TextStore>(
     kept: &mut Option<Tokens>,
 ) -> Result<Vec<Value>, AllocError>
     ensures list { IfOk result (λ list. (ds : List Diagnostic) × Diagnoses (T.unit_of store.now) (T.content store.now) ds × DiagnosticsAre ds list.items) }
-    ensures keeps { OnOk result (Keeps (utf8 (T.content store.now)) kept.old kept.new) }
+    ensures keeps { OnOk result (KeepsTokens (utf8 (T.content store.now)) kept.old kept.new) }
 {
     let told = diagnose_again(alloc, store.as_str(), kept)?;
     all_diagnostics(alloc, store, told.as_slice())
@@ -41,7 +41,7 @@ fn all_diagnostics<T: TextStore>(
 {
     let offsets = offsets_of(alloc, told)?;
     let positions = store.positions(alloc, offsets.as_slice())?;
-    listed(alloc, store, offsets.as_slice(), positions.as_slice(), told)
+    list_diagnostics(alloc, store, offsets.as_slice(), positions.as_slice(), told)
 }
 
 /// Where diagnostics start and end, in text order.
@@ -56,7 +56,7 @@ fn offsets_of(alloc: Global, told: &[Diagnosis]) -> Result<Vec<usize>, AllocErro
 }
 
 /// The diagnostics, by some offsets in text order and their positions.
-fn listed<T: TextStore>(
+fn list_diagnostics<T: TextStore>(
     alloc: Global,
     store: &T,
     offsets: &[usize],

@@ -8,7 +8,7 @@ ghost use Rattle.ob0_analysis.specs.Analysed.{IsModuleIn};
 ghost use Rattle.ob0_analysis.specs.Texts.{utf8};
 ghost use Rattle.ob0_session_edits.specs.Formatted.{AnswersFormatting, Formats};
 
-use ob0_analysis::{Asked, Question, WellTyped, ask};
+use ob0_analysis::{Finding, Question, WellTyped, ask};
 use ob0_layout::format;
 use ob0_layout::laws::{gaps_make_the_layout, lexemes_stay, module_stays};
 use ob0_rpc::{Id, result_of};
@@ -64,13 +64,13 @@ pub fn format_document<T: TextStore>(
     ensures { IfOk result (λ bytes. (message : Data) × AnswersFormatting (T.unit_of store.now) (id_data id.now) indent (T.content store.now) message × Writes message bytes.items) }
 {
     match ask(alloc, store.as_str(), kept, &Formatting { store, indent })? {
-        Asked::Answered(outcome) => match outcome {
+        Finding::Answered(outcome) => match outcome {
             Ok(edits) => {
                 let edits = edits.as_slice();
                 result_of(alloc, id, &Edits { edits })
             }
             Err(refusal) => refused(alloc, id, refusal.text(alloc)?.as_str()),
         },
-        Asked::IllTyped(_) => refused_ill_typed(alloc, id),
+        Finding::IllTyped(_) => refused_ill_typed(alloc, id),
     }
 }

@@ -7,9 +7,9 @@ ghost use Rattle.ob0_rpc.specs.Shapes.{result_message};
 ghost use Rattle.ob0_rpc.specs.Writing.{Writes};
 ghost use Rattle.ob0_session_edits.specs.Renamed.{AnswersRenaming, asked_of, edits_for_client};
 
-use ob0_analysis::Asked;
+use ob0_analysis::Finding;
 use ob0_rename::rename_in;
-use ob0_rpc::{Client, Id, Place, result_of};
+use ob0_rpc::{Client, DocumentPosition, Id, result_of};
 use ob0_scan::Tokens;
 use ob0_session_json::results::{refused_because, refused_ill_typed};
 use ob0_session_json::writing::DocumentEdits;
@@ -21,7 +21,7 @@ use std::alloc::{AllocError, Global};
 pub struct RenameRequest<'a> {
     pub id: &'a Id,
     pub client: Client,
-    pub place: &'a Place,
+    pub place: &'a DocumentPosition,
     pub version: i64,
     pub new: &'a str,
 }
@@ -39,11 +39,11 @@ pub fn rename_symbol<T: TextStore>(
     let id = request.id;
     let place = request.place;
     match rename_in(alloc, store, kept, place.position, request.new)? {
-        Asked::Answered(outcome) => match outcome {
+        Finding::Answered(outcome) => match outcome {
             Ok(edits) => edits_answer(alloc, request, edits.as_slice()),
             Err(refusal) => refused_because(alloc, id, refusal),
         },
-        Asked::IllTyped(_) => refused_ill_typed(alloc, id),
+        Finding::IllTyped(_) => refused_ill_typed(alloc, id),
     }
 }
 

@@ -1,11 +1,11 @@
--- The messages that a server writes, as JSON values. Members stand in byte order of their names.
+-- The messages that a server writes, as JSON values. Members are in byte order of their names.
 -- Rule: docs/PROTOCOL.md, JSON shapes 2, Capabilities.
 use Rattle.std.specs.Prelude.{◌≡◌, ℕ, ℤ, List, true, Bool, Option, Some, None, if◌then◌else◌, codes, map, string_bytes}
 use Rattle.serde_json.specs.Data.{Data, boolean, number, array, object, unsigned, Members, member, no_members, item, no_items}
 use Rattle.serde_json.specs.View.{items_view, items_of}
 use Rattle.serde_json.specs.declared.value.Value.{Value}
-use Rattle.ob0_text.specs.declared.positions.Position.{Position}
-use Rattle.ob0_text.specs.declared.positions.Range.{Range}
+use Rattle.ob0_text.specs.declared.position_types.Position.{Position}
+use Rattle.ob0_text.specs.declared.position_types.Range.{Range}
 use Rattle.ob0_text.specs.declared.edits.Edit.{Edit}
 use Rattle.ob0_rpc.specs.Faults.{minus}
 use Rattle.ob0_rpc.specs.Shapes.{text, whole_number, range_value, error_message, notification_message}
@@ -34,7 +34,7 @@ providers client =
     member (codes "definitionProvider") (boolean true) (member (codes "documentFormattingProvider") (boolean true) (member (codes "hoverProvider") (boolean true)
     (if client.counts_utf8 then member (codes "positionEncoding") (text (codes "utf-8")) last else last)))
 
--- these, and before them "codeActionProvider":{..} for a client that takes actions that are no commands
+-- these, and before them "codeActionProvider":{..} for a client that takes actions that aren't commands
 abbrev pub server_members : Client → Members
 server_members client =
     if client.takes_literal_actions then member (codes "codeActionProvider") action_provider (providers client) else providers client

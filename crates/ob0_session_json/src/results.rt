@@ -155,7 +155,7 @@ pub fn refused(alloc: Global, id: &Id, said: &str) -> Result<Vec<u8>, AllocError
     error(alloc, Some(id), -32803, said)
 }
 
-/// The refusal of such a request for a reason that is told.
+/// The refusal of such a request for a reason that is reported.
 pub fn refused_because(alloc: Global, id: &Id, refusal: EditRefusal) -> Result<Vec<u8>, AllocError>
     ensures { IfOk result (λ bytes. Writes (edit_refused (id_data id.now) (refusal_text refusal)) bytes.items) }
 {
@@ -163,7 +163,7 @@ pub fn refused_because(alloc: Global, id: &Id, refusal: EditRefusal) -> Result<V
     refused(alloc, id, text.as_str())
 }
 
-/// The refusal of such a request where the text is no well-typed module.
+/// The refusal of such a request where the text isn't a well-typed module.
 pub fn refused_ill_typed(alloc: Global, id: &Id) -> Result<Vec<u8>, AllocError>
     ensures { IfOk result (λ bytes. Writes (edit_refused (id_data id.now) (codes "ill-typed")) bytes.items) }
 {

@@ -5,7 +5,7 @@ use Rattle.std.specs.declared.alloc.Global.{Global}
 use Rattle.ob0_text.specs.Patches.{patched}
 use Rattle.ob0_text.specs.Units.{width_of}
 use Rattle.ob0_text.specs.declared.edits.Edit.{Edit}
-use Rattle.ob0_text.specs.declared.positions.Unit.{Unit}
+use Rattle.ob0_text.specs.declared.position_types.Unit.{Unit}
 use Rattle.ob0_text.specs.declared.refusals.EditRefusal.{EditRefusal}
 use Rattle.ob0_text.specs.declared.refusals.EditRefusal.TheVariants.{Memory}
 use Rattle.ob0_tree.specs.Parsed.{Parsed}

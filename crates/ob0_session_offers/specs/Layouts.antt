@@ -6,10 +6,10 @@ use Rattle.ob0_text.specs.Patches.{patched}
 use Rattle.ob0_text.specs.Units.{width_of}
 use Rattle.ob0_text.specs.declared.edits.Edit.{Edit}
 use Rattle.ob0_text.specs.declared.edits.Indent.{Indent}
-use Rattle.ob0_text.specs.declared.positions.Unit.{Unit}
+use Rattle.ob0_text.specs.declared.position_types.Unit.{Unit}
 use Rattle.ob0_layout.specs.Layout.{layout}
-use Rattle.ob0_layout.specs.Sites.{Said, said, edit_of, changed_sites, all_sites}
-use Rattle.ob0_layout.specs.Standings.{line_roles}
+use Rattle.ob0_layout.specs.Sites.{EditText, edit_text, edit_of, changed_sites, all_sites}
+use Rattle.ob0_layout.specs.LineRoles.{line_roles}
 use Rattle.ob0_analysis.specs.Diagnosed.{IsTextOf, IsWellTypedModule}
 use Rattle.ob0_analysis.specs.Texts.{utf8}
 use Rattle.ob0_analysis.specs.RunsKept.{RunsAsBefore}
@@ -19,7 +19,7 @@ abbrev pub layout_of : {text : List ℕ} → Indent → IsWellTypedModule text �
 layout_of indent m = layout indent m.tree m.text_of.scan.scan.lexemes
 
 -- what is to be said of the gaps that change, at positions of a unit
-abbrev pub changes_of : {text : List ℕ} → Unit → Indent → List ℕ → IsWellTypedModule text → List Said
+abbrev pub changes_of : {text : List ℕ} → Unit → Indent → List ℕ → IsWellTypedModule text → List EditText
 changes_of unit indent characters m =
     let source = m.text_of.scanned in
     map (edit_of indent (width_of unit) characters) (changed_sites indent source.text (all_sites (line_roles 0 m.tree) m.text_of.scan.scan.lexemes))
@@ -27,7 +27,7 @@ changes_of unit indent characters m =
 -- These edits lay out a text: one for each gap that changes, which it replaces. Made at once they leave the layout, a text of the same module, which runs as before.
 pub record LaysOut (unit : Unit) (indent : Indent) (text : List ℕ) (edits : List Edit) : Type 0 where
   pub before : IsWellTypedModule (utf8 text)
-  pub changes : map said edits ≡ changes_of unit indent text before
+  pub changes : map edit_text edits ≡ changes_of unit indent text before
   pub after : List ℕ
   pub made : patched (width_of unit) text edits ≡ Some after
   pub laid_out : utf8 after ≡ layout_of indent before

@@ -4,29 +4,29 @@ use Rattle.std.specs.Str.{chars, IsUtf8}
 use Rattle.serde_json.specs.Data.{Data, null, array, items_depth}
 use Rattle.serde_json.specs.Written.{items_have_float}
 use Rattle.serde_json.specs.View.{items_of}
-use Rattle.ob0_rpc.specs.Asks.{At}
+use Rattle.ob0_rpc.specs.Requesting.{At}
 use Rattle.ob0_rpc.specs.Writing.{CanBeSent}
-use Rattle.ob0_refs.specs.Shown.{Shown}
-use Rattle.ob0_refs.specs.Questions.{all_shown_at, definition_at}
+use Rattle.ob0_refs.specs.Shown.{HoverText}
+use Rattle.ob0_refs.specs.Questions.{hover_at_place, definition_at}
 use Rattle.ob0_scan.specs.declared.lexeme.Span.{Span}
 use Rattle.ob0_scope_rules.specs.Resolution.{Resolution}
-use Rattle.ob0_text.specs.declared.positions.Unit.{Unit}
+use Rattle.ob0_text.specs.declared.position_types.Unit.{Unit}
 use Rattle.ob0_analysis.specs.Analysed.{Finds, IsModuleIn}
 use Rattle.ob0_analysis.specs.Diagnosed.{IsWellTypedModule}
 use Rattle.ob0_analysis.specs.Texts.{utf8}
 use Rattle.ob0_session_queries.specs.Questions.{AnswersName, AnswersIn, no_answer, place_in, renamable_in, hover_at, location_at, range_at, or_null}
-use Rattle.ob0_analysis.specs.declared.analysis.Asked.{Asked}
-use Rattle.ob0_analysis.specs.declared.analysis.Asked.TheVariants.{Answered, IllTyped}
+use Rattle.ob0_analysis.specs.declared.analysis.Finding.{Finding}
+use Rattle.ob0_analysis.specs.declared.analysis.Finding.TheVariants.{Answered, IllTyped}
 use Rattle.ob0_session_queries.specs.declared.questions.NameQuestion.{NameQuestion}
 use Rattle.ob0_session_queries.specs.declared.questions.NameQuestion.TheVariants.{Hover, Definition, References, PrepareRename}
 use Rattle.ob0_analysis.proofs.Scanning.{utf8_of}
 
 -- what was found of the module that a text is, or that there is none
-abbrev pub FoundOf : {A : Type 0} → List ℕ → (Resolution → A → Type 0) → Asked A → Type 0
+abbrev pub FoundOf : {A : Type 0} → List ℕ → (Resolution → A → Type 0) → Finding A → Type 0
 FoundOf text is (Answered answer) = (names : Resolution) × IsModuleIn (utf8 text) names × is names answer
 FoundOf text is (IllTyped told) = IsWellTypedModule (utf8 text) → ⊥
 
-pub found_of : {A : Type 0} (bytes text : List ℕ) (is : Resolution → A → Type 0) (found : Asked A) → IsUtf8 bytes → chars bytes ≡ text
+pub found_of : {A : Type 0} (bytes text : List ℕ) (is : Resolution → A → Type 0) (found : Finding A) → IsUtf8 bytes → chars bytes ≡ text
     → Finds bytes (λ names answer. is names answer) found → FoundOf text is found
 found_of bytes text is (Answered answer) u same h =
     (h.0, subst (λ (t : List ℕ). IsModuleIn t h.0) (utf8_of bytes text u same) h.1, h.2)
@@ -51,7 +51,7 @@ locations_can_be_sent unit uri text spans = record { whole = plain_locations uni
 
 answer_can : (unit : Unit) (text : List ℕ) (at : At) (question : NameQuestion) (names : Resolution) (value : Data) → AnswersIn unit text at question names value → CanBeSent value
 answer_can unit text at Hover names value is =
-    subst CanBeSent (sym is) (one_or_none (hover_at unit text) (all_shown_at names (place_in unit text at)) (λ (shown : Shown). record { whole = refl; shallow = omega arith }))
+    subst CanBeSent (sym is) (one_or_none (hover_at unit text) (hover_at_place names (place_in unit text at)) (λ (shown : HoverText). record { whole = refl; shallow = omega arith }))
 answer_can unit text at Definition names value is =
     subst CanBeSent (sym is) (one_or_none (location_at unit at.uri text) (definition_at names (place_in unit text at)) (λ (span : Span). record { whole = refl; shallow = omega arith }))
 answer_can unit text at (References include) names value (spans, are, is) =

@@ -6,15 +6,15 @@ use Rattle.serde_json.specs.View.{items_of}
 use Rattle.ob0_scan.specs.declared.lexeme.Span.{Span}
 use Rattle.ob0_text.specs.Texts.{offset_of}
 use Rattle.ob0_text.specs.Units.{width_of}
-use Rattle.ob0_text.specs.declared.positions.Unit.{Unit}
+use Rattle.ob0_text.specs.declared.position_types.Unit.{Unit}
 use Rattle.ob0_edits.specs.Ranges.{range_of}
 use Rattle.ob0_scope_rules.specs.Resolution.{Resolution}
-use Rattle.ob0_refs.specs.Shown.{Shown}
-use Rattle.ob0_refs.specs.Questions.{AreReferencesAt, all_shown_at, definition_at, stands_at}
+use Rattle.ob0_refs.specs.Shown.{HoverText}
+use Rattle.ob0_refs.specs.Questions.{AreReferencesAt, hover_at_place, definition_at, identified_at}
 use Rattle.ob0_refs.specs.declared.answers.At as told
 use Rattle.ob0_refs.specs.declared.answers.Of as of
 use Rattle.ob0_refs.specs.declared.answers.Of.TheVariants as tells
-use Rattle.ob0_rpc.specs.Asks.{At}
+use Rattle.ob0_rpc.specs.Requesting.{At}
 use Rattle.ob0_rpc.specs.Shapes.{range_value}
 use Rattle.ob0_analysis.specs.Analysed.{IsModuleIn}
 use Rattle.ob0_analysis.specs.Diagnosed.{IsWellTypedModule}
@@ -31,9 +31,9 @@ can_be_renamed (tells.Declared ordinal) span = Some span
 can_be_renamed tells.Predeclared span = None
 can_be_renamed (tells.Field ordinal index) span = Some span
 
--- the name or field itself that stands there, where it can be renamed
+-- the name or field itself that is there, where it can be renamed
 abbrev pub renamable_in : Resolution → ℕ → Option Span
-renamable_in names offset = option_and_then (λ (a : told.At). can_be_renamed a.of a.span) (stands_at names offset)
+renamable_in names offset = option_and_then (λ (a : told.At). can_be_renamed a.of a.span) (identified_at names offset)
 
 -- ---- as values, at positions of a unit: the unit, the uri and the characters of the text
 
@@ -46,7 +46,7 @@ abbrev pub location_at : Unit → List ℕ → List ℕ → Span → Data
 location_at unit uri text span = location_in uri (range_of (width_of unit) text span)
 
 -- what is shown, and where
-abbrev pub hover_at : Unit → List ℕ → Shown → Data
+abbrev pub hover_at : Unit → List ℕ → HoverText → Data
 hover_at unit text shown = hover_value shown.text (range_at unit text shown.span)
 
 -- a value, or null
@@ -65,7 +65,7 @@ AnswersReferences unit text at include names value =
 
 -- this value answers the question about a well-typed module
 abbrev pub AnswersIn : Unit → List ℕ → At → NameQuestion → Resolution → Data → Type 0
-AnswersIn unit text at Hover names value = value ≡ or_null (option_map (hover_at unit text) (all_shown_at names (place_in unit text at)))
+AnswersIn unit text at Hover names value = value ≡ or_null (option_map (hover_at unit text) (hover_at_place names (place_in unit text at)))
 AnswersIn unit text at Definition names value = value ≡ or_null (option_map (location_at unit at.uri text) (definition_at names (place_in unit text at)))
 AnswersIn unit text at (References include) names value = AnswersReferences unit text at include names value
 AnswersIn unit text at PrepareRename names value = value ≡ or_null (option_map (range_at unit text) (renamable_in names (place_in unit text at)))
@@ -79,7 +79,7 @@ no_answer PrepareRename = null
 
 -- ---- texts
 
--- this value answers a question about what stands at a position of a text
+-- this value answers a question about what is at a position of a text
 abbrev pub AnswersName : Unit → List ℕ → At → NameQuestion → Data → Type 0
 AnswersName unit text at question value =
     ((names : Resolution) × IsModuleIn (utf8 text) names × AnswersIn unit text at question names value)

@@ -7,14 +7,14 @@ ghost use Rattle.ob0_rpc.specs.Seen.{at_seen, id_data};
 ghost use Rattle.ob0_rpc.specs.Shapes.{result_message};
 ghost use Rattle.ob0_rpc.specs.Writing.{Writes};
 ghost use Rattle.ob0_refs.specs.Parts.{hover_in};
-ghost use Rattle.ob0_refs.specs.Questions.{AreReferencesAt, all_shown_at, definition_at};
+ghost use Rattle.ob0_refs.specs.Questions.{AreReferencesAt, hover_at_place, definition_at};
 ghost use Rattle.ob0_session_queries.specs.Questions.{AnswersName, can_be_renamed, hover_at, renamable_in, location_at, range_at, or_null};
 ghost use Rattle.ob0_session_queries.specs.declared.questions.NameQuestion.TheVariants.{Hover, Definition, References, PrepareRename};
 
-use ob0_analysis::{Asked, Question, WellTyped, ask};
+use ob0_analysis::{Finding, Question, WellTyped, ask};
 use ob0_edits::ranges;
 use ob0_refs::{Of, at, definition, hover, references};
-use ob0_rpc::{Id, Place, result, result_of};
+use ob0_rpc::{DocumentPosition, Id, result, result_of};
 use ob0_scan::{Span, Tokens};
 use ob0_session_json::results::{hover_value, location_value, range_value};
 use ob0_session_json::writing::Locations;
@@ -40,7 +40,7 @@ struct HoverAt {
 impl Question for HoverAt {
     type Answer = Option<ob0_refs::Hover>;
 
-    ghost answers = { λ q names found. option_map hover_in found ≡ all_shown_at names q.offset };
+    ghost answers = { λ q names found. option_map hover_in found ≡ hover_at_place names q.offset };
 
     fn answer(
         &self,
@@ -121,21 +121,21 @@ fn renamable(of: Of, span: Span) -> Option<Span>
     }
 }
 
-/// The answer to a question about what stands at a position of the text in a store. Where the tokens that were kept are the text's,
+/// The answer to a question about what is at a position of the text in a store. Where the tokens that were kept are the text's,
 /// it isn't scanned again.
 pub fn answer_question<T: TextStore>(
     alloc: Global,
     id: &Id,
     store: &T,
     kept: Option<&Tokens>,
-    place: &Place,
+    place: &DocumentPosition,
     question: NameQuestion,
 ) -> Result<Vec<u8>, AllocError>
     ensures { IfOk result (λ bytes. (value : Data) × AnswersName (T.unit_of store.now) (T.content store.now) (at_seen place.now) question value
         × Writes (result_message (id_data id.now) value) bytes.items) }
 {
     match question {
-        NameQuestion::Hover => result(alloc, id, shown_value(alloc, store, kept, place)?),
+        NameQuestion::Hover => result(alloc, id, name_hover_value(alloc, store, kept, place)?),
         NameQuestion::Definition => result(alloc, id, definition_value(alloc, store, kept, place)?),
         NameQuestion::References {
             include_declaration,
@@ -148,18 +148,18 @@ pub fn answer_question<T: TextStore>(
     }
 }
 
-fn shown_value<T: TextStore>(
+fn name_hover_value<T: TextStore>(
     alloc: Global,
     store: &T,
     kept: Option<&Tokens>,
-    place: &Place,
+    place: &DocumentPosition,
 ) -> Result<Value, AllocError>
     ensures { IfOk result (λ v. AnswersName (T.unit_of store.now) (T.content store.now) (at_seen place.now) Hover (view v)) }
 {
     let offset = store.offset(place.position);
     match ask(alloc, store.as_str(), kept, &HoverAt { offset })? {
-        Asked::Answered(found) => shown_or_null(alloc, store, found),
-        Asked::IllTyped(_told) => Ok(Value::Null),
+        Finding::Answered(found) => hover_or_null(alloc, store, found),
+        Finding::IllTyped(_told) => Ok(Value::Null),
     }
 }
 
@@ -167,14 +167,14 @@ fn definition_value<T: TextStore>(
     alloc: Global,
     store: &T,
     kept: Option<&Tokens>,
-    place: &Place,
+    place: &DocumentPosition,
 ) -> Result<Value, AllocError>
     ensures { IfOk result (λ v. AnswersName (T.unit_of store.now) (T.content store.now) (at_seen place.now) Definition (view v)) }
 {
     let offset = store.offset(place.position);
     match ask(alloc, store.as_str(), kept, &DefinitionAt { offset })? {
-        Asked::Answered(found) => location_or_null(alloc, store, place.uri.as_str(), found),
-        Asked::IllTyped(_told) => Ok(Value::Null),
+        Finding::Answered(found) => location_or_null(alloc, store, place.uri.as_str(), found),
+        Finding::IllTyped(_told) => Ok(Value::Null),
     }
 }
 
@@ -183,7 +183,7 @@ fn references_answer<T: TextStore>(
     id: &Id,
     store: &T,
     kept: Option<&Tokens>,
-    place: &Place,
+    place: &DocumentPosition,
     include_declaration: bool,
 ) -> Result<Vec<u8>, AllocError>
     ensures { IfOk result (λ bytes. (value : Data) × AnswersName (T.unit_of store.now) (T.content store.now) (at_seen place.now) (References include_declaration) value
@@ -194,8 +194,14 @@ fn references_answer<T: TextStore>(
         include_declaration,
     };
     match ask(alloc, store.as_str(), kept, &question)? {
-        Asked::Answered(found) => locations(alloc, id, store, place.uri.as_str(), found.as_slice()),
-        Asked::IllTyped(_) => {
+        Finding::Answered(found) => locations(
+            alloc,
+            id,
+            store,
+            place.uri.as_str(),
+            found.as_slice(),
+        ),
+        Finding::IllTyped(_) => {
             let none = Vec::new(alloc);
             result(alloc, id, Value::Array(none))
         }
@@ -206,18 +212,18 @@ fn renamable_value<T: TextStore>(
     alloc: Global,
     store: &T,
     kept: Option<&Tokens>,
-    place: &Place,
+    place: &DocumentPosition,
 ) -> Result<Value, AllocError>
     ensures { IfOk result (λ v. AnswersName (T.unit_of store.now) (T.content store.now) (at_seen place.now) PrepareRename (view v)) }
 {
     let offset = store.offset(place.position);
     match ask(alloc, store.as_str(), kept, &RenamableAt { offset })? {
-        Asked::Answered(found) => range_or_null(alloc, store, found),
-        Asked::IllTyped(_told) => Ok(Value::Null),
+        Finding::Answered(found) => range_or_null(alloc, store, found),
+        Finding::IllTyped(_told) => Ok(Value::Null),
     }
 }
 
-fn shown_or_null<T: TextStore>(
+fn hover_or_null<T: TextStore>(
     alloc: Global,
     store: &T,
     found: Option<ob0_refs::Hover>,

@@ -1,6 +1,6 @@
 //! The one way in which these tests ask a text.
 
-use ob0_analysis::{Asked, Diagnosis, Question, ask};
+use ob0_analysis::{Diagnosis, Finding, Question, ask};
 use std::alloc::{AllocError, Global};
 
 /// What a question answers to a text, or what is wrong with it.
@@ -12,8 +12,8 @@ pub fn said<Q: Question<Answer = String>>(
     requires { Q.is_about question.now text.now }
 {
     match ask(alloc, text, None, question)? {
-        Asked::Answered(answer) => Ok(answer),
-        Asked::IllTyped(faults) => told(alloc, faults.as_slice()),
+        Finding::Answered(answer) => Ok(answer),
+        Finding::IllTyped(faults) => told(alloc, faults.as_slice()),
     }
 }
 

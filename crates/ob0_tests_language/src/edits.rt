@@ -3,7 +3,7 @@
 ghost use Rattle.std.specs.Prelude.{⊤};
 
 use crate::asking::{said, told};
-use ob0_analysis::{Asked, Question};
+use ob0_analysis::{Finding, Question};
 use ob0_inline::{inline_all, inline_here};
 use ob0_layout::format;
 use ob0_rename::{rename, rename_in};
@@ -139,8 +139,8 @@ fn rename_text(
 ) -> Result<String, AllocError> {
     let store = Whole::from_str(alloc, text)?;
     match rename_in(alloc, &store, None, place, new)? {
-        Asked::Answered(edits) => made(alloc, &store, edits),
-        Asked::IllTyped(faults) => told(alloc, faults.as_slice()),
+        Finding::Answered(edits) => made(alloc, &store, edits),
+        Finding::IllTyped(faults) => told(alloc, faults.as_slice()),
     }
 }
 

@@ -73,7 +73,7 @@ fn push_shown(
     Ok(())
 }
 
-/// Adds where spans stand.
+/// Adds where spans are.
 fn push_spans(
     alloc: Global,
     out: &mut String,
@@ -231,7 +231,7 @@ PROCEDURE Q()
 PROCEDURE Q()
 ";
 
-// Records within arrays, records and parameters, and a type that is declared anew.
+// Records within arrays, records and parameters, and a type that is declared again.
 const PARTS: &str =
     "MODULE M; TYPE A = ARRAY 2 OF RECORD x: BOOLEAN END; PROCEDURE P(VAR p, q: RECORD x: A; y, z: RECORD x: INTEGER END END); TYPE A = INTEGER; VAR v: RECORD x: A END; BEGIN p.y.x := v.x END P; END M.";
 

@@ -1,4 +1,4 @@
-//! What worked modules put out, and how they end.
+//! What worked modules output, and how they end.
 
 ghost use Rattle.std.specs.Prelude.{⊤};
 
@@ -10,7 +10,7 @@ use std::alloc::{AllocError, Global};
 use std::process::Abort;
 use std::test::Fail;
 
-/// What a run puts out, a line as `/`, and how it ends.
+/// What a run outputs, a line as `/`, and how it ends.
 #[derive(Drop)]
 struct RunOf<'a> {
     input: &'a [i32],

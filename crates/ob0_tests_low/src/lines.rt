@@ -51,7 +51,7 @@ fn have_same_places(a: &Lines, b: &Whole) -> bool {
     a.as_str() == b.as_str()
 }
 
-/// Whether one change leaves the same text and places in both stores, with the lines of a store made anew.
+/// Whether one change leaves the same text and places in both stores, with the lines of a store made again.
 fn agree(
     alloc: Global,
     text: &str,

@@ -11,7 +11,7 @@ use std::test::Fail;
 /// What comes of scanning a changed text again, beside a scan of it from nothing.
 #[derive(Clone, Copy, Debug, Drop, PartialEq, Eq)]
 enum Outcome {
-    /// Both give the same, and so many tokens and comments are read anew.
+    /// Both give the same, and so many tokens and comments are read again.
     Read(usize),
     /// Both refuse it for the same faults.
     Refused,
@@ -76,7 +76,7 @@ fn in_place(found: Result<Rescan, NotRescanned>, old_text: &str) -> Result<Resca
     }
 }
 
-/// Scans a text again in which `other` comes in the place of `middle`: beside the old tokens, and in their place.
+/// Scans a text again in which `other` comes in place of `middle`: beside the old tokens, and in their place.
 fn change(
     alloc: Global,
     front: &str,
@@ -112,7 +112,7 @@ fn statements(alloc: Global) -> Result<String, AllocError> {
     Ok(text)
 }
 
-/// What comes of another text in the place of the digit between 5,000 statements and 5,000 more.
+/// What comes of another text in place of the digit between 5,000 statements and 5,000 more.
 fn change_in_the_middle(alloc: Global, other: &str) -> Result<Outcome, AllocError> {
     let some = statements(alloc)?;
     let front = joined(
@@ -125,7 +125,7 @@ fn change_in_the_middle(alloc: Global, other: &str) -> Result<Outcome, AllocErro
     change(alloc, front.as_str(), "1", other, behind.as_str())
 }
 
-/// What comes in the place of the digit, and how many tokens and comments are read anew at most.
+/// What comes in place of the digit, and how many tokens and comments are read again at most.
 static IN_THE_MIDDLE: &[(&str, usize)] = &[("2", 8), ("(* one *) 1", 8), ("1 + 1", 8), ("", 8)];
 
 #[test]

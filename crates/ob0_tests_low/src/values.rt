@@ -2,7 +2,7 @@
 
 use ob0_tree::{AddOperator, MultiplyOperator, Relation, Sign};
 use ob0_values::scalar::{add, multiply, negated, relate, signed};
-use ob0_values::{Fault, Scalar};
+use ob0_values::{OperatorFault, Scalar};
 use std::process::Abort;
 
 fn number(number: i32) -> Scalar {
@@ -13,20 +13,20 @@ const DIVIDE: MultiplyOperator = MultiplyOperator::Divide;
 
 const MODULO: MultiplyOperator = MultiplyOperator::Modulo;
 
-static PRODUCTS: &[(MultiplyOperator, i32, i32, Result<Scalar, Fault>)] = &[
+static PRODUCTS: &[(MultiplyOperator, i32, i32, Result<Scalar, OperatorFault>)] = &[
     (DIVIDE, -7, 3, Ok(Scalar::Number(-3))),
     (MODULO, -7, 3, Ok(Scalar::Number(2))),
-    (MODULO, 1, 0, Err(Fault::Divisor)),
-    (DIVIDE, 1, -7, Err(Fault::Divisor)),
+    (MODULO, 1, 0, Err(OperatorFault::Divisor)),
+    (DIVIDE, 1, -7, Err(OperatorFault::Divisor)),
 ];
 
 const ADD: AddOperator = AddOperator::Add;
 
 const SUBTRACT: AddOperator = AddOperator::Subtract;
 
-static SUMS: &[(AddOperator, i32, i32, Result<Scalar, Fault>)] = &[
-    (ADD, i32::MAX, 1, Err(Fault::Overflow)),
-    (SUBTRACT, i32::MIN, 1, Err(Fault::Overflow)),
+static SUMS: &[(AddOperator, i32, i32, Result<Scalar, OperatorFault>)] = &[
+    (ADD, i32::MAX, 1, Err(OperatorFault::Overflow)),
+    (SUBTRACT, i32::MIN, 1, Err(OperatorFault::Overflow)),
     (SUBTRACT, -2147483647, 1, Ok(Scalar::Number(i32::MIN))),
 ];
 
@@ -46,8 +46,8 @@ fn numbers_and_truth_values_are_reckoned_with(rt: HostRuntime) {
         let found = add(operator, number(left), number(right));
         assert!(rt; found == wanted, "{left} and {right}");
     }
-    assert!(rt; signed(Some(Sign::Minus), number(i32::MIN)) == Err(Fault::Overflow));
+    assert!(rt; signed(Some(Sign::Minus), number(i32::MIN)) == Err(OperatorFault::Overflow));
     assert!(rt; add(AddOperator::Or, NO, YES) == Ok(YES) && negated(YES) == Ok(NO));
     assert!(rt; relate(Relation::NotEqual, YES, NO) == Ok(YES));
-    assert!(rt; relate(Relation::Less, YES, NO) == Err(Fault::Operand));
+    assert!(rt; relate(Relation::Less, YES, NO) == Err(OperatorFault::Operand));
 }

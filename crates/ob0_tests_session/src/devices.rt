@@ -1,4 +1,4 @@
-//! A reader and a writer that fail when they are told to.
+//! A reader and a writer that fail when they are reported to.
 
 use std::io::{self, Read, Write};
 

@@ -42,7 +42,7 @@ pub enum Sight {
     Answered(u64, bool),
     Applied(u64),
     Dropped(u64),
-    /// Its memory was refused.
+    /// Its an allocation failed.
     Refused,
     /// The world had ended before.
     Ended,
@@ -77,7 +77,7 @@ pub struct Story {
 #[derive(Clone, Copy, PartialEq, Eq)]
 pub enum Way {
     AsTold,
-    /// As it is told up to an event whose memory is refused, and behind that the world has ended.
+    /// As it is reported up to an event whose an allocation fails, and after that the world has ended.
     UpToRefusal,
     Otherwise,
 }

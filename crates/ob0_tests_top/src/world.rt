@@ -20,7 +20,7 @@ fn goes_as_told(alloc: Global, story: &Story) -> bool {
         && leaves_all(alloc, story)
 }
 
-/// The name of the first story that doesn't go as it is told; of none the empty one.
+/// The name of the first story that doesn't go as it is reported; of none the empty one.
 fn first_untold(alloc: Global) -> &'static str {
     for story in stories() {
         if !goes_as_told(alloc, story) {

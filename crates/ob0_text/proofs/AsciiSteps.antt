@@ -6,8 +6,8 @@ use Rattle.std.specs.Str.{chars}
 use Rattle.std.proofs.Math.Seq.{drop-cons}
 use Rattle.std.proofs.lemmas.Bool.Decides.{nat_tests}
 use Rattle.std.proofs.lemmas.Str.{encode_ascii, len_utf8_ascii}
-use Rattle.ob0_text.specs.declared.positions.Unit.{Unit}
-use Rattle.ob0_text.specs.declared.positions.Unit.TheVariants.{Utf16, Utf8}
+use Rattle.ob0_text.specs.declared.position_types.Unit.{Unit}
+use Rattle.ob0_text.specs.declared.position_types.Unit.TheVariants.{Utf16, Utf8}
 use Rattle.ob0_text.specs.Texts.{LF, CR, utf16_width}
 use Rattle.ob0_text.specs.Units.{width_of}
 use Rattle.ob0_text.specs.Places.{IsCounted}

@@ -9,8 +9,8 @@ use Rattle.std.proofs.lemmas.Str.{chars-encodes, encodes-chars, scalars-chars}
 use Rattle.std.proofs.Math.Utf8.{scalars}
 use Rattle.std.proofs.Math.Seq.{take-append_seam, drop-append_seam}
 use Rattle.ob0_text.specs.Texts.{LF, CR, ends_line}
-use Rattle.ob0_text.specs.declared.places.Place.{Place}
-use Rattle.ob0_text.specs.declared.positions.Position.{Position}
+use Rattle.ob0_text.specs.declared.passes.PassState.{PassState}
+use Rattle.ob0_text.specs.declared.position_types.Position.{Position}
 use Rattle.ob0_text.specs.Places.{IsCounted, IsSought, IsPlace, IsPlaceBefore}
 use Rattle.ob0_text.specs.LineStarts.{line_starts, starts_after, AllUnder, AllFrom}
 use Rattle.ob0_text.proofs.Prefixes.{halves}
@@ -64,7 +64,7 @@ module _ (width : ℕ → ℕ) (narrow : (c : ℕ) → width c ≤ len_utf8 c) (
       subst (StartsLine (get_or (line_starts (chars text)) k 0)) (omega arith) (all k l)
 
 module _ (width : ℕ → ℕ) (text : List ℕ) (p : Position) where
-  -- the same of what stands before a position, for the lines up to its own
+  -- the same of what precedes a position, for the lines up to its own
   abbrev pub SeeksFrom : ℕ → ℕ → Type 0
   SeeksFrom s line = line ≤ p.line → IsSought width text p (drop s text) s line 0
 
@@ -101,7 +101,7 @@ pub some_start : (text : List ℕ) → 0 < length (line_starts text)
 some_start text = omega (arith, ap length (starts-lines 0 text))
 
 -- the places where the passes of a look-up begin
-pub seeks : (width : ℕ → ℕ) (text starts : List ℕ) (p : Position) (place : Place) → IsUtf8 text → starts ≡ line_starts (chars text) → place.offset ≡ get_or starts place.line 0 → place.line ≡ min p.line (length starts - 1) → place.character ≡ 0 → IsPlaceBefore width text p place
+pub seeks : (width : ℕ → ℕ) (text starts : List ℕ) (p : Position) (place : PassState) → IsUtf8 text → starts ≡ line_starts (chars text) → place.offset ≡ get_or starts place.line 0 → place.line ≡ min p.line (length starts - 1) → place.character ≡ 0 → IsPlaceBefore width text p place
 seeks width text starts p place u is here line none =
     let some : 0 < length starts = subst (λ t. 0 < length t) (sym is) (some_start (chars text)) in
     let inside : place.line < length (line_starts (chars text)) = subst (λ t. place.line < length t) is (omega (arith, line)) in
@@ -109,7 +109,7 @@ seeks width text starts p place u is here line none =
     subst (λ n. IsSought width text p (drop place.offset text) place.offset place.line n) (sym none)
     (subst (λ o. IsSought width text p (drop o text) o place.line 0) (sym start) (line_sought width text p u place.line inside (omega (arith, line))))
 
-pub counts : (width : ℕ → ℕ) → ((c : ℕ) → width c ≤ len_utf8 c) → (text starts : List ℕ) (line : ℕ) (place : Place) → IsUtf8 text → starts ≡ line_starts (chars text) → place.offset ≡ get_or starts place.line 0 → place.line ≡ min line (length starts - 1) → place.character ≡ 0 → IsPlace width text place
+pub counts : (width : ℕ → ℕ) → ((c : ℕ) → width c ≤ len_utf8 c) → (text starts : List ℕ) (line : ℕ) (place : PassState) → IsUtf8 text → starts ≡ line_starts (chars text) → place.offset ≡ get_or starts place.line 0 → place.line ≡ min line (length starts - 1) → place.character ≡ 0 → IsPlace width text place
 counts width narrow text starts l place u is here line none =
     let some : 0 < length starts = subst (λ t. 0 < length t) (sym is) (some_start (chars text)) in
     let inside : place.line < length (line_starts (chars text)) = subst (λ t. place.line < length t) is (omega (arith, line)) in
@@ -130,7 +130,7 @@ searched text starts m n count u is within next count_is =
     let low : get_or starts (count - 1) 0 < suc m = before starts front back (suc m) whole split.under split.from (count - 1) (omega (arith, here, some)) in
     (omega (arith, here, some), omega (arith, here, long), omega (arith, low))
 
--- the starts behind a place
+-- the starts after a place
 pub moved_starts : (bs starts : List ℕ) (to moved : ℕ) → IsUtf8 bs → starts ≡ line_starts (chars bs) → to ≤ length bs → ((front back : List ℕ) → starts ≡ front ++ back → AllUnder (to + 1) front → AllFrom (to + 1) back → moved ≡ length front) → drop moved starts ≡ starts_after (suc to) (drop to bs) []
 moved_starts bs starts to moved u is within moved_is =
     let old : starts ≡ starts_after 0 (LF ∷ bs) [] = is ∙ table bs u in

@@ -12,7 +12,7 @@ use Rattle.ob0_text.proofs.PositionSteps.{rest_border}
 use Rattle.ob0_text.proofs.StartLaws.{byte_len-append}
 use Rattle.ob0_text.proofs.LinePlaces.{line_counted}
 
--- line k of some lines stands in their bytes from one offset up to another
+-- line k of some lines is in their bytes from one offset up to another
 pub record IsFound (bytes : List ℕ) (ls : List Line) (at k start end : ℕ) : Type 0 where
   pub line : Line
   pub is_line : slice_get ls k ≡ Some line

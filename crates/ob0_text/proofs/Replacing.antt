@@ -5,7 +5,7 @@ use Rattle.std.specs.Str.{IsUtf8, IsCharBoundary, chars}
 use Rattle.ob0_text.specs.Texts.{before, byte_len, offset_of}
 use Rattle.ob0_text.specs.Patches.{place, cut_at, replaced}
 use Rattle.ob0_text.specs.LineStarts.{line_starts}
-use Rattle.ob0_text.specs.declared.positions.Range.{Range}
+use Rattle.ob0_text.specs.declared.position_types.Range.{Range}
 use Rattle.ob0_text.proofs.Prefixes.{patched-one, range_start, range_end, border_at, replaced_at}
 
 pub on_ok_always : {T E P : Type 0} (r : Result T E) → P → OnOk r P

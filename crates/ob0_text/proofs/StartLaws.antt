@@ -8,7 +8,7 @@ use Rattle.std.specs.Str.{IsUtf8, chars}
 use Rattle.std.proofs.lemmas.Bool.Decides.{nat_tests}
 use Rattle.std.specs.Char.{len_utf8}
 use Rattle.std.proofs.lemmas.Str.{length-encode, len_utf8_ascii, encode_ascii, inside_one, encodes-append, encodes-chars}
-use Rattle.ob0_text.specs.Texts.{LF, CR, Line, starts_with_lf, ends_line, in_front, in_front_of_ending, lines, byte_len}
+use Rattle.ob0_text.specs.Texts.{LF, CR, Line, starts_with_lf, ends_line, add_character, add_to_ending, lines, byte_len}
 use Rattle.ob0_text.specs.LineStarts.{with_ending, starts_from, line_starts, starts_after, AllUnder, AllFrom}
 use Rattle.ob0_text.proofs.LineLaws.{has_line, lines-ends, lines-before_lf, lines-in_front, no_line_end, lf_ends}
 use Rattle.ob0_text.proofs.FirstBytes.{lf_byte}
@@ -59,7 +59,7 @@ behind-next at [] next other h = refl
 behind-next at (x ∷ xs) next other h =
     (λ i. if same_end x xs next other h i then at ∷ behind-next (suc at) xs next other h i else behind-next (suc at) xs next other h i)
 
--- bytes that stand elsewhere
+-- bytes that are elsewhere
 pub behind-moved : (at there to by : ℕ) (xs next : List ℕ) → to ≤ at → at - to + by ≡ there → map (λ s. s - to + by) (starts_after at xs next) ≡ starts_after there xs next
 unfolding starts_after
 behind-moved at there to by [] next up e = refl
@@ -117,7 +117,7 @@ ends_line-encoded c cs =
     let same : starts_with_lf (encode_utf8_all cs ++ []) ≡ starts_with_lf cs = ap starts_with_lf (append_nil (encode_utf8_all cs)) ∙ lf_first (encode_utf8_all cs) ∙ sym (lf_byte cs (encode_utf8_all cs) refl) in
     ap (λ b. c == LF || (c == CR && not b)) same
 
--- the starts behind a text's endings, character by character
+-- the starts after a text's endings, character by character
 unfoldable pub behind_ends : ℕ → List ℕ → List ℕ
 behind_ends at [] = []
 behind_ends at (c ∷ cs) =
@@ -204,16 +204,16 @@ starts-lines at (c ∷ cs) = by_end (starts-lines (at + len_utf8 c) cs) (ends_li
         let l = has_line cs in
         let long : byte_len (l.0.body ++ (c ∷ l.0.ending)) ≡ len_utf8 c + byte_len (l.0.body ++ l.0.ending) =
         omega (arith, byte_len-append l.0.body (c ∷ l.0.ending), byte_len-append l.0.body l.0.ending, byte_len-cons c l.0.ending) in
-        ap (starts_from at) (lines-before_lf c cs e p ∙ ap (in_front_of_ending c) l.2)
+        ap (starts_from at) (lines-before_lf c cs e p ∙ ap (add_to_ending c) l.2)
         ∙ longer_first at c cs l.0 (record { body = l.0.body; ending = c ∷ l.0.ending }) l.1 l.2 long more
         ∙ ap (λ t. at ∷ t) (sym (ends-on at c cs e))
     by_end more false e false p =
         let l = has_line cs in
-        ap (starts_from at) (lines-in_front c cs e p ∙ ap (in_front c) l.2)
+        ap (starts_from at) (lines-in_front c cs e p ∙ ap (add_character c) l.2)
         ∙ longer_first at c cs l.0 (record { body = c ∷ l.0.body; ending = l.0.ending }) l.1 l.2 (byte_len-cons c (l.0.body ++ l.0.ending)) more
         ∙ ap (λ t. at ∷ t) (sym (ends-on at c cs e))
 
--- the table, found in the bytes of a text as if an LF stood before it
+-- the table, found in the bytes of a text as if an LF was before it
 pub table : (bs : List ℕ) → IsUtf8 bs → line_starts (chars bs) ≡ starts_after 0 (LF ∷ bs) []
 table bs u =
     starts-lines 0 (chars bs) ∙ ap (λ t. 0 ∷ t) (sym (ends-bytes 0 (chars bs)) ∙ ap (λ b. starts_after 1 b []) (encodes-chars bs u))

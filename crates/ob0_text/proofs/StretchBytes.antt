@@ -12,7 +12,7 @@ use Rattle.std.proofs.lemmas.Str.{encode_ascii, encodes-chars, length-encode}
 use Rattle.ob0_text.specs.Texts.{LF, CR, utf16_width, byte_len}
 use Rattle.ob0_text.specs.Stretches.{EndsNoLine, utf16_units_at, AreOfALine}
 
--- a character of four bytes begins with 240 or more, and the bytes behind the first are from 128 to 191
+-- a character of four bytes begins with 240 or more, and the bytes after the first are from 128 to 191
 units_of_char : (c : ℕ) → sum_by utf16_units_at (encode_utf8 c) ≡ utf16_width c
 unfolding encode_utf8
 units_of_char c = grind (arith, nat_tests)

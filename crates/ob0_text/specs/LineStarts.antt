@@ -2,7 +2,7 @@
 -- Rule: docs/PROTOCOL.md, Positions 2 (by bytes, for the table of lines).
 use Rattle.std.specs.Prelude.{ℕ, suc, ◌+◌, ◌<◌, ◌≤◌, if◌then◌else◌, List, [], ◌∷◌, ◌++◌, length, slice_index, refl}
 use Rattle.std.specs.Coded.{Coded, code_by, coded×, coded_list, coded_ℕ}
-use Rattle.ob0_text.specs.declared.positions.Unit.{Unit}
+use Rattle.ob0_text.specs.declared.position_types.Unit.{Unit}
 use Rattle.ob0_text.specs.Units.{unit_code}
 use Rattle.ob0_text.specs.Texts.{Line, lines, ends_line, byte_len}
 
@@ -10,7 +10,7 @@ use Rattle.ob0_text.specs.Texts.{Line, lines, ends_line, byte_len}
 abbrev pub with_ending : Line → List ℕ
 with_ending l = l.body ++ l.ending
 
--- where lines that stand one after another start, the first of them at some offset
+-- where lines that are one after another start, the first of them at some offset
 unfoldable pub starts_from : ℕ → List Line → List ℕ
 starts_from at [] = []
 starts_from at (l ∷ ls) = at ∷ starts_from (at + byte_len (with_ending l)) ls
@@ -19,7 +19,7 @@ starts_from at (l ∷ ls) = at ∷ starts_from (at + byte_len (with_ending l)) l
 abbrev pub line_starts : List ℕ → List ℕ
 line_starts text = starts_from 0 (lines text)
 
--- The offsets at which a line starts right behind one of these bytes. The first byte stands before the offset `at`,
+-- The offsets at which a line starts right after one of these bytes. The first byte precedes the offset `at`,
 -- and `next` follows on the last
 unfoldable pub starts_after : ℕ → List ℕ → List ℕ → List ℕ
 starts_after at [] next = []

@@ -1,9 +1,9 @@
--- Places in a text that a pass over it has reached, and what the pass knows of all that stands behind them.
+-- Places in a text that a pass over it has reached, and what the pass knows of all that follows them.
 -- Rule: none; for private contracts of passes over a text.
 use Rattle.std.specs.Prelude.{◌≡◌, ℕ, ◌+◌, ◌-◌, ◌<◌, ◌≤◌, ◌⊎◌, if◌then◌else◌, ◌==◌, List, ◌++◌, length, drop}
 use Rattle.std.specs.Str.{IsUtf8, chars}
-use Rattle.ob0_text.specs.declared.places.Place.{Place}
-use Rattle.ob0_text.specs.declared.positions.Position.{Position}
+use Rattle.ob0_text.specs.declared.passes.PassState.{PassState}
+use Rattle.ob0_text.specs.declared.position_types.Position.{Position}
 use Rattle.ob0_text.specs.Texts.{before, byte_len, position_of}
 
 -- a position
@@ -14,15 +14,15 @@ at line character = record { line = line; character = character }
 abbrev pub counted_from : ℕ → ℕ → Position → Position
 counted_from line character p = if p.line == 0 then at line (character + p.character) else at (line + p.line) p.character
 
--- what is left of a position behind a line and character
+-- what is left of a position after a line and character
 abbrev pub left_of : ℕ → ℕ → Position → Position
 left_of line character p = if p.line == line then at 0 (p.character - character) else at (p.line - line) p.character
 
--- a position is q or comes behind it
+-- a position is q or comes after it
 abbrev pub IsFrom : Position → Position → Type 0
 IsFrom q p = (q.line < p.line) ⊎ ((q.line ≡ p.line) × (q.character ≤ p.character))
 
--- behind these bytes of a text stands the rest of it
+-- after these bytes of a text is the rest of it
 pub record IsRest (text rest : List ℕ) (offset : ℕ) : Type 0 where
   pub front : List ℕ
   pub split : text ≡ front ++ rest
@@ -37,15 +37,15 @@ pub record IsCounted (width : ℕ → ℕ) (text rest : List ℕ) (offset line c
   pub same : (o : ℕ) → offset ≤ o → counted_from line character (position_of width (chars rest) (o - offset)) ≡ position_of width (chars text) o
 
 -- positions of later offsets are counted on from this place
-abbrev pub IsPlace : (ℕ → ℕ) → List ℕ → Place → Type 0
+abbrev pub IsPlace : (ℕ → ℕ) → List ℕ → PassState → Type 0
 IsPlace width text p = IsCounted width text (drop p.offset text) p.offset p.line p.character
 
--- A pass that looks for a position has reached an offset before it. What stands before it and each later one is found in the rest.
+-- A pass that looks for a position has reached an offset before it. What precedes it and each later one is found in the rest.
 pub record IsSought (width : ℕ → ℕ) (text : List ℕ) (sought : Position) (rest : List ℕ) (offset line character : ℕ) : Type 0 where
   pub rest_is : IsRest text rest offset
   pub not_past : IsFrom (at line character) sought
   pub same : (p : Position) → IsFrom sought p → offset + byte_len (before width (chars rest) (left_of line character p)) ≡ byte_len (before width (chars text) p)
 
 -- a position, and each later one, is found from this place on
-abbrev pub IsPlaceBefore : (ℕ → ℕ) → List ℕ → Position → Place → Type 0
+abbrev pub IsPlaceBefore : (ℕ → ℕ) → List ℕ → Position → PassState → Type 0
 IsPlaceBefore width text sought p = IsSought width text sought (drop p.offset text) p.offset p.line p.character

@@ -1,4 +1,4 @@
--- Characters of a line that stand one after another, counted together.
+-- Characters of a line that are one after another, counted together.
 -- Rule: none; for private contracts of passes over a text.
 use Rattle.std.specs.Prelude.{◌≡◌, ℕ, ◌+◌, ◌-◌, ◌<◌, ◌≤◌, false, ◌||◌, ◌==◌, if◌then◌else◌, nat_lt, nat_le, List, length, take, drop, sum_by}
 use Rattle.std.specs.List.{All}
@@ -19,7 +19,7 @@ pub record AreOfALine (width : ℕ → ℕ) (cs : List ℕ) (units : ℕ) : Type
   pub of_one : All EndsNoLine cs
   pub counted : sum_by width cs ≡ units
 
--- behind an offset of a text stand characters of a line
+-- after an offset of a text are characters of a line
 pub record IsStretch (width : ℕ → ℕ) (text : List ℕ) (from : ℕ) (s : Stretch) : Type 0 where
   pub further : from < s.end
   pub inside : s.end ≤ length text

@@ -3,8 +3,8 @@
 use Rattle.std.specs.Prelude.{ℕ, Bool, true, false, refl}
 use Rattle.std.specs.Char.{len_utf8}
 use Rattle.std.specs.Coded.{Coded, code_by, coded_bool}
-use Rattle.ob0_text.specs.declared.positions.Unit as unit
-use Rattle.ob0_text.specs.declared.positions.Unit.TheVariants.{Utf16, Utf8}
+use Rattle.ob0_text.specs.declared.position_types.Unit as unit
+use Rattle.ob0_text.specs.declared.position_types.Unit.TheVariants.{Utf16, Utf8}
 use Rattle.ob0_text.specs.Texts.{utf16_width}
 
 -- how many units a character has

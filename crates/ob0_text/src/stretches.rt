@@ -1,4 +1,4 @@
-//! Stretches of a line: characters that stand one after another, counted together.
+//! Stretches of a line: characters that are one after another, counted together.
 
 ghost use Rattle.std.specs.Prelude.{◌≡◌, ◌==◌, ◌||◌, ◌+◌, ◌<◌, ◌≤◌, false, IfSome, length, sum_by};
 ghost use Rattle.std.specs.List.{All};
@@ -7,7 +7,7 @@ ghost use Rattle.ob0_text.specs.Texts.{LF, CR};
 ghost use Rattle.ob0_text.specs.Units.{width_of};
 ghost use Rattle.ob0_text.specs.Stretches.{EndsNoLine, utf16_units_at, AreOfALine, IsStretch};
 
-use crate::positions::Unit;
+use crate::position_types::Unit;
 
 /// Where a stretch ends, in bytes, and how many units its characters have.
 #[derive(Clone, Copy)]
@@ -19,8 +19,8 @@ pub struct Stretch {
 /// How many bytes are looked at together.
 const BYTES: usize = 64;
 
-/// The stretch behind an offset that takes the next bytes, where it has room for as many, and none of them ends a line.
-pub fn stretch_behind(text: &str, unit: Unit, from: usize, room: u64) -> Option<Stretch>
+/// The stretch after an offset that takes the next bytes, where it has room for as many, and none of them ends a line.
+pub fn next_stretch(text: &str, unit: Unit, from: usize, room: u64) -> Option<Stretch>
     requires { IsCharBoundary text.now from }
     ensures is { IfSome result (λ s. IsStretch (width_of unit) text.now from s) }
     ensures fits { IfSome result (λ s. s.end ≤ from + room) }

@@ -4,7 +4,7 @@ use Rattle.std.proofs.lemmas.List.{map-append}
 use Rattle.ob0_scan.specs.declared.lexeme.TokenKind.{TokenKind}
 use Rattle.ob0_scan.specs.declared.lexeme.TokenKind.TheVariants as kind
 use Rattle.ob0_scan.specs.declared.lexeme.Token.{Token}
-use Rattle.ob0_tree.specs.Lexeme.{Lexeme, Name, Number, Mark, EndOfText}
+use Rattle.ob0_tree.specs.Lexeme.{Terminal, Name, Number, Mark, EndOfText}
 use Rattle.ob0_tree.specs.Places.{lexeme_of, lexemes_from}
 use Rattle.ob0_tree.specs.Parsed.{Parsed, IsParsed, tree_of}
 use Rattle.ob0_tree.proofs.Occurring.{looked_up_only, looked_up-occurrences}
@@ -14,14 +14,14 @@ use Rattle.ob0_tree.specs.declared.tree.Role.TheVariants as role
 use Rattle.ob0_tree.specs.Tree.{occurrences, Sort, Tree, spell, identifiers, none, one, end, more, compares, relates, sum, adds, product, multiplies, designator, integer, parenthesised, negation, field, index, empty, assigns, calls, branches, while_loop, repeat_loop, no_arguments, some_arguments, then_argument, runs, then_statement, elsif_branch, else_branch, listed, then_name, named_type, array_type, record_type, no_fields, some_fields, then_fields, no_formals, some_formals, value_section, variable_section, then_section, declares_constant, declares_constants, declares_type, declares_types, declares_variable, declares_variables, declares_procedure, declares, begins, has_body, is_module}
 
 -- the names among tokens
-abbrev pub lexeme_names : {N : Type 0} → List (Lexeme N) → List N
+abbrev pub lexeme_names : {N : Type 0} → List (Terminal N) → List N
 lexeme_names [] = []
 lexeme_names (Name n ∷ xs) = n ∷ lexeme_names xs
 lexeme_names (Number n ∷ xs) = lexeme_names xs
 lexeme_names (Mark k ∷ xs) = lexeme_names xs
 lexeme_names (EndOfText ∷ xs) = lexeme_names xs
 
-pub lexeme_names-append : {N : Type 0} (xs ys : List (Lexeme N)) → lexeme_names (xs ++ ys) ≡ lexeme_names xs ++ lexeme_names ys
+pub lexeme_names-append : {N : Type 0} (xs ys : List (Terminal N)) → lexeme_names (xs ++ ys) ≡ lexeme_names xs ++ lexeme_names ys
 lexeme_names-append [] ys = refl
 lexeme_names-append (Name n ∷ xs) ys = ap (λ z. n ∷ z) (lexeme_names-append xs ys)
 lexeme_names-append (Number n ∷ xs) ys = lexeme_names-append xs ys
@@ -89,7 +89,7 @@ names_from : (ts : List Token) (i : ℕ) → lexeme_names (lexemes_from i ts) �
 names_from [] i = refl
 names_from (t ∷ ts) i = name_first t.kind i (lexemes_from (i + 1) ts) ∙ ap (λ z. identifier_at i t.kind ++ z) (names_from ts (i + 1))
   where
-    name_first : (k : TokenKind) (i : ℕ) (xs : List (Lexeme ℕ)) → lexeme_names (lexeme_of i k ∷ xs) ≡ identifier_at i k ++ lexeme_names xs
+    name_first : (k : TokenKind) (i : ℕ) (xs : List (Terminal ℕ)) → lexeme_names (lexeme_of i k ∷ xs) ≡ identifier_at i k ++ lexeme_names xs
     name_first kind.Identifier i xs = refl
     name_first (kind.Integer v) i xs = refl
     name_first _ i xs = refl

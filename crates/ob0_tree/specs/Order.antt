@@ -33,10 +33,10 @@ identifiers_from i [] = []
 identifiers_from i (t ∷ ts) = identifier_at i t.kind ++ identifiers_from (i + 1) ts
 
 -- the token at an index is an identifier
-abbrev pub IsIdentifier : List Token → ℕ → Type 0
-IsIdentifier ts i = (i < length ts) × HoldsAt (λ t. t.kind ≡ kind.Identifier) ts i
+abbrev pub IsIdentifierToken : List Token → ℕ → Type 0
+IsIdentifierToken ts i = (i < length ts) × HoldsAt (λ t. t.kind ≡ kind.Identifier) ts i
 
 -- these tokens are identifiers
 abbrev pub AreIdentifiers : List Token → List ℕ → Type 0
 AreIdentifiers ts [] = Unit {0}
-AreIdentifiers ts (i ∷ others) = IsIdentifier ts i × AreIdentifiers ts others
+AreIdentifiers ts (i ∷ others) = IsIdentifierToken ts i × AreIdentifiers ts others

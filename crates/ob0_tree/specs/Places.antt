@@ -5,22 +5,22 @@ use Rattle.ob0_scan.specs.declared.lexeme.TokenKind.{TokenKind}
 use Rattle.ob0_scan.specs.declared.lexeme.TokenKind.TheVariants as kind
 use Rattle.ob0_scan.specs.declared.lexeme.Token.{Token}
 use Rattle.ob0_scan.specs.Scanned.{Scanned, spanned}
-use Rattle.ob0_tree.specs.Lexeme.{Lexeme, Name, Number, Mark, EndOfText}
+use Rattle.ob0_tree.specs.Lexeme.{Terminal, Name, Number, Mark, EndOfText}
 use Rattle.ob0_tree.specs.Tree.{Sort, Tree, mapped}
 
 -- the token at an index, with the index in place of a name or a number
-abbrev pub lexeme_of : ℕ → TokenKind → Lexeme ℕ
+abbrev pub lexeme_of : ℕ → TokenKind → Terminal ℕ
 lexeme_of i kind.Identifier = Name i
 lexeme_of i (kind.Integer value) = Number i
 lexeme_of i k = Mark k
 
 -- the tokens from an index on, the end counted as one
-abbrev pub lexemes_from : ℕ → List Token → List (Lexeme ℕ)
+abbrev pub lexemes_from : ℕ → List Token → List (Terminal ℕ)
 lexemes_from i [] = EndOfText ∷ []
 lexemes_from i (t ∷ ts) = lexeme_of i t.kind ∷ lexemes_from (i + 1) ts
 
 -- the tokens of a text, as a tree over indexes spells them
-abbrev pub lexemes : List Token → List (Lexeme ℕ)
+abbrev pub lexemes : List Token → List (Terminal ℕ)
 lexemes ts = lexemes_from 0 ts
 
 -- how a token is written

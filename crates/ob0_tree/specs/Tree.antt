@@ -11,7 +11,7 @@ use Rattle.ob0_tree.specs.declared.tree.AddOperator.{AddOperator}
 use Rattle.ob0_tree.specs.declared.tree.MultiplyOperator.{MultiplyOperator}
 use Rattle.ob0_tree.specs.declared.tree.Role.{Role}
 use Rattle.ob0_tree.specs.declared.tree.Role.TheVariants as role
-use Rattle.ob0_tree.specs.Lexeme.{Lexeme, Name, Number, Mark, relation_mark, sign_marks, add_mark, multiply_mark}
+use Rattle.ob0_tree.specs.Lexeme.{Terminal, Name, Number, Mark, relation_mark, sign_marks, add_mark, multiply_mark}
 
 -- What may be again and again, or once or not at all, after something else.
 pub data Item : Type 0 where
@@ -113,11 +113,11 @@ pub data Tree (N : Type 0) : Sort → Type 0 where
   is_module : N → Tree N block → N → Tree N module_text
 
 -- what is in place of a name, or a kind of token, alone
-abbrev pub mark : {N : Type 0} → TokenKind → List (Lexeme N)
+abbrev pub mark : {N : Type 0} → TokenKind → List (Terminal N)
 mark k = Mark k ∷ []
 
 -- the tokens of a tree: one case for each production of the grammar
-abbrev pub spell : {N : Type 0} {s : Sort} → Tree N s → List (Lexeme N)
+abbrev pub spell : {N : Type 0} {s : Sort} → Tree N s → List (Terminal N)
 spell none = []
 spell (one t) = spell t
 spell end = []

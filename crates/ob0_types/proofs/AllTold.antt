@@ -1,4 +1,4 @@
--- What is told of a module: nothing exactly where it is well-typed.
+-- What is reported of a module: nothing exactly where it is well-typed.
 use Rattle.std.proofs.Common.{◌≤◌, ◌≡◌, ◌↔◌, ◌+◌, ◌&&◌, ◌||◌, if◌then◌else◌, Bool, true, false, not, List, [], ◌∷◌, ◌++◌, IfSome, is_some, Option, Some, None, length, refl, sym, ap, ◌∙◌, subst, true≢false, arith, length-append}
 use Rattle.std.proofs.lemmas.List.{nil_from_length}
 use Rattle.std.specs.List.{filter, list_any}
@@ -12,7 +12,7 @@ use Rattle.ob0_types_check.specs.ModuleLaws.{ModulesFit}
 use Rattle.ob0_types_check.specs.WellTypedLaws.{NoFaultInModules}
 use Rattle.ob0_types.specs.FaultOrder.{AreFirstOf}
 use Rattle.ob0_types.specs.FoundFaults.{faults_found, types_found}
-use Rattle.ob0_types.specs.CheckedModules.{IsChecked, IsTold}
+use Rattle.ob0_types.specs.CheckedModules.{IsChecked, IsReported}
 use Rattle.ob0_types_rules.specs.Bindings.{module_bindings, object_bound}
 use Rattle.ob0_checker.specs.Checking.{Keeps}
 use Rattle.ob0_types_rules.specs.InLabels.{in_labels}
@@ -51,8 +51,8 @@ second_right true true e = sym e
 second_right true false e = refl
 second_right false b e = absurd (true≢false (sym e))
 
--- the faults of declarations are told too
-told_with : (right : Bool) (first scopes : List Fault) → IsTold right first → IsTold (right && not (list_any is_of_declarations scopes)) (first ++ filter is_of_declarations scopes)
+-- the faults of declarations are reported too
+told_with : (right : Bool) (first scopes : List Fault) → IsReported right first → IsReported (right && not (list_any is_of_declarations scopes)) (first ++ filter is_of_declarations scopes)
 told_with right first scopes told = (
   (λ e.
       let all : length first + length (filter is_of_declarations scopes) ≡ 0 = sym (length-append first (filter is_of_declarations scopes)) ∙ length-nil (first ++ filter is_of_declarations scopes) e in
@@ -76,8 +76,8 @@ if_some : {A : Type 0} {P Q : A → Type 0} (o : Option A) → ((a : A) → P a 
 if_some None f h = tt
 if_some (Some a) f h = f a h
 
--- a fault of types is told exactly of a module that doesn't fit
-types_told : ModulesFit → (fits : Bool) (r : Resolution) → IsResolution r → fits ≡ fits_over as_names (named_tree_of r.module_read) → IsTold fits (types_found fits r)
+-- a fault of types is reported exactly of a module that doesn't fit
+types_told : ModulesFit → (fits : Bool) (r : Resolution) → IsResolution r → fits ≡ fits_over as_names (named_tree_of r.module_read) → IsReported fits (types_found fits r)
 types_told law true r h e = (λ none. refl, λ right. refl)
 types_told law false r h e = (λ none. e ∙ law r h none, λ right. absurd (true≢false (sym right)))
 
@@ -86,7 +86,7 @@ types_reported : NoFaultInModules → (fits : Bool) (r : Resolution) → IsResol
 types_reported law true r h e = sym (law r h (sym e))
 types_reported law false r h e = refl
 
--- where nothing is told exactly of a module that fits and declares each name once, it is told exactly of a well-typed one
+-- where nothing is reported exactly of a module that fits and declares each name once, it is reported exactly of a well-typed one
 pub checked_told : (r : Resolution) (fits : Bool) (faults : List Fault) → FitsByOrdinal → ModulesFit → NoFaultInModules → IsResolution r → fits ≡ fits_over as_labels (in_labels r (tree_of r.module_read))
     → ((faults ≡ []) ↔ (faults_found fits r ≡ []))
     → (known : Option Tables) → fits ≡ is_some known → IfSome known (Keeps (module_bindings as_labels (in_labels r (tree_of r.module_read)))) → length faults ≤ 100 → AreFirstOf (faults_found fits r) faults → IsChecked (record { names = r; faults = faults; known = known })
@@ -95,8 +95,8 @@ checked_told r fits faults law told_law none_law h e alike known some keeps few 
     let m = named_tree_of r.module_read in
     let any = list_any is_of_declarations r.faults in
     let by_names : fits ≡ fits_over as_names m = e ∙ ap (fits_over as_labels) (sym h.numbering) ∙ sym (law m) in
-    let whole : IsTold (fits && not any) (faults_found fits r) = told_with fits (types_found fits r) r.faults (types_told told_law fits r h by_names) in
-    let told : IsTold (fits && not any) faults = ((λ none. whole.0 (alike.0 none)), (λ right. alike.1 (whole.1 right))) in
+    let whole : IsReported (fits && not any) (faults_found fits r) = told_with fits (types_found fits r) r.faults (types_told told_law fits r h by_names) in
+    let told : IsReported (fits && not any) faults = ((λ none. whole.0 (alike.0 none)), (λ right. alike.1 (whole.1 right))) in
     record {
       resolved = h;
       told = (

@@ -1,4 +1,4 @@
--- A checked module: its names, and what was told of it.
+-- A checked module: its names, and what was reported of it.
 -- Rule: docs/LANGUAGE.md, Types 8, Faults of scopes and types 1.
 use Rattle.std.specs.Prelude.{◌≡◌, ℕ, ◌≤◌, Bool, true, List, [], length, ◌↔◌, IfSome, is_some, Option}
 use Rattle.ob0_scan.specs.declared.fault.Fault.{Fault}
@@ -17,27 +17,27 @@ pub record CheckedModule : Type 0 where
   pub faults : List Fault
   pub known : Option Tables
 
--- a table holds what each declaration of a module is, in sight or not
-abbrev pub HoldsDeclarations : Tree Name module_text → Tables → Type 0
-HoldsDeclarations m t = (k : ℕ) → declared_in t k ≡ declared_object m k
+-- a table holds what each declaration of a module is, in scope or not
+abbrev pub HasDeclarations : Tree Name module_text → Tables → Type 0
+HasDeclarations m t = (k : ℕ) → declared_in t k ≡ declared_object m k
 
--- nothing is told exactly where all is right
-abbrev pub IsTold : Bool → List Fault → Type 0
-IsTold right faults = (faults ≡ []) ↔ (right ≡ true)
+-- nothing is reported exactly where all is right
+abbrev pub IsReported : Bool → List Fault → Type 0
+IsReported right faults = (faults ≡ []) ↔ (right ≡ true)
 
--- No fault is told exactly where the module is well-typed; then what its declarations are is kept. Faults are told in order,
+-- No fault is reported exactly where the module is well-typed; then what its declarations are is kept. Faults are reported in order,
 -- the first 100.
 pub record IsChecked (c : CheckedModule) : Type 0 where
   pub resolved : IsResolution c.names
   pub told : (c.faults ≡ []) ↔ WellTyped (named_tree_of c.names.module_read)
-  pub holds : IfSome c.known (HoldsDeclarations (named_tree_of c.names.module_read))
+  pub holds : IfSome c.known (HasDeclarations (named_tree_of c.names.module_read))
   pub kept : c.faults ≡ [] → is_some c.known ≡ true
   pub few : length c.faults ≤ 100
   pub first : AreFirstFaults c.names c.faults
 
 -- these are the faults of a module that was checked, whatever is known of it
-abbrev pub AreFaultsOf : Resolution → List Fault → Type 0
-AreFaultsOf names faults = (known : Option Tables) × IsChecked (record { names = names; faults = faults; known = known })
+abbrev pub AreCheckedFaults : Resolution → List Fault → Type 0
+AreCheckedFaults names faults = (known : Option Tables) × IsChecked (record { names = names; faults = faults; known = known })
 
 -- a module that is well-typed
 pub record IsWellTyped (names : Resolution) : Type 0 where

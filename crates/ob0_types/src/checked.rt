@@ -1,7 +1,7 @@
 //! Checking a module, and what is known of a well-typed one.
 
 ghost use Rattle.ob0_scope_rules.specs.Resolution.{is_of_declarations};
-ghost use Rattle.ob0_types.specs.CheckedModules.{AreFaultsOf, IsChecked};
+ghost use Rattle.ob0_types.specs.CheckedModules.{AreCheckedFaults, IsChecked};
 ghost use Rattle.ob0_types.specs.FaultOrder.{AreFirstOf};
 ghost use Rattle.ob0_types.specs.FoundFaults.{faults_found, types_found};
 ghost use Rattle.std.specs.List.{filter};
@@ -12,7 +12,7 @@ use ob0_checker::decide;
 use ob0_scan::{Code, Fault};
 use ob0_scope_rules::{PREDECLARED, Resolved};
 use ob0_types_check::laws::{modules_fit, no_fault_in_modules};
-use ob0_types_check::tell;
+use ob0_types_check::report_faults;
 use ob0_types_fields::FieldList;
 use ob0_types_rules::laws::fits_by_ordinal;
 use ob0_types_table::{Known, Parts, TypeId};
@@ -56,7 +56,7 @@ pub struct WellTyped<'c, 't> {
 
 impl<'c, 't> Model for WellTyped<'c, 't> {
     ghost use Rattle.ob0_types_fields.specs.Listed.{AreFields};
-    ghost use Rattle.ob0_types.specs.CheckedModules.{HoldsDeclarations, IsWellTyped};
+    ghost use Rattle.ob0_types.specs.CheckedModules.{HasDeclarations, IsWellTyped};
     ghost use Rattle.ob0_tree.specs.Parsed.{named_tree_of};
     ghost use Rattle.ob0_scope_rules.specs.Resolution.{Resolution};
 
@@ -69,7 +69,7 @@ impl<'c, 't> Model for WellTyped<'c, 't> {
 
     ghost view = { λ w. w.checked.now.names };
 
-    ghost invariant = { λ w. IsWellTyped w.checked.now.names × (HoldsDeclarations (named_tree_of w.checked.now.names.module_read) w.known.now × AreFields w.checked.now.names w.fields.now) };
+    ghost invariant = { λ w. IsWellTyped w.checked.now.names × (HasDeclarations (named_tree_of w.checked.now.names.module_read) w.known.now × AreFields w.checked.now.names w.fields.now) };
 }
 
 /// A type of a module, with the table that knows its parts.
@@ -105,7 +105,7 @@ pub fn check<'t>(alloc: Global, resolved: &'t Resolved<'t>) -> Result<Checked<'t
 
 /// The faults of a module alone: those that `check` finds.
 pub fn faults_in<'t>(alloc: Global, resolved: &'t Resolved<'t>) -> Result<Vec<Fault>, AllocError>
-    ensures { IfOk result (λ faults. AreFaultsOf resolved.now faults.items) }
+    ensures { IfOk result (λ faults. AreCheckedFaults resolved.now faults.items) }
 {
     fits_by_ordinal();
     modules_fit();
@@ -132,7 +132,7 @@ fn known_fields<'t>(
     }
 }
 
-/// The faults of scopes and types, sorted by start, end and number, the first 100. Names that nothing binds are told with
+/// The faults of scopes and types, sorted by start, end and number, the first 100. Names that nothing binds are reported with
 /// the types.
 fn faults_of<'t>(
     alloc: Global,
@@ -161,7 +161,7 @@ fn of_types<'t>(
     if fits {
         return Ok(Vec::new(alloc));
     }
-    tell(alloc, resolved)
+    report_faults(alloc, resolved)
 }
 
 /// Adds names that are declared twice, and closing names that differ.
@@ -224,7 +224,7 @@ impl<'t> Checked<'t> {
 impl<'c, 't> WellTyped<'c, 't> {
     ghost use Rattle.std.specs.Prelude.{option_map};
     ghost use Rattle.ob0_tree.specs.Parsed.{named_tree_of};
-    ghost use Rattle.ob0_types.specs.CheckedModules.{HoldsDeclarations, IsWellTyped};
+    ghost use Rattle.ob0_types.specs.CheckedModules.{HasDeclarations, IsWellTyped};
     ghost use Rattle.ob0_types_fields.specs.Listed.{AreFields};
     ghost use Rattle.ob0_types_rules.specs.ConstantValues.{value_of_constant};
     ghost use Rattle.ob0_types_rules.specs.Bindings.{declared_object};
@@ -242,7 +242,7 @@ impl<'c, 't> WellTyped<'c, 't> {
 
     /// What is known of the module: what each declaration is, by its ordinal (`Known::object`), and the parts of types.
     pub fn known(&self) -> &'c Known<'t>
-        ensures { HoldsDeclarations (named_tree_of self.now.module_read) result.now }
+        ensures { HasDeclarations (named_tree_of self.now.module_read) result.now }
     {
         self.known
     }

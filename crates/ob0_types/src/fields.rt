@@ -1,7 +1,7 @@
 //! The fields of a well-typed module: which one a place is on, its identifiers, and where its record declares it.
 
 ghost use Rattle.std.specs.Prelude.{◌≡◌, IfOk, IfSome, length};
-ghost use Rattle.ob0_tree.specs.Order.{AreIdentifiers, Ascending, IsIdentifier};
+ghost use Rattle.ob0_tree.specs.Order.{AreIdentifiers, Ascending, IsIdentifierToken};
 ghost use Rattle.ob0_types_fields.specs.Identifiers.{declaring_field, field_at, field_place, field_tokens};
 
 use crate::checked::WellTyped;
@@ -11,7 +11,7 @@ use std::alloc::{AllocError, Global};
 /// ordinal of the field's record.
 pub fn field_at(well_typed: &WellTyped<'_, '_>, offset: usize) -> Option<(usize, usize)>
     ensures value { result ≡ field_at well_typed.now offset }
-    ensures stand { IfSome result (λ x. IsIdentifier well_typed.now.module_read.source.tokens x.0) }
+    ensures stand { IfSome result (λ x. IsIdentifierToken well_typed.now.module_read.source.tokens x.0) }
 {
     let names = well_typed.resolved();
     well_typed.fields().at(names.tokens(), offset)

@@ -1,4 +1,4 @@
--- Blocks, procedures and modules of which nothing is told fit.
+-- Blocks, procedures and modules of which nothing is reported fit.
 use Rattle.std.proofs.Common.{◌≡◌, ◌≢◌, ℕ, suc, ◌+◌, ◌<◌, ◌≤◌, Bool, true, false, ◌&&◌, List, [], ◌∷◌, ◌++◌, length, map, Option, Some, None, option_and_then, refl, sym, ap, ◌∙◌, subst, le_refl, le_trans, arith, length-append, lit<}
 use Rattle.std.proofs.lemmas.List.{length-map}
 use Rattle.std.specs.List.{filter}
@@ -13,9 +13,9 @@ use Rattle.ob0_scope_rules.proofs.Ordinals.{le-after_names, le-after_procedure}
 use Rattle.ob0_types_rules.specs.Declarations.{after_types, after_variables, block_constructors, declare_constants, declare_first, declare_types, formals_constructors, procedure_constructors, procedures_constructors, types_constructors, variables_constructors}
 use Rattle.ob0_types_rules.specs.Environments.{meanings, outermost}
 use Rattle.ob0_types_rules.specs.Expressions as meant
-use Rattle.ob0_types_rules.specs.WellTyped.{Signature, TypeEnvironment, TypedParameter, bind_typed, block_fits, body_fits, by_place, by_value, declare_typed, fits_over, heading, hold, procedure_fits, procedures_fit, sequence_fits, typed_parameters}
+use Rattle.ob0_types_rules.specs.WellTyped.{Signature, TypeEnvironment, TypedParameter, bind_typed, block_fits, body_fits, by_place, by_value, declare_typed, fits_over, heading, some_and, procedure_fits, procedures_fit, sequence_fits, typed_parameters}
 use Rattle.ob0_values.specs.Values.{Shape, boolean_shape, integer_shape, truth}
-use Rattle.ob0_types_check.specs.DeclarationFaults.{Heading, behind_heading, told_block, told_body, reported_constants, reported_module, told_procedure, told_procedures, told_sections, told_types, told_variables}
+use Rattle.ob0_types_check.specs.DeclarationFaults.{KnownHeading, after_heading, reported_block, reported_body, reported_constants, reported_module, reported_procedure, reported_procedures, reported_sections, reported_types, reported_variables}
 use Rattle.ob0_types_check.specs.Known.{Meaning, Reported, a_procedure}
 use Rattle.ob0_types_table.specs.declared.types.TypeId.{TypeId}
 use Rattle.ob0_types_check.specs.SoFar.{SoFar, at_first, predeclared_meanings}
@@ -29,14 +29,14 @@ use Rattle.ob0_types_check.proofs.BlocksDeclared.{Declared, constants_declare, d
 use Rattle.ob0_types_check.proofs.MadeOnce.{Apart, apart_same, apart_then, apart_to}
 use Rattle.ob0_types_check.proofs.BlocksParameters.{formals_of, parameters_kept, parameters_over, sections_declare}
 
--- it fits, and what is known behind it, with the constructors from k on, up to l
+-- it fits, and what is known after it, with the constructors from k on, up to l
 pub record FitsLater (n k l : ℕ) (p q : SoFar) (before : List Shape) (fits : Bool) : Type 0 where
   pub right : fits ≡ true
   pub after : List Shape
   pub apart : Apart k l before after
   pub later : Later n p q before after
 
--- a procedure that fits, and what is known behind it
+-- a procedure that fits, and what is known after it
 pub record ProcedureFits (w : Numbering) (n : ℕ) (p q : SoFar) (before : List Shape) (scope : Scope Name) (env : TypeEnvironment Name) (k : ℕ) (d : Tree ℕ (item procedure)) : Type 0 where
   pub parameters : List (TypedParameter Name)
   pub typed : typed_parameters as_names env k (procedure_formals (named w.source d)) ≡ Some parameters
@@ -46,9 +46,9 @@ pub record ProcedureFits (w : Numbering) (n : ℕ) (p q : SoFar) (before : List 
   pub later : Later n p q before after
   pub stands : Stands w q after (after_procedure (suc n) d) (behind_procedure w scope n d) (heading (procedure_name (named w.source d)) parameters env)
 
--- what is known behind a procedure's heading, where its parameters and it are known
+-- what is known after a procedure's heading, where its parameters and it are known
 abbrev pub heading_known : SoFar → ℕ → Tree ℕ (maybe formals) → SoFar
-heading_known p x fs = behind_heading x (told_sections (record { formals = []; behind = p }) (formal_sections fs)).known
+heading_known p x fs = after_heading x (reported_sections (record { formals = []; behind = p }) (formal_sections fs)).known
 
 pub record HeadingKnown (w : Numbering) (n : ℕ) (p : SoFar) (before : List Shape) (scope : Scope Name) (env : TypeEnvironment Name) (k x : ℕ) (fs : Tree ℕ (maybe formals)) : Type 0 where
   pub parameters : List (TypedParameter Name)
@@ -59,12 +59,12 @@ pub record HeadingKnown (w : Numbering) (n : ℕ) (p : SoFar) (before : List Sha
   pub stands : Stands w (heading_known p x fs) after (suc n) ((text_at w.source x, n) ∷ scope) (heading (text_at w.source x) parameters env)
   pub inside : Stands w (heading_known p x fs) after (after_names (suc n) (formal_names (formal_sections fs))) (scope_behind w (suc n) (formal_names (formal_sections fs)) ((text_at w.source x, n) ∷ scope)) (bind_typed parameters (heading (text_at w.source x) parameters env))
 
--- the ordinal behind a block's constructors
+-- the ordinal after a block's constructors
 block_end : (k t v p : ℕ) → k + t + v + p ≡ k + (t + (v + p))
 block_end k t v p = omega arith
 
-pub body_known : (p : SoFar) (statements : Tree ℕ (maybe body)) → (told_body p statements).known ≡ p
-unfolding told_body
+pub body_known : (p : SoFar) (statements : Tree ℕ (maybe body)) → (reported_body p statements).known ≡ p
+unfolding reported_body
 body_known p none = refl
 body_known p (one (begins statements)) = refl
 
@@ -72,8 +72,8 @@ above : (j n : ℕ) → n < j → j ≢ n
 above j n less e = absurd (omega (arith, e, less))
 
 module _ (w : Numbering) (fit : PartsFit) where
-  pub body_told : (statements : Tree ℕ (maybe body)) (n : ℕ) (p : SoFar) (before : List Shape) (scope : Scope Name) (env : TypeEnvironment Name) → Stands w p before n scope env → AreSeen w scope statements → (told_body p statements).faults ≡ [] → body_fits as_names env (named w.source statements) ≡ true
-  unfolding told_body body_fits
+  pub body_told : (statements : Tree ℕ (maybe body)) (n : ℕ) (p : SoFar) (before : List Shape) (scope : Scope Name) (env : TypeEnvironment Name) → Stands w p before n scope env → AreSeen w scope statements → (reported_body p statements).faults ≡ [] → body_fits as_names env (named w.source statements) ≡ true
+  unfolding reported_body body_fits
   body_told none n p before scope env st seen h = refl
   body_told (one (begins s)) n p before scope env st seen h =
       ap (λ z. sequence_fits (meanings as_names env) (mapped (text_at w.source) (value_at z) s)) (sym st.source)
@@ -85,9 +85,9 @@ module _ (w : Numbering) (fit : PartsFit) where
       → TypesPlaced w (behind_constants w scope n (has_body (declares cs ts vs ps) statements)) (first_type n (has_body (declares cs ts vs ps) statements)) (section_types ts)
       → VariablesPlaced w (behind_types w scope n (has_body (declares cs ts vs ps) statements)) (first_variable n (has_body (declares cs ts vs ps) statements)) (section_variables vs)
       → (reported_constants p (section_constants cs)).faults ≡ []
-      → (told_types (reported_constants p (section_constants cs)).known (section_types ts)).faults ≡ []
-      → (told_variables (told_types (reported_constants p (section_constants cs)).known (section_types ts)).known (section_variables vs)).faults ≡ []
-      → Declared w n (first_procedure n (has_body (declares cs ts vs ps) statements)) k (after_variables k (named w.source (has_body (declares cs ts vs ps) statements))) p (told_variables (told_types (reported_constants p (section_constants cs)).known (section_types ts)).known (section_variables vs)).known before (behind_variables w scope n (has_body (declares cs ts vs ps) statements))
+      → (reported_types (reported_constants p (section_constants cs)).known (section_types ts)).faults ≡ []
+      → (reported_variables (reported_types (reported_constants p (section_constants cs)).known (section_types ts)).known (section_variables vs)).faults ≡ []
+      → Declared w n (first_procedure n (has_body (declares cs ts vs ps) statements)) k (after_variables k (named w.source (has_body (declares cs ts vs ps) statements))) p (reported_variables (reported_types (reported_constants p (section_constants cs)).known (section_types ts)).known (section_variables vs)).known before (behind_variables w scope n (has_body (declares cs ts vs ps) statements))
       (option_and_then (declare_typed as_names (after_types k (named w.source (has_body (declares cs ts vs ps) statements))) (section_variables (named w.source vs))) (declare_first as_names env k (named w.source (has_body (declares cs ts vs ps) statements))))
   unfolding declare_first
   declarations_told cs ts vs ps statements k n p before scope env st placed₀ placed₁ placed₂ none₀ none₁ none₂ =
@@ -96,8 +96,8 @@ module _ (w : Numbering) (fit : PartsFit) where
       let b : Tree ℕ block = has_body (declares cs ts vs ps) statements in
       let nb : Tree Name block = named w.source b in
       let p₁ : SoFar = (reported_constants p (section_constants cs)).known in
-      let p₂ : SoFar = (told_types p₁ (section_types ts)).known in
-      let p₃ : SoFar = (told_variables p₂ (section_variables vs)).known in
+      let p₂ : SoFar = (reported_types p₁ (section_types ts)).known in
+      let p₃ : SoFar = (reported_variables p₂ (section_variables vs)).known in
       let dc = constants_declare w fit (section_constants cs) k n p before scope env st placed₀ none₀ in
       let dt = types_declare w fit (section_types ts) k (first_type n b) p₁ dc.after (behind_constants w scope n b) dc.env dc.stands placed₁ none₁ in
       let le₁ : n ≤ first_type n b = le-after_names n (constant_names (section_constants cs)) in
@@ -110,24 +110,24 @@ module _ (w : Numbering) (fit : PartsFit) where
       declared_then w n (first_variable n b) (first_procedure n b) k (after_types k nb) (after_variables k nb) p p₂ p₃ before first.after (behind_variables w scope n b) (declare_first as_names env k nb) first.env (declare_typed as_names (after_types k nb) (section_variables (named w.source vs))) le₂ first.given_is first.apart first.later
       (subst (λ z. Declared w (first_variable n b) (first_procedure n b) (after_types k nb) (after_types k nb + variables_constructors z) p₂ p₃ first.after (behind_variables w scope n b) (declare_typed as_names (after_types k nb) z first.env)) (sym (variables-mapped text value vs)) dv)
 
-  -- a block behind its declarations
+  -- a block after its declarations
   block_then : (p v q : SoFar) (before : List Shape) (n m k j l : ℕ) (scope : Scope Name) (given : Option (TypeEnvironment Name)) (statements : Tree ℕ (maybe body)) (test : TypeEnvironment Name → Bool) → n ≤ m → (d : Declared w n m k j p v before scope given) → FitsLater m j l v q d.after (test d.env)
-      → FitsLater n k l p (told_body q statements).known before (hold given test)
+      → FitsLater n k l p (reported_body q statements).known before (some_and given test)
   block_then p v q before n m k j l scope given statements test le d f =
-      subst (λ z. FitsLater n k l p z before (hold given test)) (sym (body_known q statements)) (record {
-        right = ap (λ o. hold o test) d.given_is ∙ f.right;
+      subst (λ z. FitsLater n k l p z before (some_and given test)) (sym (body_known q statements)) (record {
+        right = ap (λ o. some_and o test) d.given_is ∙ f.right;
         after = f.after;
         apart = apart_then k j l before d.after f.after d.apart f.apart;
         later = later_then n m p v q before d.after f.after le d.later f.later;
       })
 
-  -- a procedure's heading, and what is known behind it
+  -- a procedure's heading, and what is known after it
   pub heading_told : (x : ℕ) (fs : Tree ℕ (maybe formals)) (k n : ℕ) (p : SoFar) (before : List Shape) (scope : Scope Name) (env : TypeEnvironment Name) → Stands w p before n scope env → IsPlaced w n x → SectionsPlaced w scope (suc n) (formal_sections fs)
-      → (told_sections (record { formals = []; behind = p }) (formal_sections fs)).faults ≡ [] → HeadingKnown w n p before scope env k x fs
+      → (reported_sections (record { formals = []; behind = p }) (formal_sections fs)).faults ≡ [] → HeadingKnown w n p before scope env k x fs
   heading_told x fs k n p before scope env st placed sections untold =
       let text : ℕ → Name = text_at w.source in
-      let start : Heading = record { formals = []; behind = p } in
-      let g : Heading = (told_sections start (formal_sections fs)).known in
+      let start : KnownHeading = record { formals = []; behind = p } in
+      let g : KnownHeading = (reported_sections start (formal_sections fs)).known in
       let q₁ : SoFar = heading_known p x fs in
       let weak = stands_later w n n (suc n) p p before before scope env (le_refl n) (next_le n) st (later_same n p before st.table) in
       let ps = sections_declare w fit (formal_sections fs) k (suc n) start before scope env weak sections untold in
@@ -156,18 +156,18 @@ module _ (w : Numbering) (fit : PartsFit) where
       }
 
   mutual
-    unfolding told_block block_fits
+    unfolding reported_block block_fits
 
-    pub block_told : (b : Tree ℕ block) (k n : ℕ) (p : SoFar) (before : List Shape) (scope : Scope Name) (env : TypeEnvironment Name) → Stands w p before n scope env → BlockPlaced w scope n b → (told_block p b).faults ≡ []
-        → FitsLater n k (k + block_constructors (named w.source b)) p (told_block p b).known before (block_fits as_names env k (named w.source b))
+    pub block_told : (b : Tree ℕ block) (k n : ℕ) (p : SoFar) (before : List Shape) (scope : Scope Name) (env : TypeEnvironment Name) → Stands w p before n scope env → BlockPlaced w scope n b → (reported_block p b).faults ≡ []
+        → FitsLater n k (k + block_constructors (named w.source b)) p (reported_block p b).known before (block_fits as_names env k (named w.source b))
     block_told (has_body (declares cs ts vs ps) statements) k n p before scope env st placed h =
         let b : Tree ℕ block = has_body (declares cs ts vs ps) statements in
         let nb : Tree Name block = named w.source b in
         let t₁ : Reported SoFar = reported_constants p (section_constants cs) in
-        let t₂ : Reported SoFar = told_types t₁.known (section_types ts) in
-        let t₃ : Reported SoFar = told_variables t₂.known (section_variables vs) in
-        let t₄ : Reported SoFar = told_procedures t₃.known ps in
-        let t₅ : Reported SoFar = told_body t₄.known statements in
+        let t₂ : Reported SoFar = reported_types t₁.known (section_types ts) in
+        let t₃ : Reported SoFar = reported_variables t₂.known (section_variables vs) in
+        let t₄ : Reported SoFar = reported_procedures t₃.known ps in
+        let t₅ : Reported SoFar = reported_body t₄.known statements in
         let a₁ = none_both t₁.faults (t₂.faults ++ (t₃.faults ++ (t₄.faults ++ t₅.faults))) h in
         let a₂ = none_both t₂.faults (t₃.faults ++ (t₄.faults ++ t₅.faults)) a₁.1 in
         let a₃ = none_both t₃.faults (t₄.faults ++ t₅.faults) a₂.1 in
@@ -176,37 +176,37 @@ module _ (w : Numbering) (fit : PartsFit) where
         let le : n ≤ first_procedure n b = le_trans (le-after_names n (constant_names (section_constants cs))) (le_trans (le-after_names (first_type n b) (named_types (section_types ts))) (le-after_names (first_variable n b) (variable_names (section_variables vs)))) in
         let rest = procedures_told ps statements (after_variables k nb) (first_procedure n b) t₃.known d.after (behind_variables w scope n b) d.env d.stands placed.3 a₄.0 a₄.1 in
         let l : ℕ = after_variables k nb + procedures_constructors (named w.source ps) in
-        subst (λ j. FitsLater n k j p (told_block p (has_body (declares cs ts vs ps) statements)).known before (block_fits as_names env k (named w.source (has_body (declares cs ts vs ps) statements))))
+        subst (λ j. FitsLater n k j p (reported_block p (has_body (declares cs ts vs ps) statements)).known before (block_fits as_names env k (named w.source (has_body (declares cs ts vs ps) statements))))
         (block_end k (types_constructors (section_types (named w.source ts))) (variables_constructors (section_variables (named w.source vs))) (procedures_constructors (named w.source ps)))
         (block_then p t₃.known t₄.known before n (first_procedure n b) k (after_variables k nb) l (behind_variables w scope n b) (option_and_then (declare_typed as_names (after_types k nb) (section_variables (named w.source vs))) (declare_first as_names env k nb)) statements
         (λ inner. procedures_fit as_names inner (after_variables k nb) (named w.source statements) (named w.source ps)) le d rest)
 
-    procedures_told : (ps : Tree ℕ (items procedure)) (statements : Tree ℕ (maybe body)) (k n : ℕ) (p : SoFar) (before : List Shape) (scope : Scope Name) (env : TypeEnvironment Name) → Stands w p before n scope env → ProceduresPlaced w scope n statements ps → (told_procedures p ps).faults ≡ []
-        → (told_body (told_procedures p ps).known statements).faults ≡ [] → FitsLater n k (k + procedures_constructors (named w.source ps)) p (told_procedures p ps).known before (procedures_fit as_names env k (named w.source statements) (named w.source ps))
+    procedures_told : (ps : Tree ℕ (items procedure)) (statements : Tree ℕ (maybe body)) (k n : ℕ) (p : SoFar) (before : List Shape) (scope : Scope Name) (env : TypeEnvironment Name) → Stands w p before n scope env → ProceduresPlaced w scope n statements ps → (reported_procedures p ps).faults ≡ []
+        → (reported_body (reported_procedures p ps).known statements).faults ≡ [] → FitsLater n k (k + procedures_constructors (named w.source ps)) p (reported_procedures p ps).known before (procedures_fit as_names env k (named w.source statements) (named w.source ps))
     procedures_told end statements k n p before scope env st placed h last = record { right = body_told statements n p before scope env st placed last; after = before; apart = apart_same k (k + 0) before (omega arith); later = later_same n p before st.table }
     procedures_told (more d rest) statements k n p before scope env st placed h last =
         let nd : Tree Name (item procedure) = named w.source d in
-        let q : SoFar = (told_procedure p d).known in
-        let a = none_both (told_procedure p d).faults (told_procedures q rest).faults h in
+        let q : SoFar = (reported_procedure p d).known in
+        let a = none_both (reported_procedure p d).faults (reported_procedures q rest).faults h in
         let f = procedure_told d k n p before scope env st placed.0 a.0 in
         let others = procedures_told rest statements (k + procedure_constructors nd) (after_procedure (suc n) d) q f.after (behind_procedure w scope n d) (heading (procedure_name nd) f.parameters env) f.stands placed.1 a.1 last in
         record {
-          right = ap (λ o. hold o (λ ps. procedure_fits as_names (bind_typed ps (heading (procedure_name nd) ps env)) k nd && procedures_fit as_names (heading (procedure_name nd) ps env) (k + procedure_constructors nd) (named w.source statements) (named w.source rest))) f.typed
+          right = ap (λ o. some_and o (λ ps. procedure_fits as_names (bind_typed ps (heading (procedure_name nd) ps env)) k nd && procedures_fit as_names (heading (procedure_name nd) ps env) (k + procedure_constructors nd) (named w.source statements) (named w.source rest))) f.typed
               ∙ (λ i. f.right i && others.right i);
           after = others.after;
           apart = apart_to k (k + procedure_constructors nd + procedures_constructors (named w.source rest)) (k + (procedure_constructors nd + procedures_constructors (named w.source rest))) before others.after (more_constructors k (procedure_constructors nd) (procedures_constructors (named w.source rest)))
               (apart_then k (k + procedure_constructors nd) (k + procedure_constructors nd + procedures_constructors (named w.source rest)) before f.after others.after f.apart others.apart);
-          later = later_then n (after_procedure (suc n) d) p q (told_procedures q rest).known before f.after others.after (le_trans (next_le n) (le-after_procedure (suc n) d)) f.later others.later;
+          later = later_then n (after_procedure (suc n) d) p q (reported_procedures q rest).known before f.after others.after (le_trans (next_le n) (le-after_procedure (suc n) d)) f.later others.later;
         }
 
-    pub procedure_told : (d : Tree ℕ (item procedure)) (k n : ℕ) (p : SoFar) (before : List Shape) (scope : Scope Name) (env : TypeEnvironment Name) → Stands w p before n scope env → ProcedurePlaced w scope n d → (told_procedure p d).faults ≡ []
-        → ProcedureFits w n p (told_procedure p d).known before scope env k d
+    pub procedure_told : (d : Tree ℕ (item procedure)) (k n : ℕ) (p : SoFar) (before : List Shape) (scope : Scope Name) (env : TypeEnvironment Name) → Stands w p before n scope env → ProcedurePlaced w scope n d → (reported_procedure p d).faults ≡ []
+        → ProcedureFits w n p (reported_procedure p d).known before scope env k d
     procedure_told (declares_procedure x fs b closing) k n p before scope env st placed h =
         let d : Tree ℕ (item procedure) = declares_procedure x fs b closing in
         let text : ℕ → Name = text_at w.source in
         let q₁ : SoFar = heading_known p x fs in
-        let q : SoFar = (told_block q₁ b).known in
-        let a = none_both (told_sections (record { formals = []; behind = p }) (formal_sections fs)).faults (told_block q₁ b).faults h in
+        let q : SoFar = (reported_block q₁ b).known in
+        let a = none_both (reported_sections (record { formals = []; behind = p }) (formal_sections fs)).faults (reported_block q₁ b).faults h in
         let e = heading_told x fs k n p before scope env st placed.0 placed.1 a.0 in
         let first : ℕ = k + formals_constructors (formal_sections (named w.source fs)) in
         let own : ℕ = block_constructors (named w.source b) in
@@ -274,5 +274,5 @@ pub modules_fit-holds : ModulesFit
 unfolding reported_module fits_over
 modules_fit-holds r is h =
     let m = r.module_read in
-    let a = none_both (filter is_of_occurrences r.faults) (told_block (at_first r) (module_block (tree_of m))).faults h in
+    let a = none_both (filter is_of_occurrences r.faults) (reported_block (at_first r) (module_block (tree_of m))).faults h in
     (block_told (numbering_of r) parts_fit (module_block (tree_of m)) 0 7 (at_first r) [] (predeclared_scope as_names) (outermost as_names) (first_stands r) (module_placed r is a.0) a.1).right

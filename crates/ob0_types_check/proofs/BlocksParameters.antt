@@ -1,4 +1,4 @@
--- Formal parameters of which nothing is told have the types of a signature.
+-- Formal parameters of which nothing is reported have the types of a signature.
 use Rattle.std.proofs.Common.{◌≡◌, ℕ, suc, ◌+◌, ◌<◌, ◌≤◌, Bool, true, false, List, [], ◌∷◌, ◌++◌, map, Option, Some, None, option_and_then, slice_index_or, refl, sym, ap, ◌∙◌, subst, subst₂, le_refl, le_of_lt, le_trans, append_assoc, append-nil, arith}
 use Rattle.std.proofs.lemmas.List.{map-append}
 use Rattle.ob0_tree.specs.Places.{named, text_at, value_at}
@@ -15,11 +15,11 @@ use Rattle.ob0_types_rules.specs.Expressions as meant
 use Rattle.ob0_types_rules.specs.Typing.{constructors, denoted}
 use Rattle.ob0_types_rules.specs.WellTyped.{Mode, Signature, TypeEnvironment, TypedParameter, bind_names, bind_typed, by_place, by_value, typed_parameters}
 use Rattle.ob0_values.specs.Values.{Shape}
-use Rattle.ob0_types_check.specs.DeclarationFaults.{Heading, told_parameters, told_section, told_sections, with_parameters}
+use Rattle.ob0_types_check.specs.DeclarationFaults.{KnownHeading, reported_parameters, reported_section, reported_sections, with_parameters}
 use Rattle.ob0_types_check.specs.Known.{Formal, Meaning, Reported, a_variable}
-use Rattle.ob0_types_check.specs.SoFar.{SoFar, Typed, define, define_all}
-use Rattle.ob0_types_check.specs.WrittenTypeFaults.{told_type}
-use Rattle.ob0_types_check.specs.Agreement.{FormalsAgree, StandsAlike, shape_in}
+use Rattle.ob0_types_check.specs.SoFar.{SoFar, TypedAfter, define, define_all}
+use Rattle.ob0_types_check.specs.WrittenTypeFaults.{reported_type}
+use Rattle.ob0_types_check.specs.Agreement.{FormalsAgree, MeansAlike, shape_in}
 use Rattle.ob0_types_check.proofs.BlocksDeclared.{more_constructors}
 use Rattle.ob0_types_check.proofs.MadeOnce.{Apart, apart_same, apart_then}
 use Rattle.ob0_types_check.proofs.PartsFitting.{PartsFit}
@@ -34,7 +34,7 @@ ParametersStand shapes declared k [] [] = Unit {0}
 ParametersStand shapes declared k [] (p ∷ ps) = ⊥
 ParametersStand shapes declared k (x ∷ xs) [] = ⊥
 ParametersStand shapes declared k (x ∷ xs) (p ∷ ps) =
-    (p.name ≡ x) × StandsAlike (shape_in shapes) (slice_index_or declared k None) (Some (meant.a_variable p.formal.shape)) × ParametersStand shapes declared (suc k) xs ps
+    (p.name ≡ x) × MeansAlike (shape_in shapes) (slice_index_or declared k None) (Some (meant.a_variable p.formal.shape)) × ParametersStand shapes declared (suc k) xs ps
 
 pub parameters_kept : (before after : List Shape) (old new : List (Option (Meaning TypeId))) (k m : ℕ) → Longer before after → ((j : ℕ) → k ≤ j → j < m → slice_index_or new j None ≡ slice_index_or old j None) → (xs : List Name) (ps : List (TypedParameter Name)) → after_names k xs ≤ m
     → ParametersStand before old k xs ps → ParametersStand after new k xs ps
@@ -43,11 +43,11 @@ parameters_kept before after old new k m longer kept [] (p ∷ ps) le h = absurd
 parameters_kept before after old new k m longer kept (x ∷ xs) [] le h = absurd h
 parameters_kept before after old new k m longer kept (x ∷ xs) (p ∷ ps) le h = (
   h.0,
-  subst (λ o. StandsAlike (shape_in after) o (Some (meant.a_variable p.formal.shape))) (sym (kept k (le_refl k) (le_trans (le-after_names (suc k) xs) le))) (stands_kept before after longer (slice_index_or old k None) (Some (meant.a_variable p.formal.shape)) h.1),
+  subst (λ o. MeansAlike (shape_in after) o (Some (meant.a_variable p.formal.shape))) (sym (kept k (le_refl k) (le_trans (le-after_names (suc k) xs) le))) (stands_kept before after longer (slice_index_or old k None) (Some (meant.a_variable p.formal.shape)) h.1),
   parameters_kept before after old new (suc k) m longer (λ j from to. kept j (le_of_lt from) to) xs ps le h.2,
 )
 
--- they stand above what stands
+-- they are above what is
 pub parameters_over : (shapes : List Shape) (declared : List (Option (Meaning TypeId))) (k : ℕ) (scope : Scope Name) (env : TypeEnvironment Name) (xs : List Name) (ps : List (TypedParameter Name)) → NamesStand shapes declared k scope env → ParametersStand shapes declared k xs ps
     → NamesStand shapes declared (after_names k xs) (declare_names k xs scope) (bind_typed ps env)
 parameters_over shapes declared k scope env [] [] below h = below
@@ -95,12 +95,12 @@ own_stand w p shapes n scope env mode t s (x ∷ xs) is st placed =
     let rest = all_defined w q shapes (suc n) ((text_at w.source x, n) ∷ scope) ((text_at w.source x, o) ∷ env) (a_variable t) xs o next placed.1 (s, is, refl) in
     let slot : slice_index_or (define_all q (a_variable t) xs).declared n None ≡ Some (a_variable t) = rest.later.kept n (le_refl (suc n)) ∙ d.here in (
       refl,
-      subst (λ z. StandsAlike (shape_in shapes) z (Some o)) (sym slot) (s, is, refl),
+      subst (λ z. MeansAlike (shape_in shapes) z (Some o)) (sym slot) (s, is, refl),
       own_stand w q shapes (suc n) ((text_at w.source x, n) ∷ scope) ((text_at w.source x, o) ∷ env) mode t s xs is next placed.1,
     )
 
--- parameters from the ordinal n on, behind a heading's others
-pub record Parameters (n k l : ℕ) (h g : Heading) (before : List Shape) (xs : List Name) (given : Option (List (TypedParameter Name))) : Type 0 where
+-- parameters from the ordinal n on, after a heading's others
+pub record Parameters (n k l : ℕ) (h g : KnownHeading) (before : List Shape) (xs : List Name) (given : Option (List (TypedParameter Name))) : Type 0 where
   pub parameters : List (TypedParameter Name)
   pub given_is : given ≡ Some parameters
   pub after : List Shape
@@ -109,8 +109,8 @@ pub record Parameters (n k l : ℕ) (h g : Heading) (before : List Shape) (xs : 
   pub own : ParametersStand after g.behind.declared n xs parameters
   pub formals : (signature : Signature) → FormalsAgree (shape_in before) h.formals signature → FormalsAgree (shape_in after) g.formals (signature ++ formals_of parameters)
 
--- those of one type, and what is known behind them
-pub record OneType (w : Numbering) (n m k l : ℕ) (h g : Heading) (before : List Shape) (scope : Scope Name) (env : TypeEnvironment Name) (mode : Mode) (xs : List Name) (given : Option Shape) : Type 0 where
+-- those of one type, and what is known after them
+pub record OneType (w : Numbering) (n m k l : ℕ) (h g : KnownHeading) (before : List Shape) (scope : Scope Name) (env : TypeEnvironment Name) (mode : Mode) (xs : List Name) (given : Option Shape) : Type 0 where
   pub shape : Shape
   pub given_is : given ≡ Some shape
   pub after : List Shape
@@ -121,10 +121,10 @@ pub record OneType (w : Numbering) (n m k l : ℕ) (h g : Heading) (before : Lis
   pub formals : (signature : Signature) → FormalsAgree (shape_in before) h.formals signature → FormalsAgree (shape_in after) g.formals (signature ++ formals_of (map (typed_as mode shape) xs))
 
 module _ (w : Numbering) (fit : PartsFit) where
-  pub one_type : (by : Bool) (xs : List ℕ) (t : Tree ℕ written_type) (k n : ℕ) (h : Heading) (before : List Shape) (scope : Scope Name) (env : TypeEnvironment Name) → Stands w h.behind before n scope env → NamesPlaced w n xs → AreSeen w scope t → (told_type h.behind t).faults ≡ []
-      → OneType w n (after_names n xs) k (k + constructors (named w.source t)) h (with_parameters h by xs (told_type h.behind t).known) before (scope_behind w n xs scope) env (mode_of by) (map (text_at w.source) xs) (denoted (meanings as_names env) k (named w.source t))
+  pub one_type : (by : Bool) (xs : List ℕ) (t : Tree ℕ written_type) (k n : ℕ) (h : KnownHeading) (before : List Shape) (scope : Scope Name) (env : TypeEnvironment Name) → Stands w h.behind before n scope env → NamesPlaced w n xs → AreSeen w scope t → (reported_type h.behind t).faults ≡ []
+      → OneType w n (after_names n xs) k (k + constructors (named w.source t)) h (with_parameters h by xs (reported_type h.behind t).known) before (scope_behind w n xs scope) env (mode_of by) (map (text_at w.source) xs) (denoted (meanings as_names env) k (named w.source t))
   one_type by xs t k n h before scope env st placed seen none =
-      let u : Typed = (told_type h.behind t).known in
+      let u : TypedAfter = (reported_type h.behind t).known in
       let s = type_denotes w fit n scope env k t h.behind before st seen none in
       let behind = stands_later w n n n h.behind u.behind before s.after scope env (le_refl n) (le_refl n) st s.later in
       let all = all_defined w u.behind s.after n scope env (a_variable u.of) xs (meant.a_variable s.shape) behind placed (s.shape, s.known, refl) in
@@ -141,7 +141,7 @@ module _ (w : Numbering) (fit : PartsFit) where
       }
 
   -- one type, and then the others
-  parameters_then : (mode : Mode) (xs : List ℕ) (ns ys : List Name) (n k j m : ℕ) (h g l : Heading) (before : List Shape) (scope : Scope Name) (env : TypeEnvironment Name) (given : Option Shape) (next : TypeEnvironment Name → Option (List (TypedParameter Name))) → ns ≡ map (text_at w.source) xs
+  parameters_then : (mode : Mode) (xs : List ℕ) (ns ys : List Name) (n k j m : ℕ) (h g l : KnownHeading) (before : List Shape) (scope : Scope Name) (env : TypeEnvironment Name) (given : Option Shape) (next : TypeEnvironment Name → Option (List (TypedParameter Name))) → ns ≡ map (text_at w.source) xs
       → (one : OneType w n (after_names n xs) k j h g before (scope_behind w n xs scope) env mode (map (text_at w.source) xs) given) → Parameters (after_names n xs) j m g l one.after ys (next (bind_names (map (text_at w.source) xs) (meant.a_variable one.shape) env))
       → Parameters n k m h l before (map (text_at w.source) xs ++ ys) (option_and_then (λ s. option_and_then (λ rest. Some (map (typed_as mode s) ns ++ rest)) (next (bind_names ns (meant.a_variable s) env))) given)
   parameters_then mode xs ns ys n k j m h g l before scope env given next e one rest =
@@ -163,9 +163,9 @@ module _ (w : Numbering) (fit : PartsFit) where
             (rest.formals (signature ++ formals_of own) (one.formals signature agree));
       }
 
-  pub sections_declare : (fs : Tree ℕ (items further_section)) (k n : ℕ) (h : Heading) (before : List Shape) (scope : Scope Name) (env : TypeEnvironment Name) → Stands w h.behind before n scope env → SectionsPlaced w scope n fs → (told_sections h fs).faults ≡ []
-      → Parameters n k (k + formals_constructors (named w.source fs)) h (told_sections h fs).known before (map (text_at w.source) (formal_names fs)) (typed_parameters as_names env k (named w.source fs))
-  unfolding told_sections told_section told_parameters typed_parameters
+  pub sections_declare : (fs : Tree ℕ (items further_section)) (k n : ℕ) (h : KnownHeading) (before : List Shape) (scope : Scope Name) (env : TypeEnvironment Name) → Stands w h.behind before n scope env → SectionsPlaced w scope n fs → (reported_sections h fs).faults ≡ []
+      → Parameters n k (k + formals_constructors (named w.source fs)) h (reported_sections h fs).known before (map (text_at w.source) (formal_names fs)) (typed_parameters as_names env k (named w.source fs))
+  unfolding reported_sections reported_section reported_parameters typed_parameters
   sections_declare end k n h before scope env st placed none = record {
     parameters = [];
     given_is = refl;
@@ -177,25 +177,25 @@ module _ (w : Numbering) (fit : PartsFit) where
   }
   sections_declare (more (then_section (value_section ns t)) fs) k n h before scope env st placed none =
       let xs : List ℕ = names_listed ns in
-      let u : Reported Typed = told_type h.behind t in
-      let g : Heading = with_parameters h false xs u.known in
-      let a = none_both (u.faults ++ []) (told_sections g fs).faults none in
+      let u : Reported TypedAfter = reported_type h.behind t in
+      let g : KnownHeading = with_parameters h false xs u.known in
+      let a = none_both (u.faults ++ []) (reported_sections g fs).faults none in
       let one = one_type false xs t k n h before scope env st placed.0 placed.1 (none_both u.faults [] a.0).0 in
       let rest = sections_declare fs (k + constructors (named w.source t)) (after_names n xs) g one.after (scope_behind w n xs scope) (bind_names (map (text_at w.source) xs) (meant.a_variable one.shape) env) one.stands placed.2 a.1 in
       let own : ℕ = constructors (named w.source t) in
       let others : ℕ = formals_constructors (named w.source fs) in
-      subst₂ (λ l ys. Parameters n k l h (told_sections g fs).known before ys (typed_parameters as_names env k (named w.source (more (then_section (value_section ns t)) fs)))) (more_constructors k own others) (sym (map-append (text_at w.source) xs (formal_names fs)))
-      (parameters_then by_value xs (names_listed (named w.source ns)) (map (text_at w.source) (formal_names fs)) n k (k + own) (k + own + others) h g (told_sections g fs).known before scope env (denoted (meanings as_names env) k (named w.source t))
+      subst₂ (λ l ys. Parameters n k l h (reported_sections g fs).known before ys (typed_parameters as_names env k (named w.source (more (then_section (value_section ns t)) fs)))) (more_constructors k own others) (sym (map-append (text_at w.source) xs (formal_names fs)))
+      (parameters_then by_value xs (names_listed (named w.source ns)) (map (text_at w.source) (formal_names fs)) n k (k + own) (k + own + others) h g (reported_sections g fs).known before scope env (denoted (meanings as_names env) k (named w.source t))
       (λ e. typed_parameters as_names e (k + constructors (named w.source t)) (named w.source fs)) (names_listed-mapped (text_at w.source) (value_at w.source) ns) one rest)
   sections_declare (more (then_section (variable_section ns t)) fs) k n h before scope env st placed none =
       let xs : List ℕ = names_listed ns in
-      let u : Reported Typed = told_type h.behind t in
-      let g : Heading = with_parameters h true xs u.known in
-      let a = none_both (u.faults ++ []) (told_sections g fs).faults none in
+      let u : Reported TypedAfter = reported_type h.behind t in
+      let g : KnownHeading = with_parameters h true xs u.known in
+      let a = none_both (u.faults ++ []) (reported_sections g fs).faults none in
       let one = one_type true xs t k n h before scope env st placed.0 placed.1 (none_both u.faults [] a.0).0 in
       let rest = sections_declare fs (k + constructors (named w.source t)) (after_names n xs) g one.after (scope_behind w n xs scope) (bind_names (map (text_at w.source) xs) (meant.a_variable one.shape) env) one.stands placed.2 a.1 in
       let own : ℕ = constructors (named w.source t) in
       let others : ℕ = formals_constructors (named w.source fs) in
-      subst₂ (λ l ys. Parameters n k l h (told_sections g fs).known before ys (typed_parameters as_names env k (named w.source (more (then_section (variable_section ns t)) fs)))) (more_constructors k own others) (sym (map-append (text_at w.source) xs (formal_names fs)))
-      (parameters_then by_place xs (names_listed (named w.source ns)) (map (text_at w.source) (formal_names fs)) n k (k + own) (k + own + others) h g (told_sections g fs).known before scope env (denoted (meanings as_names env) k (named w.source t))
+      subst₂ (λ l ys. Parameters n k l h (reported_sections g fs).known before ys (typed_parameters as_names env k (named w.source (more (then_section (variable_section ns t)) fs)))) (more_constructors k own others) (sym (map-append (text_at w.source) xs (formal_names fs)))
+      (parameters_then by_place xs (names_listed (named w.source ns)) (map (text_at w.source) (formal_names fs)) n k (k + own) (k + own + others) h g (reported_sections g fs).known before scope env (denoted (meanings as_names env) k (named w.source t))
       (λ e. typed_parameters as_names e (k + constructors (named w.source t)) (named w.source fs)) (names_listed-mapped (text_at w.source) (value_at w.source) ns) one rest)

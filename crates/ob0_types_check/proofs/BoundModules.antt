@@ -13,7 +13,7 @@ use Rattle.ob0_types_rules.specs.Declarations.{after_types, after_variables, dec
 use Rattle.ob0_types_rules.specs.Environments.{from_binding, meanings, newest, outermost}
 use Rattle.ob0_types_rules.specs.Expressions.{Object, a_constant, a_type, a_variable}
 use Rattle.ob0_types_rules.specs.Typing.{constant_value, constructors, denoted}
-use Rattle.ob0_types_rules.specs.WellTyped.{Signature, TypeEnvironment, TypedParameter, bind_names, bind_typed, block_fits, body_fits, declare_typed, fits_over, heading, hold, procedure_fits, procedures_fit, section_mode, typed_parameters}
+use Rattle.ob0_types_rules.specs.WellTyped.{Signature, TypeEnvironment, TypedParameter, bind_names, bind_typed, block_fits, body_fits, declare_typed, fits_over, heading, some_and, procedure_fits, procedures_fit, section_mode, typed_parameters}
 use Rattle.ob0_types_rules.proofs.Proved.{fits_by_ordinal-holds}
 use Rattle.ob0_values.specs.Values.{Shape}
 use Rattle.ob0_types_check.specs.WellTypedLaws.{NamesBound}
@@ -22,7 +22,7 @@ use Rattle.ob0_types_check.proofs.DeclaredNames.{Each}
 use Rattle.ob0_types_check.proofs.EqualShapes.{each-true}
 use Rattle.ob0_types_check.proofs.TypedOperands.{and-then}
 
-pub held : {A : Type 0} (o : Option A) (test : A → Bool) → hold o test ≡ true → (a : A) × (o ≡ Some a) × (test a ≡ true)
+pub held : {A : Type 0} (o : Option A) (test : A → Bool) → some_and o test ≡ true → (a : A) × (o ≡ Some a) × (test a ≡ true)
 held None test h = absurd (cc)
 held (Some a) test h = (a, refl, h)
 

@@ -1,49 +1,49 @@
--- What is told in steps, one behind the other, and by a loop over the items of a chain.
+-- What is reported in steps, one after the other, and by a loop over the items of a chain.
 use Rattle.std.proofs.Common.{◌≡◌, ℕ, ◌+◌, ◌<◌, ◌≤◌, List, ◌∷◌, ◌++◌, length, get_or, drop, refl, sym, ap, ◌∙◌, append-nil, append_assoc}
 use Rattle.std.proofs.lemmas.List.{drop_all, drop_more}
 use Rattle.ob0_scan.specs.declared.fault.Fault.{Fault}
 use Rattle.ob0_tree.specs.Tree.{Tree, Item, item, items, end, more}
 use Rattle.ob0_tree.specs.View.{items_of}
 use Rattle.ob0_types_check.specs.Known.{Reported}
-use Rattle.ob0_types_check.specs.Operations.{Tells, preceded_by, right, ◌>>=◌}
+use Rattle.ob0_types_check.specs.Operations.{ReportsAfter, preceded_by, right, ◌>>=◌}
 
 told_equal : {A : Type 0} {a b : Reported A} → a.known ≡ b.known → a.faults ≡ b.faults → a ≡ b
 told_equal p q = λ i. record { known = p i; faults = q i }
 
-pub tells_nothing : {A : Type 0} (faults : List Fault) (x : A) → Tells faults faults x (right x)
+pub tells_nothing : {A : Type 0} (faults : List Fault) (x : A) → ReportsAfter faults faults x (right x)
 tells_nothing faults x = record { known = refl; told = sym (append-nil faults) }
 
-pub steps : {A B : Type 0} {f0 f1 f2 : List Fault} {x : A} {y : B} {a : Reported A} (next : A → Reported B) → Tells f0 f1 x a → Tells f1 f2 y (next x) → Tells f0 f2 y (a >>= next)
+pub steps : {A B : Type 0} {f0 f1 f2 : List Fault} {x : A} {y : B} {a : Reported A} (next : A → Reported B) → ReportsAfter f0 f1 x a → ReportsAfter f1 f2 y (next x) → ReportsAfter f0 f2 y (a >>= next)
 steps {f0 = f0} {x = x} {a = a} next s1 s2 = record {
   known = s2.known ∙ ap (λ z. (next z).known) s1.known;
   told = s2.told ∙ ap (λ f. f ++ (next x).faults) s1.told ∙ append_assoc f0 a.faults (next x).faults ∙ ap (λ z. f0 ++ (a.faults ++ (next z).faults)) s1.known;
 }
 
-pub tells_known : {A : Type 0} (faults : List Fault) {x y : A} → x ≡ y → Tells faults faults x (right y)
+pub tells_known : {A : Type 0} (faults : List Fault) {x y : A} → x ≡ y → ReportsAfter faults faults x (right y)
 tells_known faults e = record { known = e; told = sym (append-nil faults) }
 
 -- the same told, known by another name
-pub tells_same : {A : Type 0} {f0 f1 : List Fault} {x : A} {a b : Reported A} → Tells f0 f1 x a → a ≡ b → Tells f0 f1 x b
+pub tells_same : {A : Type 0} {f0 f1 : List Fault} {x : A} {a b : Reported A} → ReportsAfter f0 f1 x a → a ≡ b → ReportsAfter f0 f1 x b
 tells_same {f0 = f0} s e = record { known = s.known ∙ ap (λ t. t.known) e; told = s.told ∙ ap (λ t. f0 ++ t.faults) e }
 
 pub then_assoc : {A B C : Type 0} (a : Reported A) (f : A → Reported B) (g : B → Reported C) → (a >>= (λ x. f x >>= g)) ≡ ((a >>= f) >>= g)
 then_assoc a f g = told_equal refl (sym (append_assoc a.faults (f a.known).faults (g (f a.known).known).faults))
 
--- a chain is told item by item
+-- a chain is reported item by item
 pub record IsChain {O : Type 0} {i : Item} (chain : O → Tree ℕ (items i) → Reported O) (step : O → Tree ℕ (item i) → Reported O) : Type 0 where
   pub ended : (x : O) → chain x end ≡ right x
   pub stepped : (x : O) (t : Tree ℕ (item i)) (ts : Tree ℕ (items i)) → chain x (more t ts) ≡ (step x t >>= (λ y. chain y ts))
 
--- what was told of the items so far, and then of those left, is what is told of all
+-- what was reported of the items so far, and then of those left, is what is reported of all
 pub record Chained {O A : Type 0} {i : Item} (chain : O → Tree ℕ (items i) → Reported O) (f : A → Tree ℕ (item i)) (before : List Fault) (start : O) (xs : List A) (done : ℕ) (now : List Fault) (out : O) : Type 0 where
   pub so_far : preceded_by now (chain out (items_of f (drop done xs))) ≡ preceded_by before (chain start (items_of f xs))
 
-then_behind : {A B : Type 0} {f0 f1 : List Fault} {x : A} {a : Reported A} (next : A → Reported B) → Tells f0 f1 x a → preceded_by f1 (next x) ≡ preceded_by f0 (a >>= next)
+then_behind : {A B : Type 0} {f0 f1 : List Fault} {x : A} {a : Reported A} (next : A → Reported B) → ReportsAfter f0 f1 x a → preceded_by f1 (next x) ≡ preceded_by f0 (a >>= next)
 then_behind {f0 = f0} {x = x} {a = a} next s = told_equal (ap (λ z. (next z).known) s.known)
     (ap (λ f. f ++ (next x).faults) s.told ∙ append_assoc f0 a.faults (next x).faults ∙ ap (λ z. f0 ++ (a.faults ++ (next z).faults)) s.known)
 
 pub chain_goes_on : {O A : Type 0} {i : Item} {chain : O → Tree ℕ (items i) → Reported O} {step : O → Tree ℕ (item i) → Reported O} {f : A → Tree ℕ (item i)} {before : List Fault} {start : O} {xs : List A} {done : ℕ} {now : List Fault} {out : O} (x : A) {next : List Fault} {y : O}
-    → IsChain chain step → Chained chain f before start xs done now out → done < length xs → x ≡ get_or xs done x → Tells now next y (step out (f x)) → Chained chain f before start xs (done + 1) next y
+    → IsChain chain step → Chained chain f before start xs done now out → done < length xs → x ≡ get_or xs done x → ReportsAfter now next y (step out (f x)) → Chained chain f before start xs (done + 1) next y
 chain_goes_on {chain = chain} {f = f} {xs = xs} {done = done} {now = now} {out = out} x h c less here s =
     let split : drop done xs ≡ x ∷ drop (done + 1) xs = drop_more xs done x less ∙ ap (λ y. y ∷ drop (done + 1) xs) (sym here) in
     let rest = items_of f (drop (done + 1) xs) in
@@ -55,7 +55,7 @@ chain_goes_on {chain = chain} {f = f} {xs = xs} {done = done} {now = now} {out =
     }
 
 pub chain_ends : {O A : Type 0} {i : Item} {chain : O → Tree ℕ (items i) → Reported O} {step : O → Tree ℕ (item i) → Reported O} {f : A → Tree ℕ (item i)} {before : List Fault} {start : O} {xs : List A} {done : ℕ} {now : List Fault} {out : O}
-    → IsChain chain step → Chained chain f before start xs done now out → length xs ≤ done → Tells before now out (chain start (items_of f xs))
+    → IsChain chain step → Chained chain f before start xs done now out → length xs ≤ done → ReportsAfter before now out (chain start (items_of f xs))
 chain_ends {chain = chain} {f = f} {xs = xs} {done = done} {now = now} {out = out} h c all =
     let whole = sym (ap (preceded_by now) (h.ended out)) ∙ sym (ap (λ ys. preceded_by now (chain out (items_of f ys))) (drop_all done xs all)) ∙ c.so_far in
     record { known = ap (λ t. t.known) whole; told = sym (append-nil now) ∙ ap (λ t. t.faults) whole }

@@ -101,7 +101,7 @@ mutual
       let j : ℕ = after_names (suc k) (formal_names (formal_sections fs)) in
       first (both (counts_formals (suc k) fs) (both (counts_block j b) (closing_last (after_block j b) closing)))
 
--- where no fault is told of an occurrence, each is bound
+-- where no fault is reported of an occurrence, each is bound
 one_bound : (n : Numbering) (x : ℕ) (xs : List ℕ) (later : List Fault) (o : Option ℕ) (f : Fault) → ordinal_in n.ordinals x ≡ o → (later ≡ [] → Each (IsBound n) xs)
     → (if is_unbound (as_label as_names o (text_at n.source x)) then f ∷ later else later) ≡ [] → Each (IsBound n) (x ∷ xs)
 one_bound n x xs later None f h others e = absurd (cc)

@@ -182,7 +182,7 @@ IsSeen n scope x = (k : ℕ) × (ordinal_in n.ordinals x ≡ Some k) × (ordinal
 abbrev pub AreSeen : {s : Sort} → Numbering → Scope Name → Tree ℕ s → Type 0
 AreSeen n scope t = Each (IsSeen n scope) (occurrences t)
 
--- the scope behind names
+-- the scope after names
 abbrev pub scope_behind : Numbering → ℕ → List ℕ → Scope Name → Scope Name
 scope_behind n k xs scope = declare_names k (map (text_at n.source) xs) scope
 
@@ -229,7 +229,7 @@ abbrev mutual
       × VariablesPlaced n (behind_types n scope k (has_body (declares cs ts vs ps) statements)) (first_variable k (has_body (declares cs ts vs ps) statements)) (section_variables vs)
       × ProceduresPlaced n (behind_variables n scope k (has_body (declares cs ts vs ps) statements)) (first_procedure k (has_body (declares cs ts vs ps) statements)) statements ps
 
-  -- procedures, and the statements behind them
+  -- procedures, and the statements after them
   pub ProceduresPlaced : Numbering → Scope Name → ℕ → Tree ℕ (maybe body) → Tree ℕ (items procedure) → Type 0
   ProceduresPlaced n scope k statements end = AreSeen n scope statements
   ProceduresPlaced n scope k statements (more p rest) = ProcedurePlaced n scope k p × ProceduresPlaced n (behind_procedure n scope k p) (after_procedure (suc k) p) statements rest

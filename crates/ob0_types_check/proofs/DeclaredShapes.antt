@@ -9,7 +9,7 @@ use Rattle.ob0_types_table.specs.declared.types.TypeId.{TypeId}
 use Rattle.ob0_types_table.specs.declared.types.TypeId.TheVariants as type
 use Rattle.ob0_types_rules.specs.Typing.{depth, field_depth, field_scalars, scalars, shape_of_field, with_fields, within_limits}
 use Rattle.ob0_values.specs.Values.{FieldShapes, Shape, array_shape, boolean_shape, integer_shape, next_field_shape, no_field_shape, record_shape}
-use Rattle.ob0_types_check.specs.SoFar.{Made, Parts, Size, is_within, of_elements, of_fields, one_scalar, size_at, size_made}
+use Rattle.ob0_types_check.specs.SoFar.{MadeType, PartTypes, Size, is_within, of_elements, of_fields, one_scalar, size_at, size_made}
 use Rattle.ob0_types_check.specs.WrittenTypeFaults.{Gathered, array_size, record_size, with_field, with_name, with_names}
 use Rattle.ob0_types_check.specs.Agreement.{EachMade, MadeAgrees, PartsAgree, TableAgrees, as_array, as_record, shape_in}
 
@@ -49,41 +49,41 @@ FieldsAgree shapes fields fs = (x : Name) → option_map (shape_in shapes) (fiel
 pub fields_kept : (before after : List Shape) → Longer before after → (fields : Name → Option TypeId) (fs : FieldShapes) → FieldsAgree before fields fs → FieldsAgree after fields fs
 fields_kept before after longer fields fs h x = field_kept before after longer (fields x) (shape_of_field fs x) (h x)
 
-parts_kept : (before after : List Shape) → Longer before after → (p : Parts) (s : Shape) → PartsAgree (shape_in before) p s → PartsAgree (shape_in after) p s
+parts_kept : (before after : List Shape) → Longer before after → (p : PartTypes) (s : Shape) → PartsAgree (shape_in before) p s → PartsAgree (shape_in after) p s
 parts_kept before after longer (of_elements t) s (k, n, u, e, h) = (k, n, u, e, longer t u h)
 parts_kept before after longer (of_fields fields) s (k, fs, e, h) = (k, fs, e, fields_kept before after longer fields fs h)
 
-made_kept : (before after : List Shape) → Longer before after → (m : Made) (s : Shape) → MadeAgrees (shape_in before) m s → MadeAgrees (shape_in after) m s
+made_kept : (before after : List Shape) → Longer before after → (m : MadeType) (s : Shape) → MadeAgrees (shape_in before) m s → MadeAgrees (shape_in after) m s
 made_kept before after longer m s h = record { parts = parts_kept before after longer m.parts s h.parts; scalars = h.scalars; depth = h.depth }
 
-each_kept : (before after : List Shape) → Longer before after → (ms : List Made) (ss : List Shape) → EachMade (shape_in before) ms ss → EachMade (shape_in after) ms ss
+each_kept : (before after : List Shape) → Longer before after → (ms : List MadeType) (ss : List Shape) → EachMade (shape_in before) ms ss → EachMade (shape_in after) ms ss
 each_kept before after longer [] [] h = tt
 each_kept before after longer [] (s ∷ ss) h = absurd h
 each_kept before after longer (m ∷ ms) [] h = absurd h
 each_kept before after longer (m ∷ ms) (s ∷ ss) h = (made_kept before after longer m s h.0, each_kept before after longer ms ss h.1)
 
-each_more : (shape : TypeId → Option Shape) (ms : List Made) (ss : List Shape) (m : Made) (s : Shape) → EachMade shape ms ss → MadeAgrees shape m s → EachMade shape (ms ++ m ∷ []) (ss ++ s ∷ [])
+each_more : (shape : TypeId → Option Shape) (ms : List MadeType) (ss : List Shape) (m : MadeType) (s : Shape) → EachMade shape ms ss → MadeAgrees shape m s → EachMade shape (ms ++ m ∷ []) (ss ++ s ∷ [])
 each_more shape [] [] m s h one = (one, tt)
 each_more shape [] (x ∷ ss) m s h one = absurd h
 each_more shape (x ∷ ms) [] m s h one = absurd h
 each_more shape (x ∷ ms) (y ∷ ss) m s h one = (h.0, each_more shape ms ss m s h.1 one)
 
 -- one more
-pub table_more : (ms : List Made) (shapes : List Shape) (m : Made) (s : Shape) → TableAgrees ms shapes → MadeAgrees (shape_in shapes) m s → TableAgrees (ms ++ m ∷ []) (shapes ++ s ∷ [])
+pub table_more : (ms : List MadeType) (shapes : List Shape) (m : MadeType) (s : Shape) → TableAgrees ms shapes → MadeAgrees (shape_in shapes) m s → TableAgrees (ms ++ m ∷ []) (shapes ++ s ∷ [])
 table_more ms shapes m s h one =
     let longer = longer_more shapes (s ∷ []) in
     each_more (shape_in (shapes ++ s ∷ [])) ms shapes m s (each_kept shapes (shapes ++ s ∷ []) longer ms shapes h) (made_kept shapes (shapes ++ s ∷ []) longer m s one)
 
-last_shape : (shape : TypeId → Option Shape) (ms : List Made) (shapes : List Shape) (s : Shape) → EachMade shape ms shapes → slice_get (shapes ++ s ∷ []) (length ms) ≡ Some s
+last_shape : (shape : TypeId → Option Shape) (ms : List MadeType) (shapes : List Shape) (s : Shape) → EachMade shape ms shapes → slice_get (shapes ++ s ∷ []) (length ms) ≡ Some s
 last_shape shape [] [] s h = refl
 last_shape shape [] (x ∷ shapes) s h = absurd h
 last_shape shape (m ∷ ms) [] s h = absurd h
 last_shape shape (m ∷ ms) (x ∷ shapes) s h = last_shape shape ms shapes s h.1
 
-pub last_array : (ms : List Made) (shapes : List Shape) (k n : ℕ) (u : Shape) → TableAgrees ms shapes → shape_in (shapes ++ array_shape k n u ∷ []) (type.Array (length ms)) ≡ Some (array_shape k n u)
+pub last_array : (ms : List MadeType) (shapes : List Shape) (k n : ℕ) (u : Shape) → TableAgrees ms shapes → shape_in (shapes ++ array_shape k n u ∷ []) (type.Array (length ms)) ≡ Some (array_shape k n u)
 last_array ms shapes k n u h = ap (option_and_then as_array) (last_shape (shape_in shapes) ms shapes (array_shape k n u) h)
 
-pub last_record : (ms : List Made) (shapes : List Shape) (k : ℕ) (fs : FieldShapes) → TableAgrees ms shapes → shape_in (shapes ++ record_shape k fs ∷ []) (type.Record (length ms)) ≡ Some (record_shape k fs)
+pub last_record : (ms : List MadeType) (shapes : List Shape) (k : ℕ) (fs : FieldShapes) → TableAgrees ms shapes → shape_in (shapes ++ record_shape k fs ∷ []) (type.Record (length ms)) ≡ Some (record_shape k fs)
 last_record ms shapes k fs h = ap (option_and_then as_record) (last_shape (shape_in shapes) ms shapes (record_shape k fs) h)
 
 -- a size is that of a shape
@@ -92,8 +92,8 @@ pub record SizeAgrees (z : Size) (s : Shape) : Type 0 where
   pub depth_is : z.depth ≡ depth s
 
 -- the entry of a shape
-pub record Entered (shape : TypeId → Option Shape) (m : Option Made) (s : Shape) : Type 0 where
-  pub entry : Made
+pub record Entered (shape : TypeId → Option Shape) (m : Option MadeType) (s : Shape) : Type 0 where
+  pub entry : MadeType
   pub there : m ≡ Some entry
   pub agrees : MadeAgrees shape entry s
 
@@ -112,17 +112,17 @@ record_is boolean_shape s e = absurd (cc)
 record_is (array_shape k n u) s e = absurd (cc)
 record_is (record_shape k fs) s e = some_same (record_shape k fs) s e
 
-entered : (shape : TypeId → Option Shape) (f : Shape → Option Shape) → ((x s : Shape) → f x ≡ Some s → x ≡ s) → (ms : List Made) (ss : List Shape) (i : ℕ) (s : Shape) → EachMade shape ms ss → option_and_then f (slice_get ss i) ≡ Some s → Entered shape (slice_get ms i) s
+entered : (shape : TypeId → Option Shape) (f : Shape → Option Shape) → ((x s : Shape) → f x ≡ Some s → x ≡ s) → (ms : List MadeType) (ss : List Shape) (i : ℕ) (s : Shape) → EachMade shape ms ss → option_and_then f (slice_get ss i) ≡ Some s → Entered shape (slice_get ms i) s
 entered shape f is [] [] i s h e = absurd (cc)
 entered shape f is [] (x ∷ ss) i s h e = absurd h
 entered shape f is (m ∷ ms) [] i s h e = absurd h
 entered shape f is (m ∷ ms) (x ∷ ss) zero s h e = record { entry = m; there = refl; agrees = subst (MadeAgrees shape m) (is x s e) h.0 }
 entered shape f is (m ∷ ms) (x ∷ ss) (suc i) s h e = entered shape f is ms ss i s h.1 e
 
-sized : {shape : TypeId → Option Shape} {m : Option Made} (s : Shape) → Entered shape m s → SizeAgrees (size_made m) s
+sized : {shape : TypeId → Option Shape} {m : Option MadeType} (s : Shape) → Entered shape m s → SizeAgrees (size_made m) s
 sized s h = subst (λ o. SizeAgrees (size_made o) s) (sym h.there) (record { scalars_are = h.agrees.scalars; depth_is = h.agrees.depth })
 
-pub size_agrees : (ms : List Made) (shapes : List Shape) (t : TypeId) (s : Shape) → TableAgrees ms shapes → shape_in shapes t ≡ Some s → SizeAgrees (size_at ms t) s
+pub size_agrees : (ms : List MadeType) (shapes : List Shape) (t : TypeId) (s : Shape) → TableAgrees ms shapes → shape_in shapes t ≡ Some s → SizeAgrees (size_at ms t) s
 size_agrees ms shapes type.Integer s h e = subst (SizeAgrees one_scalar) (some_same integer_shape s e) (record { scalars_are = refl; depth_is = refl })
 size_agrees ms shapes type.Boolean s h e = subst (SizeAgrees one_scalar) (some_same boolean_shape s e) (record { scalars_are = refl; depth_is = refl })
 size_agrees ms shapes (type.Array i) s h e = sized s (entered (shape_in shapes) as_array array_is ms shapes i s h e)
@@ -135,7 +135,7 @@ is_limited z s h e = (λ i. if nat_le (sym h.scalars_are i) 65536 && nat_le (sym
 pub array_sized : (z : Size) (k n : ℕ) (s : Shape) → SizeAgrees z s → SizeAgrees (array_size n z) (array_shape k n s)
 array_sized z k n s h = record { scalars_are = ap (λ a. a * n) h.scalars_are ∙ mul_comm (scalars s) n; depth_is = omega (arith, h.depth_is) }
 
--- the shapes of fields behind one another
+-- the shapes of fields after one another
 abbrev pub followed : FieldShapes → FieldShapes → FieldShapes
 followed no_field_shape gs = gs
 followed (next_field_shape x s fs) gs = next_field_shape x s (followed fs gs)

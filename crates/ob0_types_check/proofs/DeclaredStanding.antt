@@ -16,7 +16,7 @@ use Rattle.ob0_types_rules.specs.WellTyped.{Signature, TypeEnvironment, bind_nam
 use Rattle.ob0_values.specs.Values.{Shape}
 use Rattle.ob0_types_check.specs.Known.{Formal, Meaning, a_constant, a_procedure, a_type, a_variable}
 use Rattle.ob0_types_check.specs.SoFar.{SoFar, define, define_all, facts_at, with_declared}
-use Rattle.ob0_types_check.specs.Agreement.{Agrees, FormalsAgree, MeaningAgrees, StandsAlike, TableAgrees, TokensAgree, shape_in}
+use Rattle.ob0_types_check.specs.Agreement.{Agrees, FormalsAgree, MeaningAgrees, MeansAlike, TableAgrees, TokensAgree, shape_in}
 use Rattle.ob0_types_check.proofs.PartsFitting.{PartsFit}
 use Rattle.ob0_types_check.proofs.DeclaredNames.{AreSeen, Each, IsPlaced, IsSeen, NamesPlaced, Numbering, scope_behind}
 use Rattle.ob0_types_check.proofs.DeclaredShapes.{Longer, longer_same, longer_then}
@@ -33,16 +33,16 @@ meaning_kept before after longer (a_constant c) o h = h
 meaning_kept before after longer (a_variable t) o (s, e, h) = (s, longer t s e, h)
 meaning_kept before after longer (a_procedure fs) o (signature, e, h) = (signature, e, formals_kept before after longer fs signature h)
 
-pub stands_kept : (before after : List Shape) → Longer before after → (m : Option (Meaning TypeId)) (o : Option (meant.Object Shape Signature)) → StandsAlike (shape_in before) m o → StandsAlike (shape_in after) m o
+pub stands_kept : (before after : List Shape) → Longer before after → (m : Option (Meaning TypeId)) (o : Option (meant.Object Shape Signature)) → MeansAlike (shape_in before) m o → MeansAlike (shape_in after) m o
 stands_kept before after longer None o h = absurd h
 stands_kept before after longer (Some m) o h = meaning_kept before after longer m o h
 
--- each name of a scope stands for the same in the environment beside it, as is known of its declaration; all ordinals are below n
+-- each name of a scope means the same in the environment beside it, as is known of its declaration; all ordinals are below n
 abbrev pub NamesStand : List Shape → List (Option (Meaning TypeId)) → ℕ → Scope Name → TypeEnvironment Name → Type 0
 NamesStand shapes declared n [] [] = Unit {0}
 NamesStand shapes declared n [] (c ∷ env) = ⊥
 NamesStand shapes declared n (b ∷ scope) [] = ⊥
-NamesStand shapes declared n (b ∷ scope) (c ∷ env) = (b.1 < n) × (c.0 ≡ b.0) × StandsAlike (shape_in shapes) (slice_index_or declared b.1 None) (Some c.1) × NamesStand shapes declared n scope env
+NamesStand shapes declared n (b ∷ scope) (c ∷ env) = (b.1 < n) × (c.0 ≡ b.0) × MeansAlike (shape_in shapes) (slice_index_or declared b.1 None) (Some c.1) × NamesStand shapes declared n scope env
 
 pub names_later : (before after : List Shape) (old new : List (Option (Meaning TypeId))) (n m : ℕ) → Longer before after → ((k : ℕ) → k < n → slice_index_or new k None ≡ slice_index_or old k None) → n ≤ m → (scope : Scope Name) (env : TypeEnvironment Name) → NamesStand before old n scope env → NamesStand after new m scope env
 names_later before after old new n m longer kept le [] [] h = tt
@@ -51,21 +51,21 @@ names_later before after old new n m longer kept le (b ∷ scope) [] h = absurd 
 names_later before after old new n m longer kept le (b ∷ scope) (c ∷ env) h = (
   le_trans h.0 le,
   h.1,
-  subst (λ o. StandsAlike (shape_in after) o (Some c.1)) (sym (kept b.1 h.0)) (stands_kept before after longer (slice_index_or old b.1 None) (Some c.1) h.2),
+  subst (λ o. MeansAlike (shape_in after) o (Some c.1)) (sym (kept b.1 h.0)) (stands_kept before after longer (slice_index_or old b.1 None) (Some c.1) h.2),
   names_later before after old new n m longer kept le scope env h.3,
 )
 
 -- a name that is found in the scope
 abbrev FoundAlike : List Shape → List (Option (Meaning TypeId)) → TypeEnvironment Name → ℕ → Type 0
-FoundAlike shapes declared env k = StandsAlike (shape_in shapes) (slice_index_or declared k None) (newest env)
+FoundAlike shapes declared env k = MeansAlike (shape_in shapes) (slice_index_or declared k None) (newest env)
 
-first_found : (shapes : List Shape) (declared : List (Option (Meaning TypeId))) (j k : ℕ) (c : Name × meant.Object Shape Signature) (env below : TypeEnvironment Name) (v : Bool) (o : Option ℕ) → StandsAlike (shape_in shapes) (slice_index_or declared j None) (Some c.1)
+first_found : (shapes : List Shape) (declared : List (Option (Meaning TypeId))) (j k : ℕ) (c : Name × meant.Object Shape Signature) (env below : TypeEnvironment Name) (v : Bool) (o : Option ℕ) → MeansAlike (shape_in shapes) (slice_index_or declared j None) (Some c.1)
     → (o ≡ Some k → FoundAlike shapes declared below k) → (elim v [ true ↦ Some j | false ↦ o ]) ≡ Some k → FoundAlike shapes declared (elim v [ true ↦ c ∷ env | false ↦ below ]) k
-first_found shapes declared j k c env below true o h next e = subst (λ i. StandsAlike (shape_in shapes) (slice_index_or declared i None) (Some c.1)) (ap (λ u. elim u [ None ↦ j | Some i ↦ i ]) e) h
+first_found shapes declared j k c env below true o h next e = subst (λ i. MeansAlike (shape_in shapes) (slice_index_or declared i None) (Some c.1)) (ap (λ u. elim u [ None ↦ j | Some i ↦ i ]) e) h
 first_found shapes declared j k c env below false o h next e = next e
 
 name_found : (shapes : List Shape) (declared : List (Option (Meaning TypeId))) (n : ℕ) (scope : Scope Name) (env : TypeEnvironment Name) → NamesStand shapes declared n scope env → (x : Name) (k : ℕ) → ordinal_of as_names scope x ≡ Some k
-    → StandsAlike (shape_in shapes) (slice_index_or declared k None) (newest (from_binding as_names env x))
+    → MeansAlike (shape_in shapes) (slice_index_or declared k None) (newest (from_binding as_names env x))
 name_found shapes declared n [] [] h x k e = absurd (cc)
 name_found shapes declared n [] (c ∷ env) h x k e = absurd h
 name_found shapes declared n (b ∷ scope) [] h x k e = absurd h
@@ -158,14 +158,14 @@ stands_defined w p q shapes n scope env m x o h d agrees =
       ordinals = rest.ordinals;
       room = rest.room;
       table = rest.table;
-      names = (less, refl, subst (λ z. StandsAlike (shape_in shapes) z (Some o)) (sym d.here) agrees, rest.names);
+      names = (less, refl, subst (λ z. MeansAlike (shape_in shapes) z (Some o)) (sym d.here) agrees, rest.names);
     }
 
 -- an expression or statements where all names are seen
 module _ (w : Numbering) (p : SoFar) (only_constants : Bool) (shapes : List Shape) (n : ℕ) (scope : Scope Name) (env : TypeEnvironment Name) (h : Stands w p shapes n scope env) where
-  pub seen_stands : (x : ℕ) → IsSeen w scope x → StandsAlike (shape_in shapes) ((facts_at p only_constants).stands_for x) ((meanings as_names env).stands_for (text_at w.source x))
+  pub seen_stands : (x : ℕ) → IsSeen w scope x → MeansAlike (shape_in shapes) ((facts_at p only_constants).stands_for x) ((meanings as_names env).stands_for (text_at w.source x))
   seen_stands x (k, at, there) =
-      subst (λ o. StandsAlike (shape_in shapes) (option_and_then (λ j. slice_index_or p.declared j None) o) (newest (from_binding as_names env (text_at w.source x)))) (sym (ap (λ os. ordinal_in os x) h.ordinals ∙ at))
+      subst (λ o. MeansAlike (shape_in shapes) (option_and_then (λ j. slice_index_or p.declared j None) o) (newest (from_binding as_names env (text_at w.source x)))) (sym (ap (λ os. ordinal_in os x) h.ordinals ∙ at))
       (name_found shapes p.declared n scope env h.names (text_at w.source x) k there)
 
   tokens_agree : (xs : List (Role × ℕ)) → Each (IsSeen w scope) (looked_up_only xs) → TokensAgree (facts_at p only_constants) (shape_in shapes) (text_at w.source) (meanings as_names env) xs

@@ -1,4 +1,4 @@
--- Types as they are written, of which nothing is told, denote the shapes of what is known of them.
+-- Types as they are written, of which nothing is reported, denote the shapes of what is known of them.
 use Rattle.std.proofs.Common.{◌≡◌, ℕ, suc, ◌+◌, Bool, true, false, List, [], ◌∷◌, ◌++◌, length, map, Option, Some, None, option_and_then, if◌then◌else◌, refl, sym, ap, ◌∙◌, subst, subst₂, le_refl, arith}
 use Rattle.ob0_scan.specs.declared.fault.Fault.{Fault}
 use Rattle.ob0_tree.specs.Places.{named, text_at, value_at}
@@ -12,13 +12,13 @@ use Rattle.ob0_types_rules.specs.Expressions as meant
 use Rattle.ob0_types_rules.specs.Typing.{array_length, constant_value, denoted, denoted_group, denoted_groups, constructors, group_constructors, groups_constructors, type_of_name, with_fields, within_limits}
 use Rattle.ob0_types_rules.specs.WellTyped.{Signature, TypeEnvironment}
 use Rattle.ob0_values.specs.Values.{FieldShapes, Shape, Value, array_shape, no_field_shape, record_shape}
-use Rattle.ob0_types_check.specs.ExpressionFaults.{told_expression}
+use Rattle.ob0_types_check.specs.ExpressionFaults.{reported_expression}
 use Rattle.ob0_types_check.specs.Known.{Meaning, Operand, Reported, a_constant, a_procedure, a_type, a_variable}
 use Rattle.ob0_types_check.specs.Operations.{right}
-use Rattle.ob0_types_check.specs.SoFar.{Parts, Size, SoFar, Typed, facts_at, is_within, made, make, of_elements, of_fields, size_at, too_large, type_with}
+use Rattle.ob0_types_check.specs.SoFar.{PartTypes, Size, SoFar, TypedAfter, facts_at, is_within, made, make, of_elements, of_fields, size_at, too_large, type_with}
 use Rattle.ob0_types_check.specs.TypeFaults.{length_of, type_meant}
-use Rattle.ob0_types_check.specs.WrittenTypeFaults.{Gathered, array_made, array_size, gathered_behind, nothing_gathered, record_made, record_size, record_word, told_fields, told_groups, told_type, with_name, with_names, word_before}
-use Rattle.ob0_types_check.specs.Agreement.{PartsAgree, StandsAlike, TableAgrees, shape_in}
+use Rattle.ob0_types_check.specs.WrittenTypeFaults.{Gathered, array_made, array_size, gathered_after, nothing_gathered, record_made, record_size, record_word, told_fields, told_groups, reported_type, with_name, with_names, word_before}
+use Rattle.ob0_types_check.specs.Agreement.{PartsAgree, MeansAlike, TableAgrees, shape_in}
 use Rattle.ob0_types_check.specs.WellTypedLaws.{constructor_of}
 use Rattle.ob0_types_check.proofs.MadeOnce.{Apart, apart_made, apart_same, apart_then}
 use Rattle.ob0_types_check.proofs.PartsFitting.{PartsFit}
@@ -26,13 +26,13 @@ use Rattle.ob0_types_check.proofs.DeclaredNames.{AreSeen, IsSeen, Numbering, eac
 use Rattle.ob0_types_check.proofs.DeclaredShapes.{GatheredAgrees, SizeAgrees, array_sized, followed, followed-assoc, followed-nothing, gathered_kept, is_limited, last_array, last_record, longer_more, longer_then, names_put, record_sized, size_agrees, table_more, with_fields-followed}
 use Rattle.ob0_types_check.proofs.DeclaredStanding.{Later, Stands, agrees_where_seen, later_same, later_then, seen_stands, stands_later}
 
--- where nothing is told of both, nothing is told of either
+-- where nothing is reported of both, nothing is reported of either
 pub none_both : (xs ys : List Fault) → xs ++ ys ≡ [] → (xs ≡ []) × (ys ≡ [])
 none_both [] ys e = (refl, e)
 none_both (x ∷ xs) ys e = absurd (cc)
 
--- a type, and what is known behind it; k is the ordinal of its first constructor, and l that of the next one
-pub record Denotes (n : ℕ) (p : SoFar) (before : List Shape) (k l : ℕ) (given : Option Shape) (u : Typed) : Type 0 where
+-- a type, and what is known after it; k is the ordinal of its first constructor, and l that of the next one
+pub record Denotes (n : ℕ) (p : SoFar) (before : List Shape) (k l : ℕ) (given : Option Shape) (u : TypedAfter) : Type 0 where
   pub shape : Shape
   pub given_is : given ≡ Some shape
   pub after : List Shape
@@ -41,7 +41,7 @@ pub record Denotes (n : ℕ) (p : SoFar) (before : List Shape) (k l : ℕ) (give
   pub known : shape_in after u.of ≡ Some shape
 
 -- a name of a type
-named_denotes : (n : ℕ) (w : SoFar) (p : SoFar) (before : List Shape) (k l : ℕ) → l ≡ k → (token : ℕ) (m : Option (Meaning TypeId)) (o : Option (meant.Object Shape Signature)) → TableAgrees p.made before → StandsAlike (shape_in before) m o → (type_meant (facts_at w false) token m).faults ≡ []
+named_denotes : (n : ℕ) (w : SoFar) (p : SoFar) (before : List Shape) (k l : ℕ) → l ≡ k → (token : ℕ) (m : Option (Meaning TypeId)) (o : Option (meant.Object Shape Signature)) → TableAgrees p.made before → MeansAlike (shape_in before) m o → (type_meant (facts_at w false) token m).faults ≡ []
     → Denotes n p before k l (type_of_name o) (record { of = (type_meant (facts_at w false) token m).known; behind = p })
 named_denotes n w p before k l last token None o table alike e = absurd alike
 named_denotes n w p before k l last token (Some (a_type t)) o table (s, known, is) e = record { shape = s; given_is = ap type_of_name is; after = before; apart = apart_same k l before last; later = later_same n p before table; known = known }
@@ -50,11 +50,11 @@ named_denotes n w p before k l last token (Some (a_variable t)) o table alike e 
 named_denotes n w p before k l last token (Some (a_procedure fs)) o table alike e = absurd (cc)
 
 -- an array or a record that isn't too large
-pub record MadeDenotes (n : ℕ) (p : SoFar) (before : List Shape) (k l : ℕ) (s : Shape) (u : Typed) : Type 0 where
+pub record MadeDenotes (n : ℕ) (p : SoFar) (before : List Shape) (k l : ℕ) (s : Shape) (u : TypedAfter) : Type 0 where
   pub limited : within_limits s ≡ Some s
   pub denotes : Denotes n p before k l (Some s) u
 
-made_denotes : (n : ℕ) (p q : SoFar) (before mid : List Shape) (k l word : ℕ) (parts : Parts) (size : Size) (s : Shape) → constructor_of s ≡ Some k → Apart (suc k) l before mid → Later n p q before mid → PartsAgree (shape_in mid) parts s → SizeAgrees size s → shape_in (mid ++ s ∷ []) (type_with parts (length q.made)) ≡ Some s
+made_denotes : (n : ℕ) (p q : SoFar) (before mid : List Shape) (k l word : ℕ) (parts : PartTypes) (size : Size) (s : Shape) → constructor_of s ≡ Some k → Apart (suc k) l before mid → Later n p q before mid → PartsAgree (shape_in mid) parts s → SizeAgrees size s → shape_in (mid ++ s ∷ []) (type_with parts (length q.made)) ≡ Some s
     → (make q word parts size).faults ≡ [] → MadeDenotes n p before k l s (make q word parts size).known
 made_denotes n p q before mid k l word parts size s number own later agrees sized last none =
     by_size (is_within size) refl none
@@ -80,8 +80,8 @@ made_denotes n p q before mid k l word parts size s number own later agrees size
       };
     }
 
--- an array, of a length and behind the type of its elements
-array_denotes : (n : ℕ) (p : SoFar) (before : List Shape) (k l count : ℕ) (o : Operand TypeId) (given : Option Shape) (u : Typed) → Denotes n p before (suc k) l given u → (array_made o (Some count) u).faults ≡ []
+-- an array, of a length and after the type of its elements
+array_denotes : (n : ℕ) (p : SoFar) (before : List Shape) (k l count : ℕ) (o : Operand TypeId) (given : Option Shape) (u : TypedAfter) → Denotes n p before (suc k) l given u → (array_made o (Some count) u).faults ≡ []
     → Denotes n p before k l (option_and_then (λ s. within_limits (array_shape k count s)) given) (array_made o (Some count) u).known
 array_denotes n p before k l count o given u d none =
     let s : Shape = array_shape k count d.shape in
@@ -96,12 +96,12 @@ array_denotes n p before k l count o given u d none =
       known = m.denotes.known;
     }
 
-sized_array : (n : ℕ) (p : SoFar) (before : List Shape) (k l : ℕ) (o : Operand TypeId) (told : Option ℕ) (count : ℕ) (given : Option Shape) (u : Typed) → told ≡ Some count → Denotes n p before (suc k) l given u → (array_made o told u).faults ≡ []
+sized_array : (n : ℕ) (p : SoFar) (before : List Shape) (k l : ℕ) (o : Operand TypeId) (told : Option ℕ) (count : ℕ) (given : Option Shape) (u : TypedAfter) → told ≡ Some count → Denotes n p before (suc k) l given u → (array_made o told u).faults ≡ []
     → Denotes n p before k l (option_and_then (λ s. within_limits (array_shape k count s)) given) (array_made o told u).known
 sized_array n p before k l o told count given u e d none =
     subst (λ z. (array_made o z u).faults ≡ [] → Denotes n p before k l (option_and_then (λ s. within_limits (array_shape k count s)) given) (array_made o z u).known) (sym e) (array_denotes n p before k l count o given u d) none
 
--- fields that are gathered, behind those before
+-- fields that are gathered, after those before
 pub record Gathers (n : ℕ) (p : SoFar) (before : List Shape) (k l : ℕ) (first : FieldShapes) (own : FieldShapes) (g : Gathered) : Type 0 where
   pub after : List Shape
   pub apart : Apart k l before after
@@ -123,8 +123,8 @@ names_behind t g [] = refl
 names_behind t g (x ∷ xs) = names_behind t (with_name t g x) xs
 
 -- names of one type
-names_gather : (n : ℕ) (w : Numbering) (g : Gathered) (before : List Shape) (k l : ℕ) (first : FieldShapes) (xs : List ℕ) (ys : List Name) (given : Option Shape) (u : Typed) → g.behind.source ≡ w.source → ys ≡ map (text_at w.source) xs → GatheredAgrees before g first → Denotes n g.behind before k l given u
-    → GroupGathers n g.behind before k l first (λ later. option_and_then (λ s. Some (with_fields ys s later)) given) (gathered_behind g xs u)
+names_gather : (n : ℕ) (w : Numbering) (g : Gathered) (before : List Shape) (k l : ℕ) (first : FieldShapes) (xs : List ℕ) (ys : List Name) (given : Option Shape) (u : TypedAfter) → g.behind.source ≡ w.source → ys ≡ map (text_at w.source) xs → GatheredAgrees before g first → Denotes n g.behind before k l given u
+    → GroupGathers n g.behind before k l first (λ later. option_and_then (λ s. Some (with_fields ys s later)) given) (gathered_after g xs u)
 names_gather n w g before k l first xs ys given u source texts h d =
     let own : FieldShapes = with_fields ys d.shape no_field_shape in
     let start : Gathered = record { fields = g.fields; size = g.size; behind = u.behind } in
@@ -152,7 +152,7 @@ nothing_agrees shapes p = record { fields = λ x. refl; scalars_are = refl; dept
 nothing_more : (n : ℕ) (g : Gathered) (before : List Shape) (k l : ℕ) → l ≡ k → (first : FieldShapes) → TableAgrees g.behind.made before → GatheredAgrees before g first → Gathers n g.behind before k l first no_field_shape g
 nothing_more n g before k l last first table h = record { after = before; apart = apart_same k l before last; later = later_same n g.behind before table; agrees = subst (GatheredAgrees before g) (sym (followed-nothing first)) h }
 
--- one group and those behind it
+-- one group and those after it
 pub both_gather : (n : ℕ) (p : SoFar) (before : List Shape) (k m l : ℕ) (first : FieldShapes) (given : FieldShapes → Option FieldShapes) (g h : Gathered) (others : Option FieldShapes) (one : GroupGathers n p before k m first given g)
     → GroupsGather n g.behind one.gathers.after m l (followed first one.own) others h → GroupsGather n p before k l first (option_and_then given others) h
 both_gather n p before k m l first given g h others one other = record {
@@ -204,18 +204,18 @@ more_groups k m n = omega arith
 
 module _ (w : Numbering) (fit : PartsFit) (n : ℕ) (scope : Scope Name) (env : TypeEnvironment Name) where
   mutual
-    unfolding told_type denoted
+    unfolding reported_type denoted
 
-    pub type_denotes : (k : ℕ) (t : Tree ℕ written_type) (p : SoFar) (before : List Shape) → Stands w p before n scope env → AreSeen w scope t → (told_type p t).faults ≡ []
-        → Denotes n p before k (k + constructors (named w.source t)) (denoted (meanings as_names env) k (named w.source t)) (told_type p t).known
+    pub type_denotes : (k : ℕ) (t : Tree ℕ written_type) (p : SoFar) (before : List Shape) → Stands w p before n scope env → AreSeen w scope t → (reported_type p t).faults ≡ []
+        → Denotes n p before k (k + constructors (named w.source t)) (denoted (meanings as_names env) k (named w.source t)) (reported_type p t).known
     type_denotes k (named_type x) p before st seen e =
         named_denotes n p p before k (k + 0) (omega arith) x ((facts_at p false).stands_for x) ((meanings as_names env).stands_for (text_at w.source x)) st.table (seen_stands w p false before n scope env st x seen.0) (none_both (type_meant (facts_at p false) x ((facts_at p false).stands_for x)).faults [] e).0
     type_denotes k (array_type e u) p before st seen h =
         let parts = each_part (IsSeen w scope) (occurrences e) (occurrences u) seen in
-        let o : Operand TypeId = (told_expression (facts_at p true) e).known in
+        let o : Operand TypeId = (reported_expression (facts_at p true) e).known in
         let l : Reported (Option ℕ) = length_of (facts_at p false) o in
-        let el : Reported Typed = told_type p u in
-        let a = none_both (told_expression (facts_at p true) e).faults (l.faults ++ (el.faults ++ (array_made o l.known el.known).faults)) h in
+        let el : Reported TypedAfter = reported_type p u in
+        let a = none_both (reported_expression (facts_at p true) e).faults (l.faults ++ (el.faults ++ (array_made o l.known el.known).faults)) h in
         let b = none_both l.faults (el.faults ++ (array_made o l.known el.known).faults) a.1 in
         let c = none_both el.faults (array_made o l.known el.known).faults b.1 in
         let long = fit.lengths p before (text_at w.source) (meanings as_names env) e (agrees_where_seen w p true before n scope env st fit e parts.0) (λ i. a.0 i ++ b.0 i) in
@@ -244,7 +244,7 @@ module _ (w : Numbering) (fit : PartsFit) (n : ℕ) (scope : Scope Name) (env : 
         → GroupGathers n g.behind before k (k + group_constructors (named w.source t)) first (λ ys. denoted_group (meanings as_names env) k ys (named w.source t)) (told_fields g t).known
     group_gathers k no_fields g before first st seen agrees h = record { own = no_field_shape; given_is = λ ys. refl; gathers = nothing_more n g before k (k + 0) (omega arith) first st.table agrees }
     group_gathers k (some_fields ns t) g before first st seen agrees h =
-        let u : Reported Typed = told_type g.behind t in
+        let u : Reported TypedAfter = reported_type g.behind t in
         let d = type_denotes k t g.behind before st seen (none_both u.faults [] h).0 in
         names_gather n w g before k (k + constructors (named w.source t)) first (names_listed ns) (map (λ x. x) (names_listed (named w.source ns))) (denoted (meanings as_names env) k (named w.source t)) u.known st.source
         (map-same (names_listed (named w.source ns)) ∙ names_listed-mapped (text_at w.source) (value_at w.source) ns) agrees d

@@ -1,4 +1,4 @@
--- Expressions of which nothing is told: what is known of them is their type and their value.
+-- Expressions of which nothing is reported: what is known of them is their type and their value.
 use Rattle.std.proofs.Common.{◌≡◌, ℕ, true, false, List, [], ◌∷◌, ◌++◌, Option, Some, None, option_and_then, is_some, pos, refl, sym, ap, ◌∙◌}
 use Rattle.ob0_tree.specs.declared.tree.AddOperator.{AddOperator}
 use Rattle.ob0_tree.specs.declared.tree.MultiplyOperator.{MultiplyOperator}
@@ -14,9 +14,9 @@ use Rattle.ob0_types_rules.specs.Typing.{add_type, complement_type, constant_of,
 use Rattle.ob0_types_table.specs.Operators.{product_value, sum_value}
 use Rattle.ob0_values.specs.Values.{Place, Shape, Value, boolean_shape, integer_shape, negated, number, relate}
 use Rattle.ob0_values.specs.Values.{signed as with_sign}
-use Rattle.ob0_types_check.specs.ExpressionFaults.{told_addends, told_expression, told_factor, told_multipliers, told_selectors, told_simple, told_term}
+use Rattle.ob0_types_check.specs.ExpressionFaults.{reported_addends, reported_expression, reported_factor, reported_multipliers, reported_selectors, reported_simple, reported_term}
 use Rattle.ob0_types_check.specs.Known.{Facts, Operand}
-use Rattle.ob0_types_check.specs.Operations.{added, complemented, element_selected, field_selected, multiplied, named, related, signed}
+use Rattle.ob0_types_check.specs.Operations.{add_operands, complement_operand, element_selected, field_selected, multiply_operands, named, relate_operands, sign_operand}
 use Rattle.ob0_types_check.specs.Agreement.{TypesAgree}
 use Rattle.ob0_types_check.proofs.Operands.{IsOf, added-fits, complement-of, complemented-fits, element-fits, field-fits, multiplied-fits, none-of, related-fits, relation-of, signed-fits, some-of}
 use Rattle.ob0_types_check.proofs.Untold.{goes-on, none-told, then-assoc, then-itself}
@@ -30,7 +30,7 @@ pub record Fits {T : Type 0} (shape : T → Option Shape) (o : Operand T) (type 
   pub valued : o.value ≡ value
   pub scalar : IsOf of o.value
 
--- a name, which may stand for a place where it is a variable's
+-- a name, which may be for a place where it is a variable's
 pub record NameFits {T N P : Type 0} (facts : Facts T) (shape : T → Option Shape) (label : ℕ → N) (meaning : Meanings N Shape P) (x : ℕ) : Type 0 where
   pub fits : Fits shape (named facts x).known (object_type (meaning.stands_for (label x))) (constant_of (meaning.stands_for (label x)))
   pub placed : (named facts x).known.is_place ≡ true → meaning.stands_for (label x) ≡ Some (a_variable fits.of)
@@ -53,32 +53,32 @@ split-tokens facts shape label meaning (x ∷ xs) ys h = let rest = split-tokens
 
 -- parts of a designator have no value, and are places where the whole is
 module _ {T : Type 0} (facts : Facts T) where
-  pub parts-none : (x : Operand T) (path : Tree ℕ (items selector)) → x.value ≡ None → (told_selectors facts x path).known.value ≡ None
-  unfolding told_expression
+  pub parts-none : (x : Operand T) (path : Tree ℕ (items selector)) → x.value ≡ None → (reported_selectors facts x path).known.value ≡ None
+  unfolding reported_expression
   parts-none x end h = h
   parts-none x (more (field n) rest) h = parts-none (field_selected facts x n).known rest refl
-  parts-none x (more (index e) rest) h = parts-none (element_selected facts x (told_expression facts e).known).known rest refl
+  parts-none x (more (index e) rest) h = parts-none (element_selected facts x (reported_expression facts e).known).known rest refl
 
-  pub parts-have-none : (x : Operand T) (part : Tree ℕ (item selector)) (path : Tree ℕ (items selector)) → (told_selectors facts x (more part path)).known.value ≡ None
-  unfolding told_expression
+  pub parts-have-none : (x : Operand T) (part : Tree ℕ (item selector)) (path : Tree ℕ (items selector)) → (reported_selectors facts x (more part path)).known.value ≡ None
+  unfolding reported_expression
   parts-have-none x (field n) path = parts-none (field_selected facts x n).known path refl
-  parts-have-none x (index e) path = parts-none (element_selected facts x (told_expression facts e).known).known path refl
+  parts-have-none x (index e) path = parts-none (element_selected facts x (reported_expression facts e).known).known path refl
 
-  pub parts-placed : (x : Operand T) (path : Tree ℕ (items selector)) → (told_selectors facts x path).known.is_place ≡ x.is_place
-  unfolding told_expression
+  pub parts-placed : (x : Operand T) (path : Tree ℕ (items selector)) → (reported_selectors facts x path).known.is_place ≡ x.is_place
+  unfolding reported_expression
   parts-placed x end = refl
   parts-placed x (more (field n) rest) = parts-placed (field_selected facts x n).known rest
-  parts-placed x (more (index e) rest) = parts-placed (element_selected facts x (told_expression facts e).known).known rest
+  parts-placed x (more (index e) rest) = parts-placed (element_selected facts x (reported_expression facts e).known).known rest
 
-  pub addends-apart : (x : Operand T) (rest : Tree ℕ (items addend)) → x.is_place ≡ false → (told_addends facts x rest).known.is_place ≡ false
-  unfolding told_expression
+  pub addends-apart : (x : Operand T) (rest : Tree ℕ (items addend)) → x.is_place ≡ false → (reported_addends facts x rest).known.is_place ≡ false
+  unfolding reported_expression
   addends-apart x end h = h
-  addends-apart x (more (adds o t) rest) h = addends-apart (added facts o x (told_term facts t).known).known rest refl
+  addends-apart x (more (adds o t) rest) h = addends-apart (add_operands facts o x (reported_term facts t).known).known rest refl
 
-  pub multipliers-apart : (x : Operand T) (rest : Tree ℕ (items multiplier)) → x.is_place ≡ false → (told_multipliers facts x rest).known.is_place ≡ false
-  unfolding told_expression
+  pub multipliers-apart : (x : Operand T) (rest : Tree ℕ (items multiplier)) → x.is_place ≡ false → (reported_multipliers facts x rest).known.is_place ≡ false
+  unfolding reported_expression
   multipliers-apart x end h = h
-  multipliers-apart x (more (multiplies o f) rest) h = multipliers-apart (multiplied facts o x (told_factor facts f).known).known rest refl
+  multipliers-apart x (more (multiplies o f) rest) h = multipliers-apart (multiply_operands facts o x (reported_factor facts f).known).known rest refl
 
 module _ {T N P : Type 0} (facts : Facts T) (shape : T → Option Shape) (types : TypesAgree facts.types shape) (label : ℕ → N) (meaning : Meanings N Shape P) where
   abbrev pub tree : {s : Sort} → Tree ℕ s → Tree N s
@@ -92,95 +92,95 @@ module _ {T N P : Type 0} (facts : Facts T) (shape : T → Option Shape) (types 
 
   -- what is known of a part of an expression is so
   abbrev pub FitsExpression : Tree ℕ expression → Type 0
-  FitsExpression e = Fits shape (told_expression facts e).known (type_of meaning (tree e)) (given_value (evaluate among [] (tree e)))
+  FitsExpression e = Fits shape (reported_expression facts e).known (type_of meaning (tree e)) (given_value (evaluate among [] (tree e)))
 
   abbrev pub FitsSimple : Tree ℕ simple → Type 0
-  FitsSimple a = Fits shape (told_simple facts a).known (type_of_simple meaning (tree a)) (given_value (evaluate_simple among [] (tree a)))
+  FitsSimple a = Fits shape (reported_simple facts a).known (type_of_simple meaning (tree a)) (given_value (evaluate_simple among [] (tree a)))
 
   abbrev pub FitsTerm : Tree ℕ term → Type 0
-  FitsTerm t = Fits shape (told_term facts t).known (type_of_term meaning (tree t)) (given_value (evaluate_term among [] (tree t)))
+  FitsTerm t = Fits shape (reported_term facts t).known (type_of_term meaning (tree t)) (given_value (evaluate_term among [] (tree t)))
 
   abbrev pub FitsFactor : Tree ℕ factor → Type 0
-  FitsFactor f = Fits shape (told_factor facts f).known (type_of_factor meaning (tree f)) (given_value (evaluate_factor among [] (tree f)))
+  FitsFactor f = Fits shape (reported_factor facts f).known (type_of_factor meaning (tree f)) (given_value (evaluate_factor among [] (tree f)))
 
-  -- the same behind operands that were before
+  -- the same after operands that were before
   abbrev pub FitsAddends : Operand T → Shape → Tree ℕ (items addend) → Type 0
-  FitsAddends x s rest = Fits shape (told_addends facts x rest).known (type_of_addends meaning s (tree rest)) (option_and_then (λ v. given_value (evaluate_addends among [] v (tree rest))) x.value)
+  FitsAddends x s rest = Fits shape (reported_addends facts x rest).known (type_of_addends meaning s (tree rest)) (option_and_then (λ v. given_value (evaluate_addends among [] v (tree rest))) x.value)
 
   abbrev pub FitsMultipliers : Operand T → Shape → Tree ℕ (items multiplier) → Type 0
   FitsMultipliers x s rest =
-      Fits shape (told_multipliers facts x rest).known (type_of_multipliers meaning s (tree rest)) (option_and_then (λ v. given_value (evaluate_multipliers among [] v (tree rest))) x.value)
+      Fits shape (reported_multipliers facts x rest).known (type_of_multipliers meaning s (tree rest)) (option_and_then (λ v. given_value (evaluate_multipliers among [] v (tree rest))) x.value)
 
   -- the type at the end of selectors
   pub record FitsSelectors (o : Operand T) (s : Shape) (path : Tree ℕ (items selector)) : Type 0 where
     pub of : Shape
-    pub known : shape (told_selectors facts o path).known.of ≡ Some of
+    pub known : shape (reported_selectors facts o path).known.of ≡ Some of
     pub typed : type_at meaning s (tree path) ≡ Some of
 
   -- each production over its parts
 
-  related-whole : (r : Relation) (a b : Tree ℕ simple) → FitsSimple a → FitsSimple b → (related facts r (told_simple facts a).known (told_simple facts b).known).faults ≡ [] → FitsExpression (compares a (one (relates r b)))
-  unfolding told_expression type_of evaluate
+  related-whole : (r : Relation) (a b : Tree ℕ simple) → FitsSimple a → FitsSimple b → (relate_operands facts r (reported_simple facts a).known (reported_simple facts b).known).faults ≡ [] → FitsExpression (compares a (one (relates r b)))
+  unfolding reported_expression type_of evaluate
   related-whole r a b fa fb h =
-      let (known, typed) = related-fits facts shape types r (told_simple facts a).known (told_simple facts b).known fa.of fb.of fa.known fb.known h in
+      let (known, typed) = related-fits facts shape types r (reported_simple facts a).known (reported_simple facts b).known fa.of fb.of fa.known fb.known h in
       record {
         of = boolean_shape;
         known = known;
         typed = goes-on (λ x. option_and_then (relation_type r x) (type_of_simple meaning (tree b))) (type_of_simple meaning (tree a)) fa.of (Some boolean_shape) fa.typed
             (goes-on (relation_type r fa.of) (type_of_simple meaning (tree b)) fb.of (Some boolean_shape) fb.typed typed);
         valued = (λ i. both (λ x y. given_value (relate r x y)) (fa.valued i) (fb.valued i)) ∙ sym (related-valued among r (tree a) (tree b));
-        scalar = relation-of r (told_simple facts a).known.value (told_simple facts b).known.value;
+        scalar = relation-of r (reported_simple facts a).known.value (reported_simple facts b).known.value;
       }
 
   addend-whole : (x : Operand T) (s : Shape) (o : AddOperator) (t : Tree ℕ term) (rest : Tree ℕ (items addend)) (ft : FitsTerm t) (w : Shape) → add_type o s ft.of ≡ Some w
-      → FitsAddends (added facts o x (told_term facts t).known).known w rest → FitsAddends x s (more (adds o t) rest)
-  unfolding told_expression type_of evaluate
+      → FitsAddends (add_operands facts o x (reported_term facts t).known).known w rest → FitsAddends x s (more (adds o t) rest)
+  unfolding reported_expression type_of evaluate
   addend-whole x s o t rest ft w typed fr = record {
     of = fr.of;
     known = fr.known;
     typed = goes-on (λ y. option_and_then (λ z. type_of_addends meaning z (tree rest)) (add_type o s y)) (type_of_term meaning (tree t)) ft.of (Some fr.of) ft.typed
         (goes-on (λ z. type_of_addends meaning z (tree rest)) (add_type o s ft.of) w (Some fr.of) typed fr.typed);
     valued = fr.valued
-        ∙ (then-assoc (sum_value o (told_term facts t).known.value) (λ v. given_value (evaluate_addends among [] v (tree rest))) x.value
+        ∙ (then-assoc (sum_value o (reported_term facts t).known.value) (λ v. given_value (evaluate_addends among [] v (tree rest))) x.value
         ∙ (λ i. option_and_then (λ v. (ap (λ y. option_and_then (λ u. given_value (evaluate_addends among [] u (tree rest))) (sum_value o y v)) ft.valued ∙ sym (addend-valued among o (tree t) (tree rest) v)) i) x.value));
     scalar = fr.scalar;
   }
 
   multiplier-whole : (x : Operand T) (s : Shape) (o : MultiplyOperator) (f : Tree ℕ factor) (rest : Tree ℕ (items multiplier)) (ff : FitsFactor f) (w : Shape) → multiply_type o s ff.of ≡ Some w
-      → FitsMultipliers (multiplied facts o x (told_factor facts f).known).known w rest → FitsMultipliers x s (more (multiplies o f) rest)
-  unfolding told_expression type_of evaluate
+      → FitsMultipliers (multiply_operands facts o x (reported_factor facts f).known).known w rest → FitsMultipliers x s (more (multiplies o f) rest)
+  unfolding reported_expression type_of evaluate
   multiplier-whole x s o f rest ff w typed fr = record {
     of = fr.of;
     known = fr.known;
     typed = goes-on (λ y. option_and_then (λ z. type_of_multipliers meaning z (tree rest)) (multiply_type o s y)) (type_of_factor meaning (tree f)) ff.of (Some fr.of) ff.typed
         (goes-on (λ z. type_of_multipliers meaning z (tree rest)) (multiply_type o s ff.of) w (Some fr.of) typed fr.typed);
     valued = fr.valued
-        ∙ (then-assoc (product_value o (told_factor facts f).known.value) (λ v. given_value (evaluate_multipliers among [] v (tree rest))) x.value
+        ∙ (then-assoc (product_value o (reported_factor facts f).known.value) (λ v. given_value (evaluate_multipliers among [] v (tree rest))) x.value
         ∙ (λ i. option_and_then (λ v. (ap (λ y. option_and_then (λ u. given_value (evaluate_multipliers among [] u (tree rest))) (product_value o y v)) ff.valued ∙ sym (multiplier-valued among o (tree f) (tree rest) v)) i) x.value));
     scalar = fr.scalar;
   }
 
-  sign-value : (g : Option Sign) (o : Operand T) → (signed facts g o).known.value ≡ option_and_then (λ x. given_value (with_sign g x)) o.value
+  sign-value : (g : Option Sign) (o : Operand T) → (sign_operand facts g o).known.value ≡ option_and_then (λ x. given_value (with_sign g x)) o.value
   sign-value None o = then-itself o.value
   sign-value (Some g) o = refl
 
   simple-whole : (g : Option Sign) (t : Tree ℕ term) (rest : Tree ℕ (items addend)) (ft : FitsTerm t) (w : Shape) → sign_type g ft.of ≡ Some w
-      → FitsAddends (signed facts g (told_term facts t).known).known w rest → FitsSimple (sum g t rest)
-  unfolding told_expression type_of evaluate
+      → FitsAddends (sign_operand facts g (reported_term facts t).known).known w rest → FitsSimple (sum g t rest)
+  unfolding reported_expression type_of evaluate
   simple-whole g t rest ft w typed fr = record {
     of = fr.of;
     known = fr.known;
     typed = goes-on (λ x. option_and_then (λ y. type_of_addends meaning y (tree rest)) (sign_type g x)) (type_of_term meaning (tree t)) ft.of (Some fr.of) ft.typed
         (goes-on (λ y. type_of_addends meaning y (tree rest)) (sign_type g ft.of) w (Some fr.of) typed fr.typed);
     valued = fr.valued
-        ∙ (ap (option_and_then (λ v. given_value (evaluate_addends among [] v (tree rest)))) (sign-value g (told_term facts t).known ∙ ap (option_and_then (λ x. given_value (with_sign g x))) ft.valued)
+        ∙ (ap (option_and_then (λ v. given_value (evaluate_addends among [] v (tree rest)))) (sign-value g (reported_term facts t).known ∙ ap (option_and_then (λ x. given_value (with_sign g x))) ft.valued)
         ∙ (then-assoc (λ x. given_value (with_sign g x)) (λ v. given_value (evaluate_addends among [] v (tree rest))) (given_value (evaluate_term among [] (tree t)))
         ∙ sym (simple-valued among g (tree t) (tree rest))));
     scalar = fr.scalar;
   }
 
-  term-whole : (f : Tree ℕ factor) (rest : Tree ℕ (items multiplier)) (ff : FitsFactor f) → FitsMultipliers (told_factor facts f).known ff.of rest → FitsTerm (product f rest)
-  unfolding told_expression type_of evaluate
+  term-whole : (f : Tree ℕ factor) (rest : Tree ℕ (items multiplier)) (ff : FitsFactor f) → FitsMultipliers (reported_factor facts f).known ff.of rest → FitsTerm (product f rest)
+  unfolding reported_expression type_of evaluate
   term-whole f rest ff fr = record {
     of = fr.of;
     known = fr.known;
@@ -190,20 +190,20 @@ module _ {T N P : Type 0} (facts : Facts T) (shape : T → Option Shape) (types 
   }
 
   designator-valued : (x : ℕ) (path : Tree ℕ (items selector)) → NameFits facts shape label meaning x
-      → (told_factor facts (designator x path)).known.value ≡ given_value (evaluate_factor among [] (tree (designator x path)))
-  unfolding told_expression type_of evaluate
+      → (reported_factor facts (designator x path)).known.value ≡ given_value (evaluate_factor among [] (tree (designator x path)))
+  unfolding reported_expression type_of evaluate
   designator-valued x end name = name.fits.valued ∙ sym (name-valued among (label x) (constant_of (meaning.stands_for (label x))) refl)
   designator-valued x (more s path) name =
       parts-have-none facts (named facts x).known s path
       ∙ sym (parts-valued among (label x) (constant_of (meaning.stands_for (label x))) (tree s) (tree path) refl (λ v e. ap is_some (name.fits.scalar v (name.fits.valued ∙ e))))
 
-  designator-scalar : (x : ℕ) (path : Tree ℕ (items selector)) (name : NameFits facts shape label meaning x) (fs : FitsSelectors (named facts x).known name.fits.of path) → IsOf fs.of (told_factor facts (designator x path)).known.value
-  unfolding told_expression
+  designator-scalar : (x : ℕ) (path : Tree ℕ (items selector)) (name : NameFits facts shape label meaning x) (fs : FitsSelectors (named facts x).known name.fits.of path) → IsOf fs.of (reported_factor facts (designator x path)).known.value
+  unfolding reported_expression
   designator-scalar x end name fs = λ v e. name.fits.scalar v e ∙ (sym name.fits.known ∙ fs.known)
   designator-scalar x (more s path) name fs = λ v e. none-of fs.of v (sym (parts-have-none facts (named facts x).known s path) ∙ e)
 
   designator-whole : (x : ℕ) (path : Tree ℕ (items selector)) (name : NameFits facts shape label meaning x) → FitsSelectors (named facts x).known name.fits.of path → FitsFactor (designator x path)
-  unfolding told_expression type_of evaluate
+  unfolding reported_expression type_of evaluate
   designator-whole x path name fs = record {
     of = fs.of;
     known = fs.known;
@@ -212,29 +212,29 @@ module _ {T N P : Type 0} (facts : Facts T) (shape : T → Option Shape) (types 
     scalar = designator-scalar x path name fs;
   }
 
-  negation-whole : (f : Tree ℕ factor) (ff : FitsFactor f) → (complemented facts (told_factor facts f).known).faults ≡ [] → FitsFactor (negation f)
-  unfolding told_expression type_of evaluate
+  negation-whole : (f : Tree ℕ factor) (ff : FitsFactor f) → (complement_operand facts (reported_factor facts f).known).faults ≡ [] → FitsFactor (negation f)
+  unfolding reported_expression type_of evaluate
   negation-whole f ff h =
-      let (known, typed) = complemented-fits facts shape types (told_factor facts f).known ff.of ff.known h in
+      let (known, typed) = complemented-fits facts shape types (reported_factor facts f).known ff.of ff.known h in
       record {
         of = boolean_shape;
         known = known;
         typed = goes-on complement_type (type_of_factor meaning (tree f)) ff.of (Some boolean_shape) ff.typed typed;
         valued = ap (option_and_then (λ x. given_value (negated x))) ff.valued ∙ sym (negation-valued among (tree f));
-        scalar = complement-of (told_factor facts f).known.value;
+        scalar = complement-of (reported_factor facts f).known.value;
       }
 
   parentheses-whole : (e : Tree ℕ expression) → FitsExpression e → FitsFactor (parenthesised e)
-  unfolding told_expression type_of evaluate
+  unfolding reported_expression type_of evaluate
   parentheses-whole e fe = record { of = fe.of; known = fe.known; typed = fe.typed; valued = fe.valued; scalar = fe.scalar }
 
   integer-whole : (n : ℕ) → FitsFactor (integer n)
-  unfolding told_expression type_of evaluate
+  unfolding reported_expression type_of evaluate
   integer-whole n = record { of = integer_shape; known = types.integer; typed = refl; valued = refl; scalar = some-of integer_shape (number (pos (value_at facts.source n))) refl }
 
   field-whole : (x : Operand T) (s : Shape) (n : ℕ) (rest : Tree ℕ (items selector)) (u : Shape) → field_type s (text_at facts.source n) ≡ Some u → meaning.written (label n) ≡ text_at facts.source n
       → FitsSelectors (field_selected facts x n).known u rest → FitsSelectors x s (more (field n) rest)
-  unfolding told_expression type_of
+  unfolding reported_expression type_of
   field-whole x s n rest u typed written fs = record {
     of = fs.of;
     known = fs.known;
@@ -242,8 +242,8 @@ module _ {T N P : Type 0} (facts : Facts T) (shape : T → Option Shape) (types 
   }
 
   index-whole : (x : Operand T) (s : Shape) (e : Tree ℕ expression) (rest : Tree ℕ (items selector)) (fe : FitsExpression e) (u : Shape) → element_type s fe.of ≡ Some u
-      → FitsSelectors (element_selected facts x (told_expression facts e).known).known u rest → FitsSelectors x s (more (index e) rest)
-  unfolding told_expression type_of
+      → FitsSelectors (element_selected facts x (reported_expression facts e).known).known u rest → FitsSelectors x s (more (index e) rest)
+  unfolding reported_expression type_of
   index-whole x s e rest fe u typed fs = record {
     of = fs.of;
     known = fs.known;
@@ -252,15 +252,15 @@ module _ {T N P : Type 0} (facts : Facts T) (shape : T → Option Shape) (types 
   }
 
   ended-addends : (x : Operand T) (s : Shape) → shape x.of ≡ Some s → IsOf s x.value → FitsAddends x s end
-  unfolding told_expression type_of evaluate
+  unfolding reported_expression type_of evaluate
   ended-addends x s hx scalar = record { of = s; known = hx; typed = refl; valued = then-itself x.value; scalar = scalar }
 
   ended-multipliers : (x : Operand T) (s : Shape) → shape x.of ≡ Some s → IsOf s x.value → FitsMultipliers x s end
-  unfolding told_expression type_of evaluate
+  unfolding reported_expression type_of evaluate
   ended-multipliers x s hx scalar = record { of = s; known = hx; typed = refl; valued = then-itself x.value; scalar = scalar }
 
   ended-selectors : (x : Operand T) (s : Shape) → shape x.of ≡ Some s → FitsSelectors x s end
-  unfolding told_expression type_of
+  unfolding reported_expression type_of
   ended-selectors x s hx = record { of = s; known = hx; typed = refl }
 
   split : (xs ys : List (Role × ℕ)) → TokensFit facts shape label meaning (xs ++ ys) → TokensFit facts shape label meaning xs × TokensFit facts shape label meaning ys
@@ -270,66 +270,66 @@ module _ {T N P : Type 0} (facts : Facts T) (shape : T → Option Shape) (types 
   ids t = identifiers role.Declaring t
 
   mutual
-    unfolding told_expression type_of evaluate
+    unfolding reported_expression type_of evaluate
 
-    pub expression-fits : (e : Tree ℕ expression) → All e → (told_expression facts e).faults ≡ [] → FitsExpression e
+    pub expression-fits : (e : Tree ℕ expression) → All e → (reported_expression facts e).faults ≡ [] → FitsExpression e
     expression-fits (compares a none) k h = simple-fits a (split (ids a) [] k).0 h
     expression-fits (compares a (one (relates r b))) k h =
         let parts = split (ids a) (ids b) k in
-        let left = none-told (told_simple facts a).faults _ h in
-        let right = none-told (told_simple facts b).faults _ left.1 in
+        let left = none-told (reported_simple facts a).faults _ h in
+        let right = none-told (reported_simple facts b).faults _ left.1 in
         related-whole r a b (simple-fits a parts.0 left.0) (simple-fits b parts.1 right.0) right.1
 
-    pub simple-fits : (a : Tree ℕ simple) → All a → (told_simple facts a).faults ≡ [] → FitsSimple a
+    pub simple-fits : (a : Tree ℕ simple) → All a → (reported_simple facts a).faults ≡ [] → FitsSimple a
     simple-fits (sum g t rest) k h =
         let parts = split (ids t) (ids rest) k in
-        let left = none-told (told_term facts t).faults _ h in
-        let right = none-told (signed facts g (told_term facts t).known).faults _ left.1 in
+        let left = none-told (reported_term facts t).faults _ h in
+        let right = none-told (sign_operand facts g (reported_term facts t).known).faults _ left.1 in
         let ft : FitsTerm t = term-fits t parts.0 left.0 in
-        let (w, known, typed, keeps) = signed-fits facts shape types g (told_term facts t).known ft.of ft.known right.0 in
-        simple-whole g t rest ft w typed (addends-fit (signed facts g (told_term facts t).known).known w rest known (keeps ft.scalar) parts.1 right.1)
+        let (w, known, typed, keeps) = signed-fits facts shape types g (reported_term facts t).known ft.of ft.known right.0 in
+        simple-whole g t rest ft w typed (addends-fit (sign_operand facts g (reported_term facts t).known).known w rest known (keeps ft.scalar) parts.1 right.1)
 
-    addends-fit : (x : Operand T) (s : Shape) (rest : Tree ℕ (items addend)) → shape x.of ≡ Some s → IsOf s x.value → All rest → (told_addends facts x rest).faults ≡ [] → FitsAddends x s rest
+    addends-fit : (x : Operand T) (s : Shape) (rest : Tree ℕ (items addend)) → shape x.of ≡ Some s → IsOf s x.value → All rest → (reported_addends facts x rest).faults ≡ [] → FitsAddends x s rest
     addends-fit x s end hx scalar k h = ended-addends x s hx scalar
     addends-fit x s (more (adds o t) rest) hx scalar k h =
         let parts = split (ids t) (ids rest) k in
-        let left = none-told (told_term facts t).faults _ h in
-        let right = none-told (added facts o x (told_term facts t).known).faults _ left.1 in
+        let left = none-told (reported_term facts t).faults _ h in
+        let right = none-told (add_operands facts o x (reported_term facts t).known).faults _ left.1 in
         let ft : FitsTerm t = term-fits t parts.0 left.0 in
-        let (w, known, typed, keeps) = added-fits facts shape types o x (told_term facts t).known s ft.of hx ft.known right.0 in
+        let (w, known, typed, keeps) = added-fits facts shape types o x (reported_term facts t).known s ft.of hx ft.known right.0 in
         addend-whole x s o t rest ft w typed
-        (addends-fit (added facts o x (told_term facts t).known).known w rest known (keeps scalar) parts.1 right.1)
+        (addends-fit (add_operands facts o x (reported_term facts t).known).known w rest known (keeps scalar) parts.1 right.1)
 
-    pub term-fits : (t : Tree ℕ term) → All t → (told_term facts t).faults ≡ [] → FitsTerm t
+    pub term-fits : (t : Tree ℕ term) → All t → (reported_term facts t).faults ≡ [] → FitsTerm t
     term-fits (product f rest) k h =
         let parts = split (ids f) (ids rest) k in
-        let left = none-told (told_factor facts f).faults _ h in
+        let left = none-told (reported_factor facts f).faults _ h in
         let ff : FitsFactor f = factor-fits f parts.0 left.0 in
-        term-whole f rest ff (multipliers-fit (told_factor facts f).known ff.of rest ff.known ff.scalar parts.1 left.1)
+        term-whole f rest ff (multipliers-fit (reported_factor facts f).known ff.of rest ff.known ff.scalar parts.1 left.1)
 
-    multipliers-fit : (x : Operand T) (s : Shape) (rest : Tree ℕ (items multiplier)) → shape x.of ≡ Some s → IsOf s x.value → All rest → (told_multipliers facts x rest).faults ≡ [] → FitsMultipliers x s rest
+    multipliers-fit : (x : Operand T) (s : Shape) (rest : Tree ℕ (items multiplier)) → shape x.of ≡ Some s → IsOf s x.value → All rest → (reported_multipliers facts x rest).faults ≡ [] → FitsMultipliers x s rest
     multipliers-fit x s end hx scalar k h = ended-multipliers x s hx scalar
     multipliers-fit x s (more (multiplies o f) rest) hx scalar k h =
         let parts = split (ids f) (ids rest) k in
-        let left = none-told (told_factor facts f).faults _ h in
-        let right = none-told (multiplied facts o x (told_factor facts f).known).faults _ left.1 in
+        let left = none-told (reported_factor facts f).faults _ h in
+        let right = none-told (multiply_operands facts o x (reported_factor facts f).known).faults _ left.1 in
         let ff : FitsFactor f = factor-fits f parts.0 left.0 in
-        let (w, known, typed, keeps) = multiplied-fits facts shape types o x (told_factor facts f).known s ff.of hx ff.known right.0 in
+        let (w, known, typed, keeps) = multiplied-fits facts shape types o x (reported_factor facts f).known s ff.of hx ff.known right.0 in
         multiplier-whole x s o f rest ff w typed
-        (multipliers-fit (multiplied facts o x (told_factor facts f).known).known w rest known (keeps scalar) parts.1 right.1)
+        (multipliers-fit (multiply_operands facts o x (reported_factor facts f).known).known w rest known (keeps scalar) parts.1 right.1)
 
-    pub factor-fits : (f : Tree ℕ factor) → All f → (told_factor facts f).faults ≡ [] → FitsFactor f
+    pub factor-fits : (f : Tree ℕ factor) → All f → (reported_factor facts f).faults ≡ [] → FitsFactor f
     factor-fits (designator x path) k h =
         let parts = none-told (named facts x).faults _ h in
         let name : NameFits facts shape label meaning x = k.0 parts.0 in
         designator-whole x path name (selectors-fit (named facts x).known name.fits.of path name.fits.known k.1 parts.1)
     factor-fits (integer n) k h = integer-whole n
-    factor-fits (parenthesised e) k h = parentheses-whole e (expression-fits e k (none-told (told_expression facts e).faults _ h).0)
+    factor-fits (parenthesised e) k h = parentheses-whole e (expression-fits e k (none-told (reported_expression facts e).faults _ h).0)
     factor-fits (negation f) k h =
-        let parts = none-told (told_factor facts f).faults _ h in
+        let parts = none-told (reported_factor facts f).faults _ h in
         negation-whole f (factor-fits f k parts.0) parts.1
 
-    pub selectors-fit : (x : Operand T) (s : Shape) (path : Tree ℕ (items selector)) → shape x.of ≡ Some s → All path → (told_selectors facts x path).faults ≡ [] → FitsSelectors x s path
+    pub selectors-fit : (x : Operand T) (s : Shape) (path : Tree ℕ (items selector)) → shape x.of ≡ Some s → All path → (reported_selectors facts x path).faults ≡ [] → FitsSelectors x s path
     selectors-fit x s end hx k h = ended-selectors x s hx
     selectors-fit x s (more (field n) rest) hx k h =
         let parts = none-told (field_selected facts x n).faults _ h in
@@ -337,8 +337,8 @@ module _ {T N P : Type 0} (facts : Facts T) (shape : T → Option Shape) (types 
         field-whole x s n rest u typed k.0 (selectors-fit (field_selected facts x n).known u rest known k.1 parts.1)
     selectors-fit x s (more (index e) rest) hx k h =
         let parts = split (ids e) (ids rest) k in
-        let left = none-told (told_expression facts e).faults _ h in
-        let right = none-told (element_selected facts x (told_expression facts e).known).faults _ left.1 in
+        let left = none-told (reported_expression facts e).faults _ h in
+        let right = none-told (element_selected facts x (reported_expression facts e).known).faults _ left.1 in
         let fe : FitsExpression e = expression-fits e parts.0 left.0 in
-        let (u, known, typed) = element-fits facts shape types x (told_expression facts e).known s fe.of hx fe.known right.0 in
-        index-whole x s e rest fe u typed (selectors-fit (element_selected facts x (told_expression facts e).known).known u rest known parts.1 right.1)
+        let (u, known, typed) = element-fits facts shape types x (reported_expression facts e).known s fe.of hx fe.known right.0 in
+        index-whole x s e rest fe u typed (selectors-fit (element_selected facts x (reported_expression facts e).known).known u rest known parts.1 right.1)

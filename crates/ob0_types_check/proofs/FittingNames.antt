@@ -1,4 +1,4 @@
--- Names: what is known of one that stands for something is so.
+-- Names: what is known of one that means something is so.
 use Rattle.std.proofs.Common.{◌≡◌, ℕ, Bool, true, false, true≢false, List, [], ◌∷◌, Option, Some, None, option_map, is_some, if◌then◌else◌, refl, sym, subst, subst₂}
 use Rattle.ob0_tree.specs.declared.tree.Role.{Role}
 use Rattle.ob0_tree.specs.declared.tree.Role.TheVariants as role
@@ -9,12 +9,12 @@ use Rattle.ob0_types_rules.specs.WellTyped.{Signature, Typed}
 use Rattle.ob0_values.specs.Values.{Shape, Value, boolean_shape, elements, integer_shape, members, number, truth}
 use Rattle.ob0_types_check.specs.Known.{Facts, Meaning, Operand, a_constant, a_procedure, a_type, a_variable}
 use Rattle.ob0_types_check.specs.Operations.{a_constant_name, a_name, at_token, named_value, right}
-use Rattle.ob0_types_check.specs.Agreement.{StandsAlike, TokenAgrees, TokensAgree, TypesAgree}
+use Rattle.ob0_types_check.specs.Agreement.{MeansAlike, TokenAgrees, TokensAgree, TypesAgree}
 use Rattle.ob0_types_check.proofs.FittingExpressions.{Fits, TokenFits, TokensFit}
 use Rattle.ob0_types_check.proofs.Operands.{none-of, some-of}
 use Rattle.ob0_scan.specs.declared.fault.Code.TheVariants as code
 
--- a name by itself, and what it stands for
+-- a name by itself, and what it means
 pub record ObjectFits {T P : Type 0} (shape : T → Option Shape) (k : Operand T) (o : Option (Object Shape P)) : Type 0 where
   pub fits : Fits shape k (object_type o) (constant_of o)
   pub placed : k.is_place ≡ true → o ≡ Some (meant.a_variable fits.of)
@@ -38,7 +38,7 @@ module _ {T : Type 0} (facts : Facts T) (shape : T → Option Shape) (types : Ty
   variable-fits x t s known true h = absurd (cc)
   variable-fits x t s known false h = record { fits = record { of = s; known = known; typed = refl; valued = refl; scalar = none-of s }; placed = λ e. refl }
 
-  stands-fits : (x : ℕ) (m : Option (Meaning T)) (o : Option (Object Shape Signature)) → StandsAlike shape m o → (named_value facts x m).faults ≡ [] → ObjectFits shape (named_value facts x m).known o
+  stands-fits : (x : ℕ) (m : Option (Meaning T)) (o : Option (Object Shape Signature)) → MeansAlike shape m o → (named_value facts x m).faults ≡ [] → ObjectFits shape (named_value facts x m).known o
   stands-fits x None o a h = absurd a
   stands-fits x (Some (a_type t)) o a h = absurd (cc)
   stands-fits x (Some (a_procedure fs)) o a h = absurd (cc)
@@ -47,12 +47,12 @@ module _ {T : Type 0} (facts : Facts T) (shape : T → Option Shape) (types : Ty
   stands-fits x (Some (a_variable t)) o (s, known, stands) h =
       subst (λ o. ObjectFits shape (named_value facts x (Some (a_variable t))).known o) (sym stands) (variable-fits x t s known facts.only_constants h)
 
-  -- where names stand for constants alone
+  -- where names mean constants alone
   no-variable : (x : ℕ) (t : T) (b : Bool) → b ≡ true → (if b then record { known = a_name facts.types.unknown x; faults = at_token facts code.NotConstant x } else right (a_name t x)).faults ≡ [] → ⊥
   no-variable x t true only h = cc
   no-variable x t false only h = true≢false (sym only)
 
-  only-fits : {Q : Type 0} (x : ℕ) (m : Option (Meaning T)) (o : Option (Object Shape Signature)) → facts.only_constants ≡ true → StandsAlike shape m o → (named_value facts x m).faults ≡ []
+  only-fits : {Q : Type 0} (x : ℕ) (m : Option (Meaning T)) (o : Option (Object Shape Signature)) → facts.only_constants ≡ true → MeansAlike shape m o → (named_value facts x m).faults ≡ []
       → ObjectFits {P = Q} shape (named_value facts x m).known (option_map meant.a_constant (constant_of o))
   only-fits x None o only a h = absurd a
   only-fits x (Some (a_type t)) o only a h = absurd (cc)

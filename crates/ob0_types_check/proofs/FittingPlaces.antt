@@ -1,4 +1,4 @@
--- An expression that may stand for a place is a variable with its selectors.
+-- An expression that may be for a place is a variable with its selectors.
 use Rattle.std.proofs.Common.{◌≡◌, ℕ, true, false, true≢false, List, [], ◌++◌, Option, Some, None, refl, sym, ap, ◌∙◌}
 use Rattle.ob0_tree.specs.declared.tree.Role.{Role}
 use Rattle.ob0_tree.specs.declared.tree.Role.TheVariants as role
@@ -8,9 +8,9 @@ use Rattle.ob0_types_rules.specs.Expressions.{Meanings, a_variable}
 use Rattle.ob0_types_rules.specs.Typing.{designated, type_at}
 use Rattle.ob0_types_rules.specs.WellTyped.{variable_type}
 use Rattle.ob0_values.specs.Values.{Shape}
-use Rattle.ob0_types_check.specs.ExpressionFaults.{told_expression, told_factor, told_selectors, told_term}
+use Rattle.ob0_types_check.specs.ExpressionFaults.{reported_expression, reported_factor, reported_selectors, reported_term}
 use Rattle.ob0_types_check.specs.Known.{Facts, Operand}
-use Rattle.ob0_types_check.specs.Operations.{added, multiplied, named, signed}
+use Rattle.ob0_types_check.specs.Operations.{add_operands, multiply_operands, named, sign_operand}
 use Rattle.ob0_types_check.specs.Agreement.{TypesAgree}
 use Rattle.ob0_types_check.specs.ReportLaws.{OperandFits}
 use Rattle.ob0_types_check.proofs.FittingExpressions.{FitsExpression, FitsSelectors, NameFits, TokensFit, addends-apart, expression-fits, multipliers-apart, parts-placed, selectors-fit, split-tokens}
@@ -40,9 +40,9 @@ module _ {T N P : Type 0} (facts : Facts T) (shape : T → Option Shape) (types 
     pub known : shape o.of ≡ Some of
     pub placed : variable_type meaning (designated e) ≡ Some of
 
-  designator-placed : (x : ℕ) (path : Tree ℕ (items selector)) (f : Tree N factor) → NameFits facts shape label meaning x → Agreed path → (told_selectors facts (named facts x).known path).faults ≡ []
-      → (told_selectors facts (named facts x).known path).known.is_place ≡ true
-      → IsPlaced (told_selectors facts (named facts x).known path).known (compares (sum None (product (designator (label x) (here path)) end) end) none)
+  designator-placed : (x : ℕ) (path : Tree ℕ (items selector)) (f : Tree N factor) → NameFits facts shape label meaning x → Agreed path → (reported_selectors facts (named facts x).known path).faults ≡ []
+      → (reported_selectors facts (named facts x).known path).known.is_place ≡ true
+      → IsPlaced (reported_selectors facts (named facts x).known path).known (compares (sum None (product (designator (label x) (here path)) end) end) none)
   designator-placed x path f name k h e =
       let fs : FitsSelectors facts shape types label meaning (named facts x).known name.fits.of path = selectors-fit facts shape types label meaning (named facts x).known name.fits.of path name.fits.known k h in
       record {
@@ -54,32 +54,32 @@ module _ {T N P : Type 0} (facts : Facts T) (shape : T → Option Shape) (types 
   no-place : {A : Type 0} (o : Operand T) → o.is_place ≡ false → o.is_place ≡ true → A
   no-place o f e = absurd (true≢false (sym e ∙ f))
 
-  placed-factor : (f : Tree ℕ factor) → Agreed f → (told_factor facts f).faults ≡ [] → (told_factor facts f).known.is_place ≡ true
-      → IsPlaced (told_factor facts f).known (compares (sum None (product (here f) end) end) none)
-  unfolding told_expression
+  placed-factor : (f : Tree ℕ factor) → Agreed f → (reported_factor facts f).faults ≡ [] → (reported_factor facts f).known.is_place ≡ true
+      → IsPlaced (reported_factor facts f).known (compares (sum None (product (here f) end) end) none)
+  unfolding reported_expression
   placed-factor (designator x path) k h e =
       let parts = none-told (named facts x).faults _ h in
       designator-placed x path (here (designator x path)) (k.0 parts.0) k.1 parts.1 e
-  placed-factor (integer n) k h e = no-place (told_factor facts (integer n)).known refl e
-  placed-factor (parenthesised a) k h e = no-place (told_factor facts (parenthesised a)).known refl e
-  placed-factor (negation a) k h e = no-place (told_factor facts (negation a)).known refl e
+  placed-factor (integer n) k h e = no-place (reported_factor facts (integer n)).known refl e
+  placed-factor (parenthesised a) k h e = no-place (reported_factor facts (parenthesised a)).known refl e
+  placed-factor (negation a) k h e = no-place (reported_factor facts (negation a)).known refl e
 
-  pub expression-placed : (e : Tree ℕ expression) → Agreed e → (told_expression facts e).faults ≡ [] → (told_expression facts e).known.is_place ≡ true → IsPlaced (told_expression facts e).known (here e)
-  unfolding told_expression
-  expression-placed (compares a (one (relates r b))) k h e = no-place (told_expression facts (compares a (one (relates r b)))).known refl e
+  pub expression-placed : (e : Tree ℕ expression) → Agreed e → (reported_expression facts e).faults ≡ [] → (reported_expression facts e).known.is_place ≡ true → IsPlaced (reported_expression facts e).known (here e)
+  unfolding reported_expression
+  expression-placed (compares a (one (relates r b))) k h e = no-place (reported_expression facts (compares a (one (relates r b)))).known refl e
   expression-placed (compares (sum g t (more (adds o u) rest)) none) k h e =
-      no-place (told_expression facts (compares (sum g t (more (adds o u) rest)) none)).known
-      (addends-apart facts (added facts o (signed facts g (told_term facts t).known).known (told_term facts u).known).known rest refl) e
-  expression-placed (compares (sum (Some g) t end) none) k h e = no-place (told_expression facts (compares (sum (Some g) t end) none)).known refl e
+      no-place (reported_expression facts (compares (sum g t (more (adds o u) rest)) none)).known
+      (addends-apart facts (add_operands facts o (sign_operand facts g (reported_term facts t).known).known (reported_term facts u).known).known rest refl) e
+  expression-placed (compares (sum (Some g) t end) none) k h e = no-place (reported_expression facts (compares (sum (Some g) t end) none)).known refl e
   expression-placed (compares (sum None (product f (more (multiplies o u) rest)) end) none) k h e =
-      no-place (told_expression facts (compares (sum None (product f (more (multiplies o u) rest)) end) none)).known
-      (multipliers-apart facts (multiplied facts o (told_factor facts f).known (told_factor facts u).known).known rest refl) e
+      no-place (reported_expression facts (compares (sum None (product f (more (multiplies o u) rest)) end) none)).known
+      (multipliers-apart facts (multiply_operands facts o (reported_factor facts f).known (reported_factor facts u).known).known rest refl) e
   expression-placed (compares (sum None (product f end) end) none) k h e =
       placed-factor f (split (ids f) [] (split (ids (product f end)) [] (split (ids (sum None (product f end) end)) [] k).0).0).0
-      (none-told (told_factor facts f).faults _ (none-told (told_term facts (product f end)).faults _ h).0).0 e
+      (none-told (reported_factor facts f).faults _ (none-told (reported_term facts (product f end)).faults _ h).0).0 e
 
   -- all that is known of an operand
-  pub operand-fits : (e : Tree ℕ expression) → Agreed e → (told_expression facts e).faults ≡ [] → OperandFits shape meaning (told_expression facts e).known (here e)
+  pub operand-fits : (e : Tree ℕ expression) → Agreed e → (reported_expression facts e).faults ≡ [] → OperandFits shape meaning (reported_expression facts e).known (here e)
   operand-fits e k h =
       let fe : FitsExpression facts shape types label meaning e = expression-fits facts shape types label meaning e k h in
       record {
@@ -88,5 +88,5 @@ module _ {T N P : Type 0} (facts : Facts T) (shape : T → Option Shape) (types 
         typed = fe.typed;
         valued = fe.valued;
         scalar = fe.scalar;
-        placed = λ i. let p : IsPlaced (told_expression facts e).known (here e) = expression-placed e k h i in p.placed ∙ (sym p.known ∙ fe.known);
+        placed = λ i. let p : IsPlaced (reported_expression facts e).known (here e) = expression-placed e k h i in p.placed ∙ (sym p.known ∙ fe.known);
       }

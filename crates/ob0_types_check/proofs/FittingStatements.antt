@@ -1,4 +1,4 @@
--- Statements of which nothing is told fit.
+-- Statements of which nothing is reported fit.
 use Rattle.std.proofs.Common.{◌≡◌, ℕ, Bool, true, false, ◌&&◌, not, nat_eq, List, [], ◌∷◌, ◌++◌, length, map, Option, Some, None, if◌then◌else◌, refl, sym, ap, ◌∙◌, arith, eqb-true}
 use Rattle.ob0_scan.specs.declared.fault.Code.TheVariants as code
 use Rattle.ob0_types_table.specs.Tables.{mode_of}
@@ -13,13 +13,13 @@ use Rattle.ob0_types_rules.specs.Expressions.{Object}
 use Rattle.ob0_types_rules.specs.Typing.{designated, type_of}
 use Rattle.ob0_types_rules.specs.WellTyped.{Formal, Signature, Typed, agree, argument_fits, arguments_fit, by_place, by_value, call_fits, condition_fits, else_fits, elsifs_fit, sequence_fits, signature_of, statement_fits, statements_fit, variable_type}
 use Rattle.ob0_values.specs.Values.{Shape, boolean_shape}
-use Rattle.ob0_types_check.specs.ExpressionFaults.{told_expression}
+use Rattle.ob0_types_check.specs.ExpressionFaults.{reported_expression}
 use Rattle.ob0_types_check.specs.Known.{Facts, Meaning, Operand, Reported, a_constant, a_procedure, a_type, a_variable}
 use Rattle.ob0_types_check.specs.Known as known
 use Rattle.ob0_types_check.specs.Operations.{a_name, required, at_operand}
 use Rattle.ob0_types_check.specs.SoFar.{facts_at}
-use Rattle.ob0_types_check.specs.StatementFaults.{assigned, assigned_meaning, called, told_argument, told_arguments, told_asked, told_assigned, reported_call, reported_condition, told_else, told_elsifs, told_sequence, told_statement, told_statements, told_target}
-use Rattle.ob0_types_check.specs.Agreement.{FormalsAgree, StandsAlike, TokensAgree, TypesAgree, shape_in}
+use Rattle.ob0_types_check.specs.StatementFaults.{target_meaning, target_by_meaning, call_by_meaning, reported_argument, reported_arguments, reported_required, reported_assignment, reported_call, reported_condition, reported_else, reported_elsifs, reported_sequence, reported_statement, reported_statements, reported_target}
+use Rattle.ob0_types_check.specs.Agreement.{FormalsAgree, MeansAlike, TokensAgree, TypesAgree, shape_in}
 use Rattle.ob0_types_check.specs.ReportLaws.{OperandFits, StatementsFit}
 use Rattle.ob0_types_check.proofs.FittingExpressions.{FitsSelectors, selectors-fit}
 use Rattle.ob0_types_check.proofs.FittingNames.{tokens-fit}
@@ -53,16 +53,16 @@ module _ {T N : Type 0} (facts : Facts T) (shape : T → Option Shape) (types : 
   split [] ys h = (tt, h)
   split (x ∷ xs) ys h = let rest = split xs ys h.1 in ((h.0, rest.0), rest.1)
 
-  pub known-operand : (e : Tree ℕ expression) → Agreed e → (told_expression facts e).faults ≡ [] → OperandFits shape meaning (told_expression facts e).known (here e)
+  pub known-operand : (e : Tree ℕ expression) → Agreed e → (reported_expression facts e).faults ≡ [] → OperandFits shape meaning (reported_expression facts e).known (here e)
   known-operand e k h = operand-fits facts shape types label meaning e (tokens-fit facts shape types label meaning (ids e) k) h
 
-  -- an expression of which a type is asked
-  asked-typed : (wanted : T) (w : Shape) (e : Tree ℕ expression) → shape wanted ≡ Some w → Agreed e → told_asked facts wanted e ≡ [] → type_of meaning (here e) ≡ Some w
-  unfolding told_asked
+  -- an expression of which a type is required
+  asked-typed : (wanted : T) (w : Shape) (e : Tree ℕ expression) → shape wanted ≡ Some w → Agreed e → reported_required facts wanted e ≡ [] → type_of meaning (here e) ≡ Some w
+  unfolding reported_required
   asked-typed wanted w e hw k h =
-      let parts = none-told (told_expression facts e).faults _ h in
-      let o : OperandFits shape meaning (told_expression facts e).known (here e) = known-operand e k parts.0 in
-      let (given, same) = asked-fits facts shape types wanted (told_expression facts e).known o.of w o.known hw parts.1 in
+      let parts = none-told (reported_expression facts e).faults _ h in
+      let o : OperandFits shape meaning (reported_expression facts e).known (here e) = known-operand e k parts.0 in
+      let (given, same) = asked-fits facts shape types wanted (reported_expression facts e).known o.of w o.known hw parts.1 in
       o.typed ∙ ap (λ s. Some s) same
 
   condition-fits : (e : Tree ℕ expression) → Agreed e → reported_condition facts e ≡ [] → condition_fits meaning (here e) ≡ true
@@ -76,25 +76,25 @@ module _ {T N : Type 0} (facts : Facts T) (shape : T → Option Shape) (types : 
     pub known : shape told.known ≡ Some of
     pub stands : o ≡ Some (meant.a_variable of)
 
-  assigned-stands : (x : ℕ) (m : Option (Meaning T)) (o : Option (Object Shape Signature)) → StandsAlike shape m o → (assigned_meaning facts x m).faults ≡ [] → IsAssigned (assigned_meaning facts x m) o
+  assigned-stands : (x : ℕ) (m : Option (Meaning T)) (o : Option (Object Shape Signature)) → MeansAlike shape m o → (target_by_meaning facts x m).faults ≡ [] → IsAssigned (target_by_meaning facts x m) o
   assigned-stands x None o a h = absurd a
   assigned-stands x (Some (a_type t)) o a h = absurd (cc)
   assigned-stands x (Some (a_constant c)) o a h = absurd (cc)
   assigned-stands x (Some (a_procedure fs)) o a h = absurd (cc)
   assigned-stands x (Some (a_variable t)) o (s, told, stands) h = record { of = s; known = told; stands = stands }
 
-  assignment-fits : (x : ℕ) (path : Tree ℕ (items selector)) (e : Tree ℕ expression) → Agreed (assigns x path e) → told_assigned facts (told_target facts x path) e ≡ [] → statement_fits meaning (here (assigns x path e)) ≡ true
-  unfolding told_target statement_fits
+  assignment-fits : (x : ℕ) (path : Tree ℕ (items selector)) (e : Tree ℕ expression) → Agreed (assigns x path e) → reported_assignment facts (reported_target facts x path) e ≡ [] → statement_fits meaning (here (assigns x path e)) ≡ true
+  unfolding reported_target statement_fits
   assignment-fits x path e k h =
-      let parts = none-told (told_target facts x path).faults _ h in
-      let target = none-told (assigned facts x).faults _ parts.0 in
+      let parts = none-told (reported_target facts x path).faults _ h in
+      let target = none-told (target_meaning facts x).faults _ parts.0 in
       let rest = split (ids path) (ids e) k.1 in
-      let a : IsAssigned (assigned facts x) (meaning.stands_for (label x)) = assigned-stands x (facts.stands_for x) (meaning.stands_for (label x)) k.0 target.0 in
-      let fs : FitsSelectors facts shape types label meaning (a_name (assigned facts x).known x) a.of path
-      = selectors-fit facts shape types label meaning (a_name (assigned facts x).known x) a.of path a.known (tokens-fit facts shape types label meaning (ids path) rest.0) target.1 in
+      let a : IsAssigned (target_meaning facts x) (meaning.stands_for (label x)) = assigned-stands x (facts.stands_for x) (meaning.stands_for (label x)) k.0 target.0 in
+      let fs : FitsSelectors facts shape types label meaning (a_name (target_meaning facts x).known x) a.of path
+      = selectors-fit facts shape types label meaning (a_name (target_meaning facts x).known x) a.of path a.known (tokens-fit facts shape types label meaning (ids path) rest.0) target.1 in
       agree-same fs.of (variable_type meaning (Some (label x, here path))) (type_of meaning (here e))
       (variable-typed facts shape types label meaning x path a.of (Some fs.of) a.stands fs.typed)
-      (asked-typed (told_target facts x path).known.of fs.of e fs.known rest.1 parts.1)
+      (asked-typed (reported_target facts x path).known.of fs.of e fs.known rest.1 parts.1)
 
   -- calls
 
@@ -111,17 +111,17 @@ module _ {T N : Type 0} (facts : Facts T) (shape : T → Option Shape) (types : 
       (λ i. agree (Some g.shape) (elim (mode i) [ by_value ↦ type_of meaning (here e) | by_place ↦ variable_type meaning (designated (here e)) ]))
       ∙ agree-same g.shape (Some g.shape) (type_of meaning (here e)) refl (fe.typed ∙ ap (λ s. Some s) same)
 
-  argument-fits : (f : known.Formal T) (g : Formal) (e : Tree ℕ expression) → g.mode ≡ mode_of f.by_place → shape f.of ≡ Some g.shape → Agreed e → told_argument facts f e ≡ [] → argument_fits meaning g (here e) ≡ true
-  unfolding told_argument
+  argument-fits : (f : known.Formal T) (g : Formal) (e : Tree ℕ expression) → g.mode ≡ mode_of f.by_place → shape f.of ≡ Some g.shape → Agreed e → reported_argument facts f e ≡ [] → argument_fits meaning g (here e) ≡ true
+  unfolding reported_argument
   argument-fits f g e mode wanted k h =
-      let parts = none-told (told_expression facts e).faults _ h in
-      passed-fits f.by_place f.of g e (told_expression facts e).known (known-operand e k parts.0) mode wanted parts.1
+      let parts = none-told (reported_expression facts e).faults _ h in
+      passed-fits f.by_place f.of g e (reported_expression facts e).known (known-operand e k parts.0) mode wanted parts.1
 
   abbrev pub EachAgreed : List (Tree ℕ expression) → Type 0
   EachAgreed [] = Unit {0}
   EachAgreed (e ∷ es) = Agreed e × EachAgreed es
 
-  arguments-fit : (fs : List (known.Formal T)) (gs : Signature) (es : List (Tree ℕ expression)) → FormalsAgree shape fs gs → length fs ≡ length es → EachAgreed es → told_arguments facts fs es ≡ []
+  arguments-fit : (fs : List (known.Formal T)) (gs : Signature) (es : List (Tree ℕ expression)) → FormalsAgree shape fs gs → length fs ≡ length es → EachAgreed es → reported_arguments facts fs es ≡ []
       → arguments_fit meaning gs (map here es) ≡ true
   unfolding arguments_fit
   arguments-fit [] [] [] a n k h = refl
@@ -130,7 +130,7 @@ module _ {T N : Type 0} (facts : Facts T) (shape : T → Option Shape) (types : 
   arguments-fit (f ∷ fs) [] es a n k h = absurd a
   arguments-fit (f ∷ fs) (g ∷ gs) [] a n k h = absurd (omega (arith, n))
   arguments-fit (f ∷ fs) (g ∷ gs) (e ∷ es) a n k h =
-      let parts = none-told (told_argument facts f e) _ h in
+      let parts = none-told (reported_argument facts f e) _ h in
       both-true (argument_fits meaning g (here e)) (arguments_fit meaning gs (map here es)) (argument-fits f g e a.0 a.1 k.0 parts.0) (arguments-fit fs gs es a.2 (omega (arith, n)) k.1 parts.1)
 
   further-mapped : (es : Tree ℕ (items further_argument)) → further_arguments (here es) ≡ map here (further_arguments es)
@@ -151,14 +151,14 @@ module _ {T N : Type 0} (facts : Facts T) (shape : T → Option Shape) (types : 
   arguments-agreed (one no_arguments) k = tt
   arguments-agreed (one (some_arguments e es)) k = let parts = split (ids e) (ids es) k in (parts.0, further-agreed es parts.1)
 
-  called-fits : (x : ℕ) (m : Option (Meaning T)) (o : Option (Object Shape Signature)) (es : List (Tree ℕ expression)) → StandsAlike shape m o → EachAgreed es → called facts x m es ≡ [] → call_fits meaning (signature_of o) (map here es) ≡ true
+  called-fits : (x : ℕ) (m : Option (Meaning T)) (o : Option (Object Shape Signature)) (es : List (Tree ℕ expression)) → MeansAlike shape m o → EachAgreed es → call_by_meaning facts x m es ≡ [] → call_fits meaning (signature_of o) (map here es) ≡ true
   unfolding call_fits
   called-fits x None o es a k h = absurd a
   called-fits x (Some (a_type t)) o es a k h = absurd (cc)
   called-fits x (Some (a_constant c)) o es a k h = absurd (cc)
   called-fits x (Some (a_variable t)) o es a k h = absurd (cc)
   called-fits x (Some (a_procedure fs)) o es (signature, stands, formals) k h =
-      let parts = counted (nat_eq (length fs) (length es)) (told_arguments facts fs es) _ h in
+      let parts = counted (nat_eq (length fs) (length es)) (reported_arguments facts fs es) _ h in
       ap (λ s. call_fits meaning s (map here es)) stands ∙ arguments-fit fs signature es formals (eqb-true (length fs) (length es) parts.0) k parts.1
 
   call-fits : (x : ℕ) (es : Tree ℕ (maybe arguments)) → Agreed (calls x es) → reported_call facts x (arguments_listed es) ≡ [] → statement_fits meaning (here (calls x es)) ≡ true
@@ -168,9 +168,9 @@ module _ {T N : Type 0} (facts : Facts T) (shape : T → Option Shape) (types : 
       ∙ called-fits x (facts.stands_for x) (meaning.stands_for (label x)) (arguments_listed es) k.0 (arguments-agreed es k.1) h
 
   mutual
-    unfolding told_statement statement_fits
+    unfolding reported_statement statement_fits
 
-    pub statement-fits : (a : Tree ℕ statement) → Agreed a → told_statement facts a ≡ [] → statement_fits meaning (here a) ≡ true
+    pub statement-fits : (a : Tree ℕ statement) → Agreed a → reported_statement facts a ≡ [] → statement_fits meaning (here a) ≡ true
     statement-fits empty k h = refl
     statement-fits (assigns x path e) k h = assignment-fits x path e k h
     statement-fits (calls x es) k h = call-fits x es k h
@@ -179,8 +179,8 @@ module _ {T N : Type 0} (facts : Facts T) (shape : T → Option Shape) (types : 
         let others = split (ids statements) _ tokens.1 in
         let ends = split (ids rest) (ids last) others.1 in
         let first = none-told (reported_condition facts e) _ h in
-        let second = none-told (told_sequence facts statements) _ first.1 in
-        let third = none-told (told_elsifs facts rest) _ second.1 in
+        let second = none-told (reported_sequence facts statements) _ first.1 in
+        let third = none-told (reported_elsifs facts rest) _ second.1 in
         both-true _ _ (condition-fits e tokens.0 first.0)
         (both-true _ _ (sequence-fits statements others.0 second.0) (both-true _ _ (elsifs-fit rest ends.0 third.0) (else-fits last ends.1 third.1)))
     statement-fits (while_loop e statements) k h =
@@ -189,32 +189,32 @@ module _ {T N : Type 0} (facts : Facts T) (shape : T → Option Shape) (types : 
         both-true _ _ (condition-fits e tokens.0 parts.0) (sequence-fits statements tokens.1 parts.1)
     statement-fits (repeat_loop statements e) k h =
         let tokens = split (ids statements) (ids e) k in
-        let parts = none-told (told_sequence facts statements) _ h in
+        let parts = none-told (reported_sequence facts statements) _ h in
         both-true _ _ (sequence-fits statements tokens.0 parts.0) (condition-fits e tokens.1 parts.1)
 
-    pub sequence-fits : (a : Tree ℕ sequence) → Agreed a → told_sequence facts a ≡ [] → sequence_fits meaning (here a) ≡ true
+    pub sequence-fits : (a : Tree ℕ sequence) → Agreed a → reported_sequence facts a ≡ [] → sequence_fits meaning (here a) ≡ true
     sequence-fits (runs a rest) k h =
         let tokens = split (ids a) (ids rest) k in
-        let parts = none-told (told_statement facts a) _ h in
+        let parts = none-told (reported_statement facts a) _ h in
         both-true _ _ (statement-fits a tokens.0 parts.0) (statements-fit rest tokens.1 parts.1)
 
-    statements-fit : (a : Tree ℕ (items further_statement)) → Agreed a → told_statements facts a ≡ [] → statements_fit meaning (here a) ≡ true
+    statements-fit : (a : Tree ℕ (items further_statement)) → Agreed a → reported_statements facts a ≡ [] → statements_fit meaning (here a) ≡ true
     statements-fit end k h = refl
     statements-fit (more (then_statement a) rest) k h =
         let tokens = split (ids a) (ids rest) k in
-        let parts = none-told (told_statement facts a) _ h in
+        let parts = none-told (reported_statement facts a) _ h in
         both-true _ _ (statement-fits a tokens.0 parts.0) (statements-fit rest tokens.1 parts.1)
 
-    elsifs-fit : (a : Tree ℕ (items elsif_part)) → Agreed a → told_elsifs facts a ≡ [] → elsifs_fit meaning (here a) ≡ true
+    elsifs-fit : (a : Tree ℕ (items elsif_part)) → Agreed a → reported_elsifs facts a ≡ [] → elsifs_fit meaning (here a) ≡ true
     elsifs-fit end k h = refl
     elsifs-fit (more (elsif_branch e statements) rest) k h =
         let tokens = split (ids (elsif_branch e statements)) (ids rest) k in
         let inner = split (ids e) (ids statements) tokens.0 in
         let first = none-told (reported_condition facts e) _ h in
-        let second = none-told (told_sequence facts statements) _ first.1 in
+        let second = none-told (reported_sequence facts statements) _ first.1 in
         both-true _ _ (condition-fits e inner.0 first.0) (both-true _ _ (sequence-fits statements inner.1 second.0) (elsifs-fit rest tokens.1 second.1))
 
-    else-fits : (a : Tree ℕ (maybe else_part)) → Agreed a → told_else facts a ≡ [] → else_fits meaning (here a) ≡ true
+    else-fits : (a : Tree ℕ (maybe else_part)) → Agreed a → reported_else facts a ≡ [] → else_fits meaning (here a) ≡ true
     else-fits none k h = refl
     else-fits (one (else_branch statements)) k h = sequence-fits statements k h
 

@@ -11,10 +11,10 @@ use Rattle.ob0_types_table.specs.declared.types.TypeId.{TypeId}
 use Rattle.ob0_tree.specs.Places.{text_at}
 use Rattle.ob0_tree.specs.View.{fields_of, further_fields_of_group}
 use Rattle.ob0_tree.specs.declared.tree.Fields.{Fields}
-use Rattle.ob0_types_check.specs.declared.telling.supposed.Supposed.{Supposed}
-use Rattle.ob0_types_check.specs.declared.telling.written_types.Gathered as gathering
+use Rattle.ob0_types_check.specs.declared.reporting.supposed.Supposed.{Supposed}
+use Rattle.ob0_types_check.specs.declared.reporting.written_types.Gathered as gathering
 use Rattle.ob0_types_check.specs.Known.{Reported}
-use Rattle.ob0_types_check.specs.Operations.{Tells}
+use Rattle.ob0_types_check.specs.Operations.{ReportsAfter}
 use Rattle.ob0_types_check.specs.SoFar.{Size, no_scalar, size_at}
 use Rattle.ob0_types_check.specs.SupposedFacts.{Gathers, IsGathered, counted, fields_in, size_of, so_far_in}
 use Rattle.ob0_types_check.specs.WrittenTypeFaults.{Gathered, beside, nothing_gathered, told_fields, told_groups, with_field, with_name, with_names}
@@ -70,7 +70,7 @@ pub record GroupsGathered (start : Gathered) (before : List Fault) (xs : List Fi
   pub is : IsGathered out s gathered
   pub told : Chained told_groups further_fields_of_group before start xs done now out
 
-pub gathers : {before after : List Fault} {s : Supposed} {gathered : gathering.Gathered} {x : Gathered} {t : Reported Gathered} → Tells before after x t → IsGathered x s gathered → Gathers before after s gathered t
+pub gathers : {before after : List Fault} {s : Supposed} {gathered : gathering.Gathered} {x : Gathered} {t : Reported Gathered} → ReportsAfter before after x t → IsGathered x s gathered → Gathers before after s gathered t
 gathers {s = s} {gathered = gathered} tells is = record { told = tells.told; now = subst (λ z. IsGathered z s gathered) tells.known is }
 
 pub groups_begin : {before : List Fault} {xs : List Fields} (s : Supposed) (gathered : gathering.Gathered) → ((x : Name) → fields_in gathered.fields x ≡ None) → size_of gathered.size ≡ no_scalar
@@ -83,5 +83,5 @@ pub groups_go_on : {start : Gathered} {before : List Fault} {xs : List Fields} {
 groups_go_on {now = now} {next = next} x n less here step =
     let told = told_fields n.out (fields_of x) in
     let h = step n.out n.is in
-    let tells : Tells now next told.known told = record { known = refl; told = h.told } in
-    record { out = told.known; is = h.now; told = chain_goes_on x groups_chain n.told less here (subst (Tells now next told.known) (sym (group_told n.out (fields_of x))) tells) }
+    let tells : ReportsAfter now next told.known told = record { known = refl; told = h.told } in
+    record { out = told.known; is = h.now; told = chain_goes_on x groups_chain n.told less here (subst (ReportsAfter now next told.known) (sym (group_told n.out (fields_of x))) tells) }

@@ -1,15 +1,15 @@
--- Faults that are told one list behind the other, and by a loop over what stands side by side.
+-- Faults that are reported one list after the other, and by a loop over what is side by side.
 use Rattle.std.proofs.Common.{◌≡◌, ℕ, ◌+◌, ◌<◌, ◌≤◌, List, [], ◌∷◌, ◌++◌, length, get_or, drop, map, refl, sym, ap, ◌∙◌, append-nil, append_assoc}
 use Rattle.std.proofs.lemmas.List.{drop_all, drop_more}
 use Rattle.ob0_scan.specs.declared.fault.Fault.{Fault}
 use Rattle.ob0_types_check.specs.Known.{Reported}
-use Rattle.ob0_types_check.specs.Operations.{Tells}
+use Rattle.ob0_types_check.specs.Operations.{ReportsAfter}
 
 pub told_both : (before a b : List Fault) {between after : List Fault} → between ≡ before ++ a → after ≡ between ++ b → after ≡ before ++ (a ++ b)
 told_both before a b p q = q ∙ ap (λ f. f ++ b) p ∙ append_assoc before a b
 
--- what is told behind something that is known
-pub told_behind : {A : Type 0} {before between after : List Fault} {x : A} {t : Reported A} (next : A → List Fault) → Tells before between x t → after ≡ between ++ next x → after ≡ before ++ (t.faults ++ next t.known)
+-- what is reported after something that is known
+pub told_behind : {A : Type 0} {before between after : List Fault} {x : A} {t : Reported A} (next : A → List Fault) → ReportsAfter before between x t → after ≡ between ++ next x → after ≡ before ++ (t.faults ++ next t.known)
 told_behind {before = before} {x = x} {t = t} next s q = told_both before t.faults (next x) s.told q ∙ ap (λ z. before ++ (t.faults ++ next z)) s.known
 
 -- all of a list, from its head on
@@ -17,7 +17,7 @@ pub record IsEach {A : Type 0} (all : List A → List Fault) (each : A → List 
   pub ended : all [] ≡ []
   pub stepped : (x : A) (xs : List A) → all (x ∷ xs) ≡ each x ++ all xs
 
--- what was told of the first, and then of those left, is what is told of all
+-- what was reported of the first, and then of those left, is what is reported of all
 pub record EachSoFar {A : Type 0} (all : List A → List Fault) (before : List Fault) (xs : List A) (done : ℕ) (now : List Fault) : Type 0 where
   pub so_far : now ++ all (drop done xs) ≡ before ++ all xs
 
@@ -58,7 +58,7 @@ pairs_end {all = all} {xs = xs} {ys = ys} {done = done} {now = now} h s over pas
 pub nothing_told : (before : List Fault) {all : List Fault} → all ≡ [] → before ≡ before ++ all
 nothing_told before e = sym (append-nil before) ∙ sym (ap (λ f. before ++ f) e)
 
--- the same put behind a list once for each element of another
+-- the same put after a list once for each element of another
 pub record RepeatedSoFar {A B : Type 0} (y : A) (before : List A) (xs : List B) (done : ℕ) (now : List A) : Type 0 where
   pub so_far : now ++ map (λ (x : B). y) (drop done xs) ≡ before ++ map (λ (x : B). y) xs
 

@@ -1,4 +1,4 @@
--- Operations of which nothing is told: the types of their operands are those that are asked for, and so is their own.
+-- Operations of which nothing is reported: the types of their operands are those that are required, and so is their own.
 use Rattle.std.proofs.Common.{◌≡◌, ℕ, Bool, true, false, ◌||◌, cond, [], if◌then◌else◌, Option, Some, None, option_and_then, option_map, zero, suc, ℤ, pos, negsuc, ◌+ℤ◌, ◌-ℤ◌, ◌*ℤ◌, neg_ℤ, refl, sym, ap, ◌∙◌, subst}
 use Rattle.ob0_scan.specs.declared.fault.Code.TheVariants as code
 use Rattle.ob0_types_table.specs.Operators.{product_value, sum_value}
@@ -16,7 +16,7 @@ use Rattle.ob0_types_rules.specs.Typing.{add_type, complement_type, element_type
 use Rattle.ob0_values.specs.Values.{FieldShapes, Outcome, Overflow, Shape, Value, add, add_is_settled, array_shape, boolean_shape, divided_by, ends, gives, in_range, integer_shape, multiply, multiply_is_settled, negated, number, quotient, record_shape, relate, remainder, truth}
 use Rattle.ob0_values.specs.Values as values
 use Rattle.ob0_types_check.specs.Known.{Facts, Form, Operand, Reported, a_record, a_scalar, an_array, unknown_form}
-use Rattle.ob0_types_check.specs.Operations.{added, required, asked_both, at_operand, complemented, element_in, element_selected, field_in, field_selected, fits, found_field, multiplied, related, signed, truth_of, wanted_by_add, wanted_by_equality, wanted_by_multiply, wanted_by_relation}
+use Rattle.ob0_types_check.specs.Operations.{add_operands, required, required_both, at_operand, complement_operand, element_in, element_selected, field_in, field_selected, fits, found_field, multiply_operands, relate_operands, sign_operand, truth_of, required_by_add, required_by_equality, required_by_multiply, required_by_relation}
 use Rattle.ob0_types_check.specs.Agreement.{FormAgrees, TypesAgree}
 use Rattle.ob0_types_check.proofs.Untold.{first-of, first-told, none-if, none-told, not-true, some-none, some-same}
 
@@ -141,8 +141,8 @@ module _ {T : Type 0} (facts : Facts T) (shape : T → Option Shape) (types : Ty
       let same : facts.types.same o.of wanted ≡ true = same-where-fits o.of wanted s w hs hw (none-if (fits facts.types o.of wanted) _ h) in
       (ap (λ b. if b then wanted else facts.types.unknown) same, same-shape o.of wanted s w hs hw same)
 
-  both-asked : (wanted : T) (a b : Operand T) (s t w : Shape) → shape a.of ≡ Some s → shape b.of ≡ Some t → shape wanted ≡ Some w → (asked_both facts wanted a b).faults ≡ []
-      → ((asked_both facts wanted a b).known ≡ wanted) × (s ≡ w) × (t ≡ w)
+  both-asked : (wanted : T) (a b : Operand T) (s t w : Shape) → shape a.of ≡ Some s → shape b.of ≡ Some t → shape wanted ≡ Some w → (required_both facts wanted a b).faults ≡ []
+      → ((required_both facts wanted a b).known ≡ wanted) × (s ≡ w) × (t ≡ w)
   both-asked wanted a b s t w hs ht hw h =
       let left : Reported T = record { known = if facts.types.same a.of wanted then (required facts wanted b).known else facts.types.unknown; faults = (required facts wanted b).faults } in
       let wrong : Reported T = record { known = facts.types.unknown; faults = at_operand facts code.TypeMismatch a } in
@@ -151,21 +151,21 @@ module _ {T : Type 0} (facts : Facts T) (shape : T → Option Shape) (types : Ty
       let (known, right) = asked-fits wanted b t w ht hw none in
       (ap (λ c. (if c then left else wrong).known) fit ∙ (ap (λ c. if c then (required facts wanted b).known else facts.types.unknown) same ∙ known), same-shape a.of wanted s w hs hw same, right)
 
-  -- what operators ask for has a shape
+  -- what operators require has a shape
 
-  add-wanted : (o : AddOperator) → shape (wanted_by_add facts.types o) ≡ Some (shape_added o)
+  add-wanted : (o : AddOperator) → shape (required_by_add facts.types o) ≡ Some (shape_added o)
   add-wanted add_operator.Add = types.integer
   add-wanted add_operator.Subtract = types.integer
   add-wanted add_operator.Or = types.boolean
 
-  multiply-wanted : (o : MultiplyOperator) → shape (wanted_by_multiply facts.types o) ≡ Some (shape_multiplied o)
+  multiply-wanted : (o : MultiplyOperator) → shape (required_by_multiply facts.types o) ≡ Some (shape_multiplied o)
   multiply-wanted multiply_operator.Multiply = types.integer
   multiply-wanted multiply_operator.Divide = types.integer
   multiply-wanted multiply_operator.Modulo = types.integer
   multiply-wanted multiply_operator.And = types.boolean
 
   equality-wanted : (r : Relation) → relation_type r boolean_shape boolean_shape ≡ Some boolean_shape → (t : T) (s : Shape) → shape t ≡ Some s
-      → (w : Shape) × (shape (wanted_by_equality facts.types t) ≡ Some w) × (relation_type r w w ≡ Some boolean_shape)
+      → (w : Shape) × (shape (required_by_equality facts.types t) ≡ Some w) × (relation_type r w w ≡ Some boolean_shape)
   equality-wanted r both t s h =
       elim (facts.types.same t facts.types.integer)
       as (λ b. (w : Shape) × (shape (if b then facts.types.integer else if facts.types.same t facts.types.unknown then facts.types.unknown else facts.types.boolean) ≡ Some w) × (relation_type r w w ≡ Some boolean_shape)) [
@@ -173,7 +173,7 @@ module _ {T : Type 0} (facts : Facts T) (shape : T → Option Shape) (types : Ty
         | false ↦ (boolean_shape, ap (λ b. shape (if b then facts.types.unknown else facts.types.boolean)) (not-true (facts.types.same t facts.types.unknown) (is-known t s h)) ∙ types.boolean, both)
       ]
 
-  relation-wanted : (r : Relation) (t : T) (s : Shape) → shape t ≡ Some s → (w : Shape) × (shape (wanted_by_relation facts.types r t) ≡ Some w) × (relation_type r w w ≡ Some boolean_shape)
+  relation-wanted : (r : Relation) (t : T) (s : Shape) → shape t ≡ Some s → (w : Shape) × (shape (required_by_relation facts.types r t) ≡ Some w) × (relation_type r w w ≡ Some boolean_shape)
   relation-wanted relation.Equal t s h = equality-wanted relation.Equal refl t s h
   relation-wanted relation.NotEqual t s h = equality-wanted relation.NotEqual refl t s h
   relation-wanted relation.Less t s h = (integer_shape, types.integer, refl)
@@ -186,34 +186,34 @@ module _ {T : Type 0} (facts : Facts T) (shape : T → Option Shape) (types : Ty
 
   -- operations
 
-  pub added-fits : (o : AddOperator) (a b : Operand T) (s t : Shape) → shape a.of ≡ Some s → shape b.of ≡ Some t → (added facts o a b).faults ≡ []
-      → (w : Shape) × (shape (added facts o a b).known.of ≡ Some w) × (add_type o s t ≡ Some w) × (IsOf s a.value → IsOf w (added facts o a b).known.value)
+  pub added-fits : (o : AddOperator) (a b : Operand T) (s t : Shape) → shape a.of ≡ Some s → shape b.of ≡ Some t → (add_operands facts o a b).faults ≡ []
+      → (w : Shape) × (shape (add_operands facts o a b).known.of ≡ Some w) × (add_type o s t ≡ Some w) × (IsOf s a.value → IsOf w (add_operands facts o a b).known.value)
   added-fits o a b s t hs ht h =
-      let (known, left, right) = both-asked (wanted_by_add facts.types o) a b s t (shape_added o) hs ht (add-wanted o) (none-told _ _ h).0 in
+      let (known, left, right) = both-asked (required_by_add facts.types o) a b s t (shape_added o) hs ht (add-wanted o) (none-told _ _ h).0 in
       (shape_added o, ap shape known ∙ add-wanted o, (λ i. add_type o (left i) (right i)) ∙ add-typed o, sum-of o a.value b.value s left)
 
-  pub multiplied-fits : (o : MultiplyOperator) (a b : Operand T) (s t : Shape) → shape a.of ≡ Some s → shape b.of ≡ Some t → (multiplied facts o a b).faults ≡ []
-      → (w : Shape) × (shape (multiplied facts o a b).known.of ≡ Some w) × (multiply_type o s t ≡ Some w) × (IsOf s a.value → IsOf w (multiplied facts o a b).known.value)
+  pub multiplied-fits : (o : MultiplyOperator) (a b : Operand T) (s t : Shape) → shape a.of ≡ Some s → shape b.of ≡ Some t → (multiply_operands facts o a b).faults ≡ []
+      → (w : Shape) × (shape (multiply_operands facts o a b).known.of ≡ Some w) × (multiply_type o s t ≡ Some w) × (IsOf s a.value → IsOf w (multiply_operands facts o a b).known.value)
   multiplied-fits o a b s t hs ht h =
-      let (known, left, right) = both-asked (wanted_by_multiply facts.types o) a b s t (shape_multiplied o) hs ht (multiply-wanted o) (none-told _ _ h).0 in
+      let (known, left, right) = both-asked (required_by_multiply facts.types o) a b s t (shape_multiplied o) hs ht (multiply-wanted o) (none-told _ _ h).0 in
       (shape_multiplied o, ap shape known ∙ multiply-wanted o, (λ i. multiply_type o (left i) (right i)) ∙ multiply-typed o, product-of o a.value b.value s left)
 
-  pub related-fits : (r : Relation) (a b : Operand T) (s t : Shape) → shape a.of ≡ Some s → shape b.of ≡ Some t → (related facts r a b).faults ≡ []
-      → (shape (related facts r a b).known.of ≡ Some boolean_shape) × (relation_type r s t ≡ Some boolean_shape)
+  pub related-fits : (r : Relation) (a b : Operand T) (s t : Shape) → shape a.of ≡ Some s → shape b.of ≡ Some t → (relate_operands facts r a b).faults ≡ []
+      → (shape (relate_operands facts r a b).known.of ≡ Some boolean_shape) × (relation_type r s t ≡ Some boolean_shape)
   related-fits r a b s t hs ht h =
       let (w, hw, typed) = relation-wanted r a.of s hs in
-      let (known, left, right) = both-asked (wanted_by_relation facts.types r a.of) a b s t w hs ht hw (none-told _ _ h).0 in
-      (ap (λ u. shape (truth_of facts.types u)) known ∙ truth-known (wanted_by_relation facts.types r a.of) w hw, (λ i. relation_type r (left i) (right i)) ∙ typed)
+      let (known, left, right) = both-asked (required_by_relation facts.types r a.of) a b s t w hs ht hw (none-told _ _ h).0 in
+      (ap (λ u. shape (truth_of facts.types u)) known ∙ truth-known (required_by_relation facts.types r a.of) w hw, (λ i. relation_type r (left i) (right i)) ∙ typed)
 
-  pub signed-fits : (g : Option Sign) (o : Operand T) (s : Shape) → shape o.of ≡ Some s → (signed facts g o).faults ≡ []
-      → (w : Shape) × (shape (signed facts g o).known.of ≡ Some w) × (sign_type g s ≡ Some w) × (IsOf s o.value → IsOf w (signed facts g o).known.value)
+  pub signed-fits : (g : Option Sign) (o : Operand T) (s : Shape) → shape o.of ≡ Some s → (sign_operand facts g o).faults ≡ []
+      → (w : Shape) × (shape (sign_operand facts g o).known.of ≡ Some w) × (sign_type g s ≡ Some w) × (IsOf s o.value → IsOf w (sign_operand facts g o).known.value)
   signed-fits None o s hs h = (s, hs, refl, λ worth. worth)
   signed-fits (Some g) o s hs h =
       let (known, right) = asked-fits facts.types.integer o s integer_shape hs types.integer (none-told _ _ h).0 in
       (integer_shape, ap shape known ∙ types.integer, ap (sign_type (Some g)) right ∙ sign-typed g, λ worth. sign-of g o.value)
 
-  pub complemented-fits : (o : Operand T) (s : Shape) → shape o.of ≡ Some s → (complemented facts o).faults ≡ []
-      → (shape (complemented facts o).known.of ≡ Some boolean_shape) × (complement_type s ≡ Some boolean_shape)
+  pub complemented-fits : (o : Operand T) (s : Shape) → shape o.of ≡ Some s → (complement_operand facts o).faults ≡ []
+      → (shape (complement_operand facts o).known.of ≡ Some boolean_shape) × (complement_type s ≡ Some boolean_shape)
   complemented-fits o s hs h =
       let (known, right) = asked-fits facts.types.boolean o s boolean_shape hs types.boolean (none-told _ _ h).0 in
       (ap shape known ∙ types.boolean, ap complement_type right)

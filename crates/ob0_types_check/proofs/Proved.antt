@@ -1,4 +1,4 @@
--- The laws of what is told of expressions.
+-- The laws of what is reported of expressions.
 use Rattle.std.proofs.Common.{◌≡◌, ℕ, Bool, true, false, [], Option, Some, None, option_map, is_some, if◌then◌else◌, refl, sym, ap, ◌∙◌}
 use Rattle.ob0_tree.specs.declared.tree.Role.TheVariants as role
 use Rattle.ob0_tree.specs.Places.{value_at}
@@ -7,11 +7,11 @@ use Rattle.ob0_types_rules.specs.Expressions.{Meanings, Object, a_constant, eval
 use Rattle.ob0_types_rules.specs.Typing.{array_length, constant_of, constant_value, constants_only, given_value, type_of}
 use Rattle.ob0_types_rules.specs.WellTyped.{Typed}
 use Rattle.ob0_values.specs.Values.{Place, Shape, Value, integer_shape}
-use Rattle.ob0_types_check.specs.ExpressionFaults.{told_expression}
+use Rattle.ob0_types_check.specs.ExpressionFaults.{reported_expression}
 use Rattle.ob0_types_check.specs.Known.{Facts, Operand}
 use Rattle.ob0_types_check.specs.Operations.{required, right}
 use Rattle.ob0_types_check.specs.SoFar.{facts_at}
-use Rattle.ob0_types_check.specs.TypeFaults.{evaluated, in_bounds, length_given, length_of, told_constant, valued}
+use Rattle.ob0_types_check.specs.TypeFaults.{evaluated, in_bounds, length_given, length_of, reported_constant, valued}
 use Rattle.ob0_types_check.specs.Agreement.{Agrees, TypesAgree, shape_in}
 use Rattle.ob0_types_check.specs.ReportLaws.{ConstantsFit, ExpressionsFit, LengthsFit, OperandFits, meaning_here}
 use Rattle.ob0_types_check.proofs.FittingExpressions.{FitsExpression, expression-fits}
@@ -27,18 +27,18 @@ pub constants-again : {N V P : Type 0} (meaning : Meanings N V P) → constants_
 constants-again meaning = λ i. record { stands_for = λ x. only-once (meaning.stands_for x) i; written = meaning.written }
 
 module _ {T N : Type 0} (facts : Facts T) (shape : T → Option Shape) (label : ℕ → N) (meaning : Typed N) (e : Tree ℕ expression) (agrees : Agrees facts shape label meaning e) where
-  pub here-fits : (b : Bool) → facts.only_constants ≡ b → (told_expression facts e).faults ≡ [] → OperandFits shape (meaning_here b meaning) (told_expression facts e).known (mapped label (value_at facts.source) e)
+  pub here-fits : (b : Bool) → facts.only_constants ≡ b → (reported_expression facts e).faults ≡ [] → OperandFits shape (meaning_here b meaning) (reported_expression facts e).known (mapped label (value_at facts.source) e)
   here-fits true only h = operand-fits facts shape agrees.types label (constants_only meaning) e (only-tokens facts shape agrees.types label meaning _ only (identifiers role.Declaring e) agrees.tokens) h
   here-fits false only h = operand-fits facts shape agrees.types label meaning e (tokens-fit facts shape agrees.types label meaning (identifiers role.Declaring e) agrees.tokens) h
 
   -- a constant expression
   pub record IsConstant : Type 0 where
     pub of : Shape
-    pub known : shape (told_expression facts e).known.of ≡ Some of
-    pub given : (v : Value) → (told_expression facts e).known.value ≡ Some v → constant_value meaning (mapped label (value_at facts.source) e) ≡ Some v
-    pub scalar : IsOf of (told_expression facts e).known.value
+    pub known : shape (reported_expression facts e).known.of ≡ Some of
+    pub given : (v : Value) → (reported_expression facts e).known.value ≡ Some v → constant_value meaning (mapped label (value_at facts.source) e) ≡ Some v
+    pub scalar : IsOf of (reported_expression facts e).known.value
 
-  pub constant-known : facts.only_constants ≡ true → (told_expression facts e).faults ≡ [] → IsConstant
+  pub constant-known : facts.only_constants ≡ true → (reported_expression facts e).faults ≡ [] → IsConstant
   unfolding constant_value
   constant-known only h =
       let fe : FitsExpression facts shape agrees.types label (constants_only {W = Shape} {Q = Unit {0}} meaning) e
@@ -51,7 +51,7 @@ module _ {T N : Type 0} (facts : Facts T) (shape : T → Option Shape) (label : 
         scalar = fe.scalar;
       }
 
--- a value that is told of nothing is there
+-- a value that is reported of nothing is there
 pub record IsWorth {T : Type 0} (o : Operand T) (told : Option Value) : Type 0 where
   pub value : Value
   pub known : told ≡ Some value
@@ -67,19 +67,19 @@ evaluated-there facts o known h =
     record { value = w.value; known = ap (λ b. (if b then right None else valued facts o o.value).known) known ∙ w.known; there = w.there }
 
 pub constants_fit-holds : {N : Type 0} → ConstantsFit N
-unfolding told_constant
+unfolding reported_constant
 constants_fit-holds p shapes label meaning e agrees h =
     let facts = facts_at p true in
-    let parts = none-told (told_expression facts e).faults _ h in
+    let parts = none-told (reported_expression facts e).faults _ h in
     let c = constant-known facts (shape_in shapes) label meaning e agrees refl parts.0 in
-    let o : Operand _ = (told_expression facts e).known in
+    let o : Operand _ = (reported_expression facts e).known in
     let w = evaluated-there facts o (not-true (facts.types.same o.of facts.types.unknown) (is-known facts (shape_in shapes) agrees.types o.of c.of c.known)) parts.1 in
     record { value = w.value; known = w.known; given = c.given w.value w.there; scalar = ap is_some (c.scalar w.value w.there) }
 
 pub expressions_fit-holds : {N : Type 0} → ExpressionsFit N
 expressions_fit-holds p only shapes label meaning e agrees h = here-fits (facts_at p only) (shape_in shapes) label meaning e agrees only refl h
 
--- a length that is told of nothing is there
+-- a length that is reported of nothing is there
 pub record IsLong {T : Type 0} (o : Operand T) (told : Option ℕ) : Type 0 where
   pub value : Value
   pub length : ℕ
@@ -111,7 +111,7 @@ length-there facts shape types o s hs h =
 
 pub lengths_fit-holds : {N : Type 0} → LengthsFit N
 lengths_fit-holds p shapes label meaning e agrees h =
-    let parts = none-told (told_expression (facts_at p true) e).faults _ h in
+    let parts = none-told (reported_expression (facts_at p true) e).faults _ h in
     let c = constant-known (facts_at p true) (shape_in shapes) label meaning e agrees refl parts.0 in
-    let long = length-there (facts_at p false) (shape_in shapes) agrees.types (told_expression (facts_at p true) e).known c.of c.known parts.1 in
+    let long = length-there (facts_at p false) (shape_in shapes) agrees.types (reported_expression (facts_at p true) e).known c.of c.known parts.1 in
     record { value = long.value; length = long.length; known = long.known; given = c.given long.value long.there; counted = long.counted }

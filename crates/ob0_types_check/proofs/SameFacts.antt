@@ -7,11 +7,11 @@ use Rattle.ob0_scope_rules.specs.Names.{Name}
 use Rattle.ob0_scope_rules.specs.Resolution.{ordinal_in}
 use Rattle.ob0_types_table.specs.declared.types.TypeId.{TypeId}
 use Rattle.ob0_types_table.specs.declared.types.TypeId.TheVariants as type
-use Rattle.ob0_types_check.specs.declared.telling.supposed.Composite.{Composite}
-use Rattle.ob0_types_check.specs.declared.telling.supposed.Meaning.{Meaning}
-use Rattle.ob0_types_check.specs.declared.telling.supposed.Parts.{Parts}
-use Rattle.ob0_types_check.specs.declared.telling.supposed.Parts.TheVariants as parts
-use Rattle.ob0_types_check.specs.declared.telling.supposed.Supposed.{Supposed}
+use Rattle.ob0_types_check.specs.declared.reporting.supposed.Composite.{Composite}
+use Rattle.ob0_types_check.specs.declared.reporting.supposed.Meaning.{Meaning}
+use Rattle.ob0_types_check.specs.declared.reporting.supposed.Parts.{Parts}
+use Rattle.ob0_types_check.specs.declared.reporting.supposed.Parts.TheVariants as parts
+use Rattle.ob0_types_check.specs.declared.reporting.supposed.Supposed.{Supposed}
 use Rattle.ob0_types_check.specs.Known.{a_record, an_array}
 use Rattle.ob0_types_check.specs.SoFar.{elements_at, elements_in, facts_at, field_at, field_in, form_at, same_type}
 use Rattle.ob0_types_check.specs.SupposedFacts.{elements_among, elements_of, facts_in, field_among, field_of, form_in, made_of, meaning_of, parts_of, so_far_in}

@@ -5,33 +5,33 @@ use Rattle.ob0_types_table.specs.declared.types.TypeId.{TypeId}
 use Rattle.ob0_types_table.specs.declared.types.TypeId.TheVariants as type
 use Rattle.ob0_values.specs.Values.{Shape, array_shape, record_shape}
 use Rattle.ob0_types_check.specs.Known.{a_record, an_array}
-use Rattle.ob0_types_check.specs.SoFar.{Made, Parts, elements_at, elements_in, field_at, field_in, form_at, of_elements, of_fields, same_type}
+use Rattle.ob0_types_check.specs.SoFar.{MadeType, PartTypes, elements_at, elements_in, field_at, field_in, form_at, of_elements, of_fields, same_type}
 use Rattle.ob0_types_check.specs.Agreement.{EachMade, FormAgrees, MadeAgrees, PartsAgree, TableAgrees, as_array, as_record, shape_in}
 use Rattle.ob0_types_check.specs.ReportLaws.{TypesOfTables}
 use Rattle.ob0_types_check.proofs.Untold.{some-none, some-same}
 
 -- of each shape it is known how it was made
-pub record Found (shape : TypeId → Option Shape) (made : List Made) (i : ℕ) (s : Shape) : Type 0 where
-  pub entry : Made
+pub record Found (shape : TypeId → Option Shape) (made : List MadeType) (i : ℕ) (s : Shape) : Type 0 where
+  pub entry : MadeType
   pub there : slice_get made i ≡ Some entry
   pub agrees : MadeAgrees shape entry s
 
-pub found : (shape : TypeId → Option Shape) (made : List Made) (shapes : List Shape) (i : ℕ) (s : Shape) → EachMade shape made shapes → slice_get shapes i ≡ Some s → Found shape made i s
+pub found : (shape : TypeId → Option Shape) (made : List MadeType) (shapes : List Shape) (i : ℕ) (s : Shape) → EachMade shape made shapes → slice_get shapes i ≡ Some s → Found shape made i s
 found shape [] [] i s each h = absurd (cc)
 found shape [] (u ∷ us) i s each h = absurd each
 found shape (m ∷ ms) [] i s each h = absurd each
 found shape (m ∷ ms) (u ∷ us) zero s each h = record { entry = m; there = refl; agrees = subst (λ u. MadeAgrees shape m u) (some-same u s h) each.0 }
 found shape (m ∷ ms) (u ∷ us) (suc i) s each h = let f = found shape ms us i s each.1 h in record { entry = f.entry; there = f.there; agrees = f.agrees }
 
-array-formed : (shape : TypeId → Option Shape) (p : Parts) (r s : Shape) → PartsAgree shape p r → as_array r ≡ Some s → FormAgrees shape (an_array (elements_in p)) s
+array-formed : (shape : TypeId → Option Shape) (p : PartTypes) (r s : Shape) → PartsAgree shape p r → as_array r ≡ Some s → FormAgrees shape (an_array (elements_in p)) s
 array-formed shape (of_elements t) r s (k, n, u, e, known) h = (k, n, u, some-same s (array_shape k n u) (sym h ∙ ap as_array e), known)
 array-formed shape (of_fields fields) r s (k, fs, e, each) h = absurd (some-none s (sym h ∙ ap as_array e))
 
-record-formed : (shape : TypeId → Option Shape) (p : Parts) (r s : Shape) → PartsAgree shape p r → as_record r ≡ Some s → FormAgrees shape (a_record (field_in p)) s
+record-formed : (shape : TypeId → Option Shape) (p : PartTypes) (r s : Shape) → PartsAgree shape p r → as_record r ≡ Some s → FormAgrees shape (a_record (field_in p)) s
 record-formed shape (of_elements t) r s (k, n, u, e, known) h = absurd (some-none s (sym h ∙ ap as_record e))
 record-formed shape (of_fields fields) r s (k, fs, e, each) h = (k, fs, some-same s (record_shape k fs) (sym h ∙ ap as_record e), each)
 
-formed-there : (made : List Made) (shapes : List Shape) → TableAgrees made shapes → (t : TypeId) (s : Shape) → shape_in shapes t ≡ Some s → FormAgrees (shape_in shapes) (form_at made t) s
+formed-there : (made : List MadeType) (shapes : List Shape) → TableAgrees made shapes → (t : TypeId) (s : Shape) → shape_in shapes t ≡ Some s → FormAgrees (shape_in shapes) (form_at made t) s
 formed-there made shapes each type.Integer s h = tt
 formed-there made shapes each type.Boolean s h = tt
 formed-there made shapes each type.Unknown s h = absurd (cc)

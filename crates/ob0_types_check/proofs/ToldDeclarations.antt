@@ -1,4 +1,4 @@
--- What is told of declarations and bodies, part by part.
+-- What is reported of declarations and bodies, part by part.
 use Rattle.std.proofs.Common.{◌≡◌, ℕ, Bool, true, false, if◌then◌else◌, List, [], ◌∷◌, ◌++◌, map, drop, refl, sym, ap, ◌∙◌}
 use Rattle.std.proofs.lemmas.List.{map-append}
 use Rattle.std.specs.List.{filter}
@@ -13,14 +13,14 @@ use Rattle.ob0_tree.specs.declared.tree.Names.{Names}
 use Rattle.ob0_tree.specs.declared.tree.Procedure.{Procedure, out-Procedure, roll-out-Procedure}
 use Rattle.ob0_tree.specs.declared.tree.Section.{Section}
 use Rattle.ob0_tree.proofs.Viewed.{procedure_made}
-use Rattle.ob0_types_check.specs.DeclarationFaults.{Heading, behind_heading, constant_declared, told_block, told_body, reported_constants, reported_module, told_parameters, told_procedure, told_procedures, told_section, told_sections, told_types, told_variables, type_declared, variables_declared, with_parameters}
+use Rattle.ob0_types_check.specs.DeclarationFaults.{KnownHeading, after_heading, constant_declared, reported_block, reported_body, reported_constants, reported_module, reported_parameters, reported_procedure, reported_procedures, reported_section, reported_sections, reported_types, reported_variables, type_declared, variables_declared, with_parameters}
 use Rattle.ob0_types_check.specs.Known.{Meaning, a_constant, a_type, a_variable}
 use Rattle.ob0_types_check.specs.Operations.{right, ◌>>=◌}
 use Rattle.ob0_types_check.specs.SoFar.{SoFar, at_first, define, define_all, facts_at}
-use Rattle.ob0_types_check.specs.StatementFaults.{told_sequence}
+use Rattle.ob0_types_check.specs.StatementFaults.{reported_sequence}
 use Rattle.ob0_types_check.specs.SupposedFacts.{formal_of}
-use Rattle.ob0_types_check.specs.TypeFaults.{told_constant}
-use Rattle.ob0_types_check.specs.WrittenTypeFaults.{told_type}
+use Rattle.ob0_types_check.specs.TypeFaults.{reported_constant}
+use Rattle.ob0_types_check.specs.WrittenTypeFaults.{reported_type}
 use Rattle.ob0_types_check.proofs.Chains.{IsChain}
 
 further_are : (xs : List ℕ) → further_names (items_of then_name xs) ≡ xs
@@ -41,7 +41,7 @@ alike f (x ∷ xs) = ap (λ fs. formal_of f ∷ fs) (alike f xs)
 pub parameters_added : (old : List formal.Formal) (f : formal.Formal) (xs : List ℕ) → map formal_of (old ++ map (λ x. f) xs) ≡ map formal_of old ++ map (λ x. formal_of f) xs
 parameters_added old f xs = map-append formal_of old (map (λ x. f) xs) ∙ ap (λ fs. map formal_of old ++ fs) (alike f xs)
 
-pub constant_told : (p : SoFar) (x : ℕ) (e : Tree ℕ expression) → constant_declared p (declares_constant x e) ≡ (told_constant (facts_at p true) e >>= (λ v. right (define p (a_constant v) x)))
+pub constant_told : (p : SoFar) (x : ℕ) (e : Tree ℕ expression) → constant_declared p (declares_constant x e) ≡ (reported_constant (facts_at p true) e >>= (λ v. right (define p (a_constant v) x)))
 unfolding constant_declared
 constant_told p x e = refl
 
@@ -56,96 +56,96 @@ constants_stepped p t ts = refl
 pub constants_chain : IsChain reported_constants constant_declared
 constants_chain = record { ended = constants_ended; stepped = constants_stepped }
 
-pub type_told : (p : SoFar) (x : ℕ) (t : Tree ℕ written_type) → type_declared p (declares_type x t) ≡ (told_type p t >>= (λ u. right (define u.behind (a_type u.of) x)))
+pub type_told : (p : SoFar) (x : ℕ) (t : Tree ℕ written_type) → type_declared p (declares_type x t) ≡ (reported_type p t >>= (λ u. right (define u.behind (a_type u.of) x)))
 unfolding type_declared
 type_told p x t = refl
 
-pub types_ended : (p : SoFar) → told_types p end ≡ right p
-unfolding told_types
+pub types_ended : (p : SoFar) → reported_types p end ≡ right p
+unfolding reported_types
 types_ended p = refl
 
-types_stepped : (p : SoFar) (t : Tree ℕ (item type_name)) (ts : Tree ℕ (items type_name)) → told_types p (more t ts) ≡ (type_declared p t >>= (λ q. told_types q ts))
-unfolding told_types
+types_stepped : (p : SoFar) (t : Tree ℕ (item type_name)) (ts : Tree ℕ (items type_name)) → reported_types p (more t ts) ≡ (type_declared p t >>= (λ q. reported_types q ts))
+unfolding reported_types
 types_stepped p t ts = refl
 
-pub types_chain : IsChain told_types type_declared
+pub types_chain : IsChain reported_types type_declared
 types_chain = record { ended = types_ended; stepped = types_stepped }
 
-pub variables_told : (p : SoFar) (ns : Names) (t : Tree ℕ written_type) → variables_declared p (declares_variable (names_of ns) t) ≡ (told_type p t >>= (λ u. right (define_all u.behind (a_variable u.of) (ns.first ∷ ns.more.items))))
+pub variables_told : (p : SoFar) (ns : Names) (t : Tree ℕ written_type) → variables_declared p (declares_variable (names_of ns) t) ≡ (reported_type p t >>= (λ u. right (define_all u.behind (a_variable u.of) (ns.first ∷ ns.more.items))))
 unfolding variables_declared
-variables_told p ns t = ap (λ xs. told_type p t >>= (λ u. right (define_all u.behind (a_variable u.of) xs))) (names_are ns)
+variables_told p ns t = ap (λ xs. reported_type p t >>= (λ u. right (define_all u.behind (a_variable u.of) xs))) (names_are ns)
 
-pub variables_ended : (p : SoFar) → told_variables p end ≡ right p
-unfolding told_variables
+pub variables_ended : (p : SoFar) → reported_variables p end ≡ right p
+unfolding reported_variables
 variables_ended p = refl
 
-variables_stepped : (p : SoFar) (t : Tree ℕ (item variable)) (ts : Tree ℕ (items variable)) → told_variables p (more t ts) ≡ (variables_declared p t >>= (λ q. told_variables q ts))
-unfolding told_variables
+variables_stepped : (p : SoFar) (t : Tree ℕ (item variable)) (ts : Tree ℕ (items variable)) → reported_variables p (more t ts) ≡ (variables_declared p t >>= (λ q. reported_variables q ts))
+unfolding reported_variables
 variables_stepped p t ts = refl
 
-pub variables_chain : IsChain told_variables variables_declared
+pub variables_chain : IsChain reported_variables variables_declared
 variables_chain = record { ended = variables_ended; stepped = variables_stepped }
 
-parameters_told : (h : Heading) (b : Bool) (ns : Tree ℕ names) (t : Tree ℕ written_type) → told_section h (then_section (if b then variable_section ns t else value_section ns t)) ≡ (told_type h.behind t >>= (λ u. right (with_parameters h b (names_listed ns) u)))
-unfolding told_section told_parameters
+parameters_told : (h : KnownHeading) (b : Bool) (ns : Tree ℕ names) (t : Tree ℕ written_type) → reported_section h (then_section (if b then variable_section ns t else value_section ns t)) ≡ (reported_type h.behind t >>= (λ u. right (with_parameters h b (names_listed ns) u)))
+unfolding reported_section reported_parameters
 parameters_told h true ns t = refl
 parameters_told h false ns t = refl
 
-pub section_told : (h : Heading) (b : Bool) (ns : Names) (t : Tree ℕ written_type)
-    → told_section h (then_section (if b then variable_section (names_of ns) t else value_section (names_of ns) t)) ≡ (told_type h.behind t >>= (λ u. right (with_parameters h b (ns.first ∷ ns.more.items) u)))
-section_told h b ns t = parameters_told h b (names_of ns) t ∙ ap (λ xs. told_type h.behind t >>= (λ u. right (with_parameters h b xs u))) (names_are ns)
+pub section_told : (h : KnownHeading) (b : Bool) (ns : Names) (t : Tree ℕ written_type)
+    → reported_section h (then_section (if b then variable_section (names_of ns) t else value_section (names_of ns) t)) ≡ (reported_type h.behind t >>= (λ u. right (with_parameters h b (ns.first ∷ ns.more.items) u)))
+section_told h b ns t = parameters_told h b (names_of ns) t ∙ ap (λ xs. reported_type h.behind t >>= (λ u. right (with_parameters h b xs u))) (names_are ns)
 
 pub sections_listed : (ss : List Section) → formal_sections (one (formals_listed ss)) ≡ items_of further_section_of ss
 sections_listed [] = refl
 sections_listed (s ∷ ss) = refl
 
-pub sections_ended : (h : Heading) → told_sections h end ≡ right h
-unfolding told_sections
+pub sections_ended : (h : KnownHeading) → reported_sections h end ≡ right h
+unfolding reported_sections
 sections_ended h = refl
 
-sections_stepped : (h : Heading) (t : Tree ℕ (item further_section)) (ts : Tree ℕ (items further_section)) → told_sections h (more t ts) ≡ (told_section h t >>= (λ g. told_sections g ts))
-unfolding told_sections
+sections_stepped : (h : KnownHeading) (t : Tree ℕ (item further_section)) (ts : Tree ℕ (items further_section)) → reported_sections h (more t ts) ≡ (reported_section h t >>= (λ g. reported_sections g ts))
+unfolding reported_sections
 sections_stepped h t ts = refl
 
-pub sections_chain : IsChain told_sections told_section
+pub sections_chain : IsChain reported_sections reported_section
 sections_chain = record { ended = sections_ended; stepped = sections_stepped }
 
-pub no_body_told : (p : SoFar) → told_body p none ≡ right p
-unfolding told_body
+pub no_body_told : (p : SoFar) → reported_body p none ≡ right p
+unfolding reported_body
 no_body_told p = refl
 
-pub body_told : (p : SoFar) (a : Tree ℕ sequence) → told_body p (one (begins a)) ≡ record { known = p; faults = told_sequence (facts_at p false) a }
-unfolding told_body
+pub body_told : (p : SoFar) (a : Tree ℕ sequence) → reported_body p (one (begins a)) ≡ record { known = p; faults = reported_sequence (facts_at p false) a }
+unfolding reported_body
 body_told p a = refl
 
 pub block_told : (p : SoFar) (cs : Tree ℕ (maybe constants)) (ts : Tree ℕ (maybe type_names)) (vs : Tree ℕ (maybe variables)) (ps : Tree ℕ (items procedure)) (a : Tree ℕ (maybe body))
-    → told_block p (has_body (declares cs ts vs ps) a)
-    ≡ (reported_constants p (section_constants cs) >>= (λ q. told_types q (section_types ts) >>= (λ r. told_variables r (section_variables vs) >>= (λ s. told_procedures s ps >>= (λ t. told_body t a)))))
-unfolding told_block
+    → reported_block p (has_body (declares cs ts vs ps) a)
+    ≡ (reported_constants p (section_constants cs) >>= (λ q. reported_types q (section_types ts) >>= (λ r. reported_variables r (section_variables vs) >>= (λ s. reported_procedures s ps >>= (λ t. reported_body t a)))))
+unfolding reported_block
 block_told p cs ts vs ps a = refl
 
-procedures_ended : (p : SoFar) → told_procedures p end ≡ right p
-unfolding told_block
+procedures_ended : (p : SoFar) → reported_procedures p end ≡ right p
+unfolding reported_block
 procedures_ended p = refl
 
-procedures_stepped : (p : SoFar) (t : Tree ℕ (item procedure)) (ts : Tree ℕ (items procedure)) → told_procedures p (more t ts) ≡ (told_procedure p t >>= (λ q. told_procedures q ts))
-unfolding told_block
+procedures_stepped : (p : SoFar) (t : Tree ℕ (item procedure)) (ts : Tree ℕ (items procedure)) → reported_procedures p (more t ts) ≡ (reported_procedure p t >>= (λ q. reported_procedures q ts))
+unfolding reported_block
 procedures_stepped p t ts = refl
 
-pub procedures_chain : IsChain told_procedures told_procedure
+pub procedures_chain : IsChain reported_procedures reported_procedure
 procedures_chain = record { ended = procedures_ended; stepped = procedures_stepped }
 
 with_parts : (p : SoFar) (x : ℕ) (fs : Tree ℕ (maybe formals)) (b : Tree ℕ block) (closing : ℕ)
-    → told_procedure p (declares_procedure x fs b closing) ≡ (told_sections (record { formals = []; behind = p }) (formal_sections fs) >>= (λ h. told_block (behind_heading x h) b))
-unfolding told_block
+    → reported_procedure p (declares_procedure x fs b closing) ≡ (reported_sections (record { formals = []; behind = p }) (formal_sections fs) >>= (λ h. reported_block (after_heading x h) b))
+unfolding reported_block
 with_parts p x fs b closing = refl
 
 pub procedure_told : (p : SoFar) (d : Procedure)
-    → told_procedure p (procedure_of d) ≡ (told_sections (record { formals = []; behind = p }) (formal_sections (formals_of (out-Procedure d).formals)) >>= (λ h. told_block (behind_heading (out-Procedure d).name h) (block_of (out-Procedure d).block)))
+    → reported_procedure p (procedure_of d) ≡ (reported_sections (record { formals = []; behind = p }) (formal_sections (formals_of (out-Procedure d).formals)) >>= (λ h. reported_block (after_heading (out-Procedure d).name h) (block_of (out-Procedure d).block)))
 procedure_told p d =
     let x = out-Procedure d in
-    ap (told_procedure p) (sym (ap procedure_of (roll-out-Procedure d)) ∙ procedure_made x) ∙ with_parts p x.name (formals_of x.formals) (block_of x.block) x.closing
+    ap (reported_procedure p) (sym (ap procedure_of (roll-out-Procedure d)) ∙ procedure_made x) ∙ with_parts p x.name (formals_of x.formals) (block_of x.block) x.closing
 
-pub module_told : (r : Resolution) → reported_module r ≡ filter is_of_occurrences r.faults ++ (told_block (at_first r) (module_block (tree_of r.module_read))).faults
+pub module_told : (r : Resolution) → reported_module r ≡ filter is_of_occurrences r.faults ++ (reported_block (at_first r) (module_block (tree_of r.module_read))).faults
 unfolding reported_module
 module_told r = refl

@@ -1,96 +1,96 @@
--- What is told of expressions, part by part.
+-- What is reported of expressions, part by part.
 use Rattle.std.proofs.Common.{◌≡◌, ℕ, Option, refl}
 use Rattle.ob0_tree.specs.declared.tree.Relation.{Relation}
 use Rattle.ob0_tree.specs.declared.tree.Sign.{Sign}
 use Rattle.ob0_tree.specs.Tree.{Tree, addend, adds, compares, designator, end, expression, factor, field, index, integer, item, items, more, multiplier, multiplies, negation, none, one, parenthesised, product, relates, selector, simple, sum, term}
 use Rattle.ob0_types_check.specs.Known.{Facts, Operand, Reported}
-use Rattle.ob0_types_check.specs.ExpressionFaults.{told_addends, told_expression, told_factor, told_multipliers, reported_selector, told_selectors, told_simple, told_term}
-use Rattle.ob0_types_check.specs.Operations.{a_number, added, complemented, element_selected, enclosed, field_selected, multiplied, named, related, right, signed, ◌>>=◌}
-use Rattle.ob0_types_check.specs.TypeFaults.{evaluated, told_constant}
+use Rattle.ob0_types_check.specs.ExpressionFaults.{reported_addends, reported_expression, reported_factor, reported_multipliers, reported_selector, reported_selectors, reported_simple, reported_term}
+use Rattle.ob0_types_check.specs.Operations.{a_number, add_operands, complement_operand, element_selected, enclosed, field_selected, multiply_operands, named, relate_operands, right, sign_operand, ◌>>=◌}
+use Rattle.ob0_types_check.specs.TypeFaults.{evaluated, reported_constant}
 use Rattle.ob0_types_check.proofs.Chains.{IsChain, then_assoc}
 
 -- one more operand
 abbrev pub told_added : {T : Type 0} → Facts T → Operand T → Tree ℕ (item addend) → Reported (Operand T)
-told_added facts x (adds o t) = told_term facts t >>= added facts o x
+told_added facts x (adds o t) = reported_term facts t >>= add_operands facts o x
 
 abbrev pub told_multiplied : {T : Type 0} → Facts T → Operand T → Tree ℕ (item multiplier) → Reported (Operand T)
-told_multiplied facts x (multiplies o f) = told_factor facts f >>= multiplied facts o x
+told_multiplied facts x (multiplies o f) = reported_factor facts f >>= multiply_operands facts o x
 
 module _ {T : Type 0} (facts : Facts T) where
-  pub alone_told : (a : Tree ℕ simple) → told_expression facts (compares a none) ≡ told_simple facts a
-  unfolding told_expression
+  pub alone_told : (a : Tree ℕ simple) → reported_expression facts (compares a none) ≡ reported_simple facts a
+  unfolding reported_expression
   alone_told a = refl
 
-  pub related_told : (r : Relation) (a b : Tree ℕ simple) → told_expression facts (compares a (one (relates r b))) ≡ (told_simple facts a >>= (λ x. told_simple facts b >>= related facts r x))
-  unfolding told_expression
+  pub related_told : (r : Relation) (a b : Tree ℕ simple) → reported_expression facts (compares a (one (relates r b))) ≡ (reported_simple facts a >>= (λ x. reported_simple facts b >>= relate_operands facts r x))
+  unfolding reported_expression
   related_told r a b = refl
 
-  pub simple_told : (s : Option Sign) (t : Tree ℕ term) (rest : Tree ℕ (items addend)) → told_simple facts (sum s t rest) ≡ (told_term facts t >>= (λ x. signed facts s x >>= (λ y. told_addends facts y rest)))
-  unfolding told_expression
+  pub simple_told : (s : Option Sign) (t : Tree ℕ term) (rest : Tree ℕ (items addend)) → reported_simple facts (sum s t rest) ≡ (reported_term facts t >>= (λ x. sign_operand facts s x >>= (λ y. reported_addends facts y rest)))
+  unfolding reported_expression
   simple_told s t rest = refl
 
-  pub term_told : (f : Tree ℕ factor) (rest : Tree ℕ (items multiplier)) → told_term facts (product f rest) ≡ (told_factor facts f >>= (λ x. told_multipliers facts x rest))
-  unfolding told_expression
+  pub term_told : (f : Tree ℕ factor) (rest : Tree ℕ (items multiplier)) → reported_term facts (product f rest) ≡ (reported_factor facts f >>= (λ x. reported_multipliers facts x rest))
+  unfolding reported_expression
   term_told f rest = refl
 
-  pub designator_told : (x : ℕ) (path : Tree ℕ (items selector)) → told_factor facts (designator x path) ≡ (named facts x >>= (λ base. told_selectors facts base path))
-  unfolding told_expression
+  pub designator_told : (x : ℕ) (path : Tree ℕ (items selector)) → reported_factor facts (designator x path) ≡ (named facts x >>= (λ base. reported_selectors facts base path))
+  unfolding reported_expression
   designator_told x path = refl
 
-  pub integer_told : (n : ℕ) → told_factor facts (integer n) ≡ right (a_number facts n)
-  unfolding told_expression
+  pub integer_told : (n : ℕ) → reported_factor facts (integer n) ≡ right (a_number facts n)
+  unfolding reported_expression
   integer_told n = refl
 
-  pub parentheses_told : (e : Tree ℕ expression) → told_factor facts (parenthesised e) ≡ (told_expression facts e >>= (λ x. right (enclosed facts x)))
-  unfolding told_expression
+  pub parentheses_told : (e : Tree ℕ expression) → reported_factor facts (parenthesised e) ≡ (reported_expression facts e >>= (λ x. right (enclosed facts x)))
+  unfolding reported_expression
   parentheses_told e = refl
 
-  pub negation_told : (f : Tree ℕ factor) → told_factor facts (negation f) ≡ (told_factor facts f >>= complemented facts)
-  unfolding told_expression
+  pub negation_told : (f : Tree ℕ factor) → reported_factor facts (negation f) ≡ (reported_factor facts f >>= complement_operand facts)
+  unfolding reported_expression
   negation_told f = refl
 
   pub field_told : (x : Operand T) (n : ℕ) → reported_selector facts x (field n) ≡ field_selected facts x n
   unfolding reported_selector
   field_told x n = refl
 
-  pub index_told : (x : Operand T) (e : Tree ℕ expression) → reported_selector facts x (index e) ≡ (told_expression facts e >>= element_selected facts x)
+  pub index_told : (x : Operand T) (e : Tree ℕ expression) → reported_selector facts x (index e) ≡ (reported_expression facts e >>= element_selected facts x)
   unfolding reported_selector
   index_told x e = refl
 
-  added_ended : (x : Operand T) → told_addends facts x end ≡ right x
-  unfolding told_expression
+  added_ended : (x : Operand T) → reported_addends facts x end ≡ right x
+  unfolding reported_expression
   added_ended x = refl
 
-  added_stepped : (x : Operand T) (t : Tree ℕ (item addend)) (ts : Tree ℕ (items addend)) → told_addends facts x (more t ts) ≡ (told_added facts x t >>= (λ y. told_addends facts y ts))
-  unfolding told_expression
-  added_stepped x (adds o t) ts = then_assoc (told_term facts t) (added facts o x) (λ y. told_addends facts y ts)
+  added_stepped : (x : Operand T) (t : Tree ℕ (item addend)) (ts : Tree ℕ (items addend)) → reported_addends facts x (more t ts) ≡ (told_added facts x t >>= (λ y. reported_addends facts y ts))
+  unfolding reported_expression
+  added_stepped x (adds o t) ts = then_assoc (reported_term facts t) (add_operands facts o x) (λ y. reported_addends facts y ts)
 
-  pub added_chain : IsChain (told_addends facts) (told_added facts)
+  pub added_chain : IsChain (reported_addends facts) (told_added facts)
   added_chain = record { ended = added_ended; stepped = added_stepped }
 
-  multiplied_ended : (x : Operand T) → told_multipliers facts x end ≡ right x
-  unfolding told_expression
+  multiplied_ended : (x : Operand T) → reported_multipliers facts x end ≡ right x
+  unfolding reported_expression
   multiplied_ended x = refl
 
-  multiplied_stepped : (x : Operand T) (t : Tree ℕ (item multiplier)) (ts : Tree ℕ (items multiplier)) → told_multipliers facts x (more t ts) ≡ (told_multiplied facts x t >>= (λ y. told_multipliers facts y ts))
-  unfolding told_expression
-  multiplied_stepped x (multiplies o f) ts = then_assoc (told_factor facts f) (multiplied facts o x) (λ y. told_multipliers facts y ts)
+  multiplied_stepped : (x : Operand T) (t : Tree ℕ (item multiplier)) (ts : Tree ℕ (items multiplier)) → reported_multipliers facts x (more t ts) ≡ (told_multiplied facts x t >>= (λ y. reported_multipliers facts y ts))
+  unfolding reported_expression
+  multiplied_stepped x (multiplies o f) ts = then_assoc (reported_factor facts f) (multiply_operands facts o x) (λ y. reported_multipliers facts y ts)
 
-  pub multiplied_chain : IsChain (told_multipliers facts) (told_multiplied facts)
+  pub multiplied_chain : IsChain (reported_multipliers facts) (told_multiplied facts)
   multiplied_chain = record { ended = multiplied_ended; stepped = multiplied_stepped }
 
-  selected_ended : (x : Operand T) → told_selectors facts x end ≡ right x
-  unfolding told_expression
+  selected_ended : (x : Operand T) → reported_selectors facts x end ≡ right x
+  unfolding reported_expression
   selected_ended x = refl
 
-  selected_stepped : (x : Operand T) (t : Tree ℕ (item selector)) (ts : Tree ℕ (items selector)) → told_selectors facts x (more t ts) ≡ (reported_selector facts x t >>= (λ y. told_selectors facts y ts))
-  unfolding told_expression reported_selector
+  selected_stepped : (x : Operand T) (t : Tree ℕ (item selector)) (ts : Tree ℕ (items selector)) → reported_selectors facts x (more t ts) ≡ (reported_selector facts x t >>= (λ y. reported_selectors facts y ts))
+  unfolding reported_expression reported_selector
   selected_stepped x (field n) ts = refl
-  selected_stepped x (index e) ts = then_assoc (told_expression facts e) (element_selected facts x) (λ y. told_selectors facts y ts)
+  selected_stepped x (index e) ts = then_assoc (reported_expression facts e) (element_selected facts x) (λ y. reported_selectors facts y ts)
 
-  pub selected_chain : IsChain (told_selectors facts) (reported_selector facts)
+  pub selected_chain : IsChain (reported_selectors facts) (reported_selector facts)
   selected_chain = record { ended = selected_ended; stepped = selected_stepped }
 
-  pub constant_told : (e : Tree ℕ expression) → told_constant facts e ≡ (told_expression facts e >>= evaluated facts)
-  unfolding told_constant
+  pub constant_told : (e : Tree ℕ expression) → reported_constant facts e ≡ (reported_expression facts e >>= evaluated facts)
+  unfolding reported_constant
   constant_told e = refl

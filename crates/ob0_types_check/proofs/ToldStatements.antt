@@ -1,4 +1,4 @@
--- What is told of statements, part by part.
+-- What is reported of statements, part by part.
 use Rattle.std.proofs.Common.{◌≡◌, ◌≢◌, ℕ, List, [], ◌∷◌, ◌++◌, length, map, Some, if◌then◌else◌, ne_eqb, refl, sym, ap, ◌∙◌, append_assoc}
 use Rattle.std.proofs.lemmas.Bool.{eq-eqb}
 use Rattle.std.proofs.lemmas.List.{length-map}
@@ -11,10 +11,10 @@ use Rattle.ob0_tree.specs.View as view
 use Rattle.ob0_tree.specs.declared.tree.Expression.{Expression}
 use Rattle.ob0_tree.specs.declared.tree.Statement.{Statement}
 use Rattle.ob0_types_rules.specs.Arguments.{arguments_listed, further_arguments}
-use Rattle.ob0_types_check.specs.ExpressionFaults.{told_expression, told_selectors}
+use Rattle.ob0_types_check.specs.ExpressionFaults.{reported_expression, reported_selectors}
 use Rattle.ob0_types_check.specs.Known.{Facts, Formal, a_procedure}
 use Rattle.ob0_types_check.specs.Operations.{a_name, required, at_token, ◌>>=◌}
-use Rattle.ob0_types_check.specs.StatementFaults.{assigned, called, passed, told_argument, told_arguments, told_asked, told_assigned, reported_call, reported_condition, told_else, told_elsifs, told_parts, told_sequence, told_statement, told_statements, told_target}
+use Rattle.ob0_types_check.specs.StatementFaults.{target_meaning, call_by_meaning, passed, reported_argument, reported_arguments, reported_required, reported_assignment, reported_call, reported_condition, reported_else, reported_elsifs, reported_parts, reported_sequence, reported_statement, reported_statements, reported_target}
 use Rattle.ob0_types_check.specs.SupposedFacts.{formal_of}
 use Rattle.ob0_types_check.proofs.Listed.{IsEach, IsPairwise}
 
@@ -27,102 +27,102 @@ all_listed [] = refl
 all_listed (e ∷ es) = ap (λ z. expression_of e ∷ z) (further_listed es)
 
 module _ {T : Type 0} (facts : Facts T) where
-  pub asked_told : (wanted : T) (e : Tree ℕ expression) → told_asked facts wanted e ≡ (told_expression facts e >>= required facts wanted).faults
-  unfolding told_asked
+  pub asked_told : (wanted : T) (e : Tree ℕ expression) → reported_required facts wanted e ≡ (reported_expression facts e >>= required facts wanted).faults
+  unfolding reported_required
   asked_told wanted e = refl
 
-  pub target_told : (x : ℕ) (path : Tree ℕ (items selector)) → told_target facts x path ≡ (assigned facts x >>= (λ t. told_selectors facts (a_name t x) path))
-  unfolding told_target
+  pub target_told : (x : ℕ) (path : Tree ℕ (items selector)) → reported_target facts x path ≡ (target_meaning facts x >>= (λ t. reported_selectors facts (a_name t x) path))
+  unfolding reported_target
   target_told x path = refl
 
-  pub argument_told : (f : Formal T) (e : Tree ℕ expression) → told_argument facts f e ≡ (told_expression facts e >>= passed facts f).faults
-  unfolding told_argument
+  pub argument_told : (f : Formal T) (e : Tree ℕ expression) → reported_argument facts f e ≡ (reported_expression facts e >>= passed facts f).faults
+  unfolding reported_argument
   argument_told f e = refl
 
-  pub empty_told : told_statement facts empty ≡ []
-  unfolding told_statement
+  pub empty_told : reported_statement facts empty ≡ []
+  unfolding reported_statement
   empty_told = refl
 
-  pub assigned_told : (x : ℕ) (path : Tree ℕ (items selector)) (e : Tree ℕ expression) → told_statement facts (assigns x path e) ≡ told_assigned facts (told_target facts x path) e
-  unfolding told_statement
+  pub assigned_told : (x : ℕ) (path : Tree ℕ (items selector)) (e : Tree ℕ expression) → reported_statement facts (assigns x path e) ≡ reported_assignment facts (reported_target facts x path) e
+  unfolding reported_statement
   assigned_told x path e = refl
 
-  pub called_told : (p : ℕ) (es : Tree ℕ (maybe arguments)) → told_statement facts (calls p es) ≡ reported_call facts p (arguments_listed es)
-  unfolding told_statement
+  pub called_told : (p : ℕ) (es : Tree ℕ (maybe arguments)) → reported_statement facts (calls p es) ≡ reported_call facts p (arguments_listed es)
+  unfolding reported_statement
   called_told p es = refl
 
   pub branches_told : (e : Tree ℕ expression) (a : Tree ℕ sequence) (rest : Tree ℕ (items elsif_part)) (last : Tree ℕ (maybe else_part))
-      → told_statement facts (branches e a rest last) ≡ reported_condition facts e ++ (told_sequence facts a ++ (told_elsifs facts rest ++ told_else facts last))
-  unfolding told_statement
+      → reported_statement facts (branches e a rest last) ≡ reported_condition facts e ++ (reported_sequence facts a ++ (reported_elsifs facts rest ++ reported_else facts last))
+  unfolding reported_statement
   branches_told e a rest last = refl
 
-  pub while_told : (e : Tree ℕ expression) (a : Tree ℕ sequence) → told_statement facts (while_loop e a) ≡ reported_condition facts e ++ told_sequence facts a
-  unfolding told_statement
+  pub while_told : (e : Tree ℕ expression) (a : Tree ℕ sequence) → reported_statement facts (while_loop e a) ≡ reported_condition facts e ++ reported_sequence facts a
+  unfolding reported_statement
   while_told e a = refl
 
-  pub repeat_told : (e : Tree ℕ expression) (a : Tree ℕ sequence) → told_statement facts (repeat_loop a e) ≡ told_sequence facts a ++ reported_condition facts e
-  unfolding told_statement
+  pub repeat_told : (e : Tree ℕ expression) (a : Tree ℕ sequence) → reported_statement facts (repeat_loop a e) ≡ reported_sequence facts a ++ reported_condition facts e
+  unfolding reported_statement
   repeat_told e a = refl
 
-  pub no_else_told : told_else facts none ≡ []
-  unfolding told_statement
+  pub no_else_told : reported_else facts none ≡ []
+  unfolding reported_statement
   no_else_told = refl
 
-  pub else_told : (a : Tree ℕ sequence) → told_else facts (one (else_branch a)) ≡ told_sequence facts a
-  unfolding told_statement
+  pub else_told : (a : Tree ℕ sequence) → reported_else facts (one (else_branch a)) ≡ reported_sequence facts a
+  unfolding reported_statement
   else_told a = refl
 
   -- sequences and branches, from the first on
-  flat : (ss : List Statement) → told_sequence facts (sequence_listed ss) ≡ told_statements facts (items_of further_statement_of ss)
-  unfolding told_statement
+  flat : (ss : List Statement) → reported_sequence facts (sequence_listed ss) ≡ reported_statements facts (items_of further_statement_of ss)
+  unfolding reported_statement
   flat [] = refl
   flat (s ∷ ss) = refl
 
-  none_in_sequence : told_sequence facts (sequence_listed []) ≡ []
-  unfolding told_statement
+  none_in_sequence : reported_sequence facts (sequence_listed []) ≡ []
+  unfolding reported_statement
   none_in_sequence = refl
 
-  some_in_sequence : (s : Statement) (ss : List Statement) → told_sequence facts (sequence_listed (s ∷ ss)) ≡ told_statement facts (statement_of s) ++ told_statements facts (items_of further_statement_of ss)
-  unfolding told_statement
+  some_in_sequence : (s : Statement) (ss : List Statement) → reported_sequence facts (sequence_listed (s ∷ ss)) ≡ reported_statement facts (statement_of s) ++ reported_statements facts (items_of further_statement_of ss)
+  unfolding reported_statement
   some_in_sequence s ss = refl
 
-  pub sequence_each : IsEach (λ ss. told_sequence facts (sequence_listed ss)) (λ s. told_statement facts (statement_of s))
+  pub sequence_each : IsEach (λ ss. reported_sequence facts (sequence_listed ss)) (λ s. reported_statement facts (statement_of s))
   sequence_each = record {
     ended = none_in_sequence;
-    stepped = λ s ss. some_in_sequence s ss ∙ ap (λ f. told_statement facts (statement_of s) ++ f) (sym (flat ss));
+    stepped = λ s ss. some_in_sequence s ss ∙ ap (λ f. reported_statement facts (statement_of s) ++ f) (sym (flat ss));
   }
 
-  no_elsifs : told_elsifs facts end ≡ []
-  unfolding told_statement
+  no_elsifs : reported_elsifs facts end ≡ []
+  unfolding reported_statement
   no_elsifs = refl
 
-  some_elsifs : (e : Tree ℕ expression) (a : Tree ℕ sequence) (rest : Tree ℕ (items elsif_part)) → told_elsifs facts (more (elsif_branch e a) rest) ≡ reported_condition facts e ++ (told_sequence facts a ++ told_elsifs facts rest)
-  unfolding told_statement
+  some_elsifs : (e : Tree ℕ expression) (a : Tree ℕ sequence) (rest : Tree ℕ (items elsif_part)) → reported_elsifs facts (more (elsif_branch e a) rest) ≡ reported_condition facts e ++ (reported_sequence facts a ++ reported_elsifs facts rest)
+  unfolding reported_statement
   some_elsifs e a rest = refl
 
-  pub elsifs_each : IsEach (λ es. told_elsifs facts (items_of elsif_of es)) (λ e. reported_condition facts (expression_of e.condition) ++ told_sequence facts (sequence_listed e.then.items))
+  pub elsifs_each : IsEach (λ es. reported_elsifs facts (items_of elsif_of es)) (λ e. reported_condition facts (expression_of e.condition) ++ reported_sequence facts (sequence_listed e.then.items))
   elsifs_each = record {
     ended = no_elsifs;
     stepped = λ e es. some_elsifs (expression_of e.condition) (sequence_listed e.then.items) (items_of elsif_of es)
-        ∙ sym (append_assoc (reported_condition facts (expression_of e.condition)) (told_sequence facts (sequence_listed e.then.items)) (told_elsifs facts (items_of elsif_of es)));
+        ∙ sym (append_assoc (reported_condition facts (expression_of e.condition)) (reported_sequence facts (sequence_listed e.then.items)) (reported_elsifs facts (items_of elsif_of es)));
   }
 
-  pub parts_each : IsEach (λ (es : List Expression). told_parts facts (map expression_of es)) (λ e. (told_expression facts (expression_of e)).faults)
+  pub parts_each : IsEach (λ (es : List Expression). reported_parts facts (map expression_of es)) (λ e. (reported_expression facts (expression_of e)).faults)
   parts_each = record { ended = refl; stepped = λ e es. refl }
 
 module _ (facts : Facts TypeId) where
-  pub argument_pairs : IsPairwise (λ (fs : List formal.Formal) (es : List Expression). told_arguments facts (map formal_of fs) (map expression_of es)) (λ f e. told_argument facts (formal_of f) (expression_of e))
+  pub argument_pairs : IsPairwise (λ (fs : List formal.Formal) (es : List Expression). reported_arguments facts (map formal_of fs) (map expression_of es)) (λ f e. reported_argument facts (formal_of f) (expression_of e))
   argument_pairs = record { ended = refl; stepped = λ f e fs es. refl }
 
   -- as many arguments as parameters, or not
   pub count_is_right : (p : ℕ) (fs : List formal.Formal) (es : List Expression) → length fs ≡ length es
-      → called facts p (Some (a_procedure (map formal_of fs))) (map expression_of es) ≡ told_arguments facts (map formal_of fs) (map expression_of es)
+      → call_by_meaning facts p (Some (a_procedure (map formal_of fs))) (map expression_of es) ≡ reported_arguments facts (map formal_of fs) (map expression_of es)
   count_is_right p fs es e =
-      ap (λ b. if b then told_arguments facts (map formal_of fs) (map expression_of es) else at_token facts code.ArgumentCount p)
+      ap (λ b. if b then reported_arguments facts (map formal_of fs) (map expression_of es) else at_token facts code.ArgumentCount p)
       (eq-eqb (length (map formal_of fs)) (length (map expression_of es)) (length-map fs formal_of ∙ e ∙ sym (length-map es expression_of)))
 
   pub count_differs : (p : ℕ) (fs : List formal.Formal) (es : List Expression) → length fs ≢ length es
-      → called facts p (Some (a_procedure (map formal_of fs))) (map expression_of es) ≡ at_token facts code.ArgumentCount p
+      → call_by_meaning facts p (Some (a_procedure (map formal_of fs))) (map expression_of es) ≡ at_token facts code.ArgumentCount p
   count_differs p fs es d =
-      ap (λ b. if b then told_arguments facts (map formal_of fs) (map expression_of es) else at_token facts code.ArgumentCount p)
+      ap (λ b. if b then reported_arguments facts (map formal_of fs) (map expression_of es) else at_token facts code.ArgumentCount p)
       (ne_eqb (length (map formal_of fs)) (length (map expression_of es)) (λ e. d (sym (length-map fs formal_of) ∙ e ∙ length-map es expression_of)))

@@ -7,11 +7,11 @@ use Rattle.ob0_types_rules.specs.Expressions.{Meanings, evaluate}
 use Rattle.ob0_types_rules.specs.Typing.{array_length, constant_value, constants_only, given_value, type_of, value_type}
 use Rattle.ob0_types_rules.specs.WellTyped.{Signature, Typed}
 use Rattle.ob0_values.specs.Values.{Shape, Value, elements, integer_shape, members, number, truth}
-use Rattle.ob0_types_check.specs.ExpressionFaults.{told_expression}
+use Rattle.ob0_types_check.specs.ExpressionFaults.{reported_expression}
 use Rattle.ob0_types_check.specs.Known.{Facts, Operand}
 use Rattle.ob0_types_check.specs.Operations.{required, right}
 use Rattle.ob0_types_check.specs.SoFar.{facts_at}
-use Rattle.ob0_types_check.specs.TypeFaults.{evaluated, in_bounds, length_given, length_of, told_constant, valued}
+use Rattle.ob0_types_check.specs.TypeFaults.{evaluated, in_bounds, length_given, length_of, reported_constant, valued}
 use Rattle.ob0_types_check.specs.Agreement.{Agrees, shape_in}
 use Rattle.ob0_types_check.specs.WellTypedLaws.{NoFaultInConstants, NoFaultInExpressions, NoFaultInLengths}
 use Rattle.ob0_types_check.proofs.FittingExpressions.{FitsExpression, expression-fits}
@@ -30,22 +30,22 @@ module _ {T N : Type 0} (facts : Facts T) (shape : T → Option Shape) (apart : 
   abbrev here : Tree N expression
   here = mapped label (value_at facts.source) e
 
-  pub typed-right : facts.only_constants ≡ false → (s : Shape) → type_of meaning here ≡ Some s → (told_expression facts e).faults ≡ []
+  pub typed-right : facts.only_constants ≡ false → (s : Shape) → type_of meaning here ≡ Some s → (reported_expression facts e).faults ≡ []
   typed-right only s h =
       expression-right facts shape agrees.types apart label meaning e
       (tokens-fit facts shape agrees.types label meaning (identifiers role.Declaring e) agrees.tokens, names-typed facts shape label meaning only (identifiers role.Declaring e) agrees.tokens) s h
 
-  pub constant-right : (Q : Type 0) → facts.only_constants ≡ true → (s : Shape) → type_of {P = Q} (constants_only meaning) here ≡ Some s → (told_expression facts e).faults ≡ []
+  pub constant-right : (Q : Type 0) → facts.only_constants ≡ true → (s : Shape) → type_of {P = Q} (constants_only meaning) here ≡ Some s → (reported_expression facts e).faults ≡ []
   constant-right Q only s h =
       expression-right facts shape agrees.types apart label (constants_only {Q = Q} meaning) e
       (only-tokens facts shape agrees.types label meaning Q only (identifiers role.Declaring e) agrees.tokens, constants-typed facts shape label meaning Q (identifiers role.Declaring e) agrees.tokens) s h
 
   -- a constant that has a value
   pub record HasValue (v : Value) : Type 0 where
-    pub none : (told_expression facts e).faults ≡ []
+    pub none : (reported_expression facts e).faults ≡ []
     pub of : Shape
-    pub known : shape (told_expression facts e).known.of ≡ Some of
-    pub value : (told_expression facts e).known.value ≡ Some v
+    pub known : shape (reported_expression facts e).known.of ≡ Some of
+    pub value : (reported_expression facts e).known.value ≡ Some v
     pub scalar : value_type v ≡ Some of
 
   pub value-known : facts.only_constants ≡ true → (v : Value) → constant_value meaning here ≡ Some v → HasValue v
@@ -56,7 +56,7 @@ module _ {T N : Type 0} (facts : Facts T) (shape : T → Option Shape) (apart : 
       let none = constant-right (Unit {0}) only s hs in
       let fe : FitsExpression facts shape agrees.types label among e
       = expression-fits facts shape agrees.types label among e (only-tokens facts shape agrees.types label meaning _ only (identifiers role.Declaring e) agrees.tokens) none in
-      let value : (told_expression facts e).known.value ≡ Some v = fe.valued ∙ (ap (λ m. given_value (evaluate {P = Unit {0}} m [] here)) (constants-again meaning) ∙ given) in
+      let value : (reported_expression facts e).known.value ≡ Some v = fe.valued ∙ (ap (λ m. given_value (evaluate {P = Unit {0}} m [] here)) (constants-again meaning) ∙ given) in
       record { none = none; of = fe.of; known = fe.known; value = value; scalar = fe.scalar v value }
 
 evaluated-right : {T : Type 0} (facts : Facts T) (o : Operand T) (b : Bool) (c : Option Value) (v : Value) → c ≡ Some v → (if b then right None else valued facts o c).faults ≡ []
@@ -84,13 +84,13 @@ no_fault_in_expressions-holds p false shapes label meaning e agrees h =
     typed-right (facts_at p false) (shape_in shapes) (types-apart p.made shapes) label meaning e agrees refl s hs
 
 pub no_fault_in_constants-holds : {N : Type 0} → NoFaultInConstants N
-unfolding told_constant
+unfolding reported_constant
 no_fault_in_constants-holds p shapes label meaning e agrees h =
     let facts = facts_at p true in
     let (v, hv) = is-there (constant_value meaning (mapped label (value_at p.source) e)) h in
     let c = value-known facts (shape_in shapes) (types-apart p.made shapes) label meaning e agrees refl v hv in
-    let o : Operand _ = (told_expression facts e).known in
-    none-of-both (told_expression facts e).faults (evaluated facts o).faults c.none (evaluated-right facts o (facts.types.same o.of facts.types.unknown) o.value v c.value)
+    let o : Operand _ = (reported_expression facts e).known in
+    none-of-both (reported_expression facts e).faults (evaluated facts o).faults c.none (evaluated-right facts o (facts.types.same o.of facts.types.unknown) o.value v c.value)
 
 pub no_fault_in_lengths-holds : {N : Type 0} → NoFaultInLengths N
 no_fault_in_lengths-holds p shapes label meaning e agrees h =
@@ -100,9 +100,9 @@ no_fault_in_lengths-holds p shapes label meaning e agrees h =
     let (v, hv, counted) = and-then array_length (constant_value meaning (mapped label (value_at p.source) e)) n hn in
     let apart = types-apart p.made shapes in
     let c = value-known facts (shape_in shapes) apart label meaning e agrees refl v hv in
-    let o : Operand _ = (told_expression facts e).known in
+    let o : Operand _ = (reported_expression facts e).known in
     let integer = apart.integer o.of (c.known ∙ ap Some (length-integer v n c.of counted c.scalar)) in
     let t = (required after after.types.integer o).known in
-    none-of-both (told_expression facts e).faults (length_of after o).faults c.none
+    none-of-both (reported_expression facts e).faults (length_of after o).faults c.none
     (none-of-both (required after after.types.integer o).faults _ (required-right after (shape_in shapes) agrees.types apart after.types.integer o integer)
     (bounds-right after o (after.types.same t after.types.integer) o.value v n c.value counted))

@@ -8,9 +8,9 @@ use Rattle.ob0_scope_rules.specs.Parts.{formal_names, formal_sections, module_bl
 use Rattle.ob0_scope_rules.specs.Scopes.{Scope, after_names, after_procedure, first_procedure, first_type, first_variable, predeclared_scope}
 use Rattle.ob0_types_rules.specs.Declarations.{after_types, after_variables, declare_constants, declare_first, declare_types, formals_constructors, procedure_constructors}
 use Rattle.ob0_types_rules.specs.Environments.{outermost}
-use Rattle.ob0_types_rules.specs.WellTyped.{TypeEnvironment, TypedParameter, bind_typed, block_fits, declare_typed, fits_over, heading, hold, procedure_fits, procedures_fit, typed_parameters}
+use Rattle.ob0_types_rules.specs.WellTyped.{TypeEnvironment, TypedParameter, bind_typed, block_fits, declare_typed, fits_over, heading, some_and, procedure_fits, procedures_fit, typed_parameters}
 use Rattle.ob0_values.specs.Values.{Shape}
-use Rattle.ob0_types_check.specs.DeclarationFaults.{reported_constants, reported_module, told_block, told_body, told_procedure, told_procedures, told_sections, told_types, told_variables}
+use Rattle.ob0_types_check.specs.DeclarationFaults.{reported_constants, reported_module, reported_block, reported_body, reported_procedure, reported_procedures, reported_sections, reported_types, reported_variables}
 use Rattle.ob0_types_check.specs.Known.{Reported}
 use Rattle.ob0_types_check.specs.SoFar.{SoFar, at_first}
 use Rattle.ob0_types_check.specs.WellTypedLaws.{NoFaultInModules}
@@ -29,24 +29,24 @@ use Rattle.ob0_types_check.proofs.TypedTypes.{PartsRight, given-again, parts_rig
 use Rattle.ob0_types_check.proofs.Untold.{some-same}
 
 -- a test of what is there
-held-again : {A : Type 0} (o : Option A) (test : A → Bool) (a : A) → o ≡ Some a → hold o test ≡ true → test a ≡ true
-held-again o test a e h = sym (ap (λ o. hold o test) e) ∙ h
+held-again : {A : Type 0} (o : Option A) (test : A → Bool) (a : A) → o ≡ Some a → some_and o test ≡ true → test a ≡ true
+held-again o test a e h = sym (ap (λ o. some_and o test) e) ∙ h
 
 module _ (w : Numbering) (fit : PartsFit) (fine : PartsRight) where
   mutual
-    unfolding told_block block_fits declare_first
+    unfolding reported_block block_fits declare_first
 
     pub block_right : (b : Tree ℕ block) (k n : ℕ) (p : SoFar) (before : List Shape) (scope : Scope Name) (env : TypeEnvironment Name) → Stands w p before n scope env → Fresh k before → BlockPlaced w scope n b
-        → block_fits as_names env k (named w.source b) ≡ true → (told_block p b).faults ≡ []
+        → block_fits as_names env k (named w.source b) ≡ true → (reported_block p b).faults ≡ []
     block_right (has_body (declares cs ts vs ps) statements) k n p before scope env st fresh placed h =
         let text : ℕ → Name = text_at w.source in
         let value : ℕ → ℕ = value_at w.source in
         let b : Tree ℕ block = has_body (declares cs ts vs ps) statements in
         let nb : Tree Name block = named w.source b in
         let t₁ : Reported SoFar = reported_constants p (section_constants cs) in
-        let t₂ : Reported SoFar = told_types t₁.known (section_types ts) in
-        let t₃ : Reported SoFar = told_variables t₂.known (section_variables vs) in
-        let t₄ : Reported SoFar = told_procedures t₃.known ps in
+        let t₂ : Reported SoFar = reported_types t₁.known (section_types ts) in
+        let t₃ : Reported SoFar = reported_variables t₂.known (section_variables vs) in
+        let t₄ : Reported SoFar = reported_procedures t₃.known ps in
         let variables : TypeEnvironment Name → Option (TypeEnvironment Name) = declare_typed as_names (after_types k nb) (section_variables (named w.source vs)) in
         let types : TypeEnvironment Name → Option (TypeEnvironment Name) = λ e. declare_types as_names e k (section_types (named w.source ts)) in
         let test : TypeEnvironment Name → Bool = λ inner. procedures_fit as_names inner (after_variables k nb) (named w.source statements) (named w.source ps) in
@@ -66,16 +66,16 @@ module _ (w : Numbering) (fit : PartsFit) (fine : PartsRight) where
         let d = declarations_told w fit cs ts vs ps statements k n p before scope env st placed.0 placed.1 placed.2 none₁ none₂ none₃ in
         let rest = procedures_right ps statements (after_variables k nb) (first_procedure n b) t₃.known d.after (behind_variables w scope n b) d.env d.stands (fresh_after k (after_variables k nb) before d.after d.apart fresh) placed.3
         (held-again (option_and_then variables (declare_first as_names env k nb)) test d.env d.given_is h) in
-        none-of-both t₁.faults (t₂.faults ++ (t₃.faults ++ (t₄.faults ++ (told_body t₄.known statements).faults))) none₁
-        (none-of-both t₂.faults (t₃.faults ++ (t₄.faults ++ (told_body t₄.known statements).faults)) none₂
-        (none-of-both t₃.faults (t₄.faults ++ (told_body t₄.known statements).faults) none₃ (none-of-both t₄.faults (told_body t₄.known statements).faults rest.0 rest.1)))
+        none-of-both t₁.faults (t₂.faults ++ (t₃.faults ++ (t₄.faults ++ (reported_body t₄.known statements).faults))) none₁
+        (none-of-both t₂.faults (t₃.faults ++ (t₄.faults ++ (reported_body t₄.known statements).faults)) none₂
+        (none-of-both t₃.faults (t₄.faults ++ (reported_body t₄.known statements).faults) none₃ (none-of-both t₄.faults (reported_body t₄.known statements).faults rest.0 rest.1)))
 
     procedures_right : (ps : Tree ℕ (items procedure)) (statements : Tree ℕ (maybe body)) (k n : ℕ) (p : SoFar) (before : List Shape) (scope : Scope Name) (env : TypeEnvironment Name) → Stands w p before n scope env → Fresh k before → ProceduresPlaced w scope n statements ps
-        → procedures_fit as_names env k (named w.source statements) (named w.source ps) ≡ true → ((told_procedures p ps).faults ≡ []) × ((told_body (told_procedures p ps).known statements).faults ≡ [])
+        → procedures_fit as_names env k (named w.source statements) (named w.source ps) ≡ true → ((reported_procedures p ps).faults ≡ []) × ((reported_body (reported_procedures p ps).known statements).faults ≡ [])
     procedures_right end statements k n p before scope env st fresh placed h = (refl, body_right w fit fine statements n p before scope env st fresh.once placed h)
     procedures_right (more d rest) statements k n p before scope env st fresh placed h =
         let nd : Tree Name (item procedure) = named w.source d in
-        let q : SoFar = (told_procedure p d).known in
+        let q : SoFar = (reported_procedure p d).known in
         let own : List (TypedParameter Name) → Bool = λ ps. procedure_fits as_names (bind_typed ps (heading (procedure_name nd) ps env)) k nd in
         let others : List (TypedParameter Name) → Bool = λ ps. procedures_fit as_names (heading (procedure_name nd) ps env) (k + procedure_constructors nd) (named w.source statements) (named w.source rest) in
         let given : Option (List (TypedParameter Name)) = typed_parameters as_names env k (procedure_formals nd) in
@@ -85,11 +85,11 @@ module _ (w : Numbering) (fit : PartsFit) (fine : PartsRight) where
         let both = each-true (own f.parameters) (others f.parameters) (held-again given (λ ps. own ps && others ps) f.parameters f.typed h) in
         let last = procedures_right rest statements (k + procedure_constructors nd) (after_procedure (suc n) d) q f.after (behind_procedure w scope n d) (heading (procedure_name nd) f.parameters env) f.stands
         (fresh_after k (k + procedure_constructors nd) before f.after f.apart fresh) placed.1 both.1 in
-        (none-of-both (told_procedure p d).faults (told_procedures q rest).faults none last.0, last.1)
+        (none-of-both (reported_procedure p d).faults (reported_procedures q rest).faults none last.0, last.1)
 
     procedure_right : (d : Tree ℕ (item procedure)) (k n : ℕ) (p : SoFar) (before : List Shape) (scope : Scope Name) (env : TypeEnvironment Name) → Stands w p before n scope env → Fresh k before → ProcedurePlaced w scope n d
         → (ps : List (TypedParameter Name)) → typed_parameters as_names env k (procedure_formals (named w.source d)) ≡ Some ps
-        → procedure_fits as_names (bind_typed ps (heading (procedure_name (named w.source d)) ps env)) k (named w.source d) ≡ true → (told_procedure p d).faults ≡ []
+        → procedure_fits as_names (bind_typed ps (heading (procedure_name (named w.source d)) ps env)) k (named w.source d) ≡ true → (reported_procedure p d).faults ≡ []
     procedure_right (declares_procedure x fs b closing) k n p before scope env st fresh placed ps hp h =
         let text : ℕ → Name = text_at w.source in
         let weak = stands_later w n n (suc n) p p before before scope env (le_refl n) (next_le n) st (later_same n p before st.table) in
@@ -100,7 +100,7 @@ module _ (w : Numbering) (fit : PartsFit) (fine : PartsRight) where
         let m : ℕ = after_names (suc n) (formal_names (formal_sections fs)) in
         let inner : block_fits as_names (bind_typed e.parameters (heading (text x) e.parameters env)) first (named w.source b) ≡ true =
         subst (λ qs. block_fits as_names (bind_typed qs (heading (text x) qs env)) first (named w.source b) ≡ true) same h in
-        none-of-both (told_sections (record { formals = []; behind = p }) (formal_sections fs)).faults (told_block (heading_known p x fs) b).faults none
+        none-of-both (reported_sections (record { formals = []; behind = p }) (formal_sections fs)).faults (reported_block (heading_known p x fs) b).faults none
         (block_right b first m (heading_known p x fs) e.after (scope_behind w (suc n) (formal_names (formal_sections fs)) ((text x, n) ∷ scope)) (bind_typed e.parameters (heading (text x) e.parameters env)) e.inside
         (fresh_after k first before e.after e.apart fresh) placed.2 inner)
 
@@ -109,5 +109,5 @@ unfolding reported_module fits_over
 no_fault_in_modules-holds r is h =
     let m = r.module_read in
     let names = names_bound-holds r is h in
-    none-of-both _ (told_block (at_first r) (module_block (tree_of m))).faults names
+    none-of-both _ (reported_block (at_first r) (module_block (tree_of m))).faults names
     (block_right (numbering_of r) parts_fit parts_right (module_block (tree_of m)) 0 7 (at_first r) [] (predeclared_scope as_names) (outermost as_names) (first_stands r) (fresh_first 0) (module_placed r is names) h)

@@ -12,8 +12,8 @@ use Rattle.ob0_types_table.specs.declared.types.TypeId.TheVariants as type
 use Rattle.ob0_values.specs.Values.{Shape, array_shape, boolean_shape, integer_shape, record_shape}
 use Rattle.ob0_types_check.specs.Known.{Facts, Meaning, a_constant, a_procedure, a_scalar, a_type, a_variable}
 use Rattle.ob0_types_check.specs.Operations.{a_name, at_token, named_value, right}
-use Rattle.ob0_types_check.specs.Agreement.{StandsAlike, TokenAgrees, TokensAgree, as_array, as_record, shape_in}
-use Rattle.ob0_types_check.specs.SoFar.{Made, form_at, types_at}
+use Rattle.ob0_types_check.specs.Agreement.{MeansAlike, TokenAgrees, TokensAgree, as_array, as_record, shape_in}
+use Rattle.ob0_types_check.specs.SoFar.{MadeType, form_at, types_at}
 use Rattle.ob0_types_check.proofs.TypedExpressions.{NameTyped, NamesTyped}
 use Rattle.ob0_types_check.proofs.TypedOperands.{TypesApart, and-then}
 use Rattle.ob0_types_check.proofs.Untold.{some-none, some-same}
@@ -38,28 +38,28 @@ no-record-of shapes i s h = let (r, at, is) = and-then as_record (slice_get shap
     of-record boolean_shape s e = absurd (cc)
     of-record (array_shape k n u) s e = absurd (cc)
 
-integer-alone : (made : List Made) (shapes : List Shape) (t : TypeId) → shape_in shapes t ≡ Some integer_shape → (types_at made).same t type.Integer ≡ true
+integer-alone : (made : List MadeType) (shapes : List Shape) (t : TypeId) → shape_in shapes t ≡ Some integer_shape → (types_at made).same t type.Integer ≡ true
 integer-alone made shapes type.Integer h = refl
 integer-alone made shapes type.Boolean h = absurd (cc)
 integer-alone made shapes type.Unknown h = absurd (cc)
 integer-alone made shapes (type.Array i) h = absurd (some-none integer_shape (sym (no-array-of shapes i integer_shape h)))
 integer-alone made shapes (type.Record i) h = absurd (some-none integer_shape (sym (no-record-of shapes i integer_shape h)))
 
-boolean-alone : (made : List Made) (shapes : List Shape) (t : TypeId) → shape_in shapes t ≡ Some boolean_shape → (types_at made).same t type.Boolean ≡ true
+boolean-alone : (made : List MadeType) (shapes : List Shape) (t : TypeId) → shape_in shapes t ≡ Some boolean_shape → (types_at made).same t type.Boolean ≡ true
 boolean-alone made shapes type.Boolean h = refl
 boolean-alone made shapes type.Integer h = absurd (cc)
 boolean-alone made shapes type.Unknown h = absurd (cc)
 boolean-alone made shapes (type.Array i) h = absurd (some-none boolean_shape (sym (no-array-of shapes i boolean_shape h)))
 boolean-alone made shapes (type.Record i) h = absurd (some-none boolean_shape (sym (no-record-of shapes i boolean_shape h)))
 
-scalar-alone : (made : List Made) (shapes : List Shape) (t : TypeId) (s : Shape) → shape_in shapes t ≡ Some s → form_at made t ≡ a_scalar → (as_array s ≡ None) × (as_record s ≡ None)
+scalar-alone : (made : List MadeType) (shapes : List Shape) (t : TypeId) (s : Shape) → shape_in shapes t ≡ Some s → form_at made t ≡ a_scalar → (as_array s ≡ None) × (as_record s ≡ None)
 scalar-alone made shapes type.Integer s h e = let is = some-same integer_shape s h in (sym (ap as_array is), sym (ap as_record is))
 scalar-alone made shapes type.Boolean s h e = let is = some-same boolean_shape s h in (sym (ap as_array is), sym (ap as_record is))
 scalar-alone made shapes type.Unknown s h e = absurd (cc)
 scalar-alone made shapes (type.Array i) s h e = absurd (cc)
 scalar-alone made shapes (type.Record i) s h e = absurd (cc)
 
-pub types-apart : (made : List Made) (shapes : List Shape) → TypesApart (types_at made) (shape_in shapes)
+pub types-apart : (made : List MadeType) (shapes : List Shape) → TypesApart (types_at made) (shape_in shapes)
 types-apart made shapes = record { integer = integer-alone made shapes; boolean = boolean-alone made shapes; scalar = scalar-alone made shapes }
 
 -- names
@@ -77,19 +77,19 @@ module _ {T : Type 0} (facts : Facts T) (shape : T → Option Shape) where
   variable-named x t true e = absurd (true≢false e)
   variable-named x t false e = refl
 
-  stands-right : (x : ℕ) (m : Option (Meaning T)) (o : Option (Object Shape Signature)) → facts.only_constants ≡ false → StandsAlike shape m o → (s : Shape) → object_type o ≡ Some s → (named_value facts x m).faults ≡ []
+  stands-right : (x : ℕ) (m : Option (Meaning T)) (o : Option (Object Shape Signature)) → facts.only_constants ≡ false → MeansAlike shape m o → (s : Shape) → object_type o ≡ Some s → (named_value facts x m).faults ≡ []
   stands-right x None o only a s h = absurd a
   stands-right x (Some (a_type t)) o only (u, known, stands) s h = absurd (some-none s (sym h ∙ ap object_type stands))
   stands-right x (Some (a_procedure fs)) o only (signature, stands, formals) s h = absurd (no-procedure o signature s stands h)
   stands-right x (Some (a_constant c)) o only a s h = refl
   stands-right x (Some (a_variable t)) o only a s h = variable-named x t facts.only_constants only
 
-  -- where names stand for constants alone
+  -- where names mean constants alone
 
   abbrev only : Option (Object Shape Signature) → Option (Object Shape (Unit {0}))
   only o = option_map meant.a_constant (constant_of o)
 
-  only-right : (Q : Type 0) (x : ℕ) (m : Option (Meaning T)) (o : Option (Object Shape Signature)) → StandsAlike shape m o → (s : Shape) → object_type (option_map {U = Object Shape Q} meant.a_constant (constant_of o)) ≡ Some s → (named_value facts x m).faults ≡ []
+  only-right : (Q : Type 0) (x : ℕ) (m : Option (Meaning T)) (o : Option (Object Shape Signature)) → MeansAlike shape m o → (s : Shape) → object_type (option_map {U = Object Shape Q} meant.a_constant (constant_of o)) ≡ Some s → (named_value facts x m).faults ≡ []
   only-right Q x None o a s h = absurd a
   only-right Q x (Some (a_type t)) o (u, known, stands) s h = absurd (some-none s (sym h ∙ ap (λ z. object_type (option_map {U = Object Shape Q} meant.a_constant (constant_of z))) stands))
   only-right Q x (Some (a_procedure fs)) o (signature, stands, formals) s h = absurd (no-constant o signature s stands h)

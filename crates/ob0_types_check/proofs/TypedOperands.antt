@@ -14,7 +14,7 @@ use Rattle.ob0_tree.specs.Places.{text_at}
 use Rattle.ob0_types_rules.specs.Typing.{add_type, complement_type, element_type, field_type, multiply_type, relation_type, shape_of_field, sign_type}
 use Rattle.ob0_values.specs.Values.{Shape, array_shape, boolean_shape, integer_shape, record_shape}
 use Rattle.ob0_types_check.specs.Known.{Facts, Form, Operand, Reported, Types, a_record, a_scalar, an_array, unknown_form}
-use Rattle.ob0_types_check.specs.Operations.{added, required, asked_both, at_operand, complemented, element_in, element_selected, field_in, field_selected, fits, found_field, multiplied, related, signed, wanted_by_add, wanted_by_equality, wanted_by_multiply, wanted_by_relation}
+use Rattle.ob0_types_check.specs.Operations.{add_operands, required, required_both, at_operand, complement_operand, element_in, element_selected, field_in, field_selected, fits, found_field, multiply_operands, relate_operands, sign_operand, required_by_add, required_by_equality, required_by_multiply, required_by_relation}
 use Rattle.ob0_types_check.specs.Agreement.{FormAgrees, TypesAgree, as_array, as_record}
 use Rattle.ob0_types_check.proofs.Untold.{not-true, some-none}
 
@@ -40,7 +40,7 @@ module _ {T : Type 0} (facts : Facts T) (shape : T → Option Shape) (types : Ty
   pub required-right : (wanted : T) (o : Operand T) → facts.types.same o.of wanted ≡ true → (required facts wanted o).faults ≡ []
   required-right wanted o e = ap (λ b. if b then [] else at_operand facts code.TypeMismatch o) (same-fits o.of wanted e)
 
-  both-right : (wanted : T) (a b : Operand T) → facts.types.same a.of wanted ≡ true → facts.types.same b.of wanted ≡ true → (asked_both facts wanted a b).faults ≡ []
+  both-right : (wanted : T) (a b : Operand T) → facts.types.same a.of wanted ≡ true → facts.types.same b.of wanted ≡ true → (required_both facts wanted a b).faults ≡ []
   both-right wanted a b p q =
       let left : Reported T = record { known = if facts.types.same a.of wanted then (required facts wanted b).known else facts.types.unknown; faults = (required facts wanted b).faults } in
       let wrong : Reported T = record { known = facts.types.unknown; faults = at_operand facts code.TypeMismatch a } in
@@ -50,24 +50,24 @@ module _ {T : Type 0} (facts : Facts T) (shape : T → Option Shape) (types : Ty
   abbrev AreRequired : T → T → T → Type 0
   AreRequired wanted a b = (facts.types.same a wanted ≡ true) × (facts.types.same b wanted ≡ true)
 
-  add-required : (o : AddOperator) (s t w : Shape) → add_type o s t ≡ Some w → (a b : T) → shape a ≡ Some s → shape b ≡ Some t → AreRequired (wanted_by_add facts.types o) a b
+  add-required : (o : AddOperator) (s t w : Shape) → add_type o s t ≡ Some w → (a b : T) → shape a ≡ Some s → shape b ≡ Some t → AreRequired (required_by_add facts.types o) a b
   add-required add_operator.Add integer_shape integer_shape w e a b p q = (apart.integer a p, apart.integer b q)
   add-required add_operator.Subtract integer_shape integer_shape w e a b p q = (apart.integer a p, apart.integer b q)
   add-required add_operator.Or boolean_shape boolean_shape w e a b p q = (apart.boolean a p, apart.boolean b q)
   add-required _ _ _ w e a b p q = absurd (cc)
 
-  multiply-required : (o : MultiplyOperator) (s t w : Shape) → multiply_type o s t ≡ Some w → (a b : T) → shape a ≡ Some s → shape b ≡ Some t → AreRequired (wanted_by_multiply facts.types o) a b
+  multiply-required : (o : MultiplyOperator) (s t w : Shape) → multiply_type o s t ≡ Some w → (a b : T) → shape a ≡ Some s → shape b ≡ Some t → AreRequired (required_by_multiply facts.types o) a b
   multiply-required multiply_operator.Multiply integer_shape integer_shape w e a b p q = (apart.integer a p, apart.integer b q)
   multiply-required multiply_operator.Divide integer_shape integer_shape w e a b p q = (apart.integer a p, apart.integer b q)
   multiply-required multiply_operator.Modulo integer_shape integer_shape w e a b p q = (apart.integer a p, apart.integer b q)
   multiply-required multiply_operator.And boolean_shape boolean_shape w e a b p q = (apart.boolean a p, apart.boolean b q)
   multiply-required _ _ _ w e a b p q = absurd (cc)
 
-  -- what a comparison asks for, by the type of its left side
-  integers-equal : (a : T) → facts.types.same a facts.types.integer ≡ true → wanted_by_equality facts.types a ≡ facts.types.integer
+  -- what a comparison requires, by the type of its left side
+  integers-equal : (a : T) → facts.types.same a facts.types.integer ≡ true → required_by_equality facts.types a ≡ facts.types.integer
   integers-equal a e = ap (λ b. if b then facts.types.integer else (if facts.types.same a facts.types.unknown then facts.types.unknown else facts.types.boolean)) e
 
-  integers-related : (r : Relation) (a : T) → facts.types.same a facts.types.integer ≡ true → wanted_by_relation facts.types r a ≡ facts.types.integer
+  integers-related : (r : Relation) (a : T) → facts.types.same a facts.types.integer ≡ true → required_by_relation facts.types r a ≡ facts.types.integer
   integers-related relation.Equal a e = integers-equal a e
   integers-related relation.NotEqual a e = integers-equal a e
   integers-related relation.Less a e = refl
@@ -81,48 +81,48 @@ module _ {T : Type 0} (facts : Facts T) (shape : T → Option Shape) (types : Ty
   no-unknown : (a : T) → shape a ≡ Some boolean_shape → facts.types.same a facts.types.unknown ≡ true → ⊥
   no-unknown a h e = some-none boolean_shape (sym h ∙ (types.same a facts.types.unknown e ∙ types.unknown))
 
-  truths-equal : (a : T) → shape a ≡ Some boolean_shape → wanted_by_equality facts.types a ≡ facts.types.boolean
+  truths-equal : (a : T) → shape a ≡ Some boolean_shape → required_by_equality facts.types a ≡ facts.types.boolean
   truths-equal a h =
       ap (λ b. if b then facts.types.integer else (if facts.types.same a facts.types.unknown then facts.types.unknown else facts.types.boolean)) (not-true (facts.types.same a facts.types.integer) (no-integer a h))
       ∙ ap (λ b. if b then facts.types.unknown else facts.types.boolean) (not-true (facts.types.same a facts.types.unknown) (no-unknown a h))
 
-  of-integers : (r : Relation) (a b : T) → shape a ≡ Some integer_shape → shape b ≡ Some integer_shape → AreRequired (wanted_by_relation facts.types r a) a b
+  of-integers : (r : Relation) (a b : T) → shape a ≡ Some integer_shape → shape b ≡ Some integer_shape → AreRequired (required_by_relation facts.types r a) a b
   of-integers r a b p q =
       let wanted = integers-related r a (apart.integer a p) in
       (ap (facts.types.same a) wanted ∙ apart.integer a p, ap (facts.types.same b) wanted ∙ apart.integer b q)
 
-  of-truths : (a b : T) → shape a ≡ Some boolean_shape → shape b ≡ Some boolean_shape → AreRequired (wanted_by_equality facts.types a) a b
+  of-truths : (a b : T) → shape a ≡ Some boolean_shape → shape b ≡ Some boolean_shape → AreRequired (required_by_equality facts.types a) a b
   of-truths a b p q =
       let wanted = truths-equal a p in
       (ap (facts.types.same a) wanted ∙ apart.boolean a p, ap (facts.types.same b) wanted ∙ apart.boolean b q)
 
-  relation-required : (r : Relation) (s t w : Shape) → relation_type r s t ≡ Some w → (a b : T) → shape a ≡ Some s → shape b ≡ Some t → AreRequired (wanted_by_relation facts.types r a) a b
+  relation-required : (r : Relation) (s t w : Shape) → relation_type r s t ≡ Some w → (a b : T) → shape a ≡ Some s → shape b ≡ Some t → AreRequired (required_by_relation facts.types r a) a b
   relation-required r integer_shape integer_shape w e a b p q = of-integers r a b p q
   relation-required relation.Equal boolean_shape boolean_shape w e a b p q = of-truths a b p q
   relation-required relation.NotEqual boolean_shape boolean_shape w e a b p q = of-truths a b p q
   relation-required _ _ _ w e a b p q = absurd (cc)
 
-  pub added-right : (o : AddOperator) (a b : Operand T) (s t w : Shape) → add_type o s t ≡ Some w → shape a.of ≡ Some s → shape b.of ≡ Some t → (added facts o a b).faults ≡ []
+  pub added-right : (o : AddOperator) (a b : Operand T) (s t w : Shape) → add_type o s t ≡ Some w → shape a.of ≡ Some s → shape b.of ≡ Some t → (add_operands facts o a b).faults ≡ []
   added-right o a b s t w e p q =
       let both = add-required o s t w e a.of b.of p q in
-      none-of-both (asked_both facts (wanted_by_add facts.types o) a b).faults [] (both-right (wanted_by_add facts.types o) a b both.0 both.1) refl
+      none-of-both (required_both facts (required_by_add facts.types o) a b).faults [] (both-right (required_by_add facts.types o) a b both.0 both.1) refl
 
-  pub multiplied-right : (o : MultiplyOperator) (a b : Operand T) (s t w : Shape) → multiply_type o s t ≡ Some w → shape a.of ≡ Some s → shape b.of ≡ Some t → (multiplied facts o a b).faults ≡ []
+  pub multiplied-right : (o : MultiplyOperator) (a b : Operand T) (s t w : Shape) → multiply_type o s t ≡ Some w → shape a.of ≡ Some s → shape b.of ≡ Some t → (multiply_operands facts o a b).faults ≡ []
   multiplied-right o a b s t w e p q =
       let both = multiply-required o s t w e a.of b.of p q in
-      none-of-both (asked_both facts (wanted_by_multiply facts.types o) a b).faults [] (both-right (wanted_by_multiply facts.types o) a b both.0 both.1) refl
+      none-of-both (required_both facts (required_by_multiply facts.types o) a b).faults [] (both-right (required_by_multiply facts.types o) a b both.0 both.1) refl
 
-  pub related-right : (r : Relation) (a b : Operand T) (s t w : Shape) → relation_type r s t ≡ Some w → shape a.of ≡ Some s → shape b.of ≡ Some t → (related facts r a b).faults ≡ []
+  pub related-right : (r : Relation) (a b : Operand T) (s t w : Shape) → relation_type r s t ≡ Some w → shape a.of ≡ Some s → shape b.of ≡ Some t → (relate_operands facts r a b).faults ≡ []
   related-right r a b s t w e p q =
       let both = relation-required r s t w e a.of b.of p q in
-      none-of-both (asked_both facts (wanted_by_relation facts.types r a.of) a b).faults [] (both-right (wanted_by_relation facts.types r a.of) a b both.0 both.1) refl
+      none-of-both (required_both facts (required_by_relation facts.types r a.of) a b).faults [] (both-right (required_by_relation facts.types r a.of) a b both.0 both.1) refl
 
   sign-required : (g : Sign) (s w : Shape) → sign_type (Some g) s ≡ Some w → s ≡ integer_shape
   sign-required sign.Plus integer_shape w e = refl
   sign-required sign.Minus integer_shape w e = refl
   sign-required _ _ w e = absurd (cc)
 
-  pub signed-right : (g : Option Sign) (o : Operand T) (s w : Shape) → sign_type g s ≡ Some w → shape o.of ≡ Some s → (signed facts g o).faults ≡ []
+  pub signed-right : (g : Option Sign) (o : Operand T) (s w : Shape) → sign_type g s ≡ Some w → shape o.of ≡ Some s → (sign_operand facts g o).faults ≡ []
   signed-right None o s w e h = refl
   signed-right (Some g) o s w e h =
       none-of-both (required facts facts.types.integer o).faults [] (required-right facts.types.integer o (apart.integer o.of (h ∙ ap Some (sign-required g s w e)))) refl
@@ -131,7 +131,7 @@ module _ {T : Type 0} (facts : Facts T) (shape : T → Option Shape) (types : Ty
   complement-required boolean_shape w e = refl
   complement-required _ w e = absurd (cc)
 
-  pub complemented-right : (o : Operand T) (s w : Shape) → complement_type s ≡ Some w → shape o.of ≡ Some s → (complemented facts o).faults ≡ []
+  pub complemented-right : (o : Operand T) (s w : Shape) → complement_type s ≡ Some w → shape o.of ≡ Some s → (complement_operand facts o).faults ≡ []
   complemented-right o s w e h =
       none-of-both (required facts facts.types.boolean o).faults [] (required-right facts.types.boolean o (apart.boolean o.of (h ∙ ap Some (complement-required s w e)))) refl
 

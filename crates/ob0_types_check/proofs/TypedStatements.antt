@@ -14,13 +14,13 @@ use Rattle.ob0_types_rules.specs.Expressions.{Object}
 use Rattle.ob0_types_rules.specs.Typing.{designated, object_type, type_at, type_of, type_of_factor}
 use Rattle.ob0_types_rules.specs.WellTyped.{Formal, Signature, Typed, agree, argument_fits, arguments_fit, by_place, by_value, call_fits, condition_fits, else_fits, elsifs_fit, sequence_fits, signature_of, statement_fits, statements_fit, variable_type}
 use Rattle.ob0_values.specs.Values.{Shape, array_shape, boolean_shape, integer_shape, record_shape}
-use Rattle.ob0_types_check.specs.ExpressionFaults.{told_expression}
+use Rattle.ob0_types_check.specs.ExpressionFaults.{reported_expression}
 use Rattle.ob0_types_check.specs.Known.{Facts, Meaning, Operand, a_constant, a_procedure, a_type, a_variable}
 use Rattle.ob0_types_check.specs.Known as known
 use Rattle.ob0_types_check.specs.Operations.{a_name, at_operand, at_token, named, named_value, required, right}
-use Rattle.ob0_types_check.specs.SoFar.{Made, facts_at, types_at}
-use Rattle.ob0_types_check.specs.StatementFaults.{called, passed, told_argument, told_arguments, told_asked, told_assigned, reported_call, reported_condition, told_else, told_elsifs, told_sequence, told_statement, told_statements, told_target}
-use Rattle.ob0_types_check.specs.Agreement.{FormalsAgree, StandsAlike, TokensAgree, TypesAgree, as_array, as_record, shape_in}
+use Rattle.ob0_types_check.specs.SoFar.{MadeType, facts_at, types_at}
+use Rattle.ob0_types_check.specs.StatementFaults.{call_by_meaning, passed, reported_argument, reported_arguments, reported_required, reported_assignment, reported_call, reported_condition, reported_else, reported_elsifs, reported_sequence, reported_statement, reported_statements, reported_target}
+use Rattle.ob0_types_check.specs.Agreement.{FormalsAgree, MeansAlike, TokensAgree, TypesAgree, as_array, as_record, shape_in}
 use Rattle.ob0_types_check.specs.WellTypedLaws.{EachOnce, constructor_of, NoFaultInStatements}
 use Rattle.ob0_types_check.proofs.EqualShapes.{agree-equal, each-true}
 use Rattle.ob0_types_check.proofs.FittingExpressions.{parts-placed}
@@ -44,11 +44,11 @@ module _ {T N : Type 0} (facts : Facts T) (shape : T → Option Shape) (types : 
   apart-in = split facts shape types label meaning
 
   -- a type that is required of an expression of that type
-  required-typed : (wanted : T) (w : Shape) (e : Tree ℕ expression) → shape wanted ≡ Some w → Named e → type_of meaning (here e) ≡ Some w → told_asked facts wanted e ≡ []
-  unfolding told_asked
+  required-typed : (wanted : T) (w : Shape) (e : Tree ℕ expression) → shape wanted ≡ Some w → Named e → type_of meaning (here e) ≡ Some w → reported_required facts wanted e ≡ []
+  unfolding reported_required
   required-typed wanted w e hw k h =
-      let o : Operand T = (told_expression facts e).known in
-      none-of-both (told_expression facts e).faults (required facts wanted o).faults (expression-typed facts shape types apart only label meaning e k w h) (required-right facts shape types apart wanted o (alike o.of wanted w (operand-typed facts shape types apart only label meaning e k w h) hw))
+      let o : Operand T = (reported_expression facts e).known in
+      none-of-both (reported_expression facts e).faults (required facts wanted o).faults (expression-typed facts shape types apart only label meaning e k w h) (required-right facts shape types apart wanted o (alike o.of wanted w (operand-typed facts shape types apart only label meaning e k w h) hw))
 
   condition-right : (e : Tree ℕ expression) → Named e → condition_fits meaning (here e) ≡ true → reported_condition facts e ≡ []
   unfolding condition_fits
@@ -56,13 +56,13 @@ module _ {T N : Type 0} (facts : Facts T) (shape : T → Option Shape) (types : 
       let (s, truth, typed) = agree-equal (Some boolean_shape) (type_of meaning (here e)) h in
       required-typed facts.types.boolean boolean_shape e types.boolean k (typed ∙ sym truth)
 
-  assignment-right : (x : ℕ) (path : Tree ℕ (items selector)) (e : Tree ℕ expression) → Named (assigns x path e) → statement_fits meaning (here (assigns x path e)) ≡ true → told_assigned facts (told_target facts x path) e ≡ []
+  assignment-right : (x : ℕ) (path : Tree ℕ (items selector)) (e : Tree ℕ expression) → Named (assigns x path e) → statement_fits meaning (here (assigns x path e)) ≡ true → reported_assignment facts (reported_target facts x path) e ≡ []
   unfolding statement_fits
   assignment-right x path e k h =
       let (s, left, right) = agree-equal (variable_type meaning (Some (label x, here path))) (type_of meaning (here e)) h in
       let rest = apart-in (ids path) (ids e) k.1 in
       let t = target-typed facts shape types apart only label meaning x path s (k.0, rest.0) left in
-      none-of-both (told_target facts x path).faults (told_asked facts (told_target facts x path).known.of e) t.none (required-typed (told_target facts x path).known.of s e t.known rest.1 right)
+      none-of-both (reported_target facts x path).faults (reported_required facts (reported_target facts x path).known.of e) t.none (required-typed (reported_target facts x path).known.of s e t.known rest.1 right)
 
   -- calls
 
@@ -70,7 +70,7 @@ module _ {T N : Type 0} (facts : Facts T) (shape : T → Option Shape) (types : 
   variable-place x t true = refl
   variable-place x t false = refl
 
-  named-place : (x : ℕ) (m : Option (Meaning T)) (o : Option (Object Shape Signature)) (v : Shape) → StandsAlike shape m o → o ≡ Some (meant.a_variable v) → (named_value facts x m).known.is_place ≡ true
+  named-place : (x : ℕ) (m : Option (Meaning T)) (o : Option (Object Shape Signature)) (v : Shape) → MeansAlike shape m o → o ≡ Some (meant.a_variable v) → (named_value facts x m).known.is_place ≡ true
   named-place x None o v a e = absurd a
   named-place x (Some (a_type t)) o v (s, told, stands) e = absurd (some-none v (sym (ap object_type e) ∙ ap object_type stands))
   named-place x (Some (a_constant c)) o v (w, told, stands, scalar) e = let same : Some (meant.a_constant w) ≡ Some (meant.a_variable v) = sym stands ∙ e in absurd (cc)
@@ -80,14 +80,14 @@ module _ {T N : Type 0} (facts : Facts T) (shape : T → Option Shape) (types : 
   -- a variable with its selectors has their type, and is known as a place
   pub record IsPlace (e : Tree ℕ expression) (s : Shape) : Type 0 where
     pub typed : type_of meaning (here e) ≡ Some s
-    pub placed : (told_expression facts e).known.is_place ≡ true
+    pub placed : (reported_expression facts e).known.is_place ≡ true
 
   no-designator : {A : Type 0} (s : Shape) → variable_type meaning None ≡ Some s → A
   unfolding variable_type
   no-designator s h = absurd (some-none s (sym h))
 
   place-known : (e : Tree ℕ expression) → Named e → (s : Shape) → variable_type meaning (designated (here e)) ≡ Some s → IsPlace e s
-  unfolding told_expression type_of variable_type
+  unfolding reported_expression type_of variable_type
   place-known (compares (sum (Some g) t rest) c) k s h = no-designator s h
   place-known (compares (sum None (product (integer n) factors) rest) c) k s h = no-designator s h
   place-known (compares (sum None (product (parenthesised a) factors) rest) c) k s h = no-designator s h
@@ -104,28 +104,28 @@ module _ {T N : Type 0} (facts : Facts T) (shape : T → Option Shape) (types : 
       }
 
   passed-right : (b : Bool) (of : T) (g : Formal) (e : Tree ℕ expression) → g.mode ≡ mode_of b → shape of ≡ Some g.shape → Named e → argument_fits meaning g (here e) ≡ true
-      → (told_expression facts e).faults ++ (passed facts (record { by_place = b; of = of }) (told_expression facts e).known).faults ≡ []
+      → (reported_expression facts e).faults ++ (passed facts (record { by_place = b; of = of }) (reported_expression facts e).known).faults ≡ []
   unfolding argument_fits
   passed-right true of g e mode wanted k h =
-      let o : Operand T = (told_expression facts e).known in
+      let o : Operand T = (reported_expression facts e).known in
       let (s, own, given) = agree-equal (Some g.shape) (variable_type meaning (designated (here e))) (sym (λ i. agree (Some g.shape) (elim (mode i) [ by_value ↦ type_of meaning (here e) | by_place ↦ variable_type meaning (designated (here e)) ])) ∙ h) in
       let p : IsPlace e g.shape = place-known e k g.shape (given ∙ sym own) in
-      none-of-both (told_expression facts e).faults _ (expression-typed facts shape types apart only label meaning e k g.shape p.typed)
+      none-of-both (reported_expression facts e).faults _ (expression-typed facts shape types apart only label meaning e k g.shape p.typed)
       (ap (λ b. (if not b then record { known = facts.types.unknown; faults = at_operand facts code.NotVariable o } else required facts of o).faults) p.placed
       ∙ required-right facts shape types apart of o (alike o.of of g.shape (operand-typed facts shape types apart only label meaning e k g.shape p.typed) wanted))
   passed-right false of g e mode wanted k h =
-      let o : Operand T = (told_expression facts e).known in
+      let o : Operand T = (reported_expression facts e).known in
       let (s, own, given) = agree-equal (Some g.shape) (type_of meaning (here e)) (sym (λ i. agree (Some g.shape) (elim (mode i) [ by_value ↦ type_of meaning (here e) | by_place ↦ variable_type meaning (designated (here e)) ])) ∙ h) in
       let typed : type_of meaning (here e) ≡ Some g.shape = given ∙ sym own in
-      none-of-both (told_expression facts e).faults _ (expression-typed facts shape types apart only label meaning e k g.shape typed)
+      none-of-both (reported_expression facts e).faults _ (expression-typed facts shape types apart only label meaning e k g.shape typed)
       (required-right facts shape types apart of o (alike o.of of g.shape (operand-typed facts shape types apart only label meaning e k g.shape typed) wanted))
 
-  argument-right : (f : known.Formal T) (g : Formal) (e : Tree ℕ expression) → g.mode ≡ mode_of f.by_place → shape f.of ≡ Some g.shape → Named e → argument_fits meaning g (here e) ≡ true → told_argument facts f e ≡ []
-  unfolding told_argument
+  argument-right : (f : known.Formal T) (g : Formal) (e : Tree ℕ expression) → g.mode ≡ mode_of f.by_place → shape f.of ≡ Some g.shape → Named e → argument_fits meaning g (here e) ≡ true → reported_argument facts f e ≡ []
+  unfolding reported_argument
   argument-right f g e mode wanted k h = passed-right f.by_place f.of g e mode wanted k h
 
   arguments-right : (fs : List (known.Formal T)) (gs : Signature) (es : List (Tree ℕ expression)) → FormalsAgree shape fs gs → EachAgreed facts shape types label meaning es → arguments_fit meaning gs (map here es) ≡ true
-      → (length fs ≡ length es) × (told_arguments facts fs es ≡ [])
+      → (length fs ≡ length es) × (reported_arguments facts fs es ≡ [])
   unfolding arguments_fit
   arguments-right [] [] [] a k h = (refl, refl)
   arguments-right [] [] (e ∷ es) a k h = absurd (true≢false (sym h))
@@ -135,13 +135,13 @@ module _ {T N : Type 0} (facts : Facts T) (shape : T → Option Shape) (types : 
   arguments-right (f ∷ fs) (g ∷ gs) (e ∷ es) a k h =
       let parts = each-true (argument_fits meaning g (here e)) (arguments_fit meaning gs (map here es)) h in
       let rest = arguments-right fs gs es a.2 k.1 parts.1 in
-      (λ i. suc (rest.0 i), none-of-both (told_argument facts f e) (told_arguments facts fs es) (argument-right f g e a.0 a.1 k.0 parts.0) rest.1)
+      (λ i. suc (rest.0 i), none-of-both (reported_argument facts f e) (reported_arguments facts fs es) (argument-right f g e a.0 a.1 k.0 parts.0) rest.1)
 
   not-called : {A : Type 0} (o p : Option (Object Shape Signature)) (es : List (Tree ℕ expression)) → o ≡ p → signature_of p ≡ None → call_fits meaning (signature_of o) (map here es) ≡ true → A
   unfolding call_fits
   not-called o p es e unsigned h = absurd (true≢false (sym (sym (ap (λ s. call_fits meaning s (map here es)) (ap signature_of e ∙ unsigned)) ∙ h)))
 
-  called-right : (x : ℕ) (m : Option (Meaning T)) (o : Option (Object Shape Signature)) (es : List (Tree ℕ expression)) → StandsAlike shape m o → EachAgreed facts shape types label meaning es → call_fits meaning (signature_of o) (map here es) ≡ true → called facts x m es ≡ []
+  called-right : (x : ℕ) (m : Option (Meaning T)) (o : Option (Object Shape Signature)) (es : List (Tree ℕ expression)) → MeansAlike shape m o → EachAgreed facts shape types label meaning es → call_fits meaning (signature_of o) (map here es) ≡ true → call_by_meaning facts x m es ≡ []
   unfolding call_fits
   called-right x None o es a k h = absurd a
   called-right x (Some (a_type t)) o es (s, told, stands) k h = not-called o (Some (meant.a_type s)) es stands refl h
@@ -149,7 +149,7 @@ module _ {T N : Type 0} (facts : Facts T) (shape : T → Option Shape) (types : 
   called-right x (Some (a_variable t)) o es (s, told, stands) k h = not-called o (Some (meant.a_variable s)) es stands refl h
   called-right x (Some (a_procedure fs)) o es (signature, stands, formals) k h =
       let parts = arguments-right fs signature es formals k (sym (ap (λ s. call_fits meaning s (map here es)) stands) ∙ h) in
-      ap (λ b. if b then told_arguments facts fs es else at_token facts code.ArgumentCount x) (eq-eqb (length fs) (length es) parts.0) ∙ parts.1
+      ap (λ b. if b then reported_arguments facts fs es else at_token facts code.ArgumentCount x) (eq-eqb (length fs) (length es) parts.0) ∙ parts.1
 
   call-right : (x : ℕ) (es : Tree ℕ (maybe arguments)) → Named (calls x es) → statement_fits meaning (here (calls x es)) ≡ true → reported_call facts x (arguments_listed es) ≡ []
   unfolding statement_fits
@@ -158,9 +158,9 @@ module _ {T N : Type 0} (facts : Facts T) (shape : T → Option Shape) (types : 
       (sym (ap (call_fits meaning (signature_of (meaning.stands_for (label x)))) (arguments-mapped facts shape types label meaning es)) ∙ h)
 
   mutual
-    unfolding told_statement statement_fits
+    unfolding reported_statement statement_fits
 
-    statement-right : (a : Tree ℕ statement) → Named a → statement_fits meaning (here a) ≡ true → told_statement facts a ≡ []
+    statement-right : (a : Tree ℕ statement) → Named a → statement_fits meaning (here a) ≡ true → reported_statement facts a ≡ []
     statement-right empty k h = refl
     statement-right (assigns x path e) k h = assignment-right x path e k h
     statement-right (calls x es) k h = call-right x es k h
@@ -172,8 +172,8 @@ module _ {T N : Type 0} (facts : Facts T) (shape : T → Option Shape) (types : 
         let second = each-true (sequence_fits meaning (here statements)) _ first.1 in
         let third = each-true (elsifs_fit meaning (here rest)) _ second.1 in
         none-of-both (reported_condition facts e) _ (condition-right e tokens.0 first.0)
-        (none-of-both (told_sequence facts statements) _ (sequence-right statements others.0 second.0)
-        (none-of-both (told_elsifs facts rest) _ (elsifs-right rest ends.0 third.0) (else-right last ends.1 third.1)))
+        (none-of-both (reported_sequence facts statements) _ (sequence-right statements others.0 second.0)
+        (none-of-both (reported_elsifs facts rest) _ (elsifs-right rest ends.0 third.0) (else-right last ends.1 third.1)))
     statement-right (while_loop e statements) k h =
         let tokens = apart-in (ids e) (ids statements) k in
         let parts = each-true (condition_fits meaning (here e)) _ h in
@@ -181,31 +181,31 @@ module _ {T N : Type 0} (facts : Facts T) (shape : T → Option Shape) (types : 
     statement-right (repeat_loop statements e) k h =
         let tokens = apart-in (ids statements) (ids e) k in
         let parts = each-true (sequence_fits meaning (here statements)) _ h in
-        none-of-both (told_sequence facts statements) _ (sequence-right statements tokens.0 parts.0) (condition-right e tokens.1 parts.1)
+        none-of-both (reported_sequence facts statements) _ (sequence-right statements tokens.0 parts.0) (condition-right e tokens.1 parts.1)
 
-    pub sequence-right : (a : Tree ℕ sequence) → Named a → sequence_fits meaning (here a) ≡ true → told_sequence facts a ≡ []
+    pub sequence-right : (a : Tree ℕ sequence) → Named a → sequence_fits meaning (here a) ≡ true → reported_sequence facts a ≡ []
     sequence-right (runs a rest) k h =
         let tokens = apart-in (ids a) (ids rest) k in
         let parts = each-true (statement_fits meaning (here a)) _ h in
-        none-of-both (told_statement facts a) _ (statement-right a tokens.0 parts.0) (statements-right rest tokens.1 parts.1)
+        none-of-both (reported_statement facts a) _ (statement-right a tokens.0 parts.0) (statements-right rest tokens.1 parts.1)
 
-    statements-right : (a : Tree ℕ (items further_statement)) → Named a → statements_fit meaning (here a) ≡ true → told_statements facts a ≡ []
+    statements-right : (a : Tree ℕ (items further_statement)) → Named a → statements_fit meaning (here a) ≡ true → reported_statements facts a ≡ []
     statements-right end k h = refl
     statements-right (more (then_statement a) rest) k h =
         let tokens = apart-in (ids a) (ids rest) k in
         let parts = each-true (statement_fits meaning (here a)) _ h in
-        none-of-both (told_statement facts a) _ (statement-right a tokens.0 parts.0) (statements-right rest tokens.1 parts.1)
+        none-of-both (reported_statement facts a) _ (statement-right a tokens.0 parts.0) (statements-right rest tokens.1 parts.1)
 
-    elsifs-right : (a : Tree ℕ (items elsif_part)) → Named a → elsifs_fit meaning (here a) ≡ true → told_elsifs facts a ≡ []
+    elsifs-right : (a : Tree ℕ (items elsif_part)) → Named a → elsifs_fit meaning (here a) ≡ true → reported_elsifs facts a ≡ []
     elsifs-right end k h = refl
     elsifs-right (more (elsif_branch e statements) rest) k h =
         let tokens = apart-in (ids (elsif_branch e statements)) (ids rest) k in
         let inner = apart-in (ids e) (ids statements) tokens.0 in
         let first = each-true (condition_fits meaning (here e)) _ h in
         let second = each-true (sequence_fits meaning (here statements)) _ first.1 in
-        none-of-both (reported_condition facts e) _ (condition-right e inner.0 first.0) (none-of-both (told_sequence facts statements) _ (sequence-right statements inner.1 second.0) (elsifs-right rest tokens.1 second.1))
+        none-of-both (reported_condition facts e) _ (condition-right e inner.0 first.0) (none-of-both (reported_sequence facts statements) _ (sequence-right statements inner.1 second.0) (elsifs-right rest tokens.1 second.1))
 
-    else-right : (a : Tree ℕ (maybe else_part)) → Named a → else_fits meaning (here a) ≡ true → told_else facts a ≡ []
+    else-right : (a : Tree ℕ (maybe else_part)) → Named a → else_fits meaning (here a) ≡ true → reported_else facts a ≡ []
     else-right none k h = refl
     else-right (one (else_branch statements)) k h = sequence-right statements k h
 
@@ -264,7 +264,7 @@ records-once shapes once i j s p q =
     let (k, number) = record-number s left.1 in
     once i j k s s left.0 (record-at shapes j s q).0 number number
 
-pub once-alike : (made : List Made) (shapes : List Shape) → EachOnce shapes → (t u : TypeId) (s : Shape) → shape_in shapes t ≡ Some s → shape_in shapes u ≡ Some s → (types_at made).same t u ≡ true
+pub once-alike : (made : List MadeType) (shapes : List Shape) → EachOnce shapes → (t u : TypeId) (s : Shape) → shape_in shapes t ≡ Some s → shape_in shapes u ≡ Some s → (types_at made).same t u ≡ true
 once-alike made shapes once type.Unknown u s p q = absurd (some-none s (sym p))
 once-alike made shapes once type.Integer type.Unknown s p q = absurd (some-none s (sym q))
 once-alike made shapes once type.Integer type.Integer s p q = refl

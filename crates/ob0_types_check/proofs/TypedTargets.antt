@@ -9,12 +9,12 @@ use Rattle.ob0_types_rules.specs.Expressions.{Object}
 use Rattle.ob0_types_rules.specs.Typing.{object_type, type_at, type_of}
 use Rattle.ob0_types_rules.specs.WellTyped.{Signature, Typed, signature_of, variable_type}
 use Rattle.ob0_values.specs.Values.{Shape}
-use Rattle.ob0_types_check.specs.ExpressionFaults.{told_expression, told_selectors}
+use Rattle.ob0_types_check.specs.ExpressionFaults.{reported_expression, reported_selectors}
 use Rattle.ob0_types_check.specs.Known.{Facts, Meaning, Operand, a_constant, a_procedure, a_type, a_variable}
 use Rattle.ob0_types_check.specs.Operations.{a_name}
 use Rattle.ob0_types_check.specs.SoFar.{facts_at}
-use Rattle.ob0_types_check.specs.StatementFaults.{assigned, assigned_meaning, told_target}
-use Rattle.ob0_types_check.specs.Agreement.{StandsAlike, TokensAgree, TypesAgree, shape_in}
+use Rattle.ob0_types_check.specs.StatementFaults.{target_meaning, target_by_meaning, reported_target}
+use Rattle.ob0_types_check.specs.Agreement.{MeansAlike, TokensAgree, TypesAgree, shape_in}
 use Rattle.ob0_types_check.specs.ReportLaws.{OperandFits}
 use Rattle.ob0_types_check.specs.WellTypedLaws.{NoFaultInTargets}
 use Rattle.ob0_types_check.proofs.FittingExpressions.{FitsSelectors, selectors-fit}
@@ -48,12 +48,12 @@ module _ {T N : Type 0} (facts : Facts T) (shape : T → Option Shape) (types : 
   all-typed : {s : Sort} (t : Tree ℕ s) → Named t → AllTyped facts shape types apart label meaning t
   all-typed t k = (tokens-fit facts shape types label meaning (ids t) k, names-typed facts shape label meaning only (ids t) k)
 
-  pub expression-typed : (e : Tree ℕ expression) → Named e → (s : Shape) → type_of meaning (here e) ≡ Some s → (told_expression facts e).faults ≡ []
+  pub expression-typed : (e : Tree ℕ expression) → Named e → (s : Shape) → type_of meaning (here e) ≡ Some s → (reported_expression facts e).faults ≡ []
   expression-typed e k s h = expression-right facts shape types apart label meaning e (all-typed e k) s h
 
-  pub operand-typed : (e : Tree ℕ expression) → Named e → (s : Shape) → type_of meaning (here e) ≡ Some s → shape (told_expression facts e).known.of ≡ Some s
+  pub operand-typed : (e : Tree ℕ expression) → Named e → (s : Shape) → type_of meaning (here e) ≡ Some s → shape (reported_expression facts e).known.of ≡ Some s
   operand-typed e k s h =
-      let o : OperandFits shape meaning (told_expression facts e).known (here e) = known-operand facts shape types label meaning e k (expression-typed e k s h) in
+      let o : OperandFits shape meaning (reported_expression facts e).known (here e) = known-operand facts shape types label meaning e k (expression-typed e k s h) in
       o.known ∙ (sym o.typed ∙ h)
 
   -- targets of assignments
@@ -61,7 +61,7 @@ module _ {T N : Type 0} (facts : Facts T) (shape : T → Option Shape) (types : 
   pub no-signature : {A : Type 0} (o : Option (Object Shape Signature)) (v : Shape) (signature : Signature) → o ≡ Some (meant.a_variable v) → signature_of o ≡ Some signature → A
   no-signature o v signature e h = absurd (some-none signature (sym h ∙ ap signature_of e))
 
-  assigned-right : (x : ℕ) (m : Option (Meaning T)) (o : Option (Object Shape Signature)) (v : Shape) → StandsAlike shape m o → o ≡ Some (meant.a_variable v) → ((assigned_meaning facts x m).faults ≡ []) × (shape (assigned_meaning facts x m).known ≡ Some v)
+  assigned-right : (x : ℕ) (m : Option (Meaning T)) (o : Option (Object Shape Signature)) (v : Shape) → MeansAlike shape m o → o ≡ Some (meant.a_variable v) → ((target_by_meaning facts x m).faults ≡ []) × (shape (target_by_meaning facts x m).known ≡ Some v)
   assigned-right x None o v a e = absurd a
   assigned-right x (Some (a_type t)) o v (s, told, stands) e = absurd (some-none v (sym (ap object_type e) ∙ ap object_type stands))
   assigned-right x (Some (a_constant c)) o v (w, told, stands, scalar) e = let same : Some (meant.a_constant w) ≡ Some (meant.a_variable v) = sym stands ∙ e in absurd (cc)
@@ -69,19 +69,19 @@ module _ {T N : Type 0} (facts : Facts T) (shape : T → Option Shape) (types : 
   assigned-right x (Some (a_variable t)) o v (s, told, stands) e = (refl, told ∙ ap object_type (sym stands ∙ e))
 
   pub record TargetTyped (x : ℕ) (path : Tree ℕ (items selector)) (s : Shape) : Type 0 where
-    pub none : (told_target facts x path).faults ≡ []
-    pub known : shape (told_target facts x path).known.of ≡ Some s
+    pub none : (reported_target facts x path).faults ≡ []
+    pub known : shape (reported_target facts x path).known.of ≡ Some s
 
   pub target-typed : (x : ℕ) (path : Tree ℕ (items selector)) (s : Shape) → Named (designator x path) → variable_type meaning (Some (label x, here path)) ≡ Some s → TargetTyped x path s
-  unfolding told_target variable_type
+  unfolding reported_target variable_type
   target-typed x path s k h =
       let (v, stands, typed) = variable-of (meaning.stands_for (label x)) (λ v. type_at meaning v (here path)) s h in
       let a = assigned-right x (facts.stands_for x) (meaning.stands_for (label x)) v k.0 stands in
-      let o : Operand T = a_name (assigned facts x).known x in
+      let o : Operand T = a_name (target_meaning facts x).known x in
       let rest = selectors-right facts shape types apart label meaning o v path a.1 (all-typed path k.1) s typed in
       let fs : FitsSelectors facts shape types label meaning o v path = selectors-fit facts shape types label meaning o v path a.1 (tokens-fit facts shape types label meaning (ids path) k.1) rest in
       record {
-        none = none-of-both (assigned facts x).faults (told_selectors facts o path).faults a.0 rest;
+        none = none-of-both (target_meaning facts x).faults (reported_selectors facts o path).faults a.0 rest;
         known = fs.known ∙ (sym fs.typed ∙ typed);
       }
 

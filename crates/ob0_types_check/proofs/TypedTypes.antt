@@ -11,14 +11,14 @@ use Rattle.ob0_types_rules.specs.Expressions as meant
 use Rattle.ob0_types_rules.specs.Typing.{array_length, constant_value, denoted, denoted_group, denoted_groups, depth, group_constructors, groups_constructors, scalars, type_of_name, with_fields, within_limits}
 use Rattle.ob0_types_rules.specs.WellTyped.{Signature, TypeEnvironment, Typed, signature_of}
 use Rattle.ob0_values.specs.Values.{FieldShapes, Shape, Value, array_shape, no_field_shape, record_shape}
-use Rattle.ob0_types_check.specs.ExpressionFaults.{told_expression}
+use Rattle.ob0_types_check.specs.ExpressionFaults.{reported_expression}
 use Rattle.ob0_types_check.specs.Known.{Meaning, Operand, Reported, a_constant, a_procedure, a_type, a_variable}
 use Rattle.ob0_types_check.specs.Operations.{right}
-use Rattle.ob0_types_check.specs.SoFar.{Parts, Size, SoFar, facts_at, is_within, made, make, of_elements, size_at, too_large}
+use Rattle.ob0_types_check.specs.SoFar.{PartTypes, Size, SoFar, facts_at, is_within, made, make, of_elements, size_at, too_large}
 use Rattle.ob0_types_check.specs.SoFar as so_far
 use Rattle.ob0_types_check.specs.TypeFaults.{length_of, type_meant}
-use Rattle.ob0_types_check.specs.WrittenTypeFaults.{Gathered, array_made, array_size, nothing_gathered, record_made, record_size, record_word, told_fields, told_groups, told_type, word_before}
-use Rattle.ob0_types_check.specs.Agreement.{StandsAlike, shape_in}
+use Rattle.ob0_types_check.specs.WrittenTypeFaults.{Gathered, array_made, array_size, nothing_gathered, record_made, record_size, record_word, told_fields, told_groups, reported_type, word_before}
+use Rattle.ob0_types_check.specs.Agreement.{MeansAlike, shape_in}
 use Rattle.ob0_types_check.specs.WellTypedLaws.{NoFaultInConstants, NoFaultInLengths, NoFaultInStatements}
 use Rattle.ob0_types_check.proofs.DeclaredNames.{AreSeen, IsSeen, Numbering, each_part}
 use Rattle.ob0_types_check.proofs.DeclaredShapes.{GatheredAgrees, SizeAgrees, array_sized, followed, record_sized, size_agrees}
@@ -55,7 +55,7 @@ is-within : (z : Size) (s t : Shape) → SizeAgrees z s → within_limits s ≡ 
 is-within z s t h e =
     (λ i. nat_le (h.scalars_are i) 65536 && nat_le (h.depth_is i) 100) ∙ within (nat_le (scalars s) 65536 && nat_le (depth s) 100) s t e
 
-make-right : (p : SoFar) (word : ℕ) (parts : Parts) (size : Size) → is_within size ≡ true → (make p word parts size).faults ≡ []
+make-right : (p : SoFar) (word : ℕ) (parts : PartTypes) (size : Size) → is_within size ≡ true → (make p word parts size).faults ≡ []
 make-right p word parts size e = ap (λ b. (if b then right (made p parts size) else too_large p word).faults) e
 
 no-type : {A : Type 0} (o : Option (meant.Object Shape Signature)) (signature : Signature) (s : Shape) → signature_of o ≡ Some signature → type_of_name o ≡ Some s → A
@@ -67,7 +67,7 @@ no-type (Some (meant.a_procedure p)) signature s e h = absurd (some-none s (sym 
 no-type (Some (meant.a_standard p)) signature s e h = absurd (some-none s (sym h))
 
 -- a name of a type
-meant-right : (p : SoFar) (before : List Shape) (x : ℕ) (m : Option (Meaning TypeId)) (o : Option (meant.Object Shape Signature)) → StandsAlike (shape_in before) m o → (s : Shape) → type_of_name o ≡ Some s → (type_meant (facts_at p false) x m).faults ≡ []
+meant-right : (p : SoFar) (before : List Shape) (x : ℕ) (m : Option (Meaning TypeId)) (o : Option (meant.Object Shape Signature)) → MeansAlike (shape_in before) m o → (s : Shape) → type_of_name o ≡ Some s → (type_meant (facts_at p false) x m).faults ≡ []
 meant-right p before x None o a s h = refl
 meant-right p before x (Some (a_type t)) o a s h = refl
 meant-right p before x (Some (a_constant c)) o (v, told, stands, scalar) s h = absurd (some-none s (sym h ∙ ap type_of_name stands))
@@ -75,7 +75,7 @@ meant-right p before x (Some (a_variable t)) o (u, told, stands) s h = absurd (s
 meant-right p before x (Some (a_procedure fs)) o (signature, stands, formals) s h = no-type o signature s stands h
 
 -- an array of a length that is known
-array-right : (o : Operand TypeId) (told : Option ℕ) (count : ℕ) (u : so_far.Typed) → told ≡ Some count → is_within (array_size count (size_at u.behind.made u.of)) ≡ true → (array_made o told u).faults ≡ []
+array-right : (o : Operand TypeId) (told : Option ℕ) (count : ℕ) (u : so_far.TypedAfter) → told ≡ Some count → is_within (array_size count (size_at u.behind.made u.of)) ≡ true → (array_made o told u).faults ≡ []
 array-right o told count u e h = ap (λ c. (array_made o c u).faults) e ∙ make-right u.behind _ (of_elements u.of) (array_size count (size_at u.behind.made u.of)) h
 
 module _ (w : Numbering) (fit : PartsFit) (fine : PartsRight) (n : ℕ) (scope : Scope Name) (env : TypeEnvironment Name) where
@@ -83,9 +83,9 @@ module _ (w : Numbering) (fit : PartsFit) (fine : PartsRight) (n : ℕ) (scope :
   here = meanings as_names env
 
   mutual
-    unfolding told_type denoted
+    unfolding reported_type denoted
 
-    pub type_right : (k : ℕ) (t : Tree ℕ written_type) (p : SoFar) (before : List Shape) → Stands w p before n scope env → AreSeen w scope t → (s : Shape) → denoted (meanings as_names env) k (named w.source t) ≡ Some s → (told_type p t).faults ≡ []
+    pub type_right : (k : ℕ) (t : Tree ℕ written_type) (p : SoFar) (before : List Shape) → Stands w p before n scope env → AreSeen w scope t → (s : Shape) → denoted (meanings as_names env) k (named w.source t) ≡ Some s → (reported_type p t).faults ≡ []
     type_right k (named_type x) p before st seen s h =
         none-of-both (type_meant (facts_at p false) x ((facts_at p false).stands_for x)).faults []
         (meant-right p before x ((facts_at p false).stands_for x) ((meanings as_names env).stands_for (text_at w.source x)) (seen_stands w p false before n scope env st x seen.0) s h) refl
@@ -95,15 +95,15 @@ module _ (w : Numbering) (fit : PartsFit) (fine : PartsRight) (n : ℕ) (scope :
         let value : Option Value = constant_value here (named w.source e) in
         let (v, hv, later) = and-then (λ v. option_and_then (λ c. of_limits k c given) (array_length v)) value s h in
         let (c, hc, last) = and-then (λ c. of_limits k c given) (array_length v) s later in
-        let o : Operand TypeId = (told_expression (facts_at p true) e).known in
+        let o : Operand TypeId = (reported_expression (facts_at p true) e).known in
         let l : Reported (Option ℕ) = length_of (facts_at p false) o in
-        let el : Reported so_far.Typed = told_type p u in
+        let el : Reported so_far.TypedAfter = reported_type p u in
         let agrees = agrees_where_seen w p true before n scope env st fit e parts.0 in
         let there : is_some (option_and_then array_length (constant_value here (mapped (text_at w.source) (value_at p.source) e))) ≡ true =
         some-there (option_and_then array_length (constant_value here (mapped (text_at w.source) (value_at p.source) e))) c
         (ap (λ z. option_and_then array_length (constant_value here (mapped (text_at w.source) (value_at z) e))) st.source ∙ (ap (option_and_then array_length) hv ∙ hc)) in
         let none = fine.lengths p before (text_at w.source) here e agrees there in
-        let a = none_both (told_expression (facts_at p true) e).faults l.faults none in
+        let a = none_both (reported_expression (facts_at p true) e).faults l.faults none in
         let long = fit.lengths p before (text_at w.source) here e agrees none in
         let known : value ≡ Some long.value = ap (λ z. constant_value here (mapped (text_at w.source) (value_at z) e)) (sym st.source) ∙ long.given in
         let limited : of_limits k long.length given ≡ Some s = sym (array_given k value long.value long.length given known long.counted) ∙ h in
@@ -112,7 +112,7 @@ module _ (w : Numbering) (fit : PartsFit) (fine : PartsRight) (n : ℕ) (scope :
         let d = type_denotes w fit n scope env (suc k) u p before st parts.1 inner in
         let size = array_sized (size_at el.known.behind.made el.known.of) k long.length d.shape (size_agrees el.known.behind.made d.after el.known.of d.shape d.later.table d.known) in
         let small = is-within (array_size long.length (size_at el.known.behind.made el.known.of)) (array_shape k long.length d.shape) s size (given-again (λ s. within_limits (array_shape k long.length s)) given d.shape (Some s) d.given_is limited) in
-        none-of-both (told_expression (facts_at p true) e).faults _ a.0
+        none-of-both (reported_expression (facts_at p true) e).faults _ a.0
         (none-of-both l.faults _ a.1 (none-of-both el.faults (array_made o l.known el.known).faults inner (array-right o l.known long.length el.known long.known small)))
     type_right k (record_type g rest) p before st seen s h =
         let parts = each_part (IsSeen w scope) (occurrences g) (occurrences rest) seen in
@@ -139,7 +139,7 @@ module _ (w : Numbering) (fit : PartsFit) (fine : PartsRight) (n : ℕ) (scope :
     group_right k no_fields g before st seen later fs h = refl
     group_right k (some_fields ns t) g before st seen later fs h =
         let (s, hs, last) = and-then (λ s. Some (with_fields (map (λ x. x) (names_listed (named w.source ns))) s later)) (denoted here k (named w.source t)) fs h in
-        none-of-both (told_type g.behind t).faults [] (type_right k t g.behind before st seen s hs) refl
+        none-of-both (reported_type g.behind t).faults [] (type_right k t g.behind before st seen s hs) refl
 
     groups_right : (k : ℕ) (t : Tree ℕ (items further_fields)) (g : Gathered) (before : List Shape) (first : FieldShapes) → Stands w g.behind before n scope env → AreSeen w scope t → GatheredAgrees before g first
         → (fs : FieldShapes) → denoted_groups (meanings as_names env) k (named w.source t) ≡ Some fs → (told_groups g t).faults ≡ []

@@ -1,4 +1,4 @@
--- Where nothing is told of a whole, nothing is told of its parts.
+-- Where nothing is reported of a whole, nothing is reported of its parts.
 use Rattle.std.proofs.Common.{◌≡◌, Bool, true, false, ◌||◌, ◌&&◌, List, [], ◌∷◌, ◌++◌, if◌then◌else◌, Option, Some, None, option_and_then, refl, ap, ◌∙◌}
 use Rattle.ob0_scan.specs.declared.fault.Fault.{Fault}
 use Rattle.ob0_types_check.specs.Known.{Reported}
@@ -11,12 +11,12 @@ pub none-if : {A : Type 0} (b : Bool) (x : A) → (if b then [] else x ∷ []) �
 none-if true x h = refl
 none-if false x h = absurd (cc)
 
--- the first of two, where of the second something is told
+-- the first of two, where of the second something is reported
 pub first-told : {A : Type 0} (b : Bool) (one other : Reported A) (x : Fault) → other.faults ≡ x ∷ [] → (if b then one else other).faults ≡ [] → (b ≡ true) × (one.faults ≡ [])
 first-told true one other x e h = (refl, h)
 first-told false one other x e h = absurd (cc)
 
--- and the second, where of the first something is told
+-- and the second, where of the first something is reported
 pub second-told : {A : Type 0} (b : Bool) (one other : Reported A) (x : Fault) → one.faults ≡ x ∷ [] → (if b then one else other).faults ≡ [] → (b ≡ false) × (other.faults ≡ [])
 second-told true one other x e h = absurd (cc)
 second-told false one other x e h = (refl, h)
@@ -36,7 +36,7 @@ some-none a h = cc
 pub some-same : {A : Type 0} (a b : A) → Some a ≡ Some b → a ≡ b
 some-same a b h = ap (λ o. elim o [ Some x ↦ x | None ↦ a ]) h
 
--- one behind the other
+-- one after the other
 pub goes-on : {A B : Type 0} (next : A → Option B) (o : Option A) (a : A) (r : Option B) → o ≡ Some a → next a ≡ r → option_and_then next o ≡ r
 goes-on next o a r e h = ap (option_and_then next) e ∙ h
 

@@ -58,7 +58,7 @@ module _ {N : Type 0} (among : Meanings N Place (Unit {0})) where
       given_step (elim (multiply_is_settled o x) [ true ↦ gives x | false ↦ evaluate_factor among [] f >>= multiply o x ]) (λ y. evaluate_multipliers among [] y fs)
       ∙ ap (option_and_then (λ y. given_value (evaluate_multipliers among [] y fs))) (given_settled (multiply_is_settled o x) x (evaluate_factor among [] f) (multiply o x))
 
-  -- a name alone is worth its constant
+  -- a name alone has the value its constant
   whole-value : (v : Option Value) → given_value (value_of {P = Unit {0}} [] (option_map a_constant v) >>= (λ w. gives [] >>= (λ steps. or_stuck (at_path steps w)))) ≡ v
   whole-value None = refl
   whole-value (Some v) = refl

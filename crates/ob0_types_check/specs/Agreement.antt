@@ -1,4 +1,4 @@
--- What is known while faults are told, and what names and types are by the definitions of types: where they agree.
+-- What is known while faults are reported, and what names and types are by the definitions of types: where they agree.
 -- Rule: none; for laws: what is known against what names and types are.
 use Rattle.std.specs.Prelude.{◌≡◌, ℕ, true, List, [], ◌∷◌, Option, Some, None, option_map, option_and_then, is_some, slice_get}
 use Rattle.ob0_scope_rules.specs.Names.{Name}
@@ -15,7 +15,7 @@ use Rattle.ob0_types_rules.specs.Typing.{shape_of_field, value_type}
 use Rattle.ob0_types_rules.specs.WellTyped.{Signature, Typed, signature_of}
 use Rattle.ob0_values.specs.Values.{FieldShapes, Shape, Value, array_shape, boolean_shape, integer_shape, record_shape}
 use Rattle.ob0_types_check.specs.Known.{Facts, Form, Formal, Meaning, Types, a_constant, a_procedure, a_record, a_scalar, a_type, a_variable, an_array, unknown_form}
-use Rattle.ob0_types_check.specs.SoFar.{Made, Parts, of_elements, of_fields}
+use Rattle.ob0_types_check.specs.SoFar.{MadeType, PartTypes, of_elements, of_fields}
 
 -- What is known of a type's parts is so of the parts of a shape. `shape` gives the shapes of types: None where a type is unknown.
 abbrev pub FormAgrees : {T : Type 0} → (T → Option Shape) → Form T → Shape → Type 0
@@ -40,7 +40,7 @@ FormalsAgree shape [] (g ∷ gs) = ⊥
 FormalsAgree shape (f ∷ fs) [] = ⊥
 FormalsAgree shape (f ∷ fs) (g ∷ gs) = (g.mode ≡ mode_of f.by_place) × (shape f.of ≡ Some g.shape) × FormalsAgree shape fs gs
 
--- what a name stands for is known: a type and a variable by their shape, a constant by its value, which is a scalar, and a
+-- what a name means is known: a type and a variable by their shape, a constant by its value, which is a scalar, and a
 -- procedure by its parameters
 abbrev pub MeaningAgrees : {T : Type 0} → (T → Option Shape) → Meaning T → Option (meant.Object Shape Signature) → Type 0
 MeaningAgrees shape (a_type t) o = (s : Shape) × (shape t ≡ Some s) × (o ≡ Some (meant.a_type s))
@@ -48,15 +48,15 @@ MeaningAgrees shape (a_constant c) o = (v : Value) × (c ≡ Some v) × (o ≡ S
 MeaningAgrees shape (a_variable t) o = (s : Shape) × (shape t ≡ Some s) × (o ≡ Some (meant.a_variable s))
 MeaningAgrees shape (a_procedure fs) o = (signature : Signature) × (signature_of o ≡ Some signature) × FormalsAgree shape fs signature
 
--- a name stands for something, and that is known
-abbrev pub StandsAlike : {T : Type 0} → (T → Option Shape) → Option (Meaning T) → Option (meant.Object Shape Signature) → Type 0
-StandsAlike shape None o = ⊥
-StandsAlike shape (Some m) o = MeaningAgrees shape m o
+-- a name means something, and that is known
+abbrev pub MeansAlike : {T : Type 0} → (T → Option Shape) → Option (Meaning T) → Option (meant.Object Shape Signature) → Type 0
+MeansAlike shape None o = ⊥
+MeansAlike shape (Some m) o = MeaningAgrees shape m o
 
--- The identifier at a token, which stands for a name of a tree by its label: one that is looked up is known, and a field is
+-- The identifier at a token, which means a name of a tree by its label: one that is looked up is known, and a field is
 -- written as it is in the text.
 abbrev pub TokenAgrees : {T N : Type 0} → Facts T → (T → Option Shape) → (ℕ → N) → Typed N → Role → ℕ → Type 0
-TokenAgrees facts shape label meaning role.LookedUp x = StandsAlike shape (facts.stands_for x) (meaning.stands_for (label x))
+TokenAgrees facts shape label meaning role.LookedUp x = MeansAlike shape (facts.stands_for x) (meaning.stands_for (label x))
 TokenAgrees facts shape label meaning role.FieldName x = meaning.written (label x) ≡ text_at facts.source x
 TokenAgrees facts shape label meaning role.Declaring x = Unit {0}
 TokenAgrees facts shape label meaning role.ClosingName x = Unit {0}
@@ -72,7 +72,7 @@ pub record Agrees {T N : Type 0} (facts : Facts T) (shape : T → Option Shape) 
   pub types : TypesAgree facts.types shape
   pub tokens : TokensAgree facts shape label meaning (identifiers role.Declaring t)
 
--- what an array's type may stand for, and a record's
+-- what an array's type may be for, and a record's
 abbrev pub as_array : Shape → Option Shape
 as_array integer_shape = None
 as_array boolean_shape = None
@@ -86,7 +86,7 @@ as_record boolean_shape = None
 as_record (array_shape k n s) = None
 as_record (record_shape k fs) = Some (record_shape k fs)
 
--- the shape that a type stands for, by the shapes that were made, in order
+-- the shape that a type means, by the shapes that were made, in order
 abbrev pub shape_in : List Shape → TypeId → Option Shape
 shape_in shapes type.Integer = Some integer_shape
 shape_in shapes type.Boolean = Some boolean_shape
@@ -95,23 +95,23 @@ shape_in shapes (type.Record i) = option_and_then as_record (slice_get shapes i)
 shape_in shapes type.Unknown = None
 
 -- the parts of an array or record that was made are those of its shape
-abbrev pub PartsAgree : (TypeId → Option Shape) → Parts → Shape → Type 0
+abbrev pub PartsAgree : (TypeId → Option Shape) → PartTypes → Shape → Type 0
 PartsAgree shape (of_elements t) s = FormAgrees shape (an_array t) s
 PartsAgree shape (of_fields fields) s = FormAgrees shape (a_record fields) s
 
 -- what is known of an array or record is as its type says, with its size
-pub record MadeAgrees (shape : TypeId → Option Shape) (m : Made) (s : Shape) : Type 0 where
+pub record MadeAgrees (shape : TypeId → Option Shape) (m : MadeType) (s : Shape) : Type 0 where
   pub parts : PartsAgree shape m.parts s
   pub scalars : m.size.scalars ≡ typing.scalars s
   pub depth : m.size.depth ≡ typing.depth s
 
 -- each array and record that was made agrees with its type
-abbrev pub EachMade : (TypeId → Option Shape) → List Made → List Shape → Type 0
+abbrev pub EachMade : (TypeId → Option Shape) → List MadeType → List Shape → Type 0
 EachMade shape [] [] = Unit {0}
 EachMade shape [] (s ∷ ss) = ⊥
 EachMade shape (m ∷ ms) [] = ⊥
 EachMade shape (m ∷ ms) (s ∷ ss) = MadeAgrees shape m s × EachMade shape ms ss
 
 -- the arrays and records that were made, and their shapes, one by one
-abbrev pub TableAgrees : List Made → List Shape → Type 0
+abbrev pub TableAgrees : List MadeType → List Shape → Type 0
 TableAgrees made shapes = EachMade (shape_in shapes) made shapes

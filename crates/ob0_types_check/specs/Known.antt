@@ -1,4 +1,4 @@
--- What is known of types, names and operands while faults are told. A type may be unknown, as a whole or in parts.
+-- What is known of types, names and operands while faults are reported. A type may be unknown, as a whole or in parts.
 -- Rule: docs/LANGUAGE.md, Faults of scopes and types 2.
 use Rattle.std.specs.Prelude.{ℕ, Bool, List, Option}
 use Rattle.ob0_scan.specs.declared.fault.Fault.{Fault}
@@ -13,7 +13,7 @@ pub data Form (T : Type 0) : Type 0 where
   a_record : (Name → Option T) → Form T
   unknown_form : Form T
 
--- types, whatever stands for them; one stands for a type that is unknown
+-- types, whatever represents them; one means a type that is unknown
 pub record Types (T : Type 0) : Type 0 where
   pub integer : T
   pub boolean : T
@@ -26,7 +26,7 @@ pub record Formal (T : Type 0) : Type 0 where
   pub by_place : Bool
   pub of : T
 
--- What a name stands for: of a type and a variable its type, of a constant its value. Where the declaration has a fault, the
+-- What a name means: of a type and a variable its type, of a constant its value. Where the declaration has a fault, the
 -- type is unknown, or there is no value.
 pub data Meaning (T : Type 0) : Type 0 where
   a_type : T → Meaning T
@@ -34,7 +34,7 @@ pub data Meaning (T : Type 0) : Type 0 where
   a_variable : T → Meaning T
   a_procedure : List (Formal T) → Meaning T
 
--- What is known at a place of a text. A name goes by its token; in a constant expression names stand for constants alone.
+-- What is known at a place of a text. A name goes by its token; in a constant expression names mean constants alone.
 pub record Facts (T : Type 0) : Type 0 where
   pub source : Scanned
   pub types : Types T
@@ -50,7 +50,7 @@ pub record Operand (T : Type 0) : Type 0 where
   pub first : ℕ
   pub last : ℕ
 
--- what is known of something, and the faults that are told of it
+-- what is known of something, and the faults that are reported of it
 pub record Reported (A : Type 0) : Type 0 where
   pub known : A
   pub faults : List Fault

@@ -1,4 +1,4 @@
--- What operations, names and selectors ask for: the faults that are told of them, and what is known of what they give.
+-- What operations, names and selectors require: the faults that are reported of them, and what is known of what they give.
 -- Rule: docs/LANGUAGE.md, Types 2, 3, Faults of scopes and types 3, 5.
 use Rattle.std.specs.Prelude.{◌≡◌, ℕ, ◌+◌, ◌-◌, nat_lt, Bool, true, false, ◌||◌, List, [], ◌∷◌, ◌++◌, length, if◌then◌else◌, Option, Some, None, option_and_then, pos}
 use Rattle.ob0_scan.specs.declared.fault.Code.{Code}
@@ -21,7 +21,7 @@ use Rattle.ob0_values.specs.Values.{Value, elements, members, negated, number, r
 use Rattle.ob0_values.specs.Values.{signed as with_sign}
 use Rattle.ob0_types_check.specs.Known.{Facts, Form, Meaning, Operand, Reported, Types, a_constant, a_procedure, a_record, a_scalar, a_type, a_variable, an_array, unknown_form}
 
--- the same behind faults that were told before
+-- the same after faults that were reported before
 abbrev pub preceded_by : {A : Type 0} → List Fault → Reported A → Reported A
 preceded_by before t = record { known = t.known; faults = before ++ t.faults }
 
@@ -34,18 +34,18 @@ infixl 20 ◌>>=◌
 abbrev pub ◌>>=◌ : {A B : Type 0} → Reported A → (A → Reported B) → Reported B
 t >>= next = preceded_by t.faults (next t.known)
 
--- x is what is known, and what is told stands behind the faults from before
-pub record Tells {A : Type 0} (before after : List Fault) (x : A) (t : Reported A) : Type 0 where
+-- x is what is known, and what is reported follows the faults from before
+pub record ReportsAfter {A : Type 0} (before after : List Fault) (x : A) (t : Reported A) : Type 0 where
   pub known : x ≡ t.known
   pub told : after ≡ before ++ t.faults
 
--- a token's neighbours; nothing stands before the first, and nothing behind the end of the text
+-- a token's neighbours; nothing precedes the first, and nothing after the end of the text
 abbrev pub token_before : ℕ → ℕ
 token_before token = token - 1
 
 -- the token after this one; the end of the text is the last
-abbrev pub token_behind : Scanned → ℕ → ℕ
-token_behind source token = if nat_lt token (length source.tokens) then token + 1 else token
+abbrev pub token_after : Scanned → ℕ → ℕ
+token_after source token = if nat_lt token (length source.tokens) then token + 1 else token
 
 -- a fault from one token to another, at one token, and at an operand
 abbrev pub fault_between : Scanned → Code → ℕ → ℕ → Fault
@@ -67,89 +67,89 @@ at_operand facts c o = at_tokens facts c o.first o.last
 abbrev pub fits : {T : Type 0} → Types T → T → T → Bool
 fits types s t = types.same s t || (types.same s types.unknown || types.same t types.unknown)
 
--- a type is asked of an operand: the operand is told where it has another one
+-- a type is required of an operand: the operand is reported where it has another one
 abbrev pub required : {T : Type 0} → Facts T → T → Operand T → Reported T
 required facts wanted o = record {
   known = if facts.types.same o.of wanted then wanted else facts.types.unknown;
   faults = if fits facts.types o.of wanted then [] else at_operand facts code.TypeMismatch o;
 }
 
--- a type is asked of two operands: the left one is told where it is wrong, else the right one
-abbrev pub asked_both : {T : Type 0} → Facts T → T → Operand T → Operand T → Reported T
-asked_both facts wanted a b =
+-- a type is required of two operands: the left one is reported where it is wrong, else the right one
+abbrev pub required_both : {T : Type 0} → Facts T → T → Operand T → Operand T → Reported T
+required_both facts wanted a b =
     if fits facts.types a.of wanted then record { known = if facts.types.same a.of wanted then (required facts wanted b).known else facts.types.unknown; faults = (required facts wanted b).faults }
     else record { known = facts.types.unknown; faults = at_operand facts code.TypeMismatch a }
 
--- INTEGER is asked of both sides of `+` and `-`, BOOLEAN of those of OR
-abbrev pub wanted_by_add : {T : Type 0} → Types T → AddOperator → T
-wanted_by_add types add_operator.Add = types.integer
-wanted_by_add types add_operator.Subtract = types.integer
-wanted_by_add types add_operator.Or = types.boolean
+-- INTEGER is required of both sides of `+` and `-`, BOOLEAN of those of OR
+abbrev pub required_by_add : {T : Type 0} → Types T → AddOperator → T
+required_by_add types add_operator.Add = types.integer
+required_by_add types add_operator.Subtract = types.integer
+required_by_add types add_operator.Or = types.boolean
 
--- INTEGER is asked of both sides of `*`, DIV and MOD, BOOLEAN of those of `&`
-abbrev pub wanted_by_multiply : {T : Type 0} → Types T → MultiplyOperator → T
-wanted_by_multiply types multiply_operator.Multiply = types.integer
-wanted_by_multiply types multiply_operator.Divide = types.integer
-wanted_by_multiply types multiply_operator.Modulo = types.integer
-wanted_by_multiply types multiply_operator.And = types.boolean
+-- INTEGER is required of both sides of `*`, DIV and MOD, BOOLEAN of those of `&`
+abbrev pub required_by_multiply : {T : Type 0} → Types T → MultiplyOperator → T
+required_by_multiply types multiply_operator.Multiply = types.integer
+required_by_multiply types multiply_operator.Divide = types.integer
+required_by_multiply types multiply_operator.Modulo = types.integer
+required_by_multiply types multiply_operator.And = types.boolean
 
--- `=` and `#` compare two INTEGER or two BOOLEAN, and ask nothing where the left side is unknown
-abbrev pub wanted_by_equality : {T : Type 0} → Types T → T → T
-wanted_by_equality types left =
+-- `=` and `#` compare two INTEGER or two BOOLEAN, and require nothing where the left side is unknown
+abbrev pub required_by_equality : {T : Type 0} → Types T → T → T
+required_by_equality types left =
     if types.same left types.integer then types.integer
     else if types.same left types.unknown then types.unknown else types.boolean
 
 -- the others compare two INTEGER
-abbrev pub wanted_by_relation : {T : Type 0} → Types T → Relation → T → T
-wanted_by_relation types relation.Equal left = wanted_by_equality types left
-wanted_by_relation types relation.NotEqual left = wanted_by_equality types left
-wanted_by_relation types relation.Less left = types.integer
-wanted_by_relation types relation.LessEqual left = types.integer
-wanted_by_relation types relation.Greater left = types.integer
-wanted_by_relation types relation.GreaterEqual left = types.integer
+abbrev pub required_by_relation : {T : Type 0} → Types T → Relation → T → T
+required_by_relation types relation.Equal left = required_by_equality types left
+required_by_relation types relation.NotEqual left = required_by_equality types left
+required_by_relation types relation.Less left = types.integer
+required_by_relation types relation.LessEqual left = types.integer
+required_by_relation types relation.Greater left = types.integer
+required_by_relation types relation.GreaterEqual left = types.integer
 
 -- a comparison is BOOLEAN where its operands are known
 abbrev pub truth_of : {T : Type 0} → Types T → T → T
 truth_of types t = if types.same t types.unknown then types.unknown else types.boolean
 
--- an operation on two operands, of this type and value, and one whose sign stands before its operand
+-- an operation on two operands, of this type and value, and one whose sign precedes its operand
 abbrev pub joined : {T : Type 0} → T → Option Value → Operand T → Operand T → Operand T
 joined of value a b = record { of = of; value = value; is_place = false; first = a.first; last = b.last }
 
 -- an operand with its sign
-abbrev pub behind_sign : {T : Type 0} → T → Option Value → Operand T → Operand T
-behind_sign of value o = record { of = of; value = value; is_place = false; first = token_before o.first; last = o.last }
+abbrev pub after_sign : {T : Type 0} → T → Option Value → Operand T → Operand T
+after_sign of value o = record { of = of; value = value; is_place = false; first = token_before o.first; last = o.last }
 
 -- the faults of `+`, `-` and OR, and what they give
-abbrev pub added : {T : Type 0} → Facts T → AddOperator → Operand T → Operand T → Reported (Operand T)
-added facts o a b = do
-  t ← asked_both facts (wanted_by_add facts.types o) a b
+abbrev pub add_operands : {T : Type 0} → Facts T → AddOperator → Operand T → Operand T → Reported (Operand T)
+add_operands facts o a b = do
+  t ← required_both facts (required_by_add facts.types o) a b
   right (joined t (option_and_then (sum_value o b.value) a.value) a b)
 
 -- the faults of `*`, DIV, MOD and `&`, and what they give
-abbrev pub multiplied : {T : Type 0} → Facts T → MultiplyOperator → Operand T → Operand T → Reported (Operand T)
-multiplied facts o a b = do
-  t ← asked_both facts (wanted_by_multiply facts.types o) a b
+abbrev pub multiply_operands : {T : Type 0} → Facts T → MultiplyOperator → Operand T → Operand T → Reported (Operand T)
+multiply_operands facts o a b = do
+  t ← required_both facts (required_by_multiply facts.types o) a b
   right (joined t (option_and_then (product_value o b.value) a.value) a b)
 
 -- the faults of a relation, and what it gives
-abbrev pub related : {T : Type 0} → Facts T → Relation → Operand T → Operand T → Reported (Operand T)
-related facts r a b = do
-  t ← asked_both facts (wanted_by_relation facts.types r a.of) a b
+abbrev pub relate_operands : {T : Type 0} → Facts T → Relation → Operand T → Operand T → Reported (Operand T)
+relate_operands facts r a b = do
+  t ← required_both facts (required_by_relation facts.types r a.of) a b
   right (joined (truth_of facts.types t) (both (λ x y. given_value (relate r x y)) a.value b.value) a b)
 
--- a sign asks for INTEGER, `~` for BOOLEAN
-abbrev pub signed : {T : Type 0} → Facts T → Option Sign → Operand T → Reported (Operand T)
-signed facts None o = right o
-signed facts (Some s) o = do
+-- a sign requires INTEGER, `~` for BOOLEAN
+abbrev pub sign_operand : {T : Type 0} → Facts T → Option Sign → Operand T → Reported (Operand T)
+sign_operand facts None o = right o
+sign_operand facts (Some s) o = do
   t ← required facts facts.types.integer o
-  right (behind_sign t (option_and_then (λ x. given_value (with_sign (Some s) x)) o.value) o)
+  right (after_sign t (option_and_then (λ x. given_value (with_sign (Some s) x)) o.value) o)
 
 -- the faults of `~`, and what it gives
-abbrev pub complemented : {T : Type 0} → Facts T → Operand T → Reported (Operand T)
-complemented facts o = do
+abbrev pub complement_operand : {T : Type 0} → Facts T → Operand T → Reported (Operand T)
+complement_operand facts o = do
   t ← required facts facts.types.boolean o
-  right (behind_sign t (option_and_then (λ x. given_value (negated x)) o.value) o)
+  right (after_sign t (option_and_then (λ x. given_value (negated x)) o.value) o)
 
 -- a number, and an expression in parentheses
 abbrev pub a_number : {T : Type 0} → Facts T → ℕ → Operand T
@@ -157,7 +157,7 @@ a_number facts token = record { of = facts.types.integer; value = Some (number (
 
 -- an expression in parentheses
 abbrev pub enclosed : {T : Type 0} → Facts T → Operand T → Operand T
-enclosed facts o = record { of = o.of; value = o.value; is_place = false; first = token_before o.first; last = token_behind facts.source o.last }
+enclosed facts o = record { of = o.of; value = o.value; is_place = false; first = token_before o.first; last = token_after facts.source o.last }
 
 -- a name alone, of this type: a variable's, or one of which nothing is known, and a constant's
 abbrev pub a_name : {T : Type 0} → T → ℕ → Operand T
@@ -175,8 +175,8 @@ value_type types (Some (members k ms)) = types.unknown
 abbrev pub a_constant_name : {T : Type 0} → Types T → Option Value → ℕ → Operand T
 a_constant_name types v token = record { of = value_type types v; value = v; is_place = false; first = token; last = token }
 
--- A name where a value is asked for: no type and no procedure, and in a constant expression no variable. Names that nothing
--- binds are told by themselves.
+-- A name where a value is required: no type and no procedure, and in a constant expression no variable. Names that nothing
+-- binds are reported by themselves.
 abbrev pub named_value : {T : Type 0} → Facts T → ℕ → Option (Meaning T) → Reported (Operand T)
 named_value facts token None = right (a_name facts.types.unknown token)
 named_value facts token (Some (a_constant v)) = right (a_constant_name facts.types v token)
@@ -194,7 +194,7 @@ named facts token = named_value facts token (facts.stands_for token)
 abbrev pub part_of : {T : Type 0} → Operand T → T → ℕ → Operand T
 part_of o of last = record { of = of; value = None; is_place = o.is_place; first = o.first; last = last }
 
--- a field that a record has; where there is no record, the `.` is told
+-- a field that a record has; where there is no record, the `.` is reported
 abbrev pub found_field : {T : Type 0} → Facts T → ℕ → Option T → Reported T
 found_field facts token None = record { known = facts.types.unknown; faults = at_token facts code.NoField token }
 found_field facts token (Some t) = right t
@@ -212,16 +212,16 @@ field_selected facts o token = do
   t ← field_in facts token (facts.types.form o.of)
   right (part_of o t token)
 
--- an element of an array; where there is no array, the `[` before the index is told
+-- an element of an array; where there is no array, the `[` before the index is reported
 abbrev pub element_in : {T : Type 0} → Facts T → Operand T → T → Form T → Reported T
 element_in facts i of (an_array t) = right (if facts.types.same of facts.types.integer then t else facts.types.unknown)
 element_in facts i of unknown_form = right facts.types.unknown
 element_in facts i of a_scalar = record { known = facts.types.unknown; faults = at_token facts code.NotArray (token_before i.first) }
 element_in facts i of (a_record fields) = record { known = facts.types.unknown; faults = at_token facts code.NotArray (token_before i.first) }
 
--- an index is asked to be INTEGER also where there is no array
+-- an index is required to be INTEGER also where there is no array
 abbrev pub element_selected : {T : Type 0} → Facts T → Operand T → Operand T → Reported (Operand T)
 element_selected facts o i = do
   n ← required facts facts.types.integer i
   t ← element_in facts i n (facts.types.form o.of)
-  right (part_of o t (token_behind facts.source i.last))
+  right (part_of o t (token_after facts.source i.last))

@@ -1,4 +1,4 @@
--- Laws of what is told: expressions and statements of which nothing is told fit. N stands for names.
+-- Laws of what is reported: expressions and statements of which nothing is reported fit. N is for names.
 -- Rule: none; laws of reported faults.
 use Rattle.std.specs.Prelude.{◌≡◌, ℕ, Bool, true, false, List, [], Option, Some, is_some}
 use Rattle.ob0_tree.specs.Places.{value_at}
@@ -7,21 +7,21 @@ use Rattle.ob0_types_rules.specs.Expressions.{Meanings, evaluate}
 use Rattle.ob0_types_rules.specs.Typing.{array_length, constant_value, constants_only, designated, given_value, type_of, value_type}
 use Rattle.ob0_types_rules.specs.WellTyped.{Typed, sequence_fits, variable_type}
 use Rattle.ob0_values.specs.Values.{Shape, Value}
-use Rattle.ob0_types_check.specs.ExpressionFaults.{told_expression}
+use Rattle.ob0_types_check.specs.ExpressionFaults.{reported_expression}
 use Rattle.ob0_types_check.specs.Known.{Operand}
 use Rattle.ob0_types_check.specs.Operations.{◌>>=◌}
-use Rattle.ob0_types_check.specs.SoFar.{Made, SoFar, facts_at, types_at}
-use Rattle.ob0_types_check.specs.StatementFaults.{told_sequence}
-use Rattle.ob0_types_check.specs.TypeFaults.{length_of, told_constant}
+use Rattle.ob0_types_check.specs.SoFar.{MadeType, SoFar, facts_at, types_at}
+use Rattle.ob0_types_check.specs.StatementFaults.{reported_sequence}
+use Rattle.ob0_types_check.specs.TypeFaults.{length_of, reported_constant}
 use Rattle.ob0_types_check.specs.Agreement.{Agrees, TableAgrees, TypesAgree, shape_in}
 
--- in a constant expression names stand for constants alone
+-- in a constant expression names mean constants alone
 abbrev pub meaning_here : {N : Type 0} → Bool → Typed N → Typed N
 meaning_here true meaning = constants_only meaning
 meaning_here false meaning = meaning
 
 -- What is known of an operand is so of its expression: its type; its value, where it is made of constants, which is of that
--- type; and where it may stand for a place, it is a variable or parameter with its selectors.
+-- type; and where it may be for a place, it is a variable or parameter with its selectors.
 pub record OperandFits {T N P : Type 0} (shape : T → Option Shape) (meaning : Meanings N Shape P) (o : Operand T) (e : Tree N expression) : Type 0 where
   pub of : Shape
   pub known : shape o.of ≡ Some of
@@ -30,14 +30,14 @@ pub record OperandFits {T N P : Type 0} (shape : T → Option Shape) (meaning : 
   pub scalar : (v : Value) → o.value ≡ Some v → value_type v ≡ Some of
   pub placed : o.is_place ≡ true → variable_type meaning (designated e) ≡ Some of
 
--- an expression of which nothing is told
+-- an expression of which nothing is reported
 abbrev pub ExpressionsFit : Type 0 → Type 0
 ExpressionsFit N =
     (p : SoFar) (only_constants : Bool) (shapes : List Shape) (label : ℕ → N) (meaning : Typed N) (e : Tree ℕ expression)
-    → Agrees (facts_at p only_constants) (shape_in shapes) label meaning e → (told_expression (facts_at p only_constants) e).faults ≡ []
-    → OperandFits (shape_in shapes) (meaning_here only_constants meaning) (told_expression (facts_at p only_constants) e).known (mapped label (value_at p.source) e)
+    → Agrees (facts_at p only_constants) (shape_in shapes) label meaning e → (reported_expression (facts_at p only_constants) e).faults ≡ []
+    → OperandFits (shape_in shapes) (meaning_here only_constants meaning) (reported_expression (facts_at p only_constants) e).known (mapped label (value_at p.source) e)
 
--- a constant's right side of which nothing is told has the value that is known, a scalar
+-- a constant's right side of which nothing is reported has the value that is known, a scalar
 pub record ConstantFits {N : Type 0} (meaning : Typed N) (told : Option Value) (e : Tree N expression) : Type 0 where
   pub value : Value
   pub known : told ≡ Some value
@@ -48,10 +48,10 @@ pub record ConstantFits {N : Type 0} (meaning : Typed N) (told : Option Value) (
 abbrev pub ConstantsFit : Type 0 → Type 0
 ConstantsFit N =
     (p : SoFar) (shapes : List Shape) (label : ℕ → N) (meaning : Typed N) (e : Tree ℕ expression)
-    → Agrees (facts_at p true) (shape_in shapes) label meaning e → (told_constant (facts_at p true) e).faults ≡ []
-    → ConstantFits meaning (told_constant (facts_at p true) e).known (mapped label (value_at p.source) e)
+    → Agrees (facts_at p true) (shape_in shapes) label meaning e → (reported_constant (facts_at p true) e).faults ≡ []
+    → ConstantFits meaning (reported_constant (facts_at p true) e).known (mapped label (value_at p.source) e)
 
--- an array's length of which nothing is told is the one that is known
+-- an array's length of which nothing is reported is the one that is known
 pub record LengthFits {N : Type 0} (meaning : Typed N) (told : Option ℕ) (e : Tree N expression) : Type 0 where
   pub value : Value
   pub length : ℕ
@@ -63,16 +63,16 @@ pub record LengthFits {N : Type 0} (meaning : Typed N) (told : Option ℕ) (e : 
 abbrev pub LengthsFit : Type 0 → Type 0
 LengthsFit N =
     (p : SoFar) (shapes : List Shape) (label : ℕ → N) (meaning : Typed N) (e : Tree ℕ expression)
-    → Agrees (facts_at p true) (shape_in shapes) label meaning e → (told_expression (facts_at p true) e >>= length_of (facts_at p false)).faults ≡ []
-    → LengthFits meaning (told_expression (facts_at p true) e >>= length_of (facts_at p false)).known (mapped label (value_at p.source) e)
+    → Agrees (facts_at p true) (shape_in shapes) label meaning e → (reported_expression (facts_at p true) e >>= length_of (facts_at p false)).faults ≡ []
+    → LengthFits meaning (reported_expression (facts_at p true) e >>= length_of (facts_at p false)).known (mapped label (value_at p.source) e)
 
--- statements of which nothing is told
+-- statements of which nothing is reported
 abbrev pub StatementsFit : Type 0 → Type 0
 StatementsFit N =
     (p : SoFar) (shapes : List Shape) (label : ℕ → N) (meaning : Typed N) (statements : Tree ℕ sequence)
-    → Agrees (facts_at p false) (shape_in shapes) label meaning statements → told_sequence (facts_at p false) statements ≡ []
+    → Agrees (facts_at p false) (shape_in shapes) label meaning statements → reported_sequence (facts_at p false) statements ≡ []
     → sequence_fits meaning (mapped label (value_at p.source) statements) ≡ true
 
 -- what is known of types by what was made
 abbrev pub TypesOfTables : Type 0
-TypesOfTables = (made : List Made) (shapes : List Shape) → TableAgrees made shapes → TypesAgree (types_at made) (shape_in shapes)
+TypesOfTables = (made : List MadeType) (shapes : List Shape) → TableAgrees made shapes → TypesAgree (types_at made) (shape_in shapes)

@@ -1,4 +1,4 @@
--- What is known at a place of a module while its faults are told: of the declarations before it, and of the arrays and records
+-- What is known at a place of a module while its faults are reported: of the declarations before it, and of the arrays and records
 -- before it.
 -- Rule: docs/LANGUAGE.md, Scopes 2, Faults of scopes and types 2.
 use Rattle.std.specs.Prelude.{ℕ, nat_le, Bool, true, false, ◌==◌, ◌&&◌, List, [], ◌∷◌, ◌++◌, length, map, slice_get, slice_index_or, slice_set, if◌then◌else◌, Option, Some, None, option_and_then}
@@ -12,19 +12,19 @@ use Rattle.ob0_values.specs.Values.{truth}
 use Rattle.ob0_types_check.specs.Known.{Facts, Form, Meaning, Reported, Types, a_constant, a_procedure, a_record, a_scalar, a_type, an_array, unknown_form}
 use Rattle.ob0_types_check.specs.Operations.{at_token, right}
 
--- how many scalars a type has, and how many arrays and records stand inside one another
+-- how many scalars a type has, and how many arrays and records are inside one another
 pub record Size : Type 0 where
   pub scalars : ℕ
   pub depth : ℕ
 
 -- what an array or a record is made of: the type of its elements, or its fields by their names
-pub data Parts : Type 0 where
-  of_elements : TypeId → Parts
-  of_fields : (Name → Option TypeId) → Parts
+pub data PartTypes : Type 0 where
+  of_elements : TypeId → PartTypes
+  of_fields : (Name → Option TypeId) → PartTypes
 
 -- an array or record that was made: its parts and its size
-pub record Made : Type 0 where
-  pub parts : Parts
+pub record MadeType : Type 0 where
+  pub parts : PartTypes
   pub size : Size
 
 -- Declarations go by their ordinals, to which names are bound, and arrays and records by their places in a type. Of a
@@ -33,7 +33,7 @@ pub record SoFar : Type 0 where
   pub source : Scanned
   pub ordinals : List (Option ℕ)
   pub declared : List (Option (Meaning TypeId))
-  pub made : List Made
+  pub made : List MadeType
 
 -- an array or record is the same as itself alone
 abbrev pub same_type : TypeId → TypeId → Bool
@@ -45,27 +45,27 @@ same_type (type.Record i) (type.Record j) = i == j
 same_type _ _ = false
 
 -- the type of an array's elements
-abbrev pub elements_in : Parts → TypeId
+abbrev pub elements_in : PartTypes → TypeId
 elements_in (of_elements t) = t
 elements_in (of_fields fields) = type.Unknown
 
 -- the type of an array's elements; unknown where there is no array
-abbrev pub elements_at : Option Made → TypeId
+abbrev pub elements_at : Option MadeType → TypeId
 elements_at None = type.Unknown
 elements_at (Some m) = elements_in m.parts
 
 -- the type of a record's field
-abbrev pub field_in : Parts → Name → Option TypeId
+abbrev pub field_in : PartTypes → Name → Option TypeId
 field_in (of_elements t) x = None
 field_in (of_fields fields) x = fields x
 
 -- the type of a record's field, if there is a record
-abbrev pub field_at : Option Made → Name → Option TypeId
+abbrev pub field_at : Option MadeType → Name → Option TypeId
 field_at None x = None
 field_at (Some m) x = field_in m.parts x
 
 -- what a type is: a scalar, an array, a record, or unknown
-abbrev pub form_at : List Made → TypeId → Form TypeId
+abbrev pub form_at : List MadeType → TypeId → Form TypeId
 form_at made type.Integer = a_scalar
 form_at made type.Boolean = a_scalar
 form_at made (type.Array i) = an_array (elements_at (slice_get made i))
@@ -73,16 +73,16 @@ form_at made (type.Record i) = a_record (field_at (slice_get made i))
 form_at made type.Unknown = unknown_form
 
 -- the types that are known so far
-abbrev pub types_at : List Made → Types TypeId
+abbrev pub types_at : List MadeType → Types TypeId
 types_at made = record { integer = type.Integer; boolean = type.Boolean; unknown = type.Unknown; same = same_type; form = form_at made }
 
--- what the name at a token stands for: its declaration
-abbrev pub stands_at : SoFar → ℕ → Option (Meaning TypeId)
-stands_at p token = option_and_then (λ k. slice_index_or p.declared k None) (ordinal_in p.ordinals token)
+-- what the name at a token means: its declaration
+abbrev pub meaning_at : SoFar → ℕ → Option (Meaning TypeId)
+meaning_at p token = option_and_then (λ k. slice_index_or p.declared k None) (ordinal_in p.ordinals token)
 
 -- what is known at a place, everywhere or in constant expressions alone
 abbrev pub facts_at : SoFar → Bool → Facts TypeId
-facts_at p only_constants = record { source = p.source; types = types_at p.made; stands_for = stands_at p; only_constants = only_constants }
+facts_at p only_constants = record { source = p.source; types = types_at p.made; stands_for = meaning_at p; only_constants = only_constants }
 
 -- the same where a declaration is known, and where all of some are
 abbrev pub with_declared : SoFar → Meaning TypeId → Option ℕ → SoFar
@@ -107,12 +107,12 @@ abbrev pub no_scalar : Size
 no_scalar = record { scalars = 0; depth = 0 }
 
 -- the size of an array or record
-abbrev pub size_made : Option Made → Size
+abbrev pub size_made : Option MadeType → Size
 size_made None = one_scalar
 size_made (Some m) = m.size
 
 -- the size of a type; what is unknown counts nothing
-abbrev pub size_at : List Made → TypeId → Size
+abbrev pub size_at : List MadeType → TypeId → Size
 size_at made type.Integer = one_scalar
 size_at made type.Boolean = one_scalar
 size_at made (type.Array i) = size_made (slice_get made i)
@@ -123,29 +123,29 @@ size_at made type.Unknown = no_scalar
 abbrev pub is_within : Size → Bool
 is_within z = nat_le z.scalars 65536 && nat_le z.depth 100
 
--- a type, and what is known behind its text
-pub record Typed : Type 0 where
+-- a type, and what is known after its text
+pub record TypedAfter : Type 0 where
   pub of : TypeId
   pub behind : SoFar
 
 -- the type of the array or record at this place of the list
-abbrev pub type_with : Parts → ℕ → TypeId
+abbrev pub type_with : PartTypes → ℕ → TypeId
 type_with (of_elements t) k = type.Array k
 type_with (of_fields fields) k = type.Record k
 
--- An array or record of its own, behind the others. One that is too large is told at its word, and unknown.
-abbrev pub made : SoFar → Parts → Size → Typed
+-- An array or record of its own, after the others. One that is too large is reported at its word, and unknown.
+abbrev pub made : SoFar → PartTypes → Size → TypedAfter
 made p parts size = record {
   of = type_with parts (length p.made);
   behind = record { source = p.source; ordinals = p.ordinals; declared = p.declared; made = p.made ++ record { parts = parts; size = size } ∷ [] };
 }
 
 -- `TypeTooLarge` at the word ARRAY or RECORD, and an unknown type
-abbrev pub too_large : SoFar → ℕ → Reported Typed
+abbrev pub too_large : SoFar → ℕ → Reported TypedAfter
 too_large p word = record { known = record { of = type.Unknown; behind = p }; faults = at_token (facts_at p false) code.TypeTooLarge word }
 
 -- an array or record of its own, or `TypeTooLarge`
-abbrev pub make : SoFar → ℕ → Parts → Size → Reported Typed
+abbrev pub make : SoFar → ℕ → PartTypes → Size → Reported TypedAfter
 make p word parts size = if is_within size then right (made p parts size) else too_large p word
 
 -- the predeclared names: INTEGER, BOOLEAN, TRUE, FALSE, Read, Write, WriteLn

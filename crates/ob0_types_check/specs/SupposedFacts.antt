@@ -1,4 +1,4 @@
--- What the telling supposes of types and declarations, as facts.
+-- What the reporting walk supposes of types and declarations, as facts.
 -- Rule: none; for contracts: what the reporting walk knows.
 use Rattle.std.specs.Prelude.{◌≡◌, ℕ, ◌-◌, ◌^◌, Bool, List, map, ◌++◌, min, slice_get, slice_index_or, Option, Some, None, option_and_then, option_map}
 use Rattle.std.specs.Borrow.{Bor}
@@ -12,18 +12,18 @@ use Rattle.ob0_types_table.specs.declared.known.Formal as formal
 use Rattle.ob0_types_table.specs.declared.types.TypeId.{TypeId}
 use Rattle.ob0_types_table.specs.declared.types.TypeId.TheVariants as type
 use Rattle.ob0_values.specs.Scalars.{scalar_value}
-use Rattle.ob0_types_check.specs.declared.telling.expressions.Operand as operand
-use Rattle.ob0_types_check.specs.declared.telling.supposed.Composite.{Composite}
-use Rattle.ob0_types_check.specs.declared.telling.supposed.Meaning as meaning
-use Rattle.ob0_types_check.specs.declared.telling.supposed.Meaning.TheVariants as declared
-use Rattle.ob0_types_check.specs.declared.telling.supposed.Parts.TheVariants as parts
-use Rattle.ob0_types_check.specs.declared.telling.supposed.Parts.{Parts}
-use Rattle.ob0_types_check.specs.declared.telling.supposed.Size as code_size
-use Rattle.ob0_types_check.specs.declared.telling.supposed.Supposed.{Supposed}
-use Rattle.ob0_types_check.specs.declared.telling.written_types.Gathered as gathering
+use Rattle.ob0_types_check.specs.declared.reporting.expressions.Operand as operand
+use Rattle.ob0_types_check.specs.declared.reporting.supposed.Composite.{Composite}
+use Rattle.ob0_types_check.specs.declared.reporting.supposed.Meaning as meaning
+use Rattle.ob0_types_check.specs.declared.reporting.supposed.Meaning.TheVariants as declared
+use Rattle.ob0_types_check.specs.declared.reporting.supposed.Parts.TheVariants as parts
+use Rattle.ob0_types_check.specs.declared.reporting.supposed.Parts.{Parts}
+use Rattle.ob0_types_check.specs.declared.reporting.supposed.Size as code_size
+use Rattle.ob0_types_check.specs.declared.reporting.supposed.Supposed.{Supposed}
+use Rattle.ob0_types_check.specs.declared.reporting.written_types.Gathered as gathering
 use Rattle.ob0_types_check.specs.Known.{Facts, Form, Formal, Meaning, Operand, Reported, Types, a_constant, a_procedure, a_record, a_scalar, a_type, a_variable, an_array, unknown_form}
-use Rattle.ob0_types_check.specs.DeclarationFaults.{Heading}
-use Rattle.ob0_types_check.specs.SoFar.{Made, Size, SoFar, of_elements, of_fields, same_type}
+use Rattle.ob0_types_check.specs.DeclarationFaults.{KnownHeading}
+use Rattle.ob0_types_check.specs.SoFar.{MadeType, Size, SoFar, of_elements, of_fields, same_type}
 use Rattle.ob0_types_check.specs.SoFar as so_far
 use Rattle.ob0_types_check.specs.WrittenTypeFaults.{Gathered}
 
@@ -74,7 +74,7 @@ meaning_of (declared.Constant v) = a_constant (option_map scalar_value v)
 meaning_of (declared.Variable t) = a_variable t
 meaning_of (declared.Procedure fs) = a_procedure (map formal_of fs.items)
 
--- what the name at a token stands for
+-- what the name at a token means
 abbrev pub declared_at : Supposed → ℕ → Option meaning.Meaning
 declared_at s token = option_and_then (λ k. slice_index_or s.meanings.items k None) (ordinal_in s.resolved.now.ordinals token)
 
@@ -92,7 +92,7 @@ abbrev pub operand_of : operand.Operand → Operand TypeId
 operand_of o = record { of = o.of; value = option_map scalar_value o.value; is_place = o.is_place; first = o.first; last = o.last }
 
 -- What is supposed, as what is known so far.
-abbrev pub parts_of : Parts → so_far.Parts
+abbrev pub parts_of : Parts → so_far.PartTypes
 parts_of (parts.Elements t) = of_elements t
 parts_of (parts.Fields fields) = of_fields (fields_in fields)
 
@@ -101,7 +101,7 @@ abbrev pub size_of : code_size.Size → Size
 size_of z = record { scalars = z.scalars; depth = z.depth }
 
 -- an array or record of the code
-abbrev pub made_of : Composite → Made
+abbrev pub made_of : Composite → MadeType
 made_of c = record { parts = parts_of c.parts; size = size_of c.size }
 
 -- what the code knows so far
@@ -114,7 +114,7 @@ so_far_in s = record {
 }
 
 -- a heading of the code
-abbrev pub heading_in : Supposed → List formal.Formal → Heading
+abbrev pub heading_in : Supposed → List formal.Formal → KnownHeading
 heading_in s formals = record { formals = map formal_of formals; behind = so_far_in s }
 
 -- a size that is counted to the end of `usize`

@@ -5,11 +5,11 @@ use Rattle.ob0_scan.specs.declared.fault.Code.TheVariants as code
 use Rattle.ob0_tree.specs.Tree.{Tree, expression}
 use Rattle.ob0_types_rules.specs.Typing.{array_length}
 use Rattle.ob0_values.specs.Values.{Value}
-use Rattle.ob0_types_check.specs.ExpressionFaults.{told_expression}
+use Rattle.ob0_types_check.specs.ExpressionFaults.{reported_expression}
 use Rattle.ob0_types_check.specs.Known.{Facts, Meaning, Operand, Reported, a_constant, a_procedure, a_type, a_variable}
 use Rattle.ob0_types_check.specs.Operations.{required, at_operand, at_token, right, ◌>>=◌}
 
--- a name where a type is asked for; a name that nothing binds is told by itself
+-- a name where a type is required; a name that nothing binds is reported by itself
 abbrev pub type_meant : {T : Type 0} → Facts T → ℕ → Option (Meaning T) → Reported T
 type_meant facts token (Some (a_type t)) = right t
 type_meant facts token (Some (a_constant v)) = record { known = facts.types.unknown; faults = at_token facts code.WrongKind token }
@@ -21,7 +21,7 @@ type_meant facts token None = right facts.types.unknown
 abbrev pub type_named : {T : Type 0} → Facts T → ℕ → Reported T
 type_named facts token = type_meant facts token (facts.stands_for token)
 
--- a constant expression whose evaluation has a fault is told as a whole; in one that has another fault nothing is evaluated
+-- a constant expression whose evaluation has a fault is reported as a whole; in one that has another fault nothing is evaluated
 abbrev pub valued : {T : Type 0} → Facts T → Operand T → Option Value → Reported (Option Value)
 valued facts o None = record { known = None; faults = at_operand facts code.ConstFault o }
 valued facts o (Some v) = right (Some v)
@@ -30,10 +30,10 @@ valued facts o (Some v) = right (Some v)
 abbrev pub evaluated : {T : Type 0} → Facts T → Operand T → Reported (Option Value)
 evaluated facts o = if facts.types.same o.of facts.types.unknown then right None else valued facts o o.value
 
--- the right side of a constant's declaration, where names stand for constants alone
-unfoldable pub told_constant : {T : Type 0} → Facts T → Tree ℕ expression → Reported (Option Value)
-unfolding told_expression
-told_constant facts e = told_expression facts e >>= evaluated facts
+-- the right side of a constant's declaration, where names mean constants alone
+unfoldable pub reported_constant : {T : Type 0} → Facts T → Tree ℕ expression → Reported (Option Value)
+unfolding reported_expression
+reported_constant facts e = reported_expression facts e >>= evaluated facts
 
 -- an array's length is an INTEGER from 1 to 65,536
 abbrev pub in_bounds : {T : Type 0} → Facts T → Operand T → Option ℕ → Reported (Option ℕ)

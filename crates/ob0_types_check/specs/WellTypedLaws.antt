@@ -1,4 +1,4 @@
--- Laws of what is well-typed, a module and each of its parts: no fault of types is reported of it. N stands for names.
+-- Laws of what is well-typed, a module and each of its parts: no fault of types is reported of it. N is for names.
 use Rattle.std.specs.Prelude.{◌≡◌, ℕ, Bool, true, false, [], List, Option, Some, None, option_and_then, is_some, slice_get}
 use Rattle.std.specs.List.{filter}
 use Rattle.ob0_scope_rules.specs.Names.{as_names}
@@ -10,12 +10,12 @@ use Rattle.ob0_types_rules.specs.Typing.{array_length, constant_value, type_of}
 use Rattle.ob0_types_rules.specs.WellTyped.{Typed, fits_over, sequence_fits, variable_type}
 use Rattle.ob0_values.specs.Values.{Shape, array_shape, boolean_shape, integer_shape, record_shape}
 use Rattle.ob0_types_check.specs.DeclarationFaults.{reported_module}
-use Rattle.ob0_types_check.specs.ExpressionFaults.{told_expression}
+use Rattle.ob0_types_check.specs.ExpressionFaults.{reported_expression}
 use Rattle.ob0_types_check.specs.Operations.{◌>>=◌}
 use Rattle.ob0_types_check.specs.ReportLaws.{meaning_here}
 use Rattle.ob0_types_check.specs.SoFar.{SoFar, facts_at}
-use Rattle.ob0_types_check.specs.StatementFaults.{told_sequence, told_target}
-use Rattle.ob0_types_check.specs.TypeFaults.{length_of, told_constant}
+use Rattle.ob0_types_check.specs.StatementFaults.{reported_sequence, reported_target}
+use Rattle.ob0_types_check.specs.TypeFaults.{length_of, reported_constant}
 use Rattle.ob0_types_check.specs.Agreement.{Agrees, shape_in}
 
 -- no fault in an expression that has a type
@@ -24,7 +24,7 @@ NoFaultInExpressions N =
     (p : SoFar) (only_constants : Bool) (shapes : List Shape) (label : ℕ → N) (meaning : Typed N) (e : Tree ℕ expression)
     → Agrees (facts_at p only_constants) (shape_in shapes) label meaning e
     → is_some (type_of (meaning_here only_constants meaning) (mapped label (value_at p.source) e)) ≡ true
-    → (told_expression (facts_at p only_constants) e).faults ≡ []
+    → (reported_expression (facts_at p only_constants) e).faults ≡ []
 
 -- no fault in a constant expression that has a value
 abbrev pub NoFaultInConstants : Type 0 → Type 0
@@ -32,7 +32,7 @@ NoFaultInConstants N =
     (p : SoFar) (shapes : List Shape) (label : ℕ → N) (meaning : Typed N) (e : Tree ℕ expression)
     → Agrees (facts_at p true) (shape_in shapes) label meaning e
     → is_some (constant_value meaning (mapped label (value_at p.source) e)) ≡ true
-    → (told_constant (facts_at p true) e).faults ≡ []
+    → (reported_constant (facts_at p true) e).faults ≡ []
 
 -- no fault in the length of an array, where it is one
 abbrev pub NoFaultInLengths : Type 0 → Type 0
@@ -40,7 +40,7 @@ NoFaultInLengths N =
     (p : SoFar) (shapes : List Shape) (label : ℕ → N) (meaning : Typed N) (e : Tree ℕ expression)
     → Agrees (facts_at p true) (shape_in shapes) label meaning e
     → is_some (option_and_then array_length (constant_value meaning (mapped label (value_at p.source) e))) ≡ true
-    → (told_expression (facts_at p true) e >>= length_of (facts_at p false)).faults ≡ []
+    → (reported_expression (facts_at p true) e >>= length_of (facts_at p false)).faults ≡ []
 
 -- no fault in the target of an assignment that is a variable or parameter with its selectors
 abbrev pub NoFaultInTargets : Type 0 → Type 0
@@ -48,7 +48,7 @@ NoFaultInTargets N =
     (p : SoFar) (shapes : List Shape) (label : ℕ → N) (meaning : Typed N) (x : ℕ) (path : Tree ℕ (items selector))
     → Agrees (facts_at p false) (shape_in shapes) label meaning (designator x path)
     → is_some (variable_type meaning (Some (label x, mapped label (value_at p.source) path))) ≡ true
-    → (told_target (facts_at p false) x path).faults ≡ []
+    → (reported_target (facts_at p false) x path).faults ≡ []
 
 -- the ordinal of the ARRAY or RECORD that makes a type
 abbrev pub constructor_of : Shape → Option ℕ
@@ -70,7 +70,7 @@ NoFaultInStatements N =
     → EachOnce shapes
     → Agrees (facts_at p false) (shape_in shapes) label meaning statements
     → sequence_fits meaning (mapped label (value_at p.source) statements) ≡ true
-    → told_sequence (facts_at p false) statements ≡ []
+    → reported_sequence (facts_at p false) statements ≡ []
 
 -- in a well-typed module each name is bound
 abbrev pub NamesBound : Type 0

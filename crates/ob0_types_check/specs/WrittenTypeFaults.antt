@@ -1,4 +1,4 @@
--- The faults of types as they are written, in the order in which they are told: those of the parts from left to right, then
+-- The faults of types as they are written, in the order in which they are reported: those of the parts from left to right, then
 -- that the whole is too large.
 -- Rule: docs/LANGUAGE.md, Faults of scopes and types 2, 4, 10, `TypeTooLarge`.
 use Rattle.std.specs.Prelude.{ℕ, ◌+◌, ◌*◌, max, true, false, List, [], ◌∷◌, if◌then◌else◌, is_some, Option, Some, None}
@@ -8,23 +8,23 @@ use Rattle.ob0_types_table.specs.declared.types.TypeId.{TypeId}
 use Rattle.ob0_types_table.specs.declared.types.TypeId.TheVariants as type
 use Rattle.ob0_tree.specs.Places.{text_at}
 use Rattle.ob0_tree.specs.Tree.{Tree, array_type, end, fields, further_fields, item, items, listed, more, named_type, names, no_fields, record_type, some_fields, then_fields, written_type}
-use Rattle.ob0_types_check.specs.ExpressionFaults.{told_expression}
+use Rattle.ob0_types_check.specs.ExpressionFaults.{reported_expression}
 use Rattle.ob0_types_check.specs.Known.{Operand, Reported}
 use Rattle.ob0_types_check.specs.Operations.{right, token_before, ◌>>=◌}
-use Rattle.ob0_types_check.specs.SoFar.{Size, SoFar, Typed, facts_at, make, no_scalar, of_elements, of_fields, size_at}
+use Rattle.ob0_types_check.specs.SoFar.{Size, SoFar, TypedAfter, facts_at, make, no_scalar, of_elements, of_fields, size_at}
 use Rattle.ob0_types_check.specs.TypeFaults.{length_of, type_named}
 
 -- so many of the same beside one another, inside an array
 abbrev pub array_size : ℕ → Size → Size
 array_size n z = record { scalars = z.scalars * n; depth = z.depth + 1 }
 
--- An array of a faulty length is unknown as a whole; the type of its elements is looked at all the same. The word ARRAY stands
+-- An array of a faulty length is unknown as a whole; the type of its elements is looked at all the same. The word ARRAY is
 -- before the length.
-abbrev pub array_made : Operand TypeId → Option ℕ → Typed → Reported Typed
+abbrev pub array_made : Operand TypeId → Option ℕ → TypedAfter → Reported TypedAfter
 array_made o None element = right (record { of = type.Unknown; behind = element.behind })
 array_made o (Some n) element = make element.behind (token_before o.first) (of_elements element.of) (array_size n (size_at element.behind.made element.of))
 
--- the fields of a record so far, their size, and what is known behind them
+-- the fields of a record so far, their size, and what is known after them
 pub record Gathered : Type 0 where
   pub fields : Name → Option TypeId
   pub size : Size
@@ -51,15 +51,15 @@ abbrev pub with_names : TypeId → Gathered → List ℕ → Gathered
 with_names t g [] = g
 with_names t g (x ∷ xs) = with_names t (with_name t g x) xs
 
--- fields of one type, behind its text
-abbrev pub gathered_behind : Gathered → List ℕ → Typed → Gathered
-gathered_behind g xs t = with_names t.of (record { fields = g.fields; size = g.size; behind = t.behind }) xs
+-- fields of one type, after its text
+abbrev pub gathered_after : Gathered → List ℕ → TypedAfter → Gathered
+gathered_after g xs t = with_names t.of (record { fields = g.fields; size = g.size; behind = t.behind }) xs
 
 -- a record has at least one scalar
 abbrev pub record_size : Size → Size
 record_size z = record { scalars = max z.scalars 1; depth = z.depth + 1 }
 
--- The word RECORD stands before the name of the first field, and before a semicolon for each group without fields in front of
+-- The word RECORD precedes the name of the first field, and before a semicolon for each group without fields before
 -- it. A record without any field is never too large.
 abbrev pub first_name : Tree ℕ names → ℕ
 first_name (listed x rest) = x
@@ -75,22 +75,22 @@ record_word end = 0
 record_word (more (then_fields g) rest) = word_before g (record_word rest)
 
 -- a record of its own, or `TypeTooLarge`
-abbrev pub record_made : ℕ → Gathered → Reported Typed
+abbrev pub record_made : ℕ → Gathered → Reported TypedAfter
 record_made word g = make g.behind word (of_fields g.fields) (record_size g.size)
 
 unfoldable mutual
-  unfolding told_expression
+  unfolding reported_expression
 
-  pub told_type : SoFar → Tree ℕ written_type → Reported Typed
-  told_type p (named_type x) = do
+  pub reported_type : SoFar → Tree ℕ written_type → Reported TypedAfter
+  reported_type p (named_type x) = do
     t ← type_named (facts_at p false) x
     right (record { of = t; behind = p })
-  told_type p (array_type e u) = do
-    o ← told_expression (facts_at p true) e
+  reported_type p (array_type e u) = do
+    o ← reported_expression (facts_at p true) e
     n ← length_of (facts_at p false) o
-    element ← told_type p u
+    element ← reported_type p u
     array_made o n element
-  told_type p (record_type g rest) = do
+  reported_type p (record_type g rest) = do
     first ← told_fields (nothing_gathered p) g
     all ← told_groups first rest
     record_made (word_before g (record_word rest)) all
@@ -98,8 +98,8 @@ unfoldable mutual
   pub told_fields : Gathered → Tree ℕ fields → Reported Gathered
   told_fields so_far no_fields = right so_far
   told_fields so_far (some_fields ns t) = do
-    u ← told_type so_far.behind t
-    right (gathered_behind so_far (names_listed ns) u)
+    u ← reported_type so_far.behind t
+    right (gathered_after so_far (names_listed ns) u)
 
   pub told_groups : Gathered → Tree ℕ (items further_fields) → Reported Gathered
   told_groups so_far end = right so_far
@@ -108,6 +108,6 @@ unfoldable mutual
     told_groups next rest
 
 -- one group more
-unfoldable pub told_group : Gathered → Tree ℕ (item further_fields) → Reported Gathered
-unfolding told_type
-told_group so_far (then_fields g) = told_fields so_far g
+unfoldable pub reported_group : Gathered → Tree ℕ (item further_fields) → Reported Gathered
+unfolding reported_type
+reported_group so_far (then_fields g) = told_fields so_far g

@@ -5,22 +5,22 @@ ghost use Rattle.ob0_types_check.specs.ReportLaws.{ConstantsFit, ExpressionsFit,
 ghost use Rattle.ob0_types_check.specs.WellTypedLaws.{NamesBound, NoFaultInConstants, NoFaultInExpressions, NoFaultInLengths, NoFaultInModules, NoFaultInStatements, NoFaultInTargets};
 ghost use Rattle.ob0_scope_rules.specs.Names.{Name};
 
-/// What is known of an expression of which nothing is told is its type and its value.
+/// What is known of an expression of which nothing is reported is its type and its value.
 pub fn expressions_fit()
     ensures { ExpressionsFit Name }
 {}
 
-/// A constant's right side of which nothing is told has the value that is known.
+/// A constant's right side of which nothing is reported has the value that is known.
 pub fn constants_fit()
     ensures { ConstantsFit Name }
 {}
 
-/// An array's length of which nothing is told is the one that is known.
+/// An array's length of which nothing is reported is the one that is known.
 pub fn lengths_fit()
     ensures { LengthsFit Name }
 {}
 
-/// Statements of which nothing is told fit.
+/// Statements of which nothing is reported fit.
 pub fn statements_fit()
     ensures { StatementsFit Name }
 {}
@@ -30,7 +30,7 @@ pub fn types_of_tables()
     ensures { TypesOfTables }
 {}
 
-/// A module of which nothing is told fits.
+/// A module of which nothing is reported fits.
 pub fn modules_fit()
     ensures { ModulesFit }
 {}

@@ -3,6 +3,6 @@
 #![tactic(auto)]
 
 pub mod laws;
-mod telling;
+mod reporting;
 
-pub use telling::tell;
+pub use reporting::report_faults;

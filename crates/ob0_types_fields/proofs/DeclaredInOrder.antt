@@ -131,12 +131,12 @@ block_grows scope j k (has_body (declares cs ts vs ps) statements) env inner h =
     (ap (λ gs. declare_typed as_labels (after_types j b') gs two.0) (sym (variables-section as_names (as_label as_names) (variables_scope k b scope) kv vs)) ∙ two.2) in
     grown_then k kt (first_procedure k b) env one.0 inner c (grown_then kt kv (first_procedure k b) one.0 two.0 inner t v)
 
--- what a label stands for, by ordinals
+-- what a label means, by ordinals
 abbrev pub at_label : (ℕ → Option (Object Shape Signature)) → Label → Option (Object Shape Signature)
 at_label objects (declared k) = objects k
 at_label objects (as_written x) = None
 
--- each binding is what its ordinal stands for
+-- each binding is what its ordinal means
 abbrev pub Right : (ℕ → Option (Object Shape Signature)) → TypeEnvironment Label → Type 0
 Right objects [] = Unit {0}
 Right objects (b ∷ env) = (at_label objects b.0 ≡ Some b.1) × Right objects env

@@ -36,7 +36,7 @@ and-or : (b x y : Bool) → ((b && x) || (b && y)) ≡ (b && (x || y))
 and-or true x y = refl
 and-or false x y = refl
 
--- what a group declares and what stands in it, and the same of those behind it
+-- what a group declares and what is in it, and the same of those after it
 shuffled : (b x y z w : Bool) → (((b && x) || y) || ((b && z) || w)) ≡ ((b && (x || z)) || (y || w))
 shuffled false x y z w = refl
 shuffled true true y z w = refl
@@ -76,7 +76,7 @@ module _ (text : ℕ → Name) (value : ℕ → ℕ) where
     abbrev GroupsHit : ℕ → ℕ → Tree ℕ (items further_fields) → Type 0
     GroupsHit o k gs = list_any hit (marked_groups o k gs) ≡ (((o == r) && list_any another (groups_fields (mapped text value gs))) || list_any in_record (records_in_groups k (mapped text value gs)))
 
-    -- what the first group declares and what stands in it, and so of the others
+    -- what the first group declares and what is in it, and so of the others
     two-hit : (o k : ℕ) (g : Tree ℕ fields) (rest : Tree ℕ (items further_fields)) → GroupHit o k g → GroupsHit o (k + group_constructors g) rest
         → list_any hit (marked_group o k g ++ marked_groups o (k + group_constructors g) rest)
         ≡ (((o == r) && list_any another (group_fields (mapped text value g) ++ groups_fields (mapped text value rest)))

@@ -19,7 +19,7 @@ use Rattle.ob0_types_fields.specs.Identifiers.{AreInTextOrder, field_on, firsts}
 
 -- ---- the tokens of a text
 
--- each begins where the one before it ends, or behind that
+-- each begins where the one before it ends, or after that
 abbrev Follow : ℕ → List Token → Type 0
 Follow from [] = Unit {0}
 Follow from (t ∷ ts) = (from ≤ t.span.start) × ((t.span.start ≤ t.span.end) × Follow t.span.end ts)

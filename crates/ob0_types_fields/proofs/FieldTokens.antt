@@ -6,7 +6,7 @@ use Rattle.std.proofs.Math.ListN.{length-set}
 use Rattle.std.proofs.lemmas.List.{length-replicate}
 use Rattle.ob0_scan.specs.Scanned.{Scanned}
 use Rattle.ob0_scan.specs.declared.lexeme.Token.{Token}
-use Rattle.ob0_tree.specs.Order.{AreIdentifiers, Ascending, IsIdentifier}
+use Rattle.ob0_tree.specs.Order.{AreIdentifiers, Ascending, IsIdentifierToken}
 use Rattle.ob0_tree.specs.Parsed.{IsParsed, tree_of}
 use Rattle.ob0_tree.specs.Places.{text_at, value_at}
 use Rattle.ob0_tree.specs.Tree.{mapped}
@@ -151,11 +151,11 @@ renamed_at_tokens-holds r k f new named fits =
     ∙ (λ j. mapped (λ i. if among i j then new else text_at m.source i) (value_at m.source) (tree_of m))
 
 -- so is the one that a place is on
-pub field_stands : (source : Scanned) (ts : List Token) (offset : ℕ) (xs : List (ℕ × ℕ)) → AreIdentifiers ts (firsts xs) → IfSome (field_on source offset xs) (λ x. IsIdentifier ts x.0)
+pub field_stands : (source : Scanned) (ts : List Token) (offset : ℕ) (xs : List (ℕ × ℕ)) → AreIdentifiers ts (firsts xs) → IfSome (field_on source offset xs) (λ x. IsIdentifierToken ts x.0)
 field_stands source ts offset [] stand = tt
 field_stands source ts offset (x ∷ xs) stand = one (is_on offset (span_at source x.0)) stand.0 (field_stands source ts offset xs stand.1)
   where
-    one : (b : Bool) → IsIdentifier ts x.0 → IfSome (field_on source offset xs) (λ y. IsIdentifier ts y.0)
-        → IfSome (if b then Some x else field_on source offset xs) (λ y. IsIdentifier ts y.0)
+    one : (b : Bool) → IsIdentifierToken ts x.0 → IfSome (field_on source offset xs) (λ y. IsIdentifierToken ts y.0)
+        → IfSome (if b then Some x else field_on source offset xs) (λ y. IsIdentifierToken ts y.0)
     one true h later = h
     one false h later = later

@@ -6,7 +6,7 @@ use Rattle.std.proofs.lemmas.Slice.Eq.{bytes_eq-Decides}
 use Rattle.std.specs.List.{list_any}
 use Rattle.ob0_scan.specs.Scanned.{Scanned}
 use Rattle.ob0_tree.specs.declared.tree.Role.TheVariants as role
-use Rattle.ob0_tree.specs.Lexeme.{EndOfText, Lexeme, Mark, Name, Number, relabelled}
+use Rattle.ob0_tree.specs.Lexeme.{EndOfText, Terminal, Mark, Name, Number, relabelled}
 use Rattle.ob0_tree.specs.Order.{leaves}
 use Rattle.ob0_tree.specs.Parsed.{Parsed, named_tree_of, tree_of}
 use Rattle.ob0_tree.specs.Places.{text_at, value_at}
@@ -79,9 +79,9 @@ module _ (k : ℕ) (f : written.Name) where
       let parts = or_parts ((t.ordinal == k) && names_another_field t.declared (another f) f) (list_any (λ u. (u.ordinal == k) && names_another_field u.declared (another f) f) ts) h in
       (names_kept t.ordinal t.declared parts.0, records_kept ts parts.1)
 
--- ---- the identifiers of a tree whose names are written anew
+-- ---- the identifiers of a tree whose names are rewritten
 
-names_mapped : {N M : Type 0} (f : N → M) (g : ℕ → ℕ) (xs : List (Lexeme N)) → lexeme_names (map (relabelled f g) xs) ≡ map f (lexeme_names xs)
+names_mapped : {N M : Type 0} (f : N → M) (g : ℕ → ℕ) (xs : List (Terminal N)) → lexeme_names (map (relabelled f g) xs) ≡ map f (lexeme_names xs)
 names_mapped f g [] = refl
 names_mapped f g (Name n ∷ xs) = ap (λ z. f n ∷ z) (names_mapped f g xs)
 names_mapped f g (Number n ∷ xs) = names_mapped f g xs

@@ -1,4 +1,4 @@
--- In a well-typed module each identifier that is written as a field is one of its fields. Were all of them written anew, a table
+-- In a well-typed module each identifier that is written as a field is one of its fields. Were all of them rewritten, a table
 -- of owners would write those that have one, and what declares and selects would write each.
 use Rattle.std.proofs.Common.{◌≡◌, ℕ, suc, ◌+◌, true, ◌&&◌, List, [], ◌∷◌, ◌++◌, map, length, Some, None, Option, option_and_then, option_map, unwrap_or, refl, sym, ap, ◌∙◌, subst, arith}
 use Rattle.std.proofs.lemmas.List.{map-append}
@@ -22,7 +22,7 @@ use Rattle.ob0_values.specs.Values.{FieldShapes, Shape, Value, array_shape, bool
 use Rattle.ob0_run_rules.proofs.Sound.{of_some, some-gives}
 use Rattle.ob0_run_rules.proofs.SoundCalls.{hold-true}
 use Rattle.ob0_run_rules.proofs.SoundStatements.{both_true}
-use Rattle.ob0_rename_laws.specs.Fields.{FieldNames, behind, behind_heading, behind_procedures, parameters_of, refield, refield_block, refield_formals, refield_group, refield_groups, refield_procedure, refield_procedures, refield_section, refield_sections, refield_type, refield_type_section, refield_types, refield_variable_section, refield_variables, refielded}
+use Rattle.ob0_rename_laws.specs.Fields.{FieldNames, type_after, types_after_heading, types_after_procedures, parameters_of, refield, refield_block, refield_formals, refield_group, refield_groups, refield_procedure, refield_procedures, refield_section, refield_sections, refield_type, refield_type_section, refield_types, refield_variable_section, refield_variables, refielded}
 use Rattle.ob0_rename_laws.specs.Owners.{of_records}
 use Rattle.ob0_rename_laws.specs.Renaming.{RecordFields, records}
 use Rattle.ob0_rename_laws.proofs.AgreeingFields.{NamesAgree, RecordsAgree}
@@ -59,7 +59,7 @@ every k x = anew x
 abbrev ids : {s : Sort} → Tree Name s → List (Role × Name)
 ids t = identifiers role.Declaring t
 
--- ---- statements: each field that is selected is written anew
+-- ---- statements: each field that is selected is rewritten
 
 mutual
   expression-marked : (m : Typed Name) (e : Tree Name expression) → ids (refield every m None e) ≡ marked (ids e)
@@ -88,8 +88,8 @@ mutual
 
   path-marked : (m : Typed Name) (s : Option Shape) (path : Tree Name (items selector)) → ids (refield every m s path) ≡ marked (ids path)
   path-marked m s end = refl
-  path-marked m s (more (field x) rest) = ap (λ z. (role.FieldName, anew x) ∷ z) (path-marked m (behind s (field x)) rest)
-  path-marked m s (more (index e) rest) = both mark_at (ids e) (ids rest) (expression-marked m e) (path-marked m (behind s (index e)) rest)
+  path-marked m s (more (field x) rest) = ap (λ z. (role.FieldName, anew x) ∷ z) (path-marked m (type_after s (field x)) rest)
+  path-marked m s (more (index e) rest) = both mark_at (ids e) (ids rest) (expression-marked m e) (path-marked m (type_after s (index e)) rest)
 
 further_arguments-marked : (m : Typed Name) (es : Tree Name (items further_argument)) → ids (refield every m None es) ≡ marked (ids es)
 further_arguments-marked m end = refl
@@ -152,7 +152,7 @@ constant-scalar (Some (a_variable t)) s h = absurd (cc)
 constant-scalar (Some (a_procedure t)) s h = absurd (cc)
 constant-scalar (Some (a_standard t)) s h = absurd (cc)
 
--- names stand for constants alone
+-- names mean constants alone
 abbrev alone : Typed Name → Meanings Name Shape (Unit {0})
 alone m = constants_only m
 
@@ -230,7 +230,7 @@ constant_section-plain : (env : TypeEnvironment Name) (cs : Tree Name (maybe con
 constant_section-plain env none after h = refl
 constant_section-plain env (one (declares_constants cs)) after h = constants-plain env cs after h
 
--- ---- types as they are written: each field that is declared is written anew
+-- ---- types as they are written: each field that is declared is rewritten
 
 further-marked : (k : ℕ) (ns : Tree Name (items further_name)) → identifiers role.FieldName (with_names (λ x. x) (every (Some k)) ns) ≡ marked (identifiers role.FieldName ns)
 further-marked k end = refl

@@ -1,4 +1,4 @@
--- A designator's selectors one by one, each from the type behind the one before.
+-- A designator's selectors one by one, each from the type after the one before.
 use Rattle.std.proofs.Common.{◌≡◌, ℕ, ◌+◌, ◌<◌, ◌≤◌, List, ◌∷◌, ◌++◌, length, get_or, drop, Option, refl, sym, ap, ◌∙◌, append_assoc, append-nil}
 use Rattle.std.proofs.lemmas.List.{drop_all, drop_more}
 use Rattle.ob0_tree.specs.declared.tree.Selector.{Selector}
@@ -15,7 +15,7 @@ path_more : {P : Type 0} (m : Meanings ℕ Shape P) (base : Option Shape) (a : T
 path_more m base (field x) rest = refl
 path_more m base (index e) rest = refl
 
--- what was found, with what is still selected from the type behind, is what was there at first with all that the path selects
+-- what was found, with what is still selected from the type after, is what was there at first with all that the path selects
 pub record OnPath (m : Meanings ℕ Shape Signature) (start : List (ℕ × ℕ)) (base : Option Shape) (xs : List Selector) (done : ℕ) (out : List (ℕ × ℕ)) (at : Option Shape) : Type 0 where
   pub so_far : out ++ marked_path m at (items_of selector_of (drop done xs)) ≡ start ++ marked_path m base (items_of selector_of xs)
 

@@ -1,4 +1,4 @@
--- A walk over the items of a list, which puts what is selected in each behind what was found before.
+-- A walk over the items of a list, which puts what is selected in each after what was found before.
 use Rattle.std.proofs.Common.{◌≡◌, ℕ, ◌≤◌, List, ◌++◌, length, drop, sym, ap, ◌∙◌, append_assoc, append-nil}
 use Rattle.std.proofs.lemmas.List.{drop_all}
 use Rattle.ob0_tree.specs.Tree.{Tree, Item, item}

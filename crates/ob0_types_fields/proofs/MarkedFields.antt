@@ -124,7 +124,7 @@ names-fields r (x ∷ xs) = ap (λ z. (x, r) ∷ z) (names-fields r xs)
 plain-fields : {sort : Sort} (t : Tree ℕ sort) → fields_among (unowned t) ≡ []
 plain-fields t = none-among (identifiers role.Declaring t)
 
--- behind a part without fields
+-- after a part without fields
 after-plain : {sort : Sort} (t : Tree ℕ sort) (xs : List (ℕ × Option ℕ)) {us : List (ℕ × ℕ)} → fields_among xs ≡ us → fields_among (unowned t ++ xs) ≡ us
 after-plain t xs e = among-both (unowned t) xs (plain-fields t) e
 

@@ -1,4 +1,4 @@
--- A module with its fields written anew is the module with each token written by a table of owners: at each place the
+-- A module with its fields under other names is the module with each token written by a table of owners: at each place the
 -- environment says of a name what its declaration is.
 use Rattle.std.proofs.Common.{◌≡◌, ℕ, suc, ◌+◌, Bool, true, false, ◌&&◌, if◌then◌else◌, List, [], ◌∷◌, ◌++◌, map, Some, None, Option, option_map, option_and_then, unwrap_or, refl, sym, ap, ◌∙◌, subst, arith, le_refl, le_of_lt, lit<, true≢false, append-nil}
 use Rattle.std.proofs.lemmas.Bool.{and_parts}
@@ -21,7 +21,7 @@ use Rattle.ob0_types_rules.specs.Declarations.{after_formals, after_types, after
 use Rattle.ob0_types_rules.specs.Environments.{from_binding, meanings, newest, outermost}
 use Rattle.ob0_types_rules.specs.Expressions.{Meanings, Object, a_procedure, a_variable}
 use Rattle.ob0_types_rules.specs.Typing.{object_type}
-use Rattle.ob0_types_rules.specs.WellTyped.{Signature, TypeEnvironment, Typed, TypedParameter, WellTyped, bind_typed, block_fits, body_fits, declare_typed, fits_over, heading, hold, procedure_fits, procedures_fit, typed_parameters}
+use Rattle.ob0_types_rules.specs.WellTyped.{Signature, TypeEnvironment, Typed, TypedParameter, WellTyped, bind_typed, block_fits, body_fits, declare_typed, fits_over, heading, some_and, procedure_fits, procedures_fit, typed_parameters}
 use Rattle.ob0_values.specs.Values.{Shape}
 use Rattle.ob0_types_rules.proofs.Agreeing.{Agree, HoldsOf}
 use Rattle.ob0_types_rules.proofs.Constructors.{formals_constructors-relabel, procedure_constructors-relabel, types_constructors-relabel, variables_constructors-relabel}
@@ -29,7 +29,7 @@ use Rattle.ob0_types_rules.proofs.Bound.{headed_bindings, since-append}
 use Rattle.ob0_types_rules.proofs.Literals.{some_inverse}
 use Rattle.ob0_types_rules.proofs.Proved.{fits_by_ordinal-holds}
 use Rattle.ob0_types_rules.proofs.TypesByOrdinal.{TypeNoted, TypedBelow, TypedBelow-weaken, TypedWithin, bind_typed-by_name, bind_typed-by_ordinal, body_fits-agrees, declarations_typed, label_typed, label_typed-formals, noted_parameters, noted_parameters-within, parameters_typed, typed_by_name, typed_by_ordinal, typed_names, typed_outermost, typed_scope}
-use Rattle.ob0_rename_laws.specs.Fields.{behind_heading, behind_procedures, behind_variables, parameters_of, refield, refield_block, refield_procedures, refield_variable_section}
+use Rattle.ob0_rename_laws.specs.Fields.{types_after_heading, types_after_procedures, types_after_variables, parameters_of, refield, refield_block, refield_procedures, refield_variable_section}
 use Rattle.ob0_rename_laws.specs.Owners.{of_records}
 use Rattle.ob0_types_fields.specs.Owned.{HasOwners, OwnersByDeclaration, owned, owned_block, owned_formals, owned_procedure, owned_procedures, owned_type_section, owned_variable_section, token_objects, unowned}
 use Rattle.ob0_types_fields.proofs.OwnedStatements.{Alike, SameTypes, owned-alike, owners_split, recorded, recorded-alike, recorded-mapped, unowned-all}
@@ -40,7 +40,7 @@ use Rattle.ob0_types_fields.proofs.DeclaredInOrder.{Descends, Grown, Right, bloc
 
 -- what fits was declared, part by part
 
-held : {A : Type 0} (o : Option A) (test : A → Bool) → hold o test ≡ true → (a : A) × (o ≡ Some a) × (test a ≡ true)
+held : {A : Type 0} (o : Option A) (test : A → Bool) → some_and o test ≡ true → (a : A) × (o ≡ Some a) × (test a ≡ true)
 held None test h = absurd (true≢false (sym h))
 held (Some a) test h = (a, refl, h)
 
@@ -69,7 +69,7 @@ record Opened (noted : TypeNoted Name) (j k : ℕ) (b : Tree Name block) : Type 
   pub grown : Grown k (first_procedure k b) (typed_by_ordinal noted) (typed_by_ordinal last)
   pub listed : block_bindings as_labels (typed_by_ordinal noted) j (relabel_block as_names (as_label as_names) (typed_scope noted) k b)
       ≡ procedures_bindings as_labels (typed_by_ordinal last) (after_variables j (relabel_block as_names (as_label as_names) (typed_scope noted) k b)) (block_procedures (relabel_block as_names (as_label as_names) (typed_scope noted) k b)) ++ grown.bound
-  pub named : behind_variables (typed_by_name noted) j b ≡ typed_by_name last
+  pub named : types_after_variables (typed_by_name noted) j b ≡ typed_by_name last
   pub within : TypedWithin (first_procedure k b) (procedures_scope k b (typed_scope noted)) last
   pub fits : procedures_fit as_labels (typed_by_ordinal last) (after_variables j (relabel_block as_names (as_label as_names) (typed_scope noted) k b)) (block_statements (relabel_block as_names (as_label as_names) (typed_scope noted) k b)) (block_procedures (relabel_block as_names (as_label as_names) (typed_scope noted) k b)) ≡ true
 
@@ -141,7 +141,7 @@ entered noted j k below statements fs b closing rest h =
     (ap (typed_parameters as_labels env j) (sym (formals-section as_names (as_label as_names) (typed_scope noted) (suc k) fs)) ∙ p.1) in
     record { listed = f.0; by_name = f.1; names = f.3; parts = subst (FitParts env j statements (declared k) fs' b closing rest) (sym f.2) p.2 }
 
--- what a name is bound to is what its ordinal stands for
+-- what a name is bound to is what its ordinal means
 stands-right : (objects : ℕ → Option (Object Shape Signature)) (noted : TypeNoted Name) → Right objects (typed_by_ordinal noted) → (x : Name)
     → newest (from_binding as_names (typed_by_name noted) x) ≡ option_and_then objects (ordinal_of as_names (typed_scope noted) x)
 stands-right objects [] right x = refl
@@ -166,7 +166,7 @@ pub bind_typed-append : (ps : List (TypedParameter Label)) (first env : TypeEnvi
 bind_typed-append [] first env = refl
 bind_typed-append (p ∷ ps) first env = bind_typed-append ps ((p.name, a_variable p.formal.shape) ∷ first) env
 
--- what is noted behind a procedure's heading, and inside the procedure
+-- what is noted after a procedure's heading, and inside the procedure
 abbrev own_of : TypeNoted Name → ℕ → Name → List (TypedParameter Name) → TypeNoted Name
 own_of noted k x listed = record { name = x; ordinal = k; object = a_procedure (map (λ p. p.formal) listed) } ∷ noted
 
@@ -219,7 +219,7 @@ module _ (l : ℕ → Name → Name) (at : ℕ → Option ℕ) (text : ℕ → N
   record ProceduresHeld (noted : TypeNoted Name) (j k : ℕ) (statements : Tree Label (maybe body)) (ps : Tree ℕ (items procedure)) : Type 0 where
     pub descends : Descends (after_procedures k (mapped text value ps)) (procedures_bindings as_labels (typed_by_ordinal noted) j (relabel_procedures as_names (as_label as_names) (typed_scope noted) k (mapped text value ps))) k
     pub last : TypeNoted Name
-    pub behind : behind_procedures (typed_by_name noted) j (mapped text value ps) ≡ typed_by_name last
+    pub behind : types_after_procedures (typed_by_name noted) j (mapped text value ps) ≡ typed_by_name last
     pub below : TypedBelow (after_procedures k (mapped text value ps)) last
     pub fits : body_fits as_labels (typed_by_ordinal last) statements ≡ true
     pub scoped : typed_scope last ≡ declare_procedure_names k (mapped text value ps) (typed_scope noted)
@@ -231,7 +231,7 @@ module _ (l : ℕ → Name → Name) (at : ℕ → Option ℕ) (text : ℕ → N
   unfolding block_bindings block_fits
   no-procedures noted j k below statements h = record { descends = le_refl k; last = noted; behind = refl; below = below; fits = h; scoped = refl; written = λ right all e has. (refl, right) }
 
-  -- a block, behind its procedures
+  -- a block, after its procedures
   named_count : (j : ℕ) (cs : Tree ℕ (maybe constants)) (ts : Tree ℕ (maybe type_names)) (vs : Tree ℕ (maybe variables)) (ps : Tree ℕ (items procedure)) (st : Tree ℕ (maybe body))
       → after_variables j (mapped text value (has_body (declares cs ts vs ps) st)) ≡ after_variables j (has_body (declares cs ts vs ps) st)
   named_count j cs ts vs ps st = λ i. j + counted_type_section text value ts i + counted_variable_section text value vs i
@@ -286,16 +286,16 @@ module _ (l : ℕ → Name → Name) (at : ℕ → Option ℕ) (text : ℕ → N
             let behind_all : typed_scope q.last ≡ declare_procedure_names kp nps (procedures_scope k nb scope) = q.scoped ∙ ap (declare_procedure_names kp nps) o.within.0 in
             let variables-written : refield_variable_section (of_records l) (after_types j nb) (mapped text value vs) ≡ mapped (λ i. of_records l (at i) (text i)) value vs =
             (λ i. refield_variable_section (of_records l) (j + counted_type_section text value ts i) (mapped text value vs)) ∙ variable_section-owned l at text value (after_types j b) vs s3.0 in
-            let procedures-written : refield_procedures (of_records l) (behind_variables (typed_by_name noted) j nb) (after_variables j nb) nps ≡ mapped (λ i. of_records l (at i) (text i)) value ps =
+            let procedures-written : refield_procedures (of_records l) (types_after_variables (typed_by_name noted) j nb) (after_variables j nb) nps ≡ mapped (λ i. of_records l (at i) (text i)) value ps =
             (λ i. refield_procedures (of_records l) (o.named i) (counted i) nps) ∙ r.0 in
-            let environment : behind_procedures (behind_variables (typed_by_name noted) j nb) (after_variables j nb) nps ≡ typed_by_name q.last = (λ i. behind_procedures (o.named i) (counted i) nps) ∙ q.behind in
-            let body-written : refield (of_records l) (meanings as_names (behind_procedures (behind_variables (typed_by_name noted) j nb) (after_variables j nb) nps)) None (mapped text value st) ≡ mapped (λ i. of_records l (at i) (text i)) value st =
+            let environment : types_after_procedures (types_after_variables (typed_by_name noted) j nb) (after_variables j nb) nps ≡ typed_by_name q.last = (λ i. types_after_procedures (o.named i) (counted i) nps) ∙ q.behind in
+            let body-written : refield (of_records l) (meanings as_names (types_after_procedures (types_after_variables (typed_by_name noted) j nb) (after_variables j nb) nps)) None (mapped text value st) ≡ mapped (λ i. of_records l (at i) (text i)) value st =
             ap (λ e. refield (of_records l) (meanings as_names e) None (mapped text value st)) environment
             ∙ statements-written noted q.last (after_procedures kp nps) q.below r.1 (declare_procedure_names kp nps (procedures_scope k nb scope)) behind_all st q.fits (ap block_statements numbered) s0.1 in
             λ i. has_body (declares (unowned-all l at text value cs s1.0 i) (type_section-owned l at text value j ts s2.0 i) (variables-written i) (procedures-written i)) (body-written i);
       }
 
-  -- a procedure, behind its block and those that follow
+  -- a procedure, after its block and those that follow
   record Entry (noted : TypeNoted Name) (j k : ℕ) (statements : Tree Label (maybe body)) (x : ℕ) (fs : Tree ℕ (maybe formals)) (b : Tree ℕ block) (closing : ℕ) (rest : Tree ℕ (items procedure)) : Type 0 where
     pub listed : List (TypedParameter Name)
     pub pars : parameters_of (typed_by_name noted) j (mapped text value (declares_procedure x fs b closing)) ≡ listed
@@ -370,7 +370,7 @@ module _ (l : ℕ → Name → Name) (at : ℕ → Option ℕ) (text : ℕ → N
       record {
         descends = subst (λ z. Descends (after_procedures k (more np nrest)) z k) (sym t.all_listed) (descends_join (after_procedures n nrest) n k R (B ++ H) later.descends (descends_join n m k B H inside.descends t.front));
         last = later.last;
-        behind = (λ i. behind_procedures (heading (text x) (t.pars i) (typed_by_name noted)) (j + counted_procedure text value p i) nrest) ∙ later.behind;
+        behind = (λ i. types_after_procedures (heading (text x) (t.pars i) (typed_by_name noted)) (j + counted_procedure text value p i) nrest) ∙ later.behind;
         below = later.below;
         fits = later.fits;
         scoped = later.scoped;
@@ -384,11 +384,11 @@ module _ (l : ℕ → Name → Name) (at : ℕ → Option ℕ) (text : ℕ → N
             let s1 = owners_split at (owned_formals j fs) (owned_block by_token (after_formals j p) b ++ ((closing, None) ∷ [])) s0.0.1 in
             let s2 = owners_split at (owned_block by_token (after_formals j p) b) ((closing, None) ∷ []) s1.1 in
             let w = later.written right_own two.0 (ap rest_items numbered) s0.1 in
-            let block-written : refield_block (of_records l) (bind_typed (parameters_of (typed_by_name noted) j np) (behind_heading (typed_by_name noted) j np)) (after_formals j np) nb ≡ mapped (λ i. of_records l (at i) (text i)) value b =
+            let block-written : refield_block (of_records l) (bind_typed (parameters_of (typed_by_name noted) j np) (types_after_heading (typed_by_name noted) j np)) (after_formals j np) nb ≡ mapped (λ i. of_records l (at i) (text i)) value b =
             (λ i. refield_block (of_records l) (bind_typed (t.pars i) (heading (text x) (t.pars i) (typed_by_name noted))) (j + counted_formals_section text value fs i) nb)
             ∙ (ap (λ z. refield_block (of_records l) z (after_formals j p) nb) (bind_typed-by_name (suc k) t.listed own)
             ∙ inside.written right_inner three.0 (ap (λ s. relabel_block as_names (as_label as_names) s m nb) t.inner_scope ∙ ap (λ z. procedure_block (first_item (mapped label value p) z)) numbered) s2.0) in
-            let rest-written : refield_procedures (of_records l) (behind_heading (typed_by_name noted) j np) (j + procedure_constructors np) nrest ≡ mapped (λ i. of_records l (at i) (text i)) value rest =
+            let rest-written : refield_procedures (of_records l) (types_after_heading (typed_by_name noted) j np) (j + procedure_constructors np) nrest ≡ mapped (λ i. of_records l (at i) (text i)) value rest =
             (λ i. refield_procedures (of_records l) (heading (text x) (t.pars i) (typed_by_name noted)) (j + counted_procedure text value p i) nrest) ∙ w.0 in (
               λ i. more (declares_procedure (of_records l (sym s0.0.0 i) (text x)) (formals-owned l at text value j fs s1.0 i) (block-written i) (of_records l (sym s2.1.0 i) (text closing))) (rest-written i),
               w.1,
@@ -423,7 +423,7 @@ outermost-descends = (6, refl, omega arith, (5, refl, omega arith, (4, refl, ome
 outermost-below : TypedBelow 7 (typed_outermost as_names)
 outermost-below = (lit< tt, (lit< tt, (lit< tt, (lit< tt, (lit< tt, (lit< tt, (lit< tt, tt)))))))
 
--- what each declaration of a well-typed module binds is what its ordinal stands for
+-- what each declaration of a well-typed module binds is what its ordinal means
 pub bindings_right : (r : Resolution) → WellTyped (named_tree_of r.module_read) → Right (declared_object (named_tree_of r.module_read)) (module_bindings as_labels (numbered (named_tree_of r.module_read)))
 unfolding WellTyped fits_over
 bindings_right r fits =

@@ -1,4 +1,4 @@
--- Statements with their fields written anew are those with each token written by a table of owners.
+-- Statements with their fields under other names are those with each token written by a table of owners.
 use Rattle.std.proofs.Common.{◌≡◌, ℕ, List, [], ◌∷◌, ◌++◌, None, Option, option_and_then, refl, ap, ◌∙◌, sym}
 use Rattle.ob0_tree.specs.declared.tree.Role.{Role}
 use Rattle.ob0_tree.specs.declared.tree.Role.TheVariants as role
@@ -8,7 +8,7 @@ use Rattle.ob0_types_rules.specs.Expressions.{Meanings}
 use Rattle.ob0_types_rules.specs.Typing.{field_type, object_type}
 use Rattle.ob0_types_rules.specs.WellTyped.{Typed}
 use Rattle.ob0_values.specs.Values.{Shape}
-use Rattle.ob0_rename_laws.specs.Fields.{behind, record_of, refield}
+use Rattle.ob0_rename_laws.specs.Fields.{type_after, record_of, refield}
 use Rattle.ob0_rename_laws.specs.Owners.{of_records}
 use Rattle.ob0_types_fields.specs.Owned.{HasOwners, owned, owner, passed, unowned, unowned_among}
 
@@ -137,7 +137,7 @@ unowned-mapped l at text value r (is_module a b c) h =
 pub unowned-all : (l : ℕ → Name → Name) (at : ℕ → Option ℕ) (text : ℕ → Name) (value : ℕ → ℕ) {s : Sort} (t : Tree ℕ s) → HasOwners at (unowned t) → mapped text value t ≡ mapped (λ j. of_records l (at j) (text j)) value t
 unowned-all l at text value t h = unowned-mapped l at text value role.Declaring t (all_none at (identifiers role.Declaring t) h)
 
--- names that stand for values of the same types, by name and by token
+-- names that mean values of the same types, by name and by token
 abbrev pub Alike : {P : Type 0} → Typed Name → Meanings ℕ Shape P → List ℕ → Type 0
 Alike meaning m [] = Unit {0}
 Alike meaning m (x ∷ xs) = (object_type (meaning.stands_for (m.written x)) ≡ object_type (m.stands_for x)) × Alike meaning m xs
@@ -146,7 +146,7 @@ alike_split : {P : Type 0} (meaning : Typed Name) (m : Meanings ℕ Shape P) (xs
 alike_split meaning m [] ys h = (tt, h)
 alike_split meaning m (x ∷ xs) ys h = let rest = alike_split meaning m xs ys h.1 in ((h.0, rest.0), rest.1)
 
-behind-mapped : {P : Type 0} {i : Item} (m : Meanings ℕ Shape P) (value : ℕ → ℕ) (s : Option Shape) (t : Tree ℕ (item i)) → behind s (mapped m.written value t) ≡ passed m s t
+behind-mapped : {P : Type 0} {i : Item} (m : Meanings ℕ Shape P) (value : ℕ → ℕ) (s : Option Shape) (t : Tree ℕ (item i)) → type_after s (mapped m.written value t) ≡ passed m s t
 behind-mapped m value s (relates a b) = refl
 behind-mapped m value s (adds a b) = refl
 behind-mapped m value s (multiplies a b) = refl

@@ -179,7 +179,7 @@ ascends_to : (low : ℕ) (xs : List ℕ) (high : ℕ) → Ascending low xs high 
 ascends_to low [] high h = h
 ascends_to low (x ∷ xs) high h = let later = ascends_to (x + 1) xs high h.1 in omega (arith, h.0, later)
 
--- what stands below stays
+-- what is below stays
 kept_below : (xs : List (ℕ × Option ℕ)) (table : List (Option ℕ)) (low high i : ℕ) → Ascending low (tokens xs) high → i < low → ordinal_in (with_fields_at table (fields_among xs)) i ≡ ordinal_in table i
 kept_below [] table low high i ascend below = refl
 kept_below ((x, None) ∷ xs) table low high i ascend below = kept_below xs table (x + 1) high i ascend.1 (omega (arith, ascend.0, below))

@@ -94,7 +94,7 @@ field_place m k x = position_from (λ token. same_name (text_at m.source token) 
 
 -- ---- laws
 
--- In a well-typed module the field f of the record k is called `new` where the new name stands at the tokens of that field.
+-- In a well-typed module the field f of the record k is called `new` where the new name is at the tokens of that field.
 abbrev pub RenamedAtTokens : Type 0
 RenamedAtTokens =
     (r : Resolution) (k : ℕ) (f new : Name) → IsResolution r → WellTyped (named_tree_of r.module_read)

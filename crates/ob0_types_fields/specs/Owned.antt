@@ -26,7 +26,7 @@ unowned_among xs = map (λ x. (x.1, None)) xs
 abbrev pub unowned : {s : Sort} → Tree ℕ s → List (ℕ × Option ℕ)
 unowned t = unowned_among (identifiers role.Declaring t)
 
--- the type behind one more selector
+-- the type after one more selector
 abbrev pub passed : {P : Type 0} {i : Item} → Meanings ℕ Shape P → Option Shape → Tree ℕ (item i) → Option Shape
 passed m s (field x) = option_and_then (λ t. field_type t (m.written x)) s
 passed m s (index e) = option_and_then (λ t. element_type t integer_shape) s
@@ -141,7 +141,7 @@ abbrev mutual
 abbrev pub owned_module : {P : Type 0} → Meanings ℕ Shape P → Tree ℕ module_text → List (ℕ × Option ℕ)
 owned_module m (is_module x b closing) = (x, None) ∷ (owned_block m 0 b ++ ((closing, None) ∷ []))
 
--- What the names at tokens stand for: each is bound to one declaration, and stands for what that declares.
+-- What the names at tokens mean: each is bound to one declaration, and means what that declares.
 abbrev pub token_objects : (ℕ → Option (Object Shape Signature)) → Resolution → Meanings ℕ Shape Signature
 token_objects objects r = record { stands_for = λ token. option_and_then objects (ordinal_in r.ordinals token); written = λ token. text_at r.module_read.source token }
 
@@ -154,7 +154,7 @@ abbrev pub HasOwners : (ℕ → Option ℕ) → List (ℕ × Option ℕ) → Typ
 HasOwners table [] = Unit {0}
 HasOwners table (x ∷ xs) = (table x.0 ≡ x.1) × HasOwners table xs
 
--- In a well-typed module a table that has the listed owners at its tokens is a table of owners: what names stand for in the
+-- In a well-typed module a table that has the listed owners at its tokens is a table of owners: what names mean in the
 -- environment at each place is what their declarations are.
 abbrev pub OwnersByDeclaration : Type 0
 OwnersByDeclaration = (r : Resolution) (owners : List (Option ℕ)) → IsResolution r → WellTyped (named_tree_of r.module_read) → HasOwners (ordinal_in owners) (owned_tokens r) → AreOwners r.module_read owners

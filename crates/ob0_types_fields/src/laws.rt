@@ -20,7 +20,7 @@ pub fn marked_fields()
     ensures { MarkedFields }
 {}
 
-/// In a well-typed module a field has another name where that stands at the tokens of the field, and nothing else changed.
+/// In a well-typed module a field has another name where that is at the tokens of the field, and nothing else changed.
 pub fn renamed_at_tokens()
     ensures { RenamedAtTokens }
 {}

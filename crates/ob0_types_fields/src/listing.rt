@@ -61,7 +61,7 @@ impl FieldList {
     }
 
     /// The field that a place is on, where it lies in an identifier of the field or at its end: the identifier's token, and
-    /// the ordinal of the field's record. The tokens are those of the text that the fields stand in.
+    /// the ordinal of the field's record. The tokens are those of the text that the fields are in.
     pub fn at(&self, tokens: &Tokens, offset: usize) -> Option<(usize, usize)>
         ensures { AreInTextOrder tokens.now self.now.all → result ≡ field_on tokens.now offset self.now.all }
     {

@@ -134,7 +134,7 @@ impl<'a, 't> Owning<'a, 't> {
         Ok(())
     }
 
-    /// The type behind a selector; what is selected on the way is noted.
+    /// The type after a selector; what is selected on the way is noted.
     #[cycle(expressions)]
     fn selector(
         &self,

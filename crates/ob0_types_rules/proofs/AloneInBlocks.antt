@@ -1,4 +1,4 @@
--- In a block that fits, a constant's names stand alone as factors.
+-- In a block that fits, a constant's names are alone as factors.
 use Rattle.std.proofs.Common.{Bool, List, None, Option, Some, ap, arith, eq-eqb, if◌then◌else◌, le_of_lt, le_refl, length, map, ne_eqb, option_and_then, option_map, refl, subst, suc, sym, true, true≢false, ℕ, ◌&&◌, ◌++◌, ◌+◌, ◌<◌, ◌==◌, ◌∙◌, ◌∷◌, ◌≡◌, ◌≤◌}
 use Rattle.ob0_tree.specs.Tree.{Tree, begins, block, body, constant, declares, declares_constant, declares_procedure, declares_type, declares_variable, end, further_section, has_body, item, items, maybe, more, none, occurrences, one, procedure, then_section, type_name, variable, written_type}
 use Rattle.ob0_scope_rules.specs.Elsewhere.{names_elsewhere}
@@ -15,7 +15,7 @@ use Rattle.ob0_types_rules.specs.Declarations.{after_types, after_variables, dec
 use Rattle.ob0_types_rules.specs.Environments.{Environment, meanings}
 use Rattle.ob0_types_rules.specs.Expressions.{a_constant, a_procedure, a_type, a_variable}
 use Rattle.ob0_types_rules.specs.Typing.{constant_value, constructors, denoted}
-use Rattle.ob0_types_rules.specs.WellTyped.{Signature, TypeEnvironment, TypedParameter, bind_names, bind_typed, block_fits, body_fits, declare_typed, heading, hold, procedure_fits, procedures_fit, section_mode, typed_parameters}
+use Rattle.ob0_types_rules.specs.WellTyped.{Signature, TypeEnvironment, TypedParameter, bind_names, bind_typed, block_fits, body_fits, declare_typed, heading, some_and, procedure_fits, procedures_fit, section_mode, typed_parameters}
 use Rattle.ob0_types_rules.proofs.Agreeing.{Agree, HoldsOf}
 use Rattle.ob0_types_rules.proofs.EditedDeclarations.{Outside, Worth, constants-edited, outside-right}
 use Rattle.ob0_types_rules.proofs.EditedParts.{all-left, body-worth, constants-worth, first-edited, heading-outside, mark_all, names_of, own-worth, procedures-worth, read-all, rest-worth, types-outside, with_value}
@@ -44,7 +44,7 @@ agree-some {X} {Y} p q P r s (a, e, e', holds) y h = go a holds (sym e ∙ h)
     go None holds h = absurd (cc)
     go (Some x) holds h = (x, holds, some_inverse h)
 
-held : {A : Type 0} (o : Option A) (test : A → Bool) → hold o test ≡ true → (a : A) × (o ≡ Some a) × (test a ≡ true)
+held : {A : Type 0} (o : Option A) (test : A → Bool) → some_and o test ≡ true → (a : A) × (o ≡ Some a) × (test a ≡ true)
 held None test h = absurd (true≢false (sym h))
 held (Some a) test h = (a, refl, h)
 

@@ -1,4 +1,4 @@
--- What an environment binds last: of two behind one another, of parameters, and of a procedure.
+-- What an environment binds last: of two after one another, of parameters, and of a procedure.
 use Rattle.std.proofs.Common.{◌≡◌, ℕ, ◌+◌, Bool, true, false, cond, List, [], ◌∷◌, ◌++◌, length, take, Some, None, Option, refl, sym, ap, ◌∙◌, arith, length-append}
 use Rattle.std.proofs.Math.Seq.{take-append_seam}
 use Rattle.ob0_tree.specs.Tree.{Tree, block, declares_procedure, formals, maybe}
@@ -15,7 +15,7 @@ pub newest-if : (b : Bool) (x : Label) (o : Object Shape Signature) (env rest : 
 newest-if true x o env rest = refl
 newest-if false x o env rest = refl
 
--- one environment behind another
+-- one environment after another
 abbrev pub or_else : {A : Type 0} → Option A → Option A → Option A
 or_else None b = b
 or_else (Some a) b = Some a

@@ -1,8 +1,8 @@
--- A constant expression is worth in a run what it is worth to the checker.
+-- A constant expression has the value in a run the value of it to the checker.
 use Rattle.std.proofs.Common.{◌≡◌, Bool, true, false, List, [], ◌∷◌, Some, None, Option, option_map, option_and_then, refl, ap, ◌∙◌, subst}
 use Rattle.ob0_tree.specs.Tree.{Tree, addend, adds, compares, designator, end, expression, factor, field, index, integer, items, more, multiplier, multiplies, negation, none, one, parenthesised, product, relates, selector, simple, sum, term}
 use Rattle.ob0_types_rules.specs.Expressions.{Meanings, Object, a_constant, a_procedure, a_standard, a_type, a_variable, element_step, evaluate, evaluate_addends, evaluate_factor, evaluate_multipliers, evaluate_simple, evaluate_term, follow, value_of}
-use Rattle.ob0_types_rules.specs.Laws.{ConstantsHold}
+use Rattle.ob0_types_rules.specs.Laws.{ConstantsEvaluate}
 use Rattle.ob0_types_rules.specs.Typing.{constant_of, constant_value, constants_only, given_value, type_of}
 use Rattle.ob0_values.specs.Values.{Outcome, Place, Step, Store, Value, add, add_is_settled, at_field, at_path, ends, gives, multiply, multiply_is_settled, negated, or_stuck, part, relate, signed, ◌>>=◌}
 
@@ -122,7 +122,7 @@ pub some-then : {A B : Type 0} (o : Option A) (next : A → Option B) (b : B) �
 some-then None next b h = absurd (cc)
 some-then (Some a) next b h = (a, h)
 
-pub constants_hold-holds : ConstantsHold
+pub constants_hold-holds : ConstantsEvaluate
 unfolding constant_value
 constants_hold-holds checked active store e v written has h =
     evaluate-held checked active store (written, has) e v

@@ -1,4 +1,4 @@
--- In a well-typed module a constant's names stand alone as factors, as its numbered tree shows.
+-- In a well-typed module a constant's names are alone as factors, as its numbered tree shows.
 use Rattle.std.proofs.Common.{All, List, None, [], ap, length, map, subst, suc, sym, ℕ, ◌+◌, ◌∙◌, ◌∷◌, ◌≡◌, ◌≢◌}
 use Rattle.ob0_tree.specs.Tree.{Sort, Tree, block, constant, constants, declares, declares_constant, declares_constants, declares_procedure, declares_type, declares_types, declares_variable, declares_variables, end, formals, further_section, has_body, is_module, item, items, maybe, module_text, more, no_formals, none, occurrences, one, procedure, section, some_formals, then_section, type_name, type_names, value_section, variable, variable_section, variables, written_type}
 use Rattle.ob0_scope_rules.specs.Elsewhere.{names_elsewhere}
@@ -7,7 +7,7 @@ use Rattle.ob0_scope_rules.specs.Parts.{formal_names, formal_sections, names_lis
 use Rattle.ob0_scope_rules.proofs.ElsewhereNames.{elsewhere-with_names}
 use Rattle.ob0_scope_rules.proofs.NoneLeft.{NoneOf, none-of-join}
 use Rattle.ob0_scope_rules.proofs.Places.{EachBlock, EachConstant, EachProcedure, EachSection, EachType, EachVariable, OneProcedure}
-use Rattle.ob0_types_rules.specs.EditLaws.{ConstantsStandAlone}
+use Rattle.ob0_types_rules.specs.EditLaws.{ConstantsAreAlone}
 use Rattle.ob0_types_rules.specs.WellTyped.{WellTyped, fits_over}
 use Rattle.ob0_types_rules.proofs.AloneInBlocks.{IsOf, StandsAlone}
 use Rattle.ob0_types_rules.proofs.EditedModules.{label_ordinal-of, seven-or-less}
@@ -93,7 +93,7 @@ all-others : (d : ℕ) (ls : List Label) → NoneOf (IsLabelOf d) ls → All (λ
 all-others d [] h = All-nil (λ l. l ≢ declared d)
 all-others d (l ∷ ls) h = All-cons (λ l. l ≢ declared d) l ls h.0 (all-others d ls h.1)
 
-pub constants_stand_alone-holds : ConstantsStandAlone
+pub constants_stand_alone-holds : ConstantsAreAlone
 unfolding WellTyped fits_over
 constants_stand_alone-holds (is_module x b closing) d w v c well =
     let m : Tree Name module_text = is_module x b closing in

@@ -15,7 +15,7 @@ use Rattle.ob0_types_rules.specs.Declarations.{after_types, after_variables, dec
 use Rattle.ob0_types_rules.specs.Environments.{from_binding, meanings, newest, outermost}
 use Rattle.ob0_types_rules.specs.Expressions.{Object, a_constant, a_procedure, a_standard, a_type, a_variable}
 use Rattle.ob0_types_rules.specs.Typing.{constant_of, constant_value, constructors, denoted}
-use Rattle.ob0_types_rules.specs.WellTyped.{Signature, TypeEnvironment, TypedParameter, WellTyped, bind_names, bind_typed, block_fits, declare_typed, fits_over, heading, hold, procedure_fits, procedures_fit, typed_parameters}
+use Rattle.ob0_types_rules.specs.WellTyped.{Signature, TypeEnvironment, TypedParameter, WellTyped, bind_names, bind_typed, block_fits, declare_typed, fits_over, heading, some_and, procedure_fits, procedures_fit, typed_parameters}
 use Rattle.ob0_values.specs.Values.{Shape, Value}
 use Rattle.ob0_types_rules.proofs.Agreeing.{Agree, HoldsOf}
 use Rattle.ob0_types_rules.proofs.Bound.{headed_bindings, newest-append, newest-if, or_else, since-append}
@@ -150,7 +150,7 @@ constants-bound known noted k knows below (more (declares_constant x e) cs) env 
       worth_is = λ d l m. ap (option_and_then (λ w. if k == d then Some w else value_among ((x, a_constant w) ∷ known) d (suc k) cs)) value ∙ chosen d l m (k == d) refl;
     }
 
--- names that stand for no constant
+-- names that mean no constant
 pub record Plain (noted : TypeNoted Name) (k : ℕ) (names : List Name) (after : TypeNoted Name) : Type 0 where
   pub bound : TypeEnvironment Label
   pub front : typed_by_ordinal after ≡ bound ++ typed_by_ordinal noted
@@ -254,7 +254,7 @@ agree-second {X} {Y} {Z} p q P r s (a, e, e', holds) z h = go a holds (sym e' �
     go None holds h = absurd (cc)
     go (Some x) holds h = (x, holds, some_inverse h)
 
-held : {A : Type 0} (o : Option A) (test : A → Bool) → hold o test ≡ true → (a : A) × (o ≡ Some a) × (test a ≡ true)
+held : {A : Type 0} (o : Option A) (test : A → Bool) → some_and o test ≡ true → (a : A) × (o ≡ Some a) × (test a ≡ true)
 held None test h = absurd (true≢false (sym h))
 held (Some a) test h = (a, refl, h)
 
@@ -464,7 +464,7 @@ procedure-entered known noted j k knows below x fs qs h =
     (parameters_typed as_names j (suc k) noted (TypedBelow-weaken k (suc k) noted (le_of_lt (le_refl (suc k))) below) (formal_sections fs)) qs (ap (typed_parameters as_labels env j) (sym (formals-section as_names (as_label as_names) (typed_scope noted) (suc k) fs)) ∙ h) in
     subst₂ (λ ys zs. Entered known noted k x ys zs) listed.1 listed.2 (entered known noted k knows below x listed.0)
 
--- the bindings of a procedure, before them those of the procedures behind it
+-- the bindings of a procedure, before them those of the procedures after it
 procedure-values : (known : Known) (k : ℕ) (x closing : Name) (fs : Tree Name (maybe formals)) (b : Tree Name block) (rest : Tree Name (items procedure)) (B H R : TypeEnvironment Label)
     → Worths (after_names (suc k) (formal_names (formal_sections fs))) (after_procedure (suc k) (declares_procedure x fs b closing))
     (λ d. value_in_block (bind_names (formal_names (formal_sections fs)) no_constant ((x, no_constant) ∷ known)) d (after_names (suc k) (formal_names (formal_sections fs))) b) B
@@ -573,7 +573,7 @@ module-worths (is_module x b closing) h d l =
     let w = block-worths predeclared_known (typed_outermost as_names) 0 7 (knows-all (typed_outermost as_names)) predeclared-below b h in
     w.worth_is d l ∙ sym (ap constant_of (bound-first 0 7 d (block_bindings as_labels (outermost as_labels) 0 (relabel_block as_names (as_label as_names) (typed_scope (typed_outermost as_names)) 7 b)) (outermost as_labels) outermost-binds (λ a z. omega (arith, l, z))))
 
--- in a well-typed module a constant is worth what its declaration is bound to
+-- in a well-typed module a constant evaluates to what its declaration is bound to
 pub predeclared-none : (m : Tree Name module_text) (d : ℕ) → d < 7 → None ≡ value_of_constant m d
 unfolding value_of_constant
 predeclared-none m d l = sym (ap (λ t. if t then None else value_in_block predeclared_known d 7 (module_block m)) (lt-ltb d 7 l))

@@ -1,4 +1,4 @@
--- How many ARRAY and RECORD stand in a tree doesn't hang on what stands for its names.
+-- How many ARRAY and RECORD are in a tree doesn't hang on what represents its names.
 use Rattle.std.proofs.Common.{◌≡◌, ℕ, suc, ◌+◌, map, List, [], ◌∷◌, refl, ap, ◌∙◌}
 use Rattle.ob0_tree.specs.Tree.{Tree, array_type, block, declares, declares_procedure, declares_type, declares_variable, end, fields, formals, further_fields, further_section, has_body, item, items, mapped, maybe, more, named_type, no_fields, no_formals, none, one, procedure, record_type, section, some_fields, some_formals, then_fields, then_name, then_section, type_name, value_section, variable, variable_section, written_type, constants, declares_constants, type_names, declares_types, variables, declares_variables}
 use Rattle.ob0_tree.specs.View.{items_of, names_of}

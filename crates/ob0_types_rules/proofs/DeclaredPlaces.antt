@@ -9,7 +9,7 @@ use Rattle.ob0_scope_rules.specs.Parts.{block_procedures, block_statements, form
 use Rattle.ob0_scope_rules.specs.Scopes.{Scope, after_block, after_names, after_procedure, after_procedures, as_label, declare_names, first_procedure, numbered, relabel_block, relabel_formals, relabel_procedures}
 use Rattle.ob0_scope_rules.proofs.Ordinals.{le-after_names, le-after_block, le-after_procedure, le-after_procedures}
 use Rattle.ob0_types_rules.specs.Bindings.{block_bindings, for_some, object_bound, procedures_bindings}
-use Rattle.ob0_types_rules.specs.Bodies.{BodyAt, DeclarationsStand, block_bodies, procedures_bodies}
+use Rattle.ob0_types_rules.specs.Bodies.{BodyAt, NamesAreDeclared, block_bodies, procedures_bodies}
 use Rattle.ob0_types_rules.specs.Declaring.{declare_block}
 use Rattle.ob0_types_rules.specs.ConstantValues.{Known, no_constant}
 use Rattle.ob0_types_rules.specs.Declarations.{after_variables, formals_constructors, procedure_constructors}
@@ -157,7 +157,7 @@ mutual
       (procedures-stands ((x, no_constant) ∷ known) e.own jr q e.own_knows later_below all behind statements rest later_fits
       (λ d l u. each d (omega (arith, l, inside, above)) u ∙ bound-first k q d R (B ++ H) one_binds (λ a z. omega (arith, l, z)))))
 
-pub declarations_stand-holds : DeclarationsStand
+pub declarations_stand-holds : NamesAreDeclared
 unfolding WellTyped fits_over all_known
 declarations_stand-holds (is_module x b closing) well =
     let h : fits_over as_labels (numbered (is_module x b closing)) ≡ true = sym (fits_by_ordinal-holds (is_module x b closing)) ∙ well.1 in

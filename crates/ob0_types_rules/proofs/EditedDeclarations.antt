@@ -52,7 +52,7 @@ pub record Left {V P : Type 0} (edit : Edit) (w : Value) (X : Marks V P → Name
   pub sound : Sound edit w X n marks
   pub value : known ≡ Some (knowns marks)
 
--- a constant's declaration and those behind it, the constant's value v being known; `next` is what follows
+-- a constant's declaration and those after it, the constant's value v being known; `next` is what follows
 constants-tail : {V P Q : Type 0} (edit : Edit) (w : Value) (X : Marks V P → Name → ℕ → P → Type 0) (p q : ℕ → P → Q) (k : ℕ) (marks : Marks V P) → Sound edit w X k marks → 7 ≤ k → (x : Name) (e : Tree Name expression) (cs cs' : Tree Name (items constant))
     → Worth edit w k (after_names (suc k) (constant_names cs)) (value_among (knowns marks) edit.constant k (more (declares_constant x e) cs))
     → ((b : Mark V P) → IsRight edit w b → (b.ordinal ≡ k) → OfProcedure (X marks b.name b.ordinal) b.object → b.name ≡ x → Worth edit w (suc k) (after_names (suc k) (constant_names cs)) (value_among (knowns (b ∷ marks)) edit.constant (suc k) cs)

@@ -9,7 +9,7 @@ use Rattle.ob0_scope_rules.proofs.EditedTrees.{Edit, edited, edited_block, leaf-
 use Rattle.ob0_scope_rules.proofs.Peeling.{both}
 use Rattle.ob0_scope_rules.proofs.Places.{AllAt, Both, Each, EachBlock, each-block}
 use Rattle.ob0_values.specs.Values.{Value, boolean_shape, elements, integer_shape, members, number, truth}
-use Rattle.ob0_types_rules.specs.EditLaws.{AreUsesOf, InliningKeepsWellTyped, IsConstantWritten, IsShown, LeavingOutKeepsWellTyped}
+use Rattle.ob0_types_rules.specs.EditLaws.{AreUsesOf, InliningKeepsWellTyped, IsConstantWritten, IsPredeclaredTruth, LeavingOutKeepsWellTyped}
 use Rattle.ob0_types_rules.specs.Expressions.{Object, a_constant, a_standard, a_type, reads, writes, writes_line}
 use Rattle.ob0_types_rules.specs.WellTyped.{WellTyped, block_fits, fits_over}
 use Rattle.ob0_types_rules.proofs.EditedTypes.{Checked, anything, as_signed, block_fits-edited}
@@ -142,7 +142,7 @@ shown-from uses (number n) j scope x h u = refl
 shown-from uses (elements vs) j scope x h u = refl
 shown-from uses (members k ms) j scope x h u = refl
 
-pub all-shown : (m : Tree Name module_text) (w : Value) (uses : Uses) → ((k : ℕ) → uses k ≡ true → IsShown m k w) → AllAt (IsShownAs uses w) 0 (occurrences (relabelled (looking_for (truth_name w)) (as_label (looking_for (truth_name w))) m))
+pub all-shown : (m : Tree Name module_text) (w : Value) (uses : Uses) → ((k : ℕ) → uses k ≡ true → IsPredeclaredTruth m k w) → AllAt (IsShownAs uses w) 0 (occurrences (relabelled (looking_for (truth_name w)) (as_label (looking_for (truth_name w))) m))
 all-shown m (truth true) uses h = all-at (IsShownAs uses (truth true)) 0 (occurrences (relabelled (looking_for (codes "TRUE")) (as_label (looking_for (codes "TRUE"))) m)) (λ i l e u. sym (ap (option_and_then label_ordinal) e) ∙ h i (ap uses (sym (zero-add i)) ∙ u))
 all-shown m (truth false) uses h = all-at (IsShownAs uses (truth false)) 0 (occurrences (relabelled (looking_for (codes "FALSE")) (as_label (looking_for (codes "FALSE"))) m)) (λ i l e u. sym (ap (option_and_then label_ordinal) e) ∙ h i (ap uses (sym (zero-add i)) ∙ u))
 all-shown m (number n) uses h = all-at (IsShownAs uses (number n)) 0 (occurrences (relabelled (looking_for (codes "FALSE")) (as_label (looking_for (codes "FALSE"))) m)) (λ i l e. tt)

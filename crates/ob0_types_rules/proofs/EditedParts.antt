@@ -1,4 +1,4 @@
--- The parts of an edited block: what its names bind, where its constant is worth what, and how many ARRAY and RECORD it has.
+-- The parts of an edited block: the value of its names bind, where its constant what, and how many ARRAY and RECORD it has.
 use Rattle.std.proofs.Common.{List, None, Option, Some, [], ap, arith, if◌then◌else◌, le-ltb, le_refl, le_trans, length, lt-ltb, nat_lt, option_and_then, option_map, refl, subst, subst₂, suc, sym, ℕ, ◌++◌, ◌+◌, ◌∙◌, ◌∷◌, ◌≡◌, ◌≤◌}
 use Rattle.ob0_tree.specs.Tree.{Tree, block, constants, declares, declares_constants, declares_procedure, declares_type, declares_types, declares_variable, declares_variables, end, formals, further_section, has_body, item, items, maybe, more, no_formals, none, occurrences, one, procedure, section, some_formals, then_section, type_name, type_names, value_section, variable, variable_section, variables}
 use Rattle.ob0_scope_rules.specs.Names.{Name, as_names}
@@ -69,7 +69,7 @@ pub bind_names-append : {V P : Type 0} (xs ys : List Name) (o : Object V P) (env
 bind_names-append [] ys o env = refl
 bind_names-append (x ∷ xs) ys o env = bind_names-append xs ys o ((x, o) ∷ env)
 
--- names bound behind names
+-- names bound after names
 pub left-join : {V P : Type 0} (edit : Edit) (w : Value) (X : Marks V P → Name → ℕ → P → Type 0) (k : ℕ) (xs ys : List Name) (scope inner : Scope Name) (known between : Known) (marks : Marks V P)
     → inner ≡ declare_names k xs scope → Some (bind_names xs no_constant known) ≡ Some between
     → Left edit w X (after_names (after_names k xs) ys) (declare_names (after_names k xs) ys inner) (Some (bind_names ys no_constant between)) marks
@@ -154,7 +154,7 @@ mutual
       (ap formals_constructors (formals-of edit j fs) ∙ formals_constructors-leaf edit j (formal_sections fs)) i
       + block_constructors-edited edit (j + length (occurrences fs)) (after_names k (formal_names (formal_sections fs))) b i
 
--- where a block's constant is worth what
+-- where a block's constant evaluates to what
 
 pub first_type-below : (k : ℕ) (b : Tree Name block) → first_type k b ≤ after_block k b
 first_type-below k (has_body (declares cs ts vs ps) statements) =

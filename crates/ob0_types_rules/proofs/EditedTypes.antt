@@ -14,7 +14,7 @@ use Rattle.ob0_types_rules.specs.EditLaws.{IsScalar}
 use Rattle.ob0_types_rules.specs.Environments.{meanings}
 use Rattle.ob0_types_rules.specs.Expressions.{Meanings, a_procedure, a_variable}
 use Rattle.ob0_types_rules.specs.Typing.{constructors, denoted, designated, type_at}
-use Rattle.ob0_types_rules.specs.WellTyped.{Mode, Signature, TypeEnvironment, Typed, TypedParameter, bind_names, bind_typed, block_fits, body_fits, declare_typed, heading, hold, procedure_fits, procedures_fit, section_mode, sequence_fits, typed_parameters, variable_type}
+use Rattle.ob0_types_rules.specs.WellTyped.{Mode, Signature, TypeEnvironment, Typed, TypedParameter, bind_names, bind_typed, block_fits, body_fits, declare_typed, heading, some_and, procedure_fits, procedures_fit, section_mode, sequence_fits, typed_parameters, variable_type}
 use Rattle.ob0_types_rules.specs.Written.{written_value}
 use Rattle.ob0_types_rules.proofs.Agreeing.{Agree, agree-then}
 use Rattle.ob0_types_rules.proofs.DenotedInlined.{constructors-inlined}
@@ -212,7 +212,7 @@ pub parameter_pairs-names : (ps : List (TypedParameter Name)) → names_of (para
 parameter_pairs-names [] = refl
 parameter_pairs-names (p ∷ ps) = λ i. p.name ∷ parameter_pairs-names ps i
 
--- the ordinals behind a block's
+-- the ordinals after a block's
 pub procedures-below : (k : ℕ) (b : Tree Name block) → k ≤ first_procedure k b
 procedures-below k b = le_trans (le-after_names k (constant_names (block_constants b))) (types-below k b)
 
@@ -262,7 +262,7 @@ mutual
       let above : suc k ≤ n = le-after_names (suc k) (formal_names (formal_sections fs)) in
       let behind : suc k ≤ after_procedure (suc k) p = le-after_procedure (suc k) p in
       let own : Outside edit k (suc k) = λ l m. outside l (omega (arith, m, above)) in
-      ap (λ gs. hold (typed_parameters as_names (read_edited edit as_signed marks) i gs) (λ ps. procedure_fits as_names (bind_typed ps (heading x ps (read_edited edit as_signed marks))) i p'
+      ap (λ gs. some_and (typed_parameters as_names (read_edited edit as_signed marks) i gs) (λ ps. procedure_fits as_names (bind_typed ps (heading x ps (read_edited edit as_signed marks))) i p'
       && procedures_fit as_names (heading x ps (read_edited edit as_signed marks)) (i + procedure_constructors p') statements' rest')) (formals-of edit j fs)
       ∙ hold-agrees (λ ps. ps) (λ ps. ps) (λ ps. typed_names ps ≡ formal_names (formal_sections fs))
       (typed_parameters as_names (read as_signed marks) i (formal_sections fs)) (typed_parameters as_names (read_edited edit as_signed marks) i (leaf edit j (formal_sections fs)))

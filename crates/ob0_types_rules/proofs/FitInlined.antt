@@ -34,7 +34,7 @@ product-no_designator (integer n) m ms rest c = refl
 product-no_designator (parenthesised e) m ms rest c = refl
 product-no_designator (negation f) m ms rest c = refl
 
--- what is known of a literal: its type is the constant's, and it is no variable
+-- what is known of a literal: its type is the constant's, and it isn't a variable
 pub record Written (checked : Typed Name) (v : Tree Name factor) (w : Value) : Type 0 where
   pub typed : type_of_factor checked v ≡ value_type w
   pub no_variable : variable_type checked (designated (alone v)) ≡ None

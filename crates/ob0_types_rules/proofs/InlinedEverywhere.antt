@@ -12,7 +12,7 @@ use Rattle.ob0_scope_rules.proofs.NoneLeft.{AllGiveWay, NoneOf, none-left}
 use Rattle.ob0_scope_rules.proofs.Peeling.{both}
 use Rattle.ob0_scope_rules.proofs.Places.{AllAt, Both, Each, EachBlock, Placed, both-block, each-block}
 use Rattle.ob0_values.specs.Values.{Value, elements, members, number, truth}
-use Rattle.ob0_types_rules.specs.EditLaws.{InliningEverywhereKeepsWellTyped, IsConstantWritten, IsShown}
+use Rattle.ob0_types_rules.specs.EditLaws.{InliningEverywhereKeepsWellTyped, IsConstantWritten, IsPredeclaredTruth}
 use Rattle.ob0_types_rules.specs.WellTyped.{WellTyped, fits_over}
 use Rattle.ob0_types_rules.specs.Written.{written_value}
 use Rattle.ob0_types_rules.proofs.AloneInBlocks.{IsOf, StandsAlone, alone-block}
@@ -58,7 +58,7 @@ none-of-unshown edit w j scope [] e told gives_way = tt
 none-of-unshown edit w j scope (x ∷ xs) e told gives_way =
     (λ k. true≢false (sym (told.0.1 (gives_way.0 k)) ∙ e), none-of-unshown edit w (suc j) scope xs e told.1 gives_way.1)
 
--- where the constant's names stand alone as factors, none is left
+-- where the constant's names are alone as factors, none is left
 pub here-everywhere : (edit : Edit) (w : Value) → Literal edit w → (s : Sort) (j : ℕ) (scope : Scope Name) (t : Tree Name s) → Told edit w s j scope t → StandsAlone edit.constant s j scope t → Here edit w s j scope t
 here-everywhere edit w lit s j scope t told alone_there = (
   told.0,
@@ -96,7 +96,7 @@ bound-exactly m d i l e =
     let bound : binds m i ≡ label_ordinal l = ap (option_and_then label_ordinal) e in
     (λ u. sym bound ∙ same_ordinal-true (binds m i) d u, λ k. ap (λ o. same_ordinal o d) (bound ∙ k) ∙ eq-eqb d d refl)
 
--- in a well-typed module the constant's names stand alone as factors
+-- in a well-typed module the constant's names are alone as factors
 pub alone-module : (m : Tree Name module_text) (d : ℕ) (w : Value) (v : Tree Name factor) → IsConstantWritten m d w v → WellTyped m → EachBlock (StandsAlone d) 0 (predeclared_scope as_names) 7 (module_block m)
 unfolding WellTyped fits_over
 alone-module (is_module x b closing) d w v c well =
@@ -110,7 +110,7 @@ alone-module (is_module x b closing) d w v c well =
     each-block as_names as_names Nothing Nothing (Here plain w) (λ s j scope t both. (no_writes v d w j scope (occurrences t), all_kept v d scope (occurrences (leaf plain j t)))) 0 scope 7 b all_plain all_plain in
     alone-block plain w plain_lit 0 0 7 marked_outermost (outermost-sound plain w anything low.0) (le_refl 7) b plain_here (λ l n. low.1) well.1
 
-pub everywhere-fitted : (m : Tree Name module_text) (d : ℕ) (w : Value) (v : Tree Name factor) → IsConstantWritten m d w v → ((k : ℕ) → binds m k ≡ Some d → IsShown m k w) → WellTyped m → IsFitted (everywhere (all_bound_to m d) v d) w m
+pub everywhere-fitted : (m : Tree Name module_text) (d : ℕ) (w : Value) (v : Tree Name factor) → IsConstantWritten m d w v → ((k : ℕ) → binds m k ≡ Some d → IsPredeclaredTruth m k w) → WellTyped m → IsFitted (everywhere (all_bound_to m d) v d) w m
 everywhere-fitted (is_module x b closing) d w v c seen well =
     let m : Tree Name module_text = is_module x b closing in
     let uses : Uses = all_bound_to m d in

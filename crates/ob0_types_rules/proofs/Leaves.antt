@@ -54,7 +54,7 @@ pub none-used : (edit : Edit) (w : Value) (j : ℕ) (scope : Scope Name) (xs : L
 none-used edit w j scope [] e here = tt
 none-used edit w j scope (x ∷ xs) e here = (false_from_ne_true (edit.uses j) (λ u. true≢false (sym (here.0.1 u) ∙ e)), none-used edit w (suc j) scope xs e here.1)
 
--- what names stand for in the edited environment
+-- what names mean in the edited environment
 
 abbrev pub edited_meanings : {V P Q : Type 0} → Edit → (ℕ → P → Q) → Marks V P → Meanings Name V Q
 edited_meanings edit q marks = meanings as_names (read_edited edit q marks)
@@ -101,7 +101,7 @@ literal-constant edit w lit meaning seen = record {
   worth = literal-worth {P = Unit {0}} (constants_only meaning) [] edit.literal w lit.written lit.scalar (seen-constants Place (Unit {0}) meaning w seen);
 }
 
--- trees mean the same where their occurrences stand for the same constants and types
+-- trees mean the same where their occurrences mean the same constants and types
 
 pub record Tag (V P : Type 0) : Type 0 where
   pub object : Option (Object V P)

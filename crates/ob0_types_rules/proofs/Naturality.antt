@@ -1,4 +1,4 @@
--- What a tree means over other names: the meaning of a mapped tree is that of the tree, over what the new names stand for.
+-- What a tree means over other names: the meaning of a mapped tree is that of the tree, over what the new names mean.
 use Rattle.std.proofs.Common.{◌≡◌, true, false, ◌∷◌, ◌++◌, map, None, option_map, refl}
 use Rattle.ob0_tree.specs.Tree.{Tree, addend, adds, arguments, compares, designator, end, expression, factor, field, further_argument, index, integer, items, maybe, more, multiplier, multiplies, negation, no_arguments, none, one, parenthesised, product, relates, selector, simple, some_arguments, sum, term, then_argument}
 use Rattle.ob0_scope_rules.specs.Mapping.{with_names}
@@ -7,7 +7,7 @@ use Rattle.ob0_types_rules.specs.Expressions.{Meanings, designate, element_step,
 use Rattle.ob0_types_rules.specs.Typing.{designated}
 use Rattle.ob0_values.specs.Values.{Place, Store, Value, add, add_is_settled, at_field, at_path, gives, multiply, multiply_is_settled, negated, or_stuck, part, read_place, relate, signed, ◌>>=◌}
 
--- what names stand for, each under another name
+-- what names mean, each under another name
 abbrev pub through : {N M V P : Type 0} → (N → M) → (N → M) → Meanings M V P → Meanings N V P
 through f h meaning = record { stands_for = λ x. meaning.stands_for (f x); written = λ x. meaning.written (h x) }
 

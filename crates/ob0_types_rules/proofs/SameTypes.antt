@@ -1,4 +1,4 @@
--- The type of an expression depends on the types of what its names stand for alone.
+-- The type of an expression depends on the types of what its names mean alone.
 use Rattle.std.proofs.Common.{◌≡◌, refl}
 use Rattle.ob0_tree.specs.Tree.{Tree, addend, adds, compares, designator, end, expression, factor, field, index, integer, items, more, multiplier, multiplies, negation, none, one, parenthesised, product, relates, selector, simple, sum, term}
 use Rattle.ob0_scope_rules.specs.Names.{Label}

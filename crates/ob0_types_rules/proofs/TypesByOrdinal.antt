@@ -12,7 +12,7 @@ use Rattle.ob0_types_rules.specs.Environments.{from_binding, meanings, newest}
 use Rattle.ob0_types_rules.specs.Expressions.{Object, a_constant, a_procedure, a_standard, a_type, a_variable, reads, writes, writes_line}
 use Rattle.ob0_types_rules.specs.Typing.{constant_of, constant_value, constructors, denoted, type_of_name}
 use Rattle.ob0_values.specs.Values.{Shape, boolean_shape, integer_shape, truth}
-use Rattle.ob0_types_rules.specs.WellTyped.{Formal, Signature, TypeEnvironment, TypedParameter, bind_names, bind_typed, block_fits, body_fits, declare_typed, fits_over, heading, hold, procedure_fits, procedures_fit, section_mode, sequence_fits, typed_parameters}
+use Rattle.ob0_types_rules.specs.WellTyped.{Formal, Signature, TypeEnvironment, TypedParameter, bind_names, bind_typed, block_fits, body_fits, declare_typed, fits_over, heading, some_and, procedure_fits, procedures_fit, section_mode, sequence_fits, typed_parameters}
 use Rattle.ob0_types_rules.proofs.Agreeing.{Agree, HoldsOf, agree-then, agree-value}
 use Rattle.ob0_types_rules.proofs.Constructors.{formals_constructors-relabel, procedure_constructors-relabel, types_constructors-relabel, variables_constructors-relabel}
 use Rattle.ob0_types_rules.proofs.FitNaturality.{sequence_fits-map}
@@ -240,11 +240,11 @@ label_typed-formals k (p ∷ ps) = λ i. p.formal ∷ label_typed-formals (suc k
 -- blocks
 
 pub hold-agrees : {X Y Z : Type 0} (p : X → Y) (q : X → Z) (P : X → Type 0) (r : Option Y) (s : Option Z) (here : Y → Bool) (there : Z → Bool)
-    → Agree p q P r s → ((x : X) → P x → there (q x) ≡ here (p x)) → hold s there ≡ hold r here
+    → Agree p q P r s → ((x : X) → P x → there (q x) ≡ here (p x)) → some_and s there ≡ some_and r here
 hold-agrees p q P r s here there (a, e, e', holds) next =
-    ap (λ s. hold s there) e' ∙ (go a holds ∙ sym (ap (λ r. hold r here) e))
+    ap (λ s. some_and s there) e' ∙ (go a holds ∙ sym (ap (λ r. some_and r here) e))
   where
-    go : (a : Option _) → HoldsOf P a → hold (option_map q a) there ≡ hold (option_map p a) here
+    go : (a : Option _) → HoldsOf P a → some_and (option_map q a) there ≡ some_and (option_map p a) here
     go None holds = refl
     go (Some x) holds = next x holds
 
@@ -323,7 +323,7 @@ mutual
       let p : Tree N (item procedure) = declares_procedure x fs b closing in
       let scope : Scope N = typed_scope noted in
       let labelled : formal_sections (relabel_formals naming (as_label naming) scope (suc k) fs) ≡ relabel_sections naming (as_label naming) scope (suc k) (formal_sections fs) = formals-section naming (as_label naming) scope (suc k) fs in
-      ap (λ gs. hold (typed_parameters as_labels (typed_by_ordinal noted) j gs) (λ ps. procedure_fits as_labels (bind_typed ps (heading (declared k) ps (typed_by_ordinal noted))) j (relabel_procedure naming (as_label naming) scope k p)
+      ap (λ gs. some_and (typed_parameters as_labels (typed_by_ordinal noted) j gs) (λ ps. procedure_fits as_labels (bind_typed ps (heading (declared k) ps (typed_by_ordinal noted))) j (relabel_procedure naming (as_label naming) scope k p)
       && procedures_fit as_labels (heading (declared k) ps (typed_by_ordinal noted)) (j + procedure_constructors (relabel_procedure naming (as_label naming) scope k p)) (relabel_uses naming (as_label naming) (declare_procedure_names (after_procedure (suc k) p) rest ((x, k) ∷ scope)) statements) (relabel_procedures naming (as_label naming) ((x, k) ∷ scope) (after_procedure (suc k) p) rest))) labelled
       ∙ hold-agrees (λ ps. ps) (label_typed (suc k)) (λ ps. typed_names ps ≡ formal_names (formal_sections fs))
       (typed_parameters naming (typed_by_name noted) j (formal_sections fs)) (typed_parameters as_labels (typed_by_ordinal noted) j (relabel_sections naming (as_label naming) scope (suc k) (formal_sections fs)))

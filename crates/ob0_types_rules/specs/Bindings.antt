@@ -13,7 +13,7 @@ use Rattle.ob0_types_rules.specs.Typing.{value_type}
 use Rattle.ob0_types_rules.specs.WellTyped.{Signature, TypeEnvironment, bind_typed, heading, typed_parameters}
 use Rattle.ob0_values.specs.Values.{Shape}
 
--- what an environment has in front of the one before
+-- what an environment has before the one before
 abbrev pub since : {A : Type 0} → List A → List A → List A
 since before now = take (length now - length before) now
 

@@ -18,7 +18,7 @@ pub record BodyAt (N : Type 0) : Type 0 where
   pub environment : TypeEnvironment N
   pub statements : Tree N (maybe body)
 
--- a block's statements stand behind its procedures
+-- a block's statements follow its procedures
 unfoldable mutual
   unfolding typed_parameters
 
@@ -40,7 +40,7 @@ abbrev pub module_bodies : {N : Type 0} → Naming N → Tree N module_text → 
 module_bodies naming m = block_bodies naming (outermost naming) 0 (module_block m)
 
 -- in a well-typed module, what a name is bound to where statements are checked is what its declaration is
-abbrev pub DeclarationsStand : Type 0
-DeclarationsStand =
+abbrev pub NamesAreDeclared : Type 0
+NamesAreDeclared =
     (m : Tree Name module_text) → WellTyped m
     → All (λ place. (k : ℕ) (o : Object Shape Signature) → object_bound place.environment k ≡ Some o → declared_object m k ≡ Some o) (module_bodies as_labels (numbered m))

@@ -1,4 +1,4 @@
--- What the constants of a module are worth. Of the names around a constant only constants count; other names hide them.
+-- The value of the constants of a module. Of the names around a constant only constants count; other names hide them.
 -- Rule: docs/LANGUAGE.md, Types 6, 7.
 use Rattle.std.specs.Prelude.{None, Option, Some, if◌then◌else◌, map, nat_lt, option_and_then, suc, ℕ, ◌++◌, ◌==◌, ◌∷◌}
 use Rattle.ob0_tree.specs.Tree.{Tree, block, constant, declares, declares_constant, declares_procedure, end, has_body, item, items, module_text, more, procedure}

@@ -31,7 +31,7 @@ declare_first naming env k b = do
   with_constants ← declare_constants naming env (block_constants b)
   declare_types naming with_constants k (block_types b)
 
--- how many ARRAY and RECORD stand in the parts of a block
+-- how many ARRAY and RECORD are in the parts of a block
 abbrev pub types_constructors : {N : Type 0} → Tree N (items type_name) → ℕ
 types_constructors end = 0
 types_constructors (more (declares_type x u) ds) = constructors u + types_constructors ds

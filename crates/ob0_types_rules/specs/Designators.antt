@@ -18,7 +18,7 @@ designator_parts d = ((out-Designator d).name, selectors_in d)
 abbrev pub designator_in : Resolution → Designator → Label × Tree Label (items selector)
 designator_in r d = (label_in r (out-Designator d).name, in_labels r (selectors_in d))
 
--- a designator alone, where no sign and no operator stands beside it
+-- a designator alone, where no sign and no operator is beside it
 abbrev pub designated_factor : {N : Type 0} → Tree N factor → Option (N × Tree N (items selector))
 designated_factor (designator x path) = Some (x, path)
 designated_factor _ = None

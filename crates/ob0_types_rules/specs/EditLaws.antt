@@ -24,11 +24,11 @@ IsScalar (truth b) = Unit {0}
 IsScalar (elements vs) = ⊥
 IsScalar (members k ms) = ⊥
 
--- where TRUE or FALSE would be written for a value in the place of an occurrence, it is the predeclared one
-abbrev pub IsShown : Tree Name module_text → ℕ → Value → Type 0
-IsShown m occurrence (truth true) = sees m occurrence (codes "TRUE") ≡ Some 2
-IsShown m occurrence (truth false) = sees m occurrence (codes "FALSE") ≡ Some 3
-IsShown m occurrence _ = Unit {0}
+-- where TRUE or FALSE would be written for a value in place of an occurrence, it is the predeclared one
+abbrev pub IsPredeclaredTruth : Tree Name module_text → ℕ → Value → Type 0
+IsPredeclaredTruth m occurrence (truth true) = sees m occurrence (codes "TRUE") ≡ Some 2
+IsPredeclaredTruth m occurrence (truth false) = sees m occurrence (codes "FALSE") ≡ Some 3
+IsPredeclaredTruth m occurrence _ = Unit {0}
 
 -- d is a constant that a CONST section declares, w its value, and v what is written for it
 pub record IsConstantWritten (m : Tree Name module_text) (d : ℕ) (w : Value) (v : Tree Name factor) : Type 0 where
@@ -39,7 +39,7 @@ pub record IsConstantWritten (m : Tree Name module_text) (d : ℕ) (w : Value) (
 -- each of the uses is bound to d, and what is written in its place is seen there
 pub record AreUsesOf (m : Tree Name module_text) (d : ℕ) (w : Value) (uses : Uses) : Type 0 where
   pub bound : (k : ℕ) → uses k ≡ true → binds m k ≡ Some d
-  pub seen : (k : ℕ) → uses k ≡ true → IsShown m k w
+  pub seen : (k : ℕ) → uses k ≡ true → IsPredeclaredTruth m k w
 
 -- a constant's literal in place of uses of it keeps a module well-typed
 abbrev pub InliningKeepsWellTyped : Type 0
@@ -57,10 +57,10 @@ LeavingOutKeepsWellTyped =
 abbrev pub InliningEverywhereKeepsWellTyped : Type 0
 InliningEverywhereKeepsWellTyped =
     (m : Tree Name module_text) (d : ℕ) (w : Value) (v : Tree Name factor)
-    → IsConstantWritten m d w v → ((k : ℕ) → binds m k ≡ Some d → IsShown m k w) → WellTyped m → WellTyped (inlined_everywhere m d v)
+    → IsConstantWritten m d w v → ((k : ℕ) → binds m k ≡ Some d → IsPredeclaredTruth m k w) → WellTyped m → WellTyped (inlined_everywhere m d v)
 
--- in a well-typed module a constant's names stand alone as factors: none is a type's, a procedure's or an assigned variable's, and none has selectors
-abbrev pub ConstantsStandAlone : Type 0
-ConstantsStandAlone =
+-- in a well-typed module a constant's names are alone as factors: none is a type's, a procedure's or an assigned variable's, and none has selectors
+abbrev pub ConstantsAreAlone : Type 0
+ConstantsAreAlone =
     (m : Tree Name module_text) (d : ℕ) (w : Value) (v : Tree Name factor)
     → IsConstantWritten m d w v → WellTyped m → All (λ l. l ≢ declared d) (names_elsewhere (numbered m))

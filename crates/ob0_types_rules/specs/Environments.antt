@@ -19,7 +19,7 @@ abbrev pub newest : {N V P : Type 0} → Environment N V P → Option (Object V 
 newest [] = None
 newest (b ∷ env) = Some b.1
 
--- what names stand for in an environment: their first bindings
+-- what names mean in an environment: their first bindings
 abbrev pub meanings : {N V P : Type 0} → Naming N → Environment N V P → Meanings N V P
 meanings naming env = record { stands_for = λ x. newest (from_binding naming env x); written = naming.written }
 

@@ -1,4 +1,4 @@
--- What an expression is worth, over what its names stand for and a store. Expressions change nothing.
+-- The value of an expression, over what its names mean and a store. Expressions change nothing.
 -- Rule: docs/LANGUAGE.md, Runs 2 to 4.
 use Rattle.std.specs.Prelude.{true, false, List, [], ◌∷◌, ◌++◌, pos, negsuc, if◌then◌else◌, nat_lt, Some, Option}
 use Rattle.ob0_tree.specs.Tree.{Tree, addend, adds, compares, designator, end, expression, factor, field, index, integer, items, more, multiplier, multiplies, negation, none, one, parenthesised, product, relates, selector, simple, sum, term}
@@ -9,7 +9,7 @@ use Rattle.ob0_values.specs.Values.{Index, Outcome, Place, Shape, Step, Store, S
 pub data Standard : Type 0 where
   reads writes writes_line : Standard
 
--- what a name stands for; V says what a variable is and P what a procedure is
+-- what a name means; V says what a variable is and P what a procedure is
 pub data Object (V P : Type 0) : Type 0 where
   a_type : Shape → Object V P
   a_constant : Value → Object V P
@@ -17,7 +17,7 @@ pub data Object (V P : Type 0) : Type 0 where
   a_procedure : P → Object V P
   a_standard : Standard → Object V P
 
--- what names stand for at a place, nothing where nothing binds; and how the name of a field is written
+-- what names mean at a place, nothing where nothing binds; and how the name of a field is written
 pub record Meanings (N V P : Type 0) : Type 0 where
   pub stands_for : N → Option (Object V P)
   pub written : N → Name
@@ -28,12 +28,12 @@ element_step (elements vs) (number (pos i)) = if nat_lt i (count_values vs) then
 element_step (elements vs) (number (negsuc i)) = ends Index
 element_step _ _ = ends Stuck
 
--- the place that a name stands for, before its selectors
+-- the place that a name means, before its selectors
 abbrev pub place_of : {P : Type 0} → Option (Object Place P) → Outcome Place
 place_of (Some (a_variable p)) = gives p
 place_of _ = ends Stuck
 
--- a constant is worth its value, a variable what its place holds
+-- a constant has the value its value, a variable what its place holds
 abbrev pub value_of : {P : Type 0} → Store → Option (Object Place P) → Outcome Value
 value_of store (Some (a_constant v)) = gives v
 value_of store (Some (a_variable p)) = or_stuck (read_place store p)

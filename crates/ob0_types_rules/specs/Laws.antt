@@ -19,9 +19,9 @@ FitsByOrdinal = (m : Tree Name module_text) → fits_over as_names m ≡ fits_ov
 abbrev pub WellTypedByShape : Type 0
 WellTypedByShape = (a b : Tree Name module_text) → numbered a ≡ numbered b → IsTrue (declared_once a) → IsTrue (declared_once b) → WellTyped a ↔ WellTyped b
 
--- a constant expression is worth in a run what it is worth to the checker, where names stand for the same constants
-abbrev pub ConstantsHold : Type 0
-ConstantsHold =
+-- a constant expression has the value in a run the value of it to the checker, where names mean the same constants
+abbrev pub ConstantsEvaluate : Type 0
+ConstantsEvaluate =
     (checked : Typed Name) (active : Meanings Name Place (List Mode)) (store : Store) (e : Tree Name expression) (v : Value)
     → ((x : Name) → checked.written x ≡ active.written x)
     → ((x : Name) (w : Value) → constant_of (checked.stands_for x) ≡ Some w → constant_of (active.stands_for x) ≡ Some w)

@@ -8,7 +8,7 @@ use Rattle.ob0_types_rules.specs.Expressions.{Meanings}
 use Rattle.ob0_types_rules.specs.Typing.{add_type, element_type, field_type, multiply_type, type_of, type_of_factor, type_of_term, ◌>>=◌}
 use Rattle.ob0_values.specs.Values.{Shape}
 
--- the type behind one selector
+-- the type after one selector
 unfoldable pub type_selected : {N P : Type 0} → Meanings N Shape P → Shape → Tree N (item selector) → Option Shape
 unfolding type_of
 type_selected meaning s (field x) = field_type s (meaning.written x)
@@ -22,7 +22,7 @@ selectors_in d = items_of selector_of (out-Designator d).selectors.items
 abbrev pub both : {A B C : Type 0} → (A → B → Option C) → Option A → Option B → Option C
 both operation a b = option_and_then (λ x. option_and_then (operation x) b) a
 
--- the type behind one more operand
+-- the type after one more operand
 unfoldable pub type_added : {N P : Type 0} → Meanings N Shape P → Shape → Tree N (item addend) → Option Shape
 unfolding type_of
 type_added meaning x (adds o t) = type_of_term meaning t >>= add_type o x

@@ -20,14 +20,14 @@ infixl 20 ◌>>=◌
 abbrev pub ◌>>=◌ : {A B : Type 0} → Option A → (A → Option B) → Option B
 ◌>>=◌ o next = option_and_then next o
 
--- INTEGER is asked of both sides of `+` and `-`, BOOLEAN of those of OR
+-- INTEGER is required of both sides of `+` and `-`, BOOLEAN of those of OR
 abbrev pub add_type : AddOperator → Shape → Shape → Option Shape
 add_type add_operator.Add integer_shape integer_shape = Some integer_shape
 add_type add_operator.Subtract integer_shape integer_shape = Some integer_shape
 add_type add_operator.Or boolean_shape boolean_shape = Some boolean_shape
 add_type _ _ _ = None
 
--- INTEGER is asked of both sides of `*`, DIV and MOD, BOOLEAN of those of `&`
+-- INTEGER is required of both sides of `*`, DIV and MOD, BOOLEAN of those of `&`
 abbrev pub multiply_type : MultiplyOperator → Shape → Shape → Option Shape
 multiply_type multiply_operator.Multiply integer_shape integer_shape = Some integer_shape
 multiply_type multiply_operator.Divide integer_shape integer_shape = Some integer_shape
@@ -42,7 +42,7 @@ relation_type relation.Equal boolean_shape boolean_shape = Some boolean_shape
 relation_type relation.NotEqual boolean_shape boolean_shape = Some boolean_shape
 relation_type _ _ _ = None
 
--- a sign asks for INTEGER
+-- a sign requires INTEGER
 abbrev pub sign_type : Option Sign → Shape → Option Shape
 sign_type None s = Some s
 sign_type (Some sign.Plus) integer_shape = Some integer_shape
@@ -66,7 +66,7 @@ object_type (Some (a_variable s)) = Some s
 object_type (Some (a_constant v)) = value_type v
 object_type _ = None
 
--- an index asks for INTEGER and an array
+-- an index requires INTEGER and an array
 abbrev pub element_type : Shape → Shape → Option Shape
 element_type (array_shape k n s) integer_shape = Some s
 element_type _ _ = None
@@ -134,7 +134,7 @@ unfoldable mutual
     t ← element_type s i
     type_at meaning t rest
 
--- in a constant expression names stand for constants alone
+-- in a constant expression names mean constants alone
 abbrev pub constant_of : {V P : Type 0} → Option (Object V P) → Option Value
 constant_of (Some (a_constant v)) = Some v
 constant_of _ = None
@@ -172,7 +172,7 @@ abbrev mutual
   field_scalars no_field_shape = 0
   field_scalars (next_field_shape x s rest) = scalars s + field_scalars rest
 
--- how many arrays and records stand inside one another, named types followed
+-- how many arrays and records are inside one another, named types followed
 abbrev mutual
   pub depth : Shape → ℕ
   depth integer_shape = 0
@@ -188,7 +188,7 @@ abbrev mutual
 abbrev pub within_limits : Shape → Option Shape
 within_limits s = if nat_le (scalars s) 65536 && nat_le (depth s) 100 then Some s else None
 
--- how many ARRAY and RECORD stand in a type's text
+-- how many ARRAY and RECORD are in a type's text
 abbrev mutual
   pub constructors : {N : Type 0} → Tree N written_type → ℕ
   constructors (named_type x) = 0

@@ -44,7 +44,7 @@ pub record Formal : Type 0 where
 abbrev pub Signature : Type 0
 Signature = List Formal
 
--- what names stand for in a checked module: a variable is its type, a procedure its signature
+-- what names mean in a checked module: a variable is its type, a procedure its signature
 abbrev pub Typed : Type 0 → Type 0
 Typed N = Meanings N Shape Signature
 
@@ -72,7 +72,7 @@ signature_of (Some (a_standard writes)) = Some (record { mode = by_value; shape 
 signature_of (Some (a_standard writes_line)) = Some []
 signature_of _ = None
 
--- a parameter asks for the same type; a VAR argument is a variable or parameter with its selectors, without parentheses
+-- a parameter requires the same type; a VAR argument is a variable or parameter with its selectors, without parentheses
 unfoldable pub argument_fits : {N P : Type 0} → Meanings N Shape P → Formal → Tree N expression → Bool
 unfolding type_of variable_type
 argument_fits meaning f e =
@@ -91,7 +91,7 @@ unfolding arguments_fit
 call_fits meaning None es = false
 call_fits meaning (Some signature) es = arguments_fit meaning signature es
 
--- a condition asks for BOOLEAN
+-- a condition requires BOOLEAN
 unfoldable pub condition_fits : {N P : Type 0} → Meanings N Shape P → Tree N expression → Bool
 unfolding type_of
 condition_fits meaning e = agree (Some boolean_shape) (type_of meaning e)
@@ -165,9 +165,9 @@ body_fits naming env none = true
 body_fits naming env (one (begins statements)) = sequence_fits (meanings naming env) statements
 
 -- something is there and passes a test
-abbrev pub hold : {A : Type 0} → Option A → (A → Bool) → Bool
-hold None test = false
-hold (Some a) test = test a
+abbrev pub some_and : {A : Type 0} → Option A → (A → Bool) → Bool
+some_and None test = false
+some_and (Some a) test = test a
 
 -- a block's declarations bind what they name, its procedures fit in turn, and its statements fit in the whole environment
 unfoldable mutual
@@ -175,14 +175,14 @@ unfoldable mutual
 
   pub block_fits : {N : Type 0} → Naming N → TypeEnvironment N → ℕ → Tree N block → Bool
   block_fits naming env k (has_body (declares cs ts vs ps) statements) =
-      hold (do first ← declare_first naming env k (has_body (declares cs ts vs ps) statements); declare_typed naming (after_types k (has_body (declares cs ts vs ps) statements)) (section_variables vs) first)
+      some_and (do first ← declare_first naming env k (has_body (declares cs ts vs ps) statements); declare_typed naming (after_types k (has_body (declares cs ts vs ps) statements)) (section_variables vs) first)
       (λ inner. procedures_fit naming inner (after_variables k (has_body (declares cs ts vs ps) statements)) statements ps)
 
   -- each procedure in the environment of those before it, and then the statements of the block
   pub procedures_fit : {N : Type 0} → Naming N → TypeEnvironment N → ℕ → Tree N (maybe body) → Tree N (items procedure) → Bool
   procedures_fit naming env k statements end = body_fits naming env statements
   procedures_fit naming env k statements (more p rest) =
-      hold (typed_parameters naming env k (procedure_formals p)) (λ ps. procedure_fits naming (bind_typed ps (heading (procedure_name p) ps env)) k p
+      some_and (typed_parameters naming env k (procedure_formals p)) (λ ps. procedure_fits naming (bind_typed ps (heading (procedure_name p) ps env)) k p
       && procedures_fit naming (heading (procedure_name p) ps env) (k + procedure_constructors p) statements rest)
 
   pub procedure_fits : {N : Type 0} → Naming N → TypeEnvironment N → ℕ → Tree N (item procedure) → Bool

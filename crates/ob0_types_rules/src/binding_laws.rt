@@ -1,8 +1,8 @@
 //! The laws. Each function does nothing: its contract is the law.
 
-ghost use Rattle.ob0_types_rules.specs.Bodies.{DeclarationsStand};
+ghost use Rattle.ob0_types_rules.specs.Bodies.{NamesAreDeclared};
 
 /// Where statements of a well-typed module are checked, each name is bound to what its declaration is.
-pub fn declarations_stand()
-    ensures { DeclarationsStand }
+pub fn names_are_declared()
+    ensures { NamesAreDeclared }
 {}

@@ -1,7 +1,7 @@
 //! The laws. Each function does nothing: its contract is the law.
 
-ghost use Rattle.ob0_types_rules.specs.Laws.{FitsByOrdinal, WellTypedByShape, ConstantsHold, InliningKeepsEvaluation, InliningKeepsTypes};
-ghost use Rattle.ob0_types_rules.specs.EditLaws.{FreeKeepsWellTyped, InliningKeepsWellTyped, LeavingOutKeepsWellTyped, InliningEverywhereKeepsWellTyped, ConstantsStandAlone};
+ghost use Rattle.ob0_types_rules.specs.Laws.{FitsByOrdinal, WellTypedByShape, ConstantsEvaluate, InliningKeepsEvaluation, InliningKeepsTypes};
+ghost use Rattle.ob0_types_rules.specs.EditLaws.{FreeKeepsWellTyped, InliningKeepsWellTyped, LeavingOutKeepsWellTyped, InliningEverywhereKeepsWellTyped, ConstantsAreAlone};
 
 /// A module fits by name exactly where its numbered tree fits by ordinal.
 pub fn fits_by_ordinal()
@@ -13,9 +13,9 @@ pub fn well_typed_by_shape()
     ensures { WellTypedByShape }
 {}
 
-/// A constant expression is worth in a run what it is worth to the checker.
-pub fn constants_hold()
-    ensures { ConstantsHold }
+/// A constant expression has the value in a run the value of it to the checker.
+pub fn constants_evaluate()
+    ensures { ConstantsEvaluate }
 {}
 
 /// A factor of a constant's value in place of uses of that constant keeps an expression's evaluation.
@@ -48,7 +48,7 @@ pub fn inlining_everywhere_keeps_well_typed()
     ensures { InliningEverywhereKeepsWellTyped }
 {}
 
-/// In a well-typed module a constant's names stand alone as factors.
-pub fn constants_stand_alone()
-    ensures { ConstantsStandAlone }
+/// In a well-typed module a constant's names are alone as factors.
+pub fn constants_are_alone()
+    ensures { ConstantsAreAlone }
 {}

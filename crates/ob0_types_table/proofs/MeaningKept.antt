@@ -1,4 +1,4 @@
--- More shapes change nothing that a name stands for.
+-- More shapes change nothing that a name means.
 use Rattle.std.proofs.Common.{◌≡◌, ℕ, zero, suc, List, [], ◌∷◌, ◌++◌, All, map, length, slice_get, Some, option_and_then, refl, sym, ap, ◌∙◌, subst}
 use Rattle.std.proofs.lemmas.List.Elements.{All-head, All-tail}
 use Rattle.ob0_values.specs.Values.{Shape}
@@ -7,10 +7,10 @@ use Rattle.ob0_types_table.specs.declared.known.Entry.{Entry}
 use Rattle.ob0_types_table.specs.declared.known.Formal as formal
 use Rattle.ob0_types_table.specs.declared.known.Object as declaration
 use Rattle.ob0_types_table.specs.declared.known.Object.TheVariants as kind
-use Rattle.ob0_types_table.specs.declared.known.Sight.{Sight}
-use Rattle.ob0_types_table.specs.declared.known.Sight.TheVariants as sight
+use Rattle.ob0_types_table.specs.declared.known.VisibleBinding.{VisibleBinding}
+use Rattle.ob0_types_table.specs.declared.known.VisibleBinding.TheVariants as sight
 use Rattle.ob0_types_rules.specs.Expressions.{a_procedure, a_type, a_variable}
-use Rattle.ob0_types_table.specs.KnownTables.{AreTables, EntryIsMade, SightIsMade, Tables, in_sight_of, known_meaning, label_object, seen_entry, shapes_of}
+use Rattle.ob0_types_table.specs.KnownTables.{AreTables, EntryIsMade, BindingIsMade, Tables, visible_objects, known_meaning, label_object, seen_entry, shapes_of}
 use Rattle.ob0_types_table.specs.Tables.{IsMade, ObjectIsMade, formal_in, mode_of, object_in}
 use Rattle.ob0_types_table.proofs.Tables.{length-table, type_shape-more}
 
@@ -28,8 +28,8 @@ object_in-more shapes later (kind.Variable t) h = ap (λ s. Some (a_variable s))
 object_in-more shapes later (kind.Procedure fs) h = ap (λ z. Some (a_procedure z)) (formals-more shapes later fs.items h)
 object_in-more shapes later (kind.Standard s) h = refl
 
-sight-more : (shapes later : List Shape) (last : declaration.Object) (s : Sight) → ObjectIsMade (length shapes) last → SightIsMade (length shapes) s
-    → option_and_then (object_in (shapes ++ later)) (in_sight_of last s) ≡ option_and_then (object_in shapes) (in_sight_of last s)
+sight-more : (shapes later : List Shape) (last : declaration.Object) (s : VisibleBinding) → ObjectIsMade (length shapes) last → BindingIsMade (length shapes) s
+    → option_and_then (object_in (shapes ++ later)) (visible_objects last s) ≡ option_and_then (object_in shapes) (visible_objects last s)
 sight-more shapes later last sight.Nothing h made = refl
 sight-more shapes later last sight.Last h made = object_in-more shapes later last h
 sight-more shapes later last (sight.Earlier o) h made = object_in-more shapes later o made

@@ -2,17 +2,17 @@
 use Rattle.std.proofs.Common.{◌≡◌, ℕ, suc, max, ◌+◌, ◌≤◌, Bool, true, cond, ◌&&◌, List, [], ◌∷◌, ◌++◌, length, get_or, Some, None, nat_le, sym, ap, ◌∙◌, arith, length-append}
 use Rattle.std.proofs.Math.Seq.{get_or-append_seam}
 use Rattle.ob0_values.specs.Values.{Shape}
-use Rattle.ob0_types_table.specs.declared.known.Shape as code
+use Rattle.ob0_types_table.specs.declared.known.TypeEntry as code
 use Rattle.ob0_types_table.specs.declared.known.Entry.{Entry}
 use Rattle.ob0_types_table.specs.declared.known.Field.{Field}
-use Rattle.ob0_types_table.specs.declared.known.Sight.{Sight}
-use Rattle.ob0_types_table.specs.declared.known.Sight.TheVariants as sight
-use Rattle.ob0_types_table.specs.KnownTables.{AreTables, EntryIsMade, SightIsMade, Tables, shapes_of}
+use Rattle.ob0_types_table.specs.declared.known.VisibleBinding.{VisibleBinding}
+use Rattle.ob0_types_table.specs.declared.known.VisibleBinding.TheVariants as sight
+use Rattle.ob0_types_table.specs.KnownTables.{AreTables, EntryIsMade, BindingIsMade, Tables, shapes_of}
 use Rattle.ob0_types_table.specs.Tables.{IsEntry, fields_shape, made_shape, no_shape}
 use Rattle.ob0_types_rules.specs.Typing.{depth, field_depth, field_scalars, scalars, within_limits}
 use Rattle.ob0_types_table.proofs.Tables.{ObjectIsMade-more, in_order-push, length-table, shapes_from-push}
 
-sight_made-more : (n m : ℕ) (s : Sight) → n ≤ m → SightIsMade n s → SightIsMade m s
+sight_made-more : (n m : ℕ) (s : VisibleBinding) → n ≤ m → BindingIsMade n s → BindingIsMade m s
 sight_made-more n m sight.Nothing less h = tt
 sight_made-more n m sight.Last less h = tt
 sight_made-more n m (sight.Earlier o) less h = ObjectIsMade-more n m o less h
@@ -20,16 +20,16 @@ sight_made-more n m (sight.Earlier o) less h = ObjectIsMade-more n m o less h
 entry_made-more : (n m : ℕ) (e : Entry) → n ≤ m → EntryIsMade n e → EntryIsMade m e
 entry_made-more n m e less h = (ObjectIsMade-more n m e.object less h.0, sight_made-more n m e.sight less h.1)
 
-pub tables-push : (t : Tables) (m : code.Shape) → AreTables t → IsEntry (shapes_of t) m → AreTables (record { shapes = t.shapes ++ m ∷ []; entries = t.entries })
+pub tables-push : (t : Tables) (m : code.TypeEntry) → AreTables t → IsEntry (shapes_of t) m → AreTables (record { shapes = t.shapes ++ m ∷ []; entries = t.entries })
 tables-push t m h entry = record {
   in_order = in_order-push [] t.shapes m h.in_order entry;
   entries_made = λ k d less. entry_made-more (length t.shapes) (length (t.shapes ++ m ∷ [])) (get_or t.entries k d) (omega (arith, length-append t.shapes (m ∷ []))) (h.entries_made k d less);
 }
 
-pub pushed_shapes : (t u : Tables) (m : code.Shape) → u.shapes ≡ t.shapes ++ m ∷ [] → shapes_of u ≡ shapes_of t ++ made_shape (shapes_of t) m ∷ []
+pub pushed_shapes : (t u : Tables) (m : code.TypeEntry) → u.shapes ≡ t.shapes ++ m ∷ [] → shapes_of u ≡ shapes_of t ++ made_shape (shapes_of t) m ∷ []
 pushed_shapes t u m e = ap (λ ms. shapes_of (record { shapes = ms; entries = u.entries })) e ∙ shapes_from-push [] t.shapes m
 
-pub pushed_at : (t u : Tables) (m : code.Shape) (i : ℕ) → u.shapes ≡ t.shapes ++ m ∷ [] → i ≡ length t.shapes → get_or (shapes_of u) i no_shape ≡ made_shape (shapes_of t) m
+pub pushed_at : (t u : Tables) (m : code.TypeEntry) (i : ℕ) → u.shapes ≡ t.shapes ++ m ∷ [] → i ≡ length t.shapes → get_or (shapes_of u) i no_shape ≡ made_shape (shapes_of t) m
 pushed_at t u m i e at =
     ap (λ z. get_or z i no_shape) (pushed_shapes t u m e)
     ∙ ap (λ n. get_or (shapes_of t ++ made_shape (shapes_of t) m ∷ []) n no_shape) (at ∙ sym (length-table t.shapes))

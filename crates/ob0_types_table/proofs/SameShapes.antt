@@ -46,7 +46,7 @@ field_depth-at shapes (g ∷ fs) zero f less here = rw here (omega arith)
 field_depth-at shapes (g ∷ fs) (suc n) f less here =
     let later = field_depth-at shapes fs n f (omega arith) here in omega arith
 
--- a record is what has a fault stands for where it has no fields
+-- a record is what has a fault means where it has no fields
 pub nothing_kept : (shapes : List Shape) (fs : List Field) (k : ℕ) (empty : Bool) → empty ≡ nat_eq (length fs) 0 → k ≡ 0 → empty ≡ (nat_eq k 0 && same_fields (fields_shape shapes fs) no_field_shape)
 nothing_kept shapes [] k empty e h = e ∙ sym (ap (λ b. b && true) (eq-eqb k 0 h))
 nothing_kept shapes (f ∷ fs) k empty e h =

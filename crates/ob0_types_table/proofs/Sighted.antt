@@ -1,4 +1,4 @@
--- What is in sight after a binding, and after it is put back.
+-- What is in scope after a binding, and after it is put back.
 use Rattle.std.proofs.Common.{◌≡◌, ℕ, zero, suc, ◌<◌, cond, List, [], ◌∷◌, ◌++◌, length, slice_get, slice_set, get_or, None, Option, option_and_then, sym, refl, ap, ◌∙◌, arith}
 use Rattle.std.proofs.Math.Dec.{eqb-suc-suc, eqb-suc-zero, eqb-zero-suc}
 use Rattle.std.proofs.lemmas.Option.{slice_get_read}
@@ -21,7 +21,7 @@ push_seen f [] x (suc k) none = refl
 push_seen f (y ∷ xs) x zero none = refl
 push_seen f (y ∷ xs) x (suc k) none = push_seen f xs x k none
 
--- what was in sight before two lists of bindings
+-- what was in scope before two lists of bindings
 pub before_all-append : (first later : List Shadowed) (seen : ℕ → Option declaration.Object) → before_all (first ++ later) seen ≡ before_all first (before_all later seen)
 before_all-append [] later seen = refl
 before_all-append (s ∷ first) later seen = ap (put_at s.ordinal s.before) (before_all-append first later seen)

@@ -7,27 +7,27 @@ use Rattle.std.proofs.Math.Seq.{get_or-append_seam}
 use Rattle.ob0_values.specs.Values.{Shape, array_shape, next_field_shape, record_shape}
 use Rattle.ob0_types_table.specs.declared.types.TypeId.{TypeId}
 use Rattle.ob0_types_table.specs.declared.types.TypeId.TheVariants as type
-use Rattle.ob0_types_table.specs.declared.known.Shape as code
-use Rattle.ob0_types_table.specs.declared.known.Shape.TheVariants as made
+use Rattle.ob0_types_table.specs.declared.known.TypeEntry as code
+use Rattle.ob0_types_table.specs.declared.known.TypeEntry.TheVariants as made
 use Rattle.ob0_types_table.specs.declared.known.Field.{Field}
 use Rattle.ob0_types_table.specs.declared.known.Object as declaration
 use Rattle.ob0_types_table.specs.declared.known.Object.TheVariants as kind
-use Rattle.ob0_types_table.specs.Tables.{AreMadeInOrder, IsCounted, IsEntry, IsMade, ObjectIsMade, PartsAreMade, fields_shape, made_shape, no_shape, only_array, only_record, shapes_from, type_shape}
+use Rattle.ob0_types_table.specs.Tables.{AreMadeInOrder, CountsParts, IsEntry, IsMade, ObjectIsMade, PartsAreMade, fields_shape, made_shape, no_shape, only_array, only_record, shapes_from, type_shape}
 
-pub shapes_from-push : (known : List Shape) (ms : List code.Shape) (m : code.Shape) → shapes_from known (ms ++ m ∷ []) ≡ shapes_from known ms ++ made_shape (shapes_from known ms) m ∷ []
+pub shapes_from-push : (known : List Shape) (ms : List code.TypeEntry) (m : code.TypeEntry) → shapes_from known (ms ++ m ∷ []) ≡ shapes_from known ms ++ made_shape (shapes_from known ms) m ∷ []
 shapes_from-push known [] m = refl
 shapes_from-push known (x ∷ ms) m = shapes_from-push (known ++ made_shape known x ∷ []) ms m
 
-pub length-shapes_from : (known : List Shape) (ms : List code.Shape) → length (shapes_from known ms) ≡ length known + length ms
+pub length-shapes_from : (known : List Shape) (ms : List code.TypeEntry) → length (shapes_from known ms) ≡ length known + length ms
 length-shapes_from known [] = omega arith
 length-shapes_from known (x ∷ ms) = omega (arith, length-shapes_from (known ++ made_shape known x ∷ []) ms, length-append known (made_shape known x ∷ []))
 
 -- what is made later
-pub shapes_later : List Shape → List code.Shape → List Shape
+pub shapes_later : List Shape → List code.TypeEntry → List Shape
 shapes_later known [] = []
 shapes_later known (x ∷ ms) = made_shape known x ∷ shapes_later (known ++ made_shape known x ∷ []) ms
 
-pub shapes_from-known : (known : List Shape) (ms : List code.Shape) → shapes_from known ms ≡ known ++ shapes_later known ms
+pub shapes_from-known : (known : List Shape) (ms : List code.TypeEntry) → shapes_from known ms ≡ known ++ shapes_later known ms
 unfolding shapes_later
 shapes_from-known known [] = sym (append-nil known)
 shapes_from-known known (x ∷ ms) =
@@ -45,26 +45,26 @@ pub fields_shape-more : (shapes later : List Shape) (fs : List Field) → All (�
 fields_shape-more shapes later [] h = refl
 fields_shape-more shapes later (f ∷ fs) h = λ i. next_field_shape f.name.now (type_shape-more shapes later f.of (All-head (λ f. IsMade (length shapes) f.of) f fs h) i) (fields_shape-more shapes later fs (All-tail (λ f. IsMade (length shapes) f.of) f fs h) i)
 
-pub made_shape-more : (shapes later : List Shape) (m : code.Shape) → PartsAreMade (length shapes) m → made_shape (shapes ++ later) m ≡ made_shape shapes m
+pub made_shape-more : (shapes later : List Shape) (m : code.TypeEntry) → PartsAreMade (length shapes) m → made_shape (shapes ++ later) m ≡ made_shape shapes m
 made_shape-more shapes later (made.Array a) h = ap (array_shape a.ordinal a.length) (type_shape-more shapes later a.element h)
 made_shape-more shapes later (made.Record r) h = ap (record_shape r.ordinal) (fields_shape-more shapes later r.fields h)
 
 -- an entry is made over all shapes of the table
-pub shape_at-entry : (known : List Shape) (ms : List code.Shape) (i : ℕ) (m : code.Shape) → AreMadeInOrder known ms → i < length ms → m ≡ get_or ms i m
-    → (get_or (shapes_from known ms) (length known + i) no_shape ≡ made_shape (shapes_from known ms) m) × IsCounted m (made_shape (shapes_from known ms) m)
+pub shape_at-entry : (known : List Shape) (ms : List code.TypeEntry) (i : ℕ) (m : code.TypeEntry) → AreMadeInOrder known ms → i < length ms → m ≡ get_or ms i m
+    → (get_or (shapes_from known ms) (length known + i) no_shape ≡ made_shape (shapes_from known ms) m) × CountsParts m (made_shape (shapes_from known ms) m)
 shape_at-entry known [] i m h less e = absurd (omega arith)
 shape_at-entry known (x ∷ ms) zero m h less e =
     let later = shapes_later (known ++ made_shape known x ∷ []) ms in
     let whole : shapes_from known (x ∷ ms) ≡ (known ++ made_shape known x ∷ []) ++ later = shapes_from-known (known ++ made_shape known x ∷ []) ms in
     let split : shapes_from known (x ∷ ms) ≡ known ++ made_shape known x ∷ later = whole ∙ append_assoc known (made_shape known x ∷ []) later in
     let same : made_shape known x ≡ made_shape (shapes_from known (x ∷ ms)) x = sym (made_shape-more known (made_shape known x ∷ later) x h.0.parts) ∙ ap (λ z. made_shape z x) (sym split) in
-    let P : code.Shape → Type 0 = λ y. IsCounted y (made_shape (shapes_from known (x ∷ ms)) y) in (
+    let P : code.TypeEntry → Type 0 = λ y. CountsParts y (made_shape (shapes_from known (x ∷ ms)) y) in (
       ap (λ n. get_or (shapes_from known (x ∷ ms)) n no_shape) (add-zero (length known))
           ∙ ap (λ z. get_or z (length known) no_shape) split
           ∙ get_or-append_seam known (made_shape known x) later no_shape
           ∙ same
           ∙ ap (made_shape (shapes_from known (x ∷ ms))) (sym e),
-      subst P (sym e) (subst (IsCounted x) same h.0.counted),
+      subst P (sym e) (subst (CountsParts x) same h.0.counted),
     )
 shape_at-entry known (x ∷ ms) (suc i) m h less e =
     let size : length (known ++ made_shape known x ∷ []) ≡ length known + 1 = length-append known (made_shape known x ∷ []) in
@@ -72,21 +72,21 @@ shape_at-entry known (x ∷ ms) (suc i) m h less e =
     let later = shape_at-entry (known ++ made_shape known x ∷ []) ms i m h.1 (omega arith) e in
     (ap (λ n. get_or (shapes_from known (x ∷ ms)) n no_shape) at ∙ later.0, later.1)
 
-pub shape_at-table : (ms : List code.Shape) (i : ℕ) (m : code.Shape) → AreMadeInOrder [] ms → i < length ms → m ≡ get_or ms i m → get_or (shapes_from [] ms) i no_shape ≡ made_shape (shapes_from [] ms) m
+pub shape_at-table : (ms : List code.TypeEntry) (i : ℕ) (m : code.TypeEntry) → AreMadeInOrder [] ms → i < length ms → m ≡ get_or ms i m → get_or (shapes_from [] ms) i no_shape ≡ made_shape (shapes_from [] ms) m
 shape_at-table ms i m h less e = ap (λ n. get_or (shapes_from [] ms) n no_shape) (sym (zero-add i)) ∙ (shape_at-entry [] ms i m h less e).0
 
-pub counted_at-table : (ms : List code.Shape) (i : ℕ) (m : code.Shape) → AreMadeInOrder [] ms → i < length ms → m ≡ get_or ms i m → IsCounted m (made_shape (shapes_from [] ms) m)
+pub counted_at-table : (ms : List code.TypeEntry) (i : ℕ) (m : code.TypeEntry) → AreMadeInOrder [] ms → i < length ms → m ≡ get_or ms i m → CountsParts m (made_shape (shapes_from [] ms) m)
 counted_at-table ms i m h less e = (shape_at-entry [] ms i m h less e).1
 
-pub shape_at-past : (ms : List code.Shape) (i : ℕ) → length ms ≤ i → get_or (shapes_from [] ms) i no_shape ≡ no_shape
+pub shape_at-past : (ms : List code.TypeEntry) (i : ℕ) → length ms ≤ i → get_or (shapes_from [] ms) i no_shape ≡ no_shape
 shape_at-past ms i h = get_or_past (shapes_from [] ms) i no_shape (omega (arith, length-shapes_from [] ms))
 
 -- one more entry
-pub in_order-push : (known : List Shape) (ms : List code.Shape) (m : code.Shape) → AreMadeInOrder known ms → IsEntry (shapes_from known ms) m → AreMadeInOrder known (ms ++ m ∷ [])
+pub in_order-push : (known : List Shape) (ms : List code.TypeEntry) (m : code.TypeEntry) → AreMadeInOrder known ms → IsEntry (shapes_from known ms) m → AreMadeInOrder known (ms ++ m ∷ [])
 in_order-push known [] m h entry = (entry, tt)
 in_order-push known (x ∷ ms) m h entry = (h.0, in_order-push (known ++ made_shape known x ∷ []) ms m h.1 entry)
 
-pub length-table : (ms : List code.Shape) → length (shapes_from [] ms) ≡ length ms
+pub length-table : (ms : List code.TypeEntry) → length (shapes_from [] ms) ≡ length ms
 length-table ms = omega (arith, length-shapes_from [] ms)
 
 -- what was made stays so

@@ -2,7 +2,7 @@
 -- Rule: none; for contracts: a type with its parts.
 use Rattle.std.specs.Prelude.{List}
 use Rattle.ob0_types_table.specs.Tables.{made_shape, no_shape}
-use Rattle.ob0_types_table.specs.declared.known.Shape.TheVariants as made
+use Rattle.ob0_types_table.specs.declared.known.TypeEntry.TheVariants as made
 use Rattle.ob0_types_table.specs.declared.sameness.Parts.{Parts}
 use Rattle.ob0_types_table.specs.declared.sameness.Parts.TheVariants as parts
 use Rattle.ob0_values.specs.Values.{Shape, boolean_shape, integer_shape}

@@ -1,12 +1,12 @@
--- What the checker's tables stand for: types, shapes and declarations.
+-- What the checker's tables mean: types, shapes and declarations.
 -- Rule: none; for contracts: what the checker's tables mean.
 use Rattle.std.specs.Prelude.{◌≡◌, ℕ, ◌<◌, Bool, true, false, List, [], ◌∷◌, ◌++◌, map, length, slice_index_or, All, Some, None, Option}
 use Rattle.ob0_values.specs.Scalars.{scalar_value}
 use Rattle.ob0_values.specs.Values.{FieldShapes, Shape, array_shape, boolean_shape, integer_shape, next_field_shape, no_field_shape, record_shape}
 use Rattle.ob0_types_table.specs.declared.types.TypeId.{TypeId}
 use Rattle.ob0_types_table.specs.declared.types.TypeId.TheVariants as type
-use Rattle.ob0_types_table.specs.declared.known.Shape as code
-use Rattle.ob0_types_table.specs.declared.known.Shape.TheVariants as made
+use Rattle.ob0_types_table.specs.declared.known.TypeEntry as code
+use Rattle.ob0_types_table.specs.declared.known.TypeEntry.TheVariants as made
 use Rattle.ob0_types_table.specs.declared.known.Field.{Field}
 use Rattle.ob0_types_table.specs.declared.known.Formal as formal
 use Rattle.ob0_types_table.specs.declared.known.Standard as standard
@@ -31,7 +31,7 @@ abbrev pub only_record : Shape → Shape
 only_record (record_shape k fs) = record_shape k fs
 only_record _ = no_shape
 
--- the shape that a type stands for, by the shapes that were made, in order
+-- the shape that a type means, by the shapes that were made, in order
 abbrev pub type_shape : List Shape → TypeId → Shape
 type_shape shapes type.Integer = integer_shape
 type_shape shapes type.Boolean = boolean_shape
@@ -45,12 +45,12 @@ fields_shape shapes [] = no_field_shape
 fields_shape shapes (f ∷ fs) = next_field_shape f.name.now (type_shape shapes f.of) (fields_shape shapes fs)
 
 -- an entry of the table of shapes, over the shapes made before it
-abbrev pub made_shape : List Shape → code.Shape → Shape
+abbrev pub made_shape : List Shape → code.TypeEntry → Shape
 made_shape shapes (made.Array a) = array_shape a.ordinal a.length (type_shape shapes a.element)
 made_shape shapes (made.Record r) = record_shape r.ordinal (fields_shape shapes r.fields)
 
 -- the shapes of a table, each made over those before it
-abbrev pub shapes_from : List Shape → List code.Shape → List Shape
+abbrev pub shapes_from : List Shape → List code.TypeEntry → List Shape
 shapes_from known [] = known
 shapes_from known (m ∷ ms) = shapes_from (known ++ made_shape known m ∷ []) ms
 
@@ -61,22 +61,22 @@ IsMade n (type.Record i) = i < n
 IsMade n _ = Unit {0}
 
 -- the parts of a shape were made before it
-abbrev pub PartsAreMade : ℕ → code.Shape → Type 0
+abbrev pub PartsAreMade : ℕ → code.TypeEntry → Type 0
 PartsAreMade n (made.Array a) = IsMade n a.element
 PartsAreMade n (made.Record r) = All (λ f. IsMade n f.of) r.fields
 
 -- an entry keeps how many scalars its shape has, and how deep it is
-abbrev pub IsCounted : code.Shape → Shape → Type 0
-IsCounted (made.Array a) s = (a.scalars ≡ scalars s) × (a.depth ≡ depth s)
-IsCounted (made.Record r) s = (r.scalars ≡ scalars s) × (r.depth ≡ depth s)
+abbrev pub CountsParts : code.TypeEntry → Shape → Type 0
+CountsParts (made.Array a) s = (a.scalars ≡ scalars s) × (a.depth ≡ depth s)
+CountsParts (made.Record r) s = (r.scalars ≡ scalars s) × (r.depth ≡ depth s)
 
 -- an array or record whose parts were made before, within the limits
-pub record IsEntry (shapes : List Shape) (m : code.Shape) : Type 0 where
+pub record IsEntry (shapes : List Shape) (m : code.TypeEntry) : Type 0 where
   pub parts : PartsAreMade (length shapes) m
-  pub counted : IsCounted m (made_shape shapes m)
+  pub counted : CountsParts m (made_shape shapes m)
 
 -- each entry is made of those before it
-abbrev pub AreMadeInOrder : List Shape → List code.Shape → Type 0
+abbrev pub AreMadeInOrder : List Shape → List code.TypeEntry → Type 0
 AreMadeInOrder known [] = Unit {0}
 AreMadeInOrder known (m ∷ ms) = IsEntry known m × AreMadeInOrder (known ++ made_shape known m ∷ []) ms
 
@@ -95,7 +95,7 @@ standard_of standards.Read = reads
 standard_of standards.Write = writes
 standard_of standards.WriteLn = writes_line
 
--- a constant with a fault is nothing that a name stands for
+-- a constant with a fault is nothing that a name means
 abbrev pub object_in : List Shape → declaration.Object → Option (Object Shape Signature)
 object_in shapes (kind.Named t) = Some (a_type (type_shape shapes t))
 object_in shapes (kind.Constant v) = Some (a_constant (scalar_value v))

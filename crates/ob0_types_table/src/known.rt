@@ -15,7 +15,7 @@ use std::mem;
 /// The greatest length of an array, and the most scalars that a type may have.
 pub const MOST_SCALARS: usize = 65536;
 
-/// The most arrays and records that may stand inside one another, named types followed.
+/// The most arrays and records that may be inside one another, named types followed.
 pub const MOST_DEPTH: usize = 100;
 
 /// A field of a record.
@@ -53,7 +53,7 @@ pub struct RecordShape<'t> {
 
 /// What an ARRAY or RECORD of the text makes.
 #[derive(Drop)]
-pub enum Shape<'t> {
+pub enum TypeEntry<'t> {
     Array(ArrayShape),
     Record(RecordShape<'t>),
 }
@@ -86,9 +86,9 @@ pub enum Object {
     Standard(Standard),
 }
 
-/// What is in sight at an ordinal.
+/// What is in scope at an ordinal.
 #[derive(Drop)]
-enum Sight {
+enum VisibleBinding {
     Nothing,
     /// What was declared there last.
     Last,
@@ -96,24 +96,24 @@ enum Sight {
     Earlier(Object),
 }
 
-/// What was declared last at an ordinal, in sight or not.
+/// What was declared last at an ordinal, in scope or not.
 #[derive(Drop)]
 struct Entry {
     object: Object,
-    sight: Sight,
+    sight: VisibleBinding,
 }
 
-/// What was in sight at an ordinal before it was bound to something else.
+/// What was in scope at an ordinal before it was bound to something else.
 #[derive(Drop)]
 pub struct Shadowed {
     pub ordinal: usize,
     pub before: Option<Object>,
 }
 
-/// The shapes of the types made so far, and the declarations so far by their ordinals, each in sight or not.
+/// The shapes of the types made so far, and the declarations so far by their ordinals, each in scope or not.
 #[derive(Drop)]
 pub struct Known<'t> {
-    shapes: Vec<Shape<'t>>,
+    shapes: Vec<TypeEntry<'t>>,
     entries: Vec<Entry>,
 }
 
@@ -152,9 +152,9 @@ impl<'t> Model for Known<'t> {
 impl<'t> Known<'t> {
     ghost use Rattle.std.specs.Prelude.{◌≡◌, ℕ, suc, ◌<◌, ◌++◌, ◌∷◌, [], true, false, Some, length, option_map, option_and_then, slice_get, slice_set, slice_index_or, MatchOption, All, ◌^◌, IfOk, OnOk, IfSome, None};
     ghost use Rattle.ob0_types_table.specs.declared.known.Object.TheVariants as kind;
-    ghost use Rattle.ob0_types_table.specs.declared.known.Sight.TheVariants as sight;
+    ghost use Rattle.ob0_types_table.specs.declared.known.VisibleBinding.TheVariants as sight;
     ghost use Rattle.ob0_types_table.specs.KnownTables.{AreTables, declared_in, known_meaning, predeclared, put_at, seen_in, seen_object, shapes_of};
-    ghost use Rattle.ob0_types_table.specs.Tables.{object_in, IsCounted, IsEntry, ObjectIsMade, IsMade, made_shape, no_shape};
+    ghost use Rattle.ob0_types_table.specs.Tables.{object_in, CountsParts, IsEntry, ObjectIsMade, IsMade, made_shape, no_shape};
     ghost use Rattle.ob0_types_rules.specs.Typing.{type_declared};
     ghost use Rattle.ob0_values.specs.Scalars.{scalar_value};
     ghost use Rattle.ob0_types_rules.specs.Typing.{constant_of, depth, element_type, field_depth, field_scalars, field_type, scalars, within_limits};
@@ -178,7 +178,7 @@ impl<'t> Known<'t> {
         Ok(known)
     }
 
-    /// Declares the next ordinal, and brings it in sight.
+    /// Declares the next ordinal, and brings it in scope.
     fn declare(&mut self, object: Object) -> Result<(), AllocError>
         requires { ObjectIsMade (length self.old.shapes) object }
         ensures shapes { OnOk result (self.new.shapes ≡ self.old.shapes) }
@@ -186,24 +186,24 @@ impl<'t> Known<'t> {
     {
         self.entries.push(Entry {
             object,
-            sight: Sight::Last,
+            sight: VisibleBinding::Last,
         })?;
         Ok(())
     }
 
-    /// Makes room for the next ordinal, out of sight.
+    /// Makes room for the next ordinal, out of scope.
     fn reserve(&mut self) -> Result<(), AllocError>
         ensures shapes { OnOk result (self.new.shapes ≡ self.old.shapes) }
         ensures entries { OnOk result (self.new.entries ≡ self.old.entries ++ record { object = kind.FaultyConstant; sight = sight.Nothing } ∷ []) }
     {
         self.entries.push(Entry {
             object: Object::FaultyConstant,
-            sight: Sight::Nothing,
+            sight: VisibleBinding::Nothing,
         })?;
         Ok(())
     }
 
-    /// Says what a declaration is, and brings it in sight.
+    /// Says what a declaration is, and brings it in scope.
     pub fn define(&mut self, ordinal: usize, object: Object)
         requires { ObjectIsMade (length self.old.shapes) object }
         ensures shapes { self.new.shapes ≡ self.old.shapes }
@@ -212,12 +212,12 @@ impl<'t> Known<'t> {
         if ordinal < self.entries.len() {
             self.entries[ordinal] = Entry {
                 object,
-                sight: Sight::Last,
+                sight: VisibleBinding::Last,
             };
         }
     }
 
-    /// Makes room for an ordinal, out of sight.
+    /// Makes room for an ordinal, out of scope.
     fn reach(&mut self, ordinal: usize) -> Result<(), AllocError>
         ensures shapes { OnOk result (self.new.shapes ≡ self.old.shapes) }
         ensures seen { OnOk result ((k : ℕ) → seen_object self.new k ≡ seen_object self.old k) }
@@ -231,7 +231,7 @@ impl<'t> Known<'t> {
         Ok(())
     }
 
-    /// Puts a declaration in place of what was in sight at an ordinal, and gives that.
+    /// Puts a declaration in place of what was in scope at an ordinal, and gives that.
     fn exchange(&mut self, ordinal: usize, object: Object) -> Option<Object>
         requires made { ObjectIsMade (length self.old.shapes) object }
         requires room { ordinal < length self.old.entries }
@@ -244,18 +244,18 @@ impl<'t> Known<'t> {
     {
         let entry = Entry {
             object,
-            sight: Sight::Last,
+            sight: VisibleBinding::Last,
         };
         let before = mem::replace(&mut self.entries[ordinal], entry);
         let Entry { object, sight } = before;
         match sight {
-            Sight::Nothing => None,
-            Sight::Last => Some(object),
-            Sight::Earlier(earlier) => Some(earlier),
+            VisibleBinding::Nothing => None,
+            VisibleBinding::Last => Some(object),
+            VisibleBinding::Earlier(earlier) => Some(earlier),
         }
     }
 
-    /// Binds an ordinal to what is declared there, in sight, and gives what was in sight there before.
+    /// Binds an ordinal to what is declared there, in scope, and gives what was in scope there before.
     pub fn bind(&mut self, ordinal: usize, object: Object) -> Result<Option<Object>, AllocError>
         requires { ObjectIsMade (length self.old.shapes) object }
         ensures shapes { OnOk result (self.new.shapes ≡ self.old.shapes) }
@@ -270,7 +270,7 @@ impl<'t> Known<'t> {
         Ok(self.exchange(ordinal, object))
     }
 
-    /// Takes what is declared at an ordinal out of sight.
+    /// Takes what is declared at an ordinal out of scope.
     fn hide(&mut self, ordinal: usize)
         requires { ordinal < length self.old.entries }
         ensures shapes { self.new.shapes ≡ self.old.shapes }
@@ -278,10 +278,10 @@ impl<'t> Known<'t> {
         ensures declared { (k : ℕ) → declared_in self.new k ≡ declared_in self.old k }
         ensures long { length self.new.entries ≡ length self.old.entries }
     {
-        self.entries[ordinal].sight = Sight::Nothing;
+        self.entries[ordinal].sight = VisibleBinding::Nothing;
     }
 
-    /// Brings in sight what was declared at an ordinal before.
+    /// Brings in scope what was declared at an ordinal before.
     fn show(&mut self, ordinal: usize, object: Object)
         requires made { ObjectIsMade (length self.old.shapes) object }
         requires room { ordinal < length self.old.entries }
@@ -290,10 +290,10 @@ impl<'t> Known<'t> {
         ensures declared { (k : ℕ) → declared_in self.new k ≡ declared_in self.old k }
         ensures long { length self.new.entries ≡ length self.old.entries }
     {
-        self.entries[ordinal].sight = Sight::Earlier(object);
+        self.entries[ordinal].sight = VisibleBinding::Earlier(object);
     }
 
-    /// Puts back in sight what was in sight at an ordinal before it was bound to something else.
+    /// Puts back in scope what was in scope at an ordinal before it was bound to something else.
     pub fn put_back(&mut self, ordinal: usize, before: Option<Object>)
         requires made { IfSome before (ObjectIsMade (length self.old.shapes)) }
         requires room { ordinal < length self.old.entries }
@@ -325,26 +325,26 @@ impl<'t> Known<'t> {
     }
 
     /// The types that were made, in order: each is made of those before it.
-    pub fn shapes(&self) -> &[Shape<'t>]
+    pub fn shapes(&self) -> &[TypeEntry<'t>]
         ensures { result.now ≡ self.now.shapes }
     {
         self.shapes.as_slice()
     }
 
-    /// What a declaration is, where it is in sight.
+    /// What a declaration is, where it is in scope.
     pub fn seen(&self, ordinal: usize) -> Option<&Object>
         ensures value { option_and_then (λ o. object_in (shapes_of self.now) o.now) result ≡ seen_in self.now ordinal }
         ensures made { IfSome result (λ o. ObjectIsMade (length self.now.shapes) o.now) }
     {
         let entry = self.entries.get(ordinal)?;
         match &entry.sight {
-            Sight::Nothing => None,
-            Sight::Last => Some(&entry.object),
-            Sight::Earlier(earlier) => Some(earlier),
+            VisibleBinding::Nothing => None,
+            VisibleBinding::Last => Some(&entry.object),
+            VisibleBinding::Earlier(earlier) => Some(earlier),
         }
     }
 
-    /// What was declared last at an ordinal, in sight or not.
+    /// What was declared last at an ordinal, in scope or not.
     pub fn object(&self, ordinal: usize) -> Option<&Object>
         ensures value { option_and_then (λ o. object_in (shapes_of self.now) o.now) result ≡ declared_in self.now ordinal }
         ensures made { IfSome result (λ o. ObjectIsMade (length self.now.shapes) o.now) }
@@ -382,8 +382,8 @@ impl<'t> Known<'t> {
     }
 
     /// What the shape at a place of the table is.
-    pub(crate) fn entry(&self, place: usize) -> Option<&Shape<'t>>
-        ensures { MatchOption result (slice_index_or (shapes_of self.now) place no_shape ≡ no_shape) (λ m. (slice_index_or (shapes_of self.now) place no_shape ≡ made_shape (shapes_of self.now) m.now) × IsCounted m.now (made_shape (shapes_of self.now) m.now)) }
+    pub(crate) fn entry(&self, place: usize) -> Option<&TypeEntry<'t>>
+        ensures { MatchOption result (slice_index_or (shapes_of self.now) place no_shape ≡ no_shape) (λ m. (slice_index_or (shapes_of self.now) place no_shape ≡ made_shape (shapes_of self.now) m.now) × CountsParts m.now (made_shape (shapes_of self.now) m.now)) }
     {
         if place < self.shapes.len() {
             Some(&self.shapes[place])
@@ -398,8 +398,8 @@ impl<'t> Known<'t> {
     {
         match base {
             TypeId::Array(i) => match self.entry(i)? {
-                Shape::Array(array) => Some(array.element),
-                Shape::Record(_) => None,
+                TypeEntry::Array(array) => Some(array.element),
+                TypeEntry::Record(_) => None,
             },
             TypeId::Integer => None,
             TypeId::Boolean => None,
@@ -414,8 +414,8 @@ impl<'t> Known<'t> {
     {
         match base {
             TypeId::Record(i) => match self.entry(i)? {
-                Shape::Record(record) => record.fields.find(name),
-                Shape::Array(_) => None,
+                TypeEntry::Record(record) => record.fields.find(name),
+                TypeEntry::Array(_) => None,
             },
             TypeId::Integer => None,
             TypeId::Boolean => None,
@@ -430,8 +430,8 @@ impl<'t> Known<'t> {
     {
         match base {
             TypeId::Record(i) => match self.entry(i)? {
-                Shape::Record(record) => record.field_of(name),
-                Shape::Array(_) => None,
+                TypeEntry::Record(record) => record.field_of(name),
+                TypeEntry::Array(_) => None,
             },
             TypeId::Integer => None,
             TypeId::Boolean => None,
@@ -448,15 +448,15 @@ impl<'t> Known<'t> {
             TypeId::Array(i) => match self.entry(i) {
                 None => 1,
                 Some(shape) => match shape {
-                    Shape::Array(array) => array.scalars,
-                    Shape::Record(_) => 1,
+                    TypeEntry::Array(array) => array.scalars,
+                    TypeEntry::Record(_) => 1,
                 },
             },
             TypeId::Record(i) => match self.entry(i) {
                 None => 1,
                 Some(shape) => match shape {
-                    Shape::Record(record) => record.scalars,
-                    Shape::Array(_) => 1,
+                    TypeEntry::Record(record) => record.scalars,
+                    TypeEntry::Array(_) => 1,
                 },
             },
             TypeId::Integer => 1,
@@ -465,7 +465,7 @@ impl<'t> Known<'t> {
         }
     }
 
-    /// How many arrays and records stand inside one another. What has a fault counts as one.
+    /// How many arrays and records are inside one another. What has a fault counts as one.
     fn depth(&self, of: TypeId) -> usize
         ensures { result ≡ depth (type_shape (shapes_of self.now) of) }
     {
@@ -473,15 +473,15 @@ impl<'t> Known<'t> {
             TypeId::Array(i) => match self.entry(i) {
                 None => 1,
                 Some(shape) => match shape {
-                    Shape::Array(array) => array.depth,
-                    Shape::Record(_) => 1,
+                    TypeEntry::Array(array) => array.depth,
+                    TypeEntry::Record(_) => 1,
                 },
             },
             TypeId::Record(i) => match self.entry(i) {
                 None => 1,
                 Some(shape) => match shape {
-                    Shape::Record(record) => record.depth,
-                    Shape::Array(_) => 1,
+                    TypeEntry::Record(record) => record.depth,
+                    TypeEntry::Array(_) => 1,
                 },
             },
             TypeId::Integer => 0,
@@ -490,8 +490,8 @@ impl<'t> Known<'t> {
         }
     }
 
-    /// Puts a shape into the table, and tells its place.
-    fn put(&mut self, shape: Shape<'t>) -> Result<usize, AllocError>
+    /// Puts a shape into the table, and returns its place.
+    fn put(&mut self, shape: TypeEntry<'t>) -> Result<usize, AllocError>
         requires { IsEntry (shapes_of self.old) shape }
         ensures place { IfOk result (λ i. i ≡ length self.old.shapes) }
         ensures shapes { OnOk result (self.new.shapes ≡ self.old.shapes ++ shape.entry ∷ []) }
@@ -528,7 +528,7 @@ impl<'t> Known<'t> {
         if !is_within(scalars, depth) {
             return Ok(None);
         }
-        let place = self.put(Shape::Array(ArrayShape {
+        let place = self.put(TypeEntry::Array(ArrayShape {
             ordinal,
             length: size,
             element,
@@ -590,7 +590,7 @@ impl<'t> Known<'t> {
             return Ok(None);
         }
         let fields = FieldTable::new(fields)?;
-        let place = self.put(Shape::Record(RecordShape {
+        let place = self.put(TypeEntry::Record(RecordShape {
             ordinal,
             fields,
             scalars,

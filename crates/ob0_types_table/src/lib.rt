@@ -10,8 +10,10 @@ mod written;
 
 pub use known::{
     ArrayShape, Field, FieldOf, Formal, Known, MOST_DEPTH, MOST_SCALARS, Object, RecordShape,
-    Shadowed, Shape, Standard,
+    Shadowed, Standard, TypeEntry,
 };
 pub use sameness::Parts;
-pub use types::{TypeId, added, complement, multiplied, related, scalar_type, with_sign};
+pub use types::{
+    TypeId, complement, scalar_type, type_of_product, type_of_relation, type_of_sum, with_sign,
+};
 pub use written::{number_at, text_at};

@@ -1,5 +1,5 @@
 //! Operations on the values of constants, where an operand may have none. An operand that settles an operation alone decides
-//! it, whatever the other is worth.
+//! it, whatever the other has the value.
 
 ghost use Rattle.std.specs.Prelude.{◌≡◌, Some, option_and_then, option_map};
 ghost use Rattle.ob0_values.specs.Scalars.{scalar_value};
@@ -15,7 +15,11 @@ use ob0_values::scalar::{
 };
 
 /// The truth value of a relation; None where a side has no value, or they don't fit.
-pub fn related(relation: Relation, left: Option<Scalar>, right: Option<Scalar>) -> Option<Scalar>
+pub fn value_of_relation(
+    relation: Relation,
+    left: Option<Scalar>,
+    right: Option<Scalar>,
+) -> Option<Scalar>
     ensures { option_map scalar_value result ≡ both (λ x y. given_value (values.relate relation x y)) (option_map scalar_value left) (option_map scalar_value right) }
 {
     match left {
@@ -48,7 +52,11 @@ pub fn complement(operand: Option<Scalar>) -> Option<Scalar>
 }
 
 /// The value of a sum, a difference or an OR; None where it has none.
-pub fn added(operator: AddOperator, left: Option<Scalar>, right: Option<Scalar>) -> Option<Scalar>
+pub fn value_of_sum(
+    operator: AddOperator,
+    left: Option<Scalar>,
+    right: Option<Scalar>,
+) -> Option<Scalar>
     ensures { option_map scalar_value result ≡ option_and_then (sum_value operator (option_map scalar_value right)) (option_map scalar_value left) }
 {
     match left {
@@ -66,7 +74,7 @@ pub fn added(operator: AddOperator, left: Option<Scalar>, right: Option<Scalar>)
 }
 
 /// The value of a product, a quotient, a remainder or an `&`; None where it has none.
-pub fn multiplied(
+pub fn value_of_product(
     operator: MultiplyOperator,
     left: Option<Scalar>,
     right: Option<Scalar>,

@@ -2,14 +2,14 @@
 
 ghost use Rattle.std.specs.Prelude.{◌≡◌, ◌&&◌, List};
 ghost use Rattle.ob0_scope_rules.specs.Names.{same_name};
-ghost use Rattle.ob0_types_table.specs.declared.known.Shape.TheVariants as made;
+ghost use Rattle.ob0_types_table.specs.declared.known.TypeEntry.TheVariants as made;
 ghost use Rattle.ob0_types_table.specs.Parts.{parts_shape};
 ghost use Rattle.ob0_types_table.specs.KnownTables.{shapes_of};
 ghost use Rattle.ob0_types_table.specs.Tables.{fields_shape, made_shape, no_shape, type_shape};
 ghost use Rattle.ob0_types_rules.specs.WellTyped.{same_fields, same_shape};
 ghost use Rattle.ob0_values.specs.Values as shape;
 
-use crate::known::{ArrayShape, Field, Known, RecordShape, Shape};
+use crate::known::{ArrayShape, Field, Known, RecordShape, TypeEntry};
 use crate::types::TypeId;
 
 /// A type with its parts. What has a fault is a record without fields.
@@ -22,7 +22,7 @@ pub enum Parts<'k, 't> {
     Faulty,
 }
 
-/// Whether a record is what has a fault stands for.
+/// Whether a record is what has a fault means.
 fn is_nothing(entry: &RecordShape) -> bool
     ensures { (shapes : List shape.Shape) → result ≡ same_shape (made_shape shapes (made.Record entry.now)) no_shape }
 {
@@ -40,15 +40,15 @@ impl<'t> Known<'t> {
             TypeId::Array(i) => match self.entry(i) {
                 None => Parts::Faulty,
                 Some(shape) => match shape {
-                    Shape::Array(array) => Parts::Array(*array),
-                    Shape::Record(_) => Parts::Faulty,
+                    TypeEntry::Array(array) => Parts::Array(*array),
+                    TypeEntry::Record(_) => Parts::Faulty,
                 },
             },
             TypeId::Record(i) => match self.entry(i) {
                 None => Parts::Faulty,
                 Some(shape) => match shape {
-                    Shape::Record(record) => Parts::Record(record),
-                    Shape::Array(_) => Parts::Faulty,
+                    TypeEntry::Record(record) => Parts::Record(record),
+                    TypeEntry::Array(_) => Parts::Faulty,
                 },
             },
             TypeId::Unknown => Parts::Faulty,

@@ -1,4 +1,4 @@
-//! What a type is to the checker, and the types that operators ask for and give (Wirth, Compiler Construction, Oberon-0).
+//! What a type is to the checker, and the types that operators require and give (Wirth, Compiler Construction, Oberon-0).
 
 ghost use Rattle.std.specs.Prelude.{◌≡◌, List, option_and_then, option_map, Some};
 ghost use Rattle.ob0_types_rules.specs.Selected.{both};
@@ -157,7 +157,11 @@ pub fn scalar_type(value: Scalar) -> TypeId
 }
 
 /// The same where an operand may have no type: then the operation has none.
-pub fn added(operator: AddOperator, left: Option<TypeId>, right: Option<TypeId>) -> Option<TypeId>
+pub fn type_of_sum(
+    operator: AddOperator,
+    left: Option<TypeId>,
+    right: Option<TypeId>,
+) -> Option<TypeId>
     ensures { (shapes : List Shape) → option_map (type_shape shapes) result ≡ both (add_type operator) (option_map (type_shape shapes) left) (option_map (type_shape shapes) right) }
 {
     match left {
@@ -170,7 +174,7 @@ pub fn added(operator: AddOperator, left: Option<TypeId>, right: Option<TypeId>)
 }
 
 /// The type of a product: INTEGER or BOOLEAN, None where an operand has another type or none.
-pub fn multiplied(
+pub fn type_of_product(
     operator: MultiplyOperator,
     left: Option<TypeId>,
     right: Option<TypeId>,
@@ -187,7 +191,11 @@ pub fn multiplied(
 }
 
 /// The type of a relation, BOOLEAN; None where its sides don't fit, or one has no type.
-pub fn related(relation: Relation, left: Option<TypeId>, right: Option<TypeId>) -> Option<TypeId>
+pub fn type_of_relation(
+    relation: Relation,
+    left: Option<TypeId>,
+    right: Option<TypeId>,
+) -> Option<TypeId>
     ensures { (shapes : List Shape) → option_map (type_shape shapes) result ≡ both (relation_type relation) (option_map (type_shape shapes) left) (option_map (type_shape shapes) right) }
 {
     match left {

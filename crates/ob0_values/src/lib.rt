@@ -4,4 +4,4 @@
 
 pub mod scalar;
 
-pub use scalar::{Fault, Scalar};
+pub use scalar::{OperatorFault, Scalar};

@@ -17,7 +17,7 @@ pub enum Scalar {
 
 /// Why an operation gives nothing.
 #[derive(Clone, Copy, Debug, PartialEq, Eq)]
-pub enum Fault {
+pub enum OperatorFault {
     /// The result is no number of 32 bits.
     Overflow,
     /// DIV or MOD by a divisor below 1.
@@ -27,31 +27,31 @@ pub enum Fault {
 }
 
 /// A number where it could be computed in 32 bits, else an overflow.
-fn in_range(number: Option<i32>) -> Result<Scalar, Fault>
+fn in_range(number: Option<i32>) -> Result<Scalar, OperatorFault>
     ensures { scalar_outcome result ≡ number_outcome number }
 {
     match number {
         Some(number) => Ok(Scalar::Number(number)),
-        None => Err(Fault::Overflow),
+        None => Err(OperatorFault::Overflow),
     }
 }
 
 /// DIV, which rounds down, for a divisor from 1 on.
-fn divide(left: i32, right: i32) -> Result<Scalar, Fault>
+fn divide(left: i32, right: i32) -> Result<Scalar, OperatorFault>
     ensures { scalar_outcome result ≡ multiply Divide (number left) (number right) }
 {
     if right < 1 {
-        return Err(Fault::Divisor);
+        return Err(OperatorFault::Divisor);
     }
     Ok(Scalar::Number(left.div_euclid(right)))
 }
 
 /// MOD, the rest from 0 on, for a divisor from 1 on.
-fn modulo(left: i32, right: i32) -> Result<Scalar, Fault>
+fn modulo(left: i32, right: i32) -> Result<Scalar, OperatorFault>
     ensures { scalar_outcome result ≡ multiply Modulo (number left) (number right) }
 {
     if right < 1 {
-        return Err(Fault::Divisor);
+        return Err(OperatorFault::Divisor);
     }
     Ok(Scalar::Number(left.rem_euclid(right)))
 }
@@ -61,37 +61,37 @@ fn modulo(left: i32, right: i32) -> Result<Scalar, Fault>
 /// # Errors
 ///
 /// `Overflow` past the 32 bits, `Operand` where the operator isn't made for the operands.
-pub fn add(operator: AddOperator, left: Scalar, right: Scalar) -> Result<Scalar, Fault>
+pub fn add(operator: AddOperator, left: Scalar, right: Scalar) -> Result<Scalar, OperatorFault>
     ensures { scalar_outcome result ≡ add operator (scalar_value left) (scalar_value right) }
 {
     match left {
         Scalar::Number(a) => match right {
             Scalar::Number(b) => add_numbers(operator, a, b),
-            Scalar::Truth(_) => Err(Fault::Operand),
+            Scalar::Truth(_) => Err(OperatorFault::Operand),
         },
         Scalar::Truth(a) => match right {
-            Scalar::Number(_) => Err(Fault::Operand),
+            Scalar::Number(_) => Err(OperatorFault::Operand),
             Scalar::Truth(b) => add_truths(operator, a, b),
         },
     }
 }
 
-fn add_numbers(operator: AddOperator, a: i32, b: i32) -> Result<Scalar, Fault>
+fn add_numbers(operator: AddOperator, a: i32, b: i32) -> Result<Scalar, OperatorFault>
     ensures { scalar_outcome result ≡ add operator (number a) (number b) }
 {
     match operator {
         AddOperator::Add => in_range(a.checked_add(b)),
         AddOperator::Subtract => in_range(a.checked_sub(b)),
-        AddOperator::Or => Err(Fault::Operand),
+        AddOperator::Or => Err(OperatorFault::Operand),
     }
 }
 
-fn add_truths(operator: AddOperator, a: bool, b: bool) -> Result<Scalar, Fault>
+fn add_truths(operator: AddOperator, a: bool, b: bool) -> Result<Scalar, OperatorFault>
     ensures { scalar_outcome result ≡ add operator (truth a) (truth b) }
 {
     match operator {
-        AddOperator::Add => Err(Fault::Operand),
-        AddOperator::Subtract => Err(Fault::Operand),
+        AddOperator::Add => Err(OperatorFault::Operand),
+        AddOperator::Subtract => Err(OperatorFault::Operand),
         AddOperator::Or => Ok(Scalar::Truth(a || b)),
     }
 }
@@ -101,44 +101,48 @@ fn add_truths(operator: AddOperator, a: bool, b: bool) -> Result<Scalar, Fault>
 /// # Errors
 ///
 /// `Overflow` past the 32 bits, `Divisor` for a divisor below 1, `Operand` where the operator isn't made for the operands.
-pub fn multiply(operator: MultiplyOperator, left: Scalar, right: Scalar) -> Result<Scalar, Fault>
+pub fn multiply(
+    operator: MultiplyOperator,
+    left: Scalar,
+    right: Scalar,
+) -> Result<Scalar, OperatorFault>
     ensures { scalar_outcome result ≡ multiply operator (scalar_value left) (scalar_value right) }
 {
     match left {
         Scalar::Number(a) => match right {
             Scalar::Number(b) => multiply_numbers(operator, a, b),
-            Scalar::Truth(_) => Err(Fault::Operand),
+            Scalar::Truth(_) => Err(OperatorFault::Operand),
         },
         Scalar::Truth(a) => match right {
-            Scalar::Number(_) => Err(Fault::Operand),
+            Scalar::Number(_) => Err(OperatorFault::Operand),
             Scalar::Truth(b) => multiply_truths(operator, a, b),
         },
     }
 }
 
-fn multiply_numbers(operator: MultiplyOperator, a: i32, b: i32) -> Result<Scalar, Fault>
+fn multiply_numbers(operator: MultiplyOperator, a: i32, b: i32) -> Result<Scalar, OperatorFault>
     ensures { scalar_outcome result ≡ multiply operator (number a) (number b) }
 {
     match operator {
         MultiplyOperator::Multiply => in_range(a.checked_mul(b)),
         MultiplyOperator::Divide => divide(a, b),
         MultiplyOperator::Modulo => modulo(a, b),
-        MultiplyOperator::And => Err(Fault::Operand),
+        MultiplyOperator::And => Err(OperatorFault::Operand),
     }
 }
 
-fn multiply_truths(operator: MultiplyOperator, a: bool, b: bool) -> Result<Scalar, Fault>
+fn multiply_truths(operator: MultiplyOperator, a: bool, b: bool) -> Result<Scalar, OperatorFault>
     ensures { scalar_outcome result ≡ multiply operator (truth a) (truth b) }
 {
     match operator {
-        MultiplyOperator::Multiply => Err(Fault::Operand),
-        MultiplyOperator::Divide => Err(Fault::Operand),
-        MultiplyOperator::Modulo => Err(Fault::Operand),
+        MultiplyOperator::Multiply => Err(OperatorFault::Operand),
+        MultiplyOperator::Divide => Err(OperatorFault::Operand),
+        MultiplyOperator::Modulo => Err(OperatorFault::Operand),
         MultiplyOperator::And => Ok(Scalar::Truth(a && b)),
     }
 }
 
-/// True where `left OR right` is TRUE whatever the right side is worth, so that it isn't evaluated.
+/// True where `left OR right` is TRUE whatever the right side has the value, so that it isn't evaluated.
 pub fn add_is_settled(operator: AddOperator, left: Scalar) -> bool
     ensures { result ≡ add_is_settled operator (scalar_value left) }
 {
@@ -152,7 +156,7 @@ pub fn add_is_settled(operator: AddOperator, left: Scalar) -> bool
     }
 }
 
-/// True where `left & right` is FALSE whatever the right side is worth, so that it isn't evaluated.
+/// True where `left & right` is FALSE whatever the right side has the value, so that it isn't evaluated.
 pub fn multiply_is_settled(operator: MultiplyOperator, left: Scalar) -> bool
     ensures { result ≡ multiply_is_settled operator (scalar_value left) }
 {
@@ -172,16 +176,16 @@ pub fn multiply_is_settled(operator: MultiplyOperator, left: Scalar) -> bool
 /// # Errors
 ///
 /// `Operand` where the relation isn't made for the operands.
-pub fn relate(relation: Relation, left: Scalar, right: Scalar) -> Result<Scalar, Fault>
+pub fn relate(relation: Relation, left: Scalar, right: Scalar) -> Result<Scalar, OperatorFault>
     ensures { scalar_outcome result ≡ relate relation (scalar_value left) (scalar_value right) }
 {
     match left {
         Scalar::Number(a) => match right {
             Scalar::Number(b) => Ok(Scalar::Truth(compare(relation, a, b))),
-            Scalar::Truth(_) => Err(Fault::Operand),
+            Scalar::Truth(_) => Err(OperatorFault::Operand),
         },
         Scalar::Truth(a) => match right {
-            Scalar::Number(_) => Err(Fault::Operand),
+            Scalar::Number(_) => Err(OperatorFault::Operand),
             Scalar::Truth(b) => relate_truths(relation, a, b),
         },
     }
@@ -200,16 +204,16 @@ fn compare(relation: Relation, a: i32, b: i32) -> bool
     }
 }
 
-fn relate_truths(relation: Relation, a: bool, b: bool) -> Result<Scalar, Fault>
+fn relate_truths(relation: Relation, a: bool, b: bool) -> Result<Scalar, OperatorFault>
     ensures { scalar_outcome result ≡ relate relation (truth a) (truth b) }
 {
     match relation {
         Relation::Equal => Ok(Scalar::Truth(a == b)),
         Relation::NotEqual => Ok(Scalar::Truth(a != b)),
-        Relation::Less => Err(Fault::Operand),
-        Relation::LessEqual => Err(Fault::Operand),
-        Relation::Greater => Err(Fault::Operand),
-        Relation::GreaterEqual => Err(Fault::Operand),
+        Relation::Less => Err(OperatorFault::Operand),
+        Relation::LessEqual => Err(OperatorFault::Operand),
+        Relation::Greater => Err(OperatorFault::Operand),
+        Relation::GreaterEqual => Err(OperatorFault::Operand),
     }
 }
 
@@ -218,7 +222,7 @@ fn relate_truths(relation: Relation, a: bool, b: bool) -> Result<Scalar, Fault>
 /// # Errors
 ///
 /// `Overflow` for the negative of the least number, `Operand` for the sign of a truth.
-pub fn signed(sign: Option<Sign>, operand: Scalar) -> Result<Scalar, Fault>
+pub fn signed(sign: Option<Sign>, operand: Scalar) -> Result<Scalar, OperatorFault>
     ensures { scalar_outcome result ≡ signed sign (scalar_value operand) }
 {
     match sign {
@@ -228,7 +232,7 @@ pub fn signed(sign: Option<Sign>, operand: Scalar) -> Result<Scalar, Fault>
                 Sign::Plus => Ok(Scalar::Number(a)),
                 Sign::Minus => in_range(a.checked_neg()),
             },
-            Scalar::Truth(_) => Err(Fault::Operand),
+            Scalar::Truth(_) => Err(OperatorFault::Operand),
         },
     }
 }
@@ -238,11 +242,11 @@ pub fn signed(sign: Option<Sign>, operand: Scalar) -> Result<Scalar, Fault>
 /// # Errors
 ///
 /// `Operand` for a number.
-pub fn negated(operand: Scalar) -> Result<Scalar, Fault>
+pub fn negated(operand: Scalar) -> Result<Scalar, OperatorFault>
     ensures { scalar_outcome result ≡ negated (scalar_value operand) }
 {
     match operand {
-        Scalar::Number(_) => Err(Fault::Operand),
+        Scalar::Number(_) => Err(OperatorFault::Operand),
         Scalar::Truth(a) => Ok(Scalar::Truth(!a)),
     }
 }

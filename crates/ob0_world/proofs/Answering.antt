@@ -11,21 +11,21 @@ use Rattle.serde_json.specs.Find.{as_i64, of_integer}
 use Rattle.serde_json.specs.View.{items_of}
 use Rattle.ob0_text.specs.declared.edits.Edit.{Edit}
 use Rattle.ob0_text.specs.declared.edits.Indent.{Indent}
-use Rattle.ob0_text.specs.declared.positions.Position.{Position}
-use Rattle.ob0_text.specs.declared.positions.Unit.{Unit}
-use Rattle.ob0_text.specs.OpenDocuments.{OpenDocuments, Document, InStep, OutOfStep, DocumentNote, Opened, Changed, Lost, Closed, TextChange, changed_text, text_of, document, document_at, opened, changed, changed_document}
+use Rattle.ob0_text.specs.declared.position_types.Position.{Position}
+use Rattle.ob0_text.specs.declared.position_types.Unit.{Unit}
+use Rattle.ob0_text.specs.OpenDocuments.{OpenDocuments, Document, InStep, OutOfStep, DocumentEvent, Opened, Changed, Lost, Closed, TextChange, changed_text, text_of, document, document_at, opened, changed, changed_document}
 use Rattle.ob0_text.specs.RefusalTexts.{refusal_text}
 use Rattle.ob0_text.specs.declared.refusals.EditRefusal.TheVariants.{TooLong}
 use Rattle.ob0_text.proofs.EntryLaws.{updated-some, updated-none}
-use Rattle.ob0_rpc.specs.Asks.{call_of}
+use Rattle.ob0_rpc.specs.Requesting.{call_of}
 use Rattle.ob0_rpc.specs.Faults.{minus}
-use Rattle.ob0_rpc.specs.Messages.{Reads, meaning, meaning_of}
+use Rattle.ob0_rpc.specs.Messages.{ReadsContent, meaning, meaning_of}
 use Rattle.ob0_rpc.specs.Shapes.{result_message, error_message}
 use Rattle.ob0_rpc.specs.declared.clients.Client.{Client}
 use Rattle.ob0_session.specs.Actions.{ActionsAsked, ListsActions, Offers, wants_inlining, place_of, actions_value}
 use Rattle.ob0_session.specs.Answers as answers_of
-use Rattle.ob0_session.specs.Answers.{State, Say, Says, Sends, Reaction, reacts, reaction_to, hears, requested, asked as asked_in, calls, of_document, lays_out, renames, offers_actions, published, Answers, AnswersIn, AnswersGoingOn, says}
-use Rattle.ob0_session.specs.Diagnosed.{Complaint, IsWellTypedModule, Tells, TellsFaults, complaint_of}
+use Rattle.ob0_session.specs.Answers.{State, Reply, Says, Sends, Reaction, reacts, reaction_to, hears, requested, reaction_to_request as asked_in, calls, of_document, lays_out, renames, offers_actions, published, Answers, AnswersInState, AnswersGoingOn, says}
+use Rattle.ob0_session.specs.Diagnosed.{Complaint, IsWellTypedModule, Reports, ReportsFaults, complaint_of}
 use Rattle.ob0_session.specs.Diagnostics.{Diagnoses, diagnostic_of}
 use Rattle.ob0_session.specs.Texts.{utf8}
 use Rattle.ob0_session.specs.Formatted.{AnswersFormatting}
@@ -34,35 +34,35 @@ use Rattle.ob0_session.specs.Shapes.{Diagnostic, diagnostic_value, edit_value, e
 use Rattle.ob0_world_rules.specs.Answers.{Inlining, Here, Everywhere}
 use Rattle.ob0_session.specs.declared.server.Phase.TheVariants.{Running}
 use Rattle.ob0_world_editor.specs.Heard as heard_as
-use Rattle.ob0_world_editor.specs.Heard.{told_as, HasVersion, IsAsk, call_for}
+use Rattle.ob0_world_editor.specs.Heard.{sent_as, HasVersion, IsAsk, call_for}
 use Rattle.ob0_world_editor.specs.Shapes.{method_of, empty_at}
 use Rattle.ob0_world_editor.specs.Understood.{understood, value_understood, edits_in, workspace_items, edits_for, has_none}
 use Rattle.ob0_world_editor.proofs.Hearing.{understood_as}
 use Rattle.ob0_world_rules.specs.Edited.{Replacement, replacement_of, replacements}
 use Rattle.ob0_world_rules.specs.Asks.{Ask, rename, inline_here, inline_all, format, indent_read}
 use Rattle.ob0_world_rules.specs.Answers.{place_at, AnswersFor, IsAnswer, IsEmptyIfCorrect}
-use Rattle.ob0_world_rules.specs.Ends.{Asked, numbered, ToServer, tells, asks, ToEditor, publishes, answers, after_message}
+use Rattle.ob0_world_rules.specs.Ends.{SentAsk, numbered, ToServer, tells, asks, ToEditor, publishes, answers, after_message}
 use Rattle.ob0_world_rules.specs.Serving.{Publishes, cleared, Replies}
 use Rattle.ob0_world_rules.proofs.UriLaws.{get_put, uri_itself}
 use Rattle.ob0_world.specs.Queues.{IsRunning, made_of_document, made_first}
 
 -- ---- contents that are read
 
-same_json : (content : List ℕ) (json : Option Data) (d : Data) → Reads content json → Reads content (Some d) → json ≡ Some d
+same_json : (content : List ℕ) (json : Option Data) (d : Data) → ReadsContent content json → ReadsContent content (Some d) → json ≡ Some d
 same_json content (Some e) d one other = sym one.1 ∙ other.1
 same_json content None d one other = sym (one other.0) ∙ other.1
 
 -- what the editor understands of the contents that were sent
-pub record Heard (asked : List Asked) (sent : List (List ℕ)) (said : List ToEditor) : Type 0 where
+pub record Heard (asked : List SentAsk) (sent : List (List ℕ)) (said : List ToEditor) : Type 0 where
   pub each : All (λ content. (m : ToEditor) × (understood asked content ≡ Some m)) sent
   pub all : filter_map (understood asked) sent ≡ said
   pub count : length sent ≡ length said
 
-heard_none : (asked : List Asked) (sent : List (List ℕ)) → sent ≡ [] → Heard asked sent []
+heard_none : (asked : List SentAsk) (sent : List (List ℕ)) → sent ≡ [] → Heard asked sent []
 heard_none asked sent none =
     subst (λ s. Heard asked s []) (sym none) (record { each = All-nil (λ content. (m : ToEditor) × (understood asked content ≡ Some m)); all = refl; count = refl })
 
-heard_one : (asked : List Asked) (sent : List (List ℕ)) (message : Data) (m : ToEditor) → Sends message sent → value_understood asked message ≡ Some m → Heard asked sent (m ∷ [])
+heard_one : (asked : List SentAsk) (sent : List (List ℕ)) (message : Data) (m : ToEditor) → Sends message sent → value_understood asked message ≡ Some m → Heard asked sent (m ∷ [])
 heard_one asked sent message m (content, is, writes) means =
     let said : understood asked content ≡ Some m = understood_as asked content message writes.reads ∙ means in
     subst (λ s. Heard asked s (m ∷ [])) (sym is)
@@ -82,7 +82,7 @@ none_empty : (shown : Complaint → Diagnostic) (told : List Complaint) → has_
 none_empty shown [] h = refl
 none_empty shown (c ∷ cs) h = absurd (cc)
 
-some_told : (text : List ℕ) (told : List Complaint) → TellsFaults text told → told ≡ [] → ⊥
+some_told : (text : List ℕ) (told : List Complaint) → ReportsFaults text told → told ≡ [] → ⊥
 some_told text told (inl lexemes) none = go lexemes.faults lexemes.of_text.some (sym lexemes.all ∙ none)
   where
     go : (faults : _) → 0 < length faults → map complaint_of faults ≡ [] → ⊥
@@ -102,19 +102,19 @@ tells_right : (unit : Unit) (text : List ℕ) (ds : List Diagnostic) → Diagnos
 tells_right unit text ds (told, telling, is) =
     subst (λ ds. IsEmptyIfCorrect text (has_none (items_of (map diagnostic_value ds)))) (sym is) (go telling)
   where
-    go : Tells (utf8 text) told → IsEmptyIfCorrect text (has_none (items_of (map diagnostic_value (map (diagnostic_of unit text) told))))
+    go : Reports (utf8 text) told → IsEmptyIfCorrect text (has_none (items_of (map diagnostic_value (map (diagnostic_of unit text) told))))
     go (inl (found, none)) = (λ empty. found, λ well_typed. empty_none (diagnostic_of unit text) told none)
     go (inr (unfit, faults)) = (λ empty. absurd (some_told (utf8 text) told faults (none_empty (diagnostic_of unit text) told empty)), λ well_typed. absurd (unfit well_typed))
 
 -- ---- publications
 
--- what was sent of a note
-pub record Noted (asked : List Asked) (held : OpenDocuments) (uri : List ℕ) (o : Option Document) (sent : List (List ℕ)) : Type 0 where
+-- what was sent of a notification
+pub record Noted (asked : List SentAsk) (held : OpenDocuments) (uri : List ℕ) (o : Option Document) (sent : List (List ℕ)) : Type 0 where
   pub said : List ToEditor
   pub heard : Heard asked sent said
   pub replies : Publishes uri o said (option_to_list (made_first held said))
 
-publishes_step : (asked : List Asked) (held : OpenDocuments) (uri : List ℕ) (version : ℤ) (text : List ℕ) (sent : List (List ℕ)) → document_at held uri ≡ Some (InStep version text) → as_i64 (of_integer version) ≡ Some version
+publishes_step : (asked : List SentAsk) (held : OpenDocuments) (uri : List ℕ) (version : ℤ) (text : List ℕ) (sent : List (List ℕ)) → document_at held uri ≡ Some (InStep version text) → as_i64 (of_integer version) ≡ Some version
     → Says (published held.unit uri (Some (InStep version text))) sent → Noted asked held uri (Some (InStep version text)) sent
 publishes_step asked held uri version text sent at fits (ds, diagnoses, sends) =
     let empty : Bool = has_none (items_of (map diagnostic_value ds)) in
@@ -124,7 +124,7 @@ publishes_step asked held uri version text sent at fits (ds, diagnoses, sends) =
       replies = (empty, tells_right held.unit text ds diagnoses, refl, ap (λ o. option_to_list (option_and_then (made_of_document uri version empty) o)) at);
     }
 
-publishes_now : (asked : List Asked) (held : OpenDocuments) (uri : List ℕ) (version : ℤ) (t : Option (List ℕ)) (sent : List (List ℕ)) → document_at held uri ≡ Some (document version t) → as_i64 (of_integer version) ≡ Some version
+publishes_now : (asked : List SentAsk) (held : OpenDocuments) (uri : List ℕ) (version : ℤ) (t : Option (List ℕ)) (sent : List (List ℕ)) → document_at held uri ≡ Some (document version t) → as_i64 (of_integer version) ≡ Some version
     → Says (published held.unit uri (Some (document version t))) sent → Noted asked held uri (Some (document version t)) sent
 publishes_now asked held uri version (Some text) sent at fits saying = publishes_step asked held uri version text sent at fits saying
 publishes_now asked held uri version None sent at fits saying = record { said = []; heard = heard_none asked sent saying; replies = (refl, refl) }
@@ -147,7 +147,7 @@ opened_at held uri version text =
     get_put held.by_uri uri (InStep version text) uri ∙ ap (λ b. cond b (Some (InStep version text)) (document_at held uri)) (uri_itself uri)
 
 -- what is said of the document that is held now
-noted_at : (asked : List Asked) (held : OpenDocuments) (uri : List ℕ) (o : Option Document) (sent : List (List ℕ)) → document_at held uri ≡ o → (Says (published held.unit uri o) sent → Noted asked held uri o sent)
+noted_at : (asked : List SentAsk) (held : OpenDocuments) (uri : List ℕ) (o : Option Document) (sent : List (List ℕ)) → document_at held uri ≡ o → (Says (published held.unit uri o) sent → Noted asked held uri o sent)
     → Says (published held.unit uri (document_at held uri)) sent → Noted asked held uri (document_at held uri) sent
 noted_at asked held uri o sent at then_noted saying =
     subst (λ o. Noted asked held uri o sent) (sym at) (then_noted (subst (λ o. Says (published held.unit uri o) sent) at saying))
@@ -155,15 +155,15 @@ noted_at asked held uri o sent at then_noted saying =
 -- ---- what may be sent
 
 -- the server has taken a message, and sent this
-pub record Served (asked : List Asked) (m : ToServer) (before after : State) (sent : List (List ℕ)) : Type 0 where
+pub record Served (asked : List SentAsk) (m : ToServer) (before after : State) (sent : List (List ℕ)) : Type 0 where
   pub running : IsRunning after
   pub held : after.held ≡ after_message before.held m
   pub said : List ToEditor
   pub heard : Heard asked sent said
   pub replies : Replies before.held m said (option_to_list (made_first after.held said))
 
--- the reaction to a note, and what it saying
-note_served : (asked : List Asked) (note : DocumentNote) (before after : State) (sent : List (List ℕ)) → IsRunning before → HasVersion note → after ≡ (reaction_to before (told_as note)).after → Says (reaction_to before (told_as note)).say sent
+-- the reaction to a notification, and what it saying
+note_served : (asked : List SentAsk) (note : DocumentEvent) (before after : State) (sent : List (List ℕ)) → IsRunning before → HasVersion note → after ≡ (reaction_to before (sent_as note)).after → Says (reaction_to before (sent_as note)).say sent
     → Served asked (tells note) before after sent
 note_served asked (Opened uri version text) before after sent running fits is saying =
     let held : OpenDocuments = opened before.held uri version text in
@@ -188,7 +188,7 @@ note_served asked (Lost uri) before after sent running fits is saying =
 note_served asked (Closed uri) before after sent running fits is saying =
     subst (λ a. Served asked (tells (Closed uri)) before a sent) (sym is) (go (is_some (document_at before.held uri)) refl saying)
   where
-    go : (b : Bool) → is_some (document_at before.held uri) ≡ b → Says (cond b (says (publication uri None [])) answers_of.nothing) sent → Served asked (tells (Closed uri)) before (reaction_to before (told_as (Closed uri))).after sent
+    go : (b : Bool) → is_some (document_at before.held uri) ≡ b → Says (cond b (says (publication uri None [])) answers_of.nothing) sent → Served asked (tells (Closed uri)) before (reaction_to before (sent_as (Closed uri))).after sent
     go true was saying = record {
       running = running;
       held = refl;
@@ -205,17 +205,17 @@ edits_read_back [] = refl
 edits_read_back (e ∷ edits) = ap (option_map (λ es. replacement_of e ∷ es)) (edits_read_back edits)
 
 -- an answer to ask k, where that asks this
-answered : (asked : List Asked) (k : ℕ) (uri : List ℕ) (ask : Ask) (answer : Data) → IsAsk asked k uri ask → option_map (λ (a : Asked). answers k (edits_for a.ask answer)) (numbered asked k) ≡ Some (answers k (edits_for ask answer))
-answered asked k uri ask answer of = ap (option_map (λ (a : Asked). answers k (edits_for a.ask answer))) of.is ∙ ap (λ x. Some (answers k (edits_for x answer))) of.asks_this
+answered : (asked : List SentAsk) (k : ℕ) (uri : List ℕ) (ask : Ask) (answer : Data) → IsAsk asked k uri ask → option_map (λ (a : SentAsk). answers k (edits_for a.ask answer)) (numbered asked k) ≡ Some (answers k (edits_for ask answer))
+answered asked k uri ask answer of = ap (option_map (λ (a : SentAsk). answers k (edits_for a.ask answer))) of.is ∙ ap (λ x. Some (answers k (edits_for x answer))) of.asks_this
 
 -- the answer to an ask
-record Answered (asked : List Asked) (k : ℕ) (ask : Ask) (unit : Unit) (o : Option Document) (sent : List (List ℕ)) : Type 0 where
+record Answered (asked : List SentAsk) (k : ℕ) (ask : Ask) (unit : Unit) (o : Option Document) (sent : List (List ℕ)) : Type 0 where
   edits : List Replacement
   heard : Heard asked sent (answers k edits ∷ [])
   replies : IsAnswer unit o ask edits
 
 -- a refusal has no edits
-refused : (asked : List Asked) (k : ℕ) (uri : List ℕ) (ask : Ask) (unit : Unit) (o : Option Document) (code : ℤ) (why : List ℕ) (sent : List (List ℕ)) → IsAsk asked k uri ask → Sends (error_message (number (unsigned k)) code why) sent
+refused : (asked : List SentAsk) (k : ℕ) (uri : List ℕ) (ask : Ask) (unit : Unit) (o : Option Document) (code : ℤ) (why : List ℕ) (sent : List (List ℕ)) → IsAsk asked k uri ask → Sends (error_message (number (unsigned k)) code why) sent
     → IsAnswer unit o ask [] → Answered asked k ask unit o sent
 refused asked k uri ask unit o code why sent of sends none =
     record {
@@ -224,11 +224,11 @@ refused asked k uri ask unit o code why sent of sends none =
       replies = none;
     }
 
--- nothing is handed out for a text that is no well-typed module
+-- nothing is returned for a text that isn't a well-typed module
 unfit_answer : (unit : Unit) (text : List ℕ) (ask : Ask) → ¬ IsWellTypedModule (utf8 text) → AnswersFor unit text ask []
 unfit_answer unit text ask unfit = inr (inr unfit, refl)
 
-formatted : (asked : List Asked) (k : ℕ) (uri : List ℕ) (indent : Indent) (unit : Unit) (version : ℤ) (text : List ℕ) (sent : List (List ℕ)) → IsAsk asked k uri (format indent)
+formatted : (asked : List SentAsk) (k : ℕ) (uri : List ℕ) (indent : Indent) (unit : Unit) (version : ℤ) (text : List ℕ) (sent : List (List ℕ)) → IsAsk asked k uri (format indent)
     → Says (lays_out unit (number (unsigned k)) (indent_read indent) text) sent → Answered asked k (format indent) unit (Some (InStep version text)) sent
 formatted asked k uri indent unit version text sent of (message, how, sends) = go how
   where
@@ -264,7 +264,7 @@ abbrev rename_asked : Client → ℕ → List ℕ → Position → List ℕ → 
 rename_asked client k uri position name version =
     record { id = number (unsigned k); client = client; at = record { uri = uri; position = position }; version = version; new = name }
 
-renamed : (asked : List Asked) (k : ℕ) (uri : List ℕ) (position : Position) (name : List ℕ) (client : Client) (unit : Unit) (version : ℤ) (text : List ℕ) (sent : List (List ℕ)) → client.takes_document_changes ≡ true → IsAsk asked k uri (rename position name)
+renamed : (asked : List SentAsk) (k : ℕ) (uri : List ℕ) (position : Position) (name : List ℕ) (client : Client) (unit : Unit) (version : ℤ) (text : List ℕ) (sent : List (List ℕ)) → client.takes_document_changes ≡ true → IsAsk asked k uri (rename position name)
     → Says (renames unit (rename_asked client k uri position name version) text) sent → Answered asked k (rename position name) unit (Some (InStep version text)) sent
 renamed asked k uri position name client unit version text sent takes of (message, how, sends) = go how
   where
@@ -337,7 +337,7 @@ abbrev actions_asked_at : Client → ℕ → List ℕ → Position → ℤ → A
 actions_asked_at client k uri position version =
     record { id = number (unsigned k); client = client; uri = uri; version = version; range = empty_at position; only = None }
 
-inlined : (how : Inlining) (asked : List Asked) (k : ℕ) (uri : List ℕ) (position : Position) (client : Client) (unit : Unit) (version : ℤ) (text : List ℕ) (sent : List (List ℕ)) → client.takes_document_changes ≡ true → client.takes_literal_actions ≡ true
+inlined : (how : Inlining) (asked : List SentAsk) (k : ℕ) (uri : List ℕ) (position : Position) (client : Client) (unit : Unit) (version : ℤ) (text : List ℕ) (sent : List (List ℕ)) → client.takes_document_changes ≡ true → client.takes_literal_actions ≡ true
     → IsAsk asked k uri (inlining_at how position)
     → Says (offers_actions unit (actions_asked_at client k uri position version) text) sent → Answered asked k (inlining_at how position) unit (Some (InStep version text)) sent
 inlined how asked k uri position client unit version text sent takes literal of (message, (value, how_listed, is), sends) = go how_listed
@@ -355,7 +355,7 @@ inlined how asked k uri position client unit version text sent takes literal of 
           replies = answer_is;
         }
 
-    -- this editor wants actions that are no commands
+    -- this editor wants actions that aren't commands
     wants : (b : Bool) → b ≡ true → (b && true) ≡ false → ⊥
     wants true is not = let no : true ≡ false = not in cc
     wants false is not = cc
@@ -374,14 +374,14 @@ inlined how asked k uri position client unit version text sent takes literal of 
 
 -- ---- asks
 
-asks_served : (asked : List Asked) (k : ℕ) (uri : List ℕ) (ask : Ask) (before after : State) (sent : List (List ℕ)) → IsRunning before → after ≡ before → Answered asked k ask before.held.unit (document_at before.held uri) sent
+asks_served : (asked : List SentAsk) (k : ℕ) (uri : List ℕ) (ask : Ask) (before after : State) (sent : List (List ℕ)) → IsRunning before → after ≡ before → Answered asked k ask before.held.unit (document_at before.held uri) sent
     → Served asked (asks k uri ask) before after sent
 asks_served asked k uri ask before after sent running same answer =
     subst (λ a. Served asked (asks k uri ask) before a sent) (sym same)
     (record { running = running; held = refl; said = answers k answer.edits ∷ []; heard = answer.heard; replies = (answer.edits, answer.replies, refl, refl) })
 
 -- an ask about a document, where its answer is known for the text of one that is in step
-about_document : (asked : List Asked) (k : ℕ) (uri : List ℕ) (ask : Ask) (say : ℤ → List ℕ → Say) (before after : State) (sent : List (List ℕ)) → IsRunning before → IsAsk asked k uri ask
+about_document : (asked : List SentAsk) (k : ℕ) (uri : List ℕ) (ask : Ask) (say : ℤ → List ℕ → Reply) (before after : State) (sent : List (List ℕ)) → IsRunning before → IsAsk asked k uri ask
     → ((version : ℤ) (text : List ℕ) → Says (say version text) sent → Answered asked k ask before.held.unit (Some (InStep version text)) sent)
     → (o : Option Document) → document_at before.held uri ≡ o → after ≡ (of_document before (number (unsigned k)) o say).after → Says (of_document before (number (unsigned k)) o say).say sent → Served asked (asks k uri ask) before after sent
 about_document asked k uri ask say before after sent running of in_step None at same saying =
@@ -392,32 +392,32 @@ about_document asked k uri ask say before after sent running of in_step (Some (I
     asks_served asked k uri ask before after sent running same (subst (λ o. Answered asked k ask before.held.unit o sent) (sym at) (in_step version text saying))
 
 -- a request of the editor, while the session runs
-request_served : (asked : List Asked) (k : ℕ) (uri : List ℕ) (ask : Ask) (params : Data) (before after : State) (sent : List (List ℕ)) → IsRunning before → IsAsk asked k uri ask → call_of (method_of ask) params ≡ Ok (call_for uri ask)
+request_served : (asked : List SentAsk) (k : ℕ) (uri : List ℕ) (ask : Ask) (params : Data) (before after : State) (sent : List (List ℕ)) → IsRunning before → IsAsk asked k uri ask → call_of (method_of ask) params ≡ Ok (call_for uri ask)
     → after ≡ (requested before (number (unsigned k)) (method_of ask) params).after → Says (requested before (number (unsigned k)) (method_of ask) params).say sent → Served asked (asks k uri ask) before after sent
 request_served asked k uri (rename position name) params before after sent running of call is saying =
     let id : Data = number (unsigned k) in
-    let say : ℤ → List ℕ → Say = λ version. renames before.held.unit (rename_asked before.client k uri position name version) in
+    let say : ℤ → List ℕ → Reply = λ version. renames before.held.unit (rename_asked before.client k uri position name version) in
     let so : requested before id (method_of (rename position name)) params ≡ of_document before id (document_at before.held uri) say = ap (calls before id) call in
     about_document asked k uri (rename position name) say before after sent running of
     (λ version text. renamed asked k uri position name before.client before.held.unit version text sent running.1 of) (document_at before.held uri) refl
     (is ∙ ap (λ (x : Reaction). x.after) so) (subst (λ (x : Reaction). Says x.say sent) so saying)
 request_served asked k uri (inline_here position) params before after sent running of call is saying =
     let id : Data = number (unsigned k) in
-    let say : ℤ → List ℕ → Say = λ version. offers_actions before.held.unit (actions_asked_at before.client k uri position version) in
+    let say : ℤ → List ℕ → Reply = λ version. offers_actions before.held.unit (actions_asked_at before.client k uri position version) in
     let so : requested before id (method_of (inline_here position)) params ≡ of_document before id (document_at before.held uri) say = ap (calls before id) call in
     about_document asked k uri (inline_here position) say before after sent running of
     (λ version text. inlined Here asked k uri position before.client before.held.unit version text sent running.1 running.2 of) (document_at before.held uri) refl
     (is ∙ ap (λ (x : Reaction). x.after) so) (subst (λ (x : Reaction). Says x.say sent) so saying)
 request_served asked k uri (inline_all position) params before after sent running of call is saying =
     let id : Data = number (unsigned k) in
-    let say : ℤ → List ℕ → Say = λ version. offers_actions before.held.unit (actions_asked_at before.client k uri position version) in
+    let say : ℤ → List ℕ → Reply = λ version. offers_actions before.held.unit (actions_asked_at before.client k uri position version) in
     let so : requested before id (method_of (inline_all position)) params ≡ of_document before id (document_at before.held uri) say = ap (calls before id) call in
     about_document asked k uri (inline_all position) say before after sent running of
     (λ version text. inlined Everywhere asked k uri position before.client before.held.unit version text sent running.1 running.2 of) (document_at before.held uri) refl
     (is ∙ ap (λ (x : Reaction). x.after) so) (subst (λ (x : Reaction). Says x.say sent) so saying)
 request_served asked k uri (format indent) params before after sent running of call is saying =
     let id : Data = number (unsigned k) in
-    let say : ℤ → List ℕ → Say = λ version. lays_out before.held.unit id (indent_read indent) in
+    let say : ℤ → List ℕ → Reply = λ version. lays_out before.held.unit id (indent_read indent) in
     let so : requested before id (method_of (format indent)) params ≡ of_document before id (document_at before.held uri) say = ap (calls before id) call in
     about_document asked k uri (format indent) say before after sent running of
     (λ version text. formatted asked k uri indent before.held.unit version text sent of) (document_at before.held uri) refl
@@ -427,17 +427,17 @@ request_served asked k uri (format indent) params before after sent running of c
 
 -- the answers of a session that runs
 going_on : (before after : State) (content : List ℕ) (sent : List (List ℕ)) → IsRunning before → Answers before content sent after → AnswersGoingOn before content sent after
-going_on before after content sent running h = subst (λ phase. AnswersIn phase before content sent after) running.0 h
+going_on before after content sent running h = subst (λ phase. AnswersInState phase before content sent after) running.0 h
 
 -- what comes of a content with this meaning
-pub reacts_so : (before after : State) (content : List ℕ) (sent : List (List ℕ)) (d : Data) → AnswersGoingOn before content sent after → Reads content (Some d) → (after ≡ (reacts before (meaning_of d)).after) × Says (reacts before (meaning_of d)).say sent
+pub reacts_so : (before after : State) (content : List ℕ) (sent : List (List ℕ)) (d : Data) → AnswersGoingOn before content sent after → ReadsContent content (Some d) → (after ≡ (reacts before (meaning_of d)).after) × Says (reacts before (meaning_of d)).say sent
 reacts_so before after content sent d (json, reads, answer) known =
     subst (λ j. (after ≡ (reacts before (meaning j)).after) × Says (reacts before (meaning j)).say sent) (same_json content json d reads known) answer
 
-pub served : (asked : List Asked) (m : ToServer) (before after : State) (content : List ℕ) (sent : List (List ℕ)) → IsRunning before → heard_as.Says asked m content → Answers before content sent after → Served asked m before after sent
+pub served : (asked : List SentAsk) (m : ToServer) (before after : State) (content : List ℕ) (sent : List (List ℕ)) → IsRunning before → heard_as.SaysToServer asked m content → Answers before content sent after → Served asked m before after sent
 served asked (tells note) before after content sent running is h =
     let answer = reacts_so before after content sent is.json (going_on before after content sent running h) is.reads in
-    let so : reacts before (meaning_of is.json) ≡ reaction_to before (told_as note) =
+    let so : reacts before (meaning_of is.json) ≡ reaction_to before (sent_as note) =
     ap (reacts before) is.means ∙ ap (λ phase. hears phase before is.method is.params) running.0 ∙ ap (reaction_to before) is.told in
     note_served asked note before after sent running is.fits (answer.0 ∙ ap (λ (x : Reaction). x.after) so) (subst (λ (x : Reaction). Says x.say sent) so answer.1)
 served asked (asks k uri ask) before after content sent running (is, of) h =

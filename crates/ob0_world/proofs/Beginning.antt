@@ -1,13 +1,13 @@
 -- How a session begins with an editor.
 use Rattle.std.proofs.Common.{◌≡◌, ◌∙◌, ℕ, List, refl, sym, ap, subst, Some}
 use Rattle.ob0_text.specs.OpenDocuments.{none_open}
-use Rattle.ob0_text.specs.declared.positions.Unit.{Unit}
-use Rattle.ob0_text.specs.declared.positions.Unit.TheVariants.{Utf16, Utf8}
-use Rattle.ob0_rpc.specs.Messages.{Reads, meaning_of}
+use Rattle.ob0_text.specs.declared.position_types.Unit.{Unit}
+use Rattle.ob0_text.specs.declared.position_types.Unit.TheVariants.{Utf16, Utf8}
+use Rattle.ob0_rpc.specs.Messages.{ReadsContent, meaning_of}
 use Rattle.ob0_session.specs.Answers.{State, start, begins, reacts, Answers}
-use Rattle.ob0_session.specs.Standing.{SessionState, serving, failed}
+use Rattle.ob0_session.specs.SessionStates.{SessionState, serving, failed}
 use Rattle.ob0_world_editor.specs.Beginning.{initialize_message, client_for}
-use Rattle.ob0_world.specs.Queues.{Contents, bytes, Stands, held_by}
+use Rattle.ob0_world.specs.Queues.{Contents, bytes, IsRunningOrFailed, held_by}
 use Rattle.ob0_world.specs.Worlds.{IsAnswered}
 use Rattle.ob0_world.proofs.Answering.{reacts_so}
 
@@ -25,13 +25,13 @@ state_of failed other = other
 
 pub record Begun (unit : Unit) (session : SessionState) : Type 0 where
   pub is : session ≡ serving (begins (client_for unit))
-  pub stands : Stands session
+  pub stands : IsRunningOrFailed session
   pub held : held_by session ≡ none_open unit
 
-pub begins_so : (unit : Unit) (content : List ℕ) (sent : Contents) (session : SessionState) → Reads content (Some (initialize_message unit)) → IsAnswered (serving start) content (bytes sent) session → Begun unit session
+pub begins_so : (unit : Unit) (content : List ℕ) (sent : Contents) (session : SessionState) → ReadsContent content (Some (initialize_message unit)) → IsAnswered (serving start) content (bytes sent) session → Begun unit session
 begins_so unit content sent session reads (before, after, was, is, how) =
     let same : start ≡ before = ap (λ s. state_of s start) was in
     let from_start : Answers start content (bytes sent) after = subst (λ s. Answers s content (bytes sent) after) (sym same) how in
     let so : after ≡ begins (client_for unit) = (reacts_so start after content (bytes sent) (initialize_message unit) from_start reads).0 ∙ begun unit in
     let standing : session ≡ serving (begins (client_for unit)) = is ∙ ap serving so in
-    record { is = standing; stands = subst Stands (sym standing) (refl, refl, refl); held = ap held_by standing ∙ holds_none unit }
+    record { is = standing; stands = subst IsRunningOrFailed (sym standing) (refl, refl, refl); held = ap held_by standing ∙ holds_none unit }

@@ -6,13 +6,13 @@ use Rattle.std.specs.Cmp.Lexicographic.{slice_cmp}
 use Rattle.std.proofs.lemmas.Option.{none-some}
 use Rattle.std.proofs.lemmas.List.{length-append}
 use Rattle.ob0_text.specs.OpenDocuments.{TextChange}
-use Rattle.ob0_text.specs.declared.positions.Unit.{Unit}
+use Rattle.ob0_text.specs.declared.position_types.Unit.{Unit}
 use Rattle.ob0_world_rules.specs.Edited.{Replacement, edited, after_changes}
 use Rattle.ob0_world_rules.specs.Asks.{Ask}
-use Rattle.ob0_world_rules.specs.Ends.{Open, Asked, Editor, numbered, open_at, ToServer, ToEditor, publishes, answers, Ends, new_editor}
-use Rattle.ob0_world_rules.specs.Editing.{opens_document, rewritten, rewrites, changes_text, changes_document, closes_document, asks_about, held_answer, without_answer, discards, if_same, applies_text, applies_edits, applies_asked, applies_answer}
+use Rattle.ob0_world_rules.specs.Ends.{Open, SentAsk, Editor, numbered, open_at, ToServer, ToEditor, publishes, answers, Ends, new_editor}
+use Rattle.ob0_world_rules.specs.Editing.{opens_document, rewritten, rewrites, changes_text, changes_document, closes_document, asks_about, kept_answer, without_answer, discards, if_same, applies_text, applies_edits, applies_asked, applies_answer}
 use Rattle.ob0_world_rules.specs.Events.{Event, open_document, change_document, close_document, ask_about, serve, take_message, apply, discard, Seen, moved, comes_of, takes}
-use Rattle.ob0_world_rules.specs.Happens.{Serves, Happens}
+use Rattle.ob0_world_rules.specs.Happens.{ServerTakes, Happens}
 use Rattle.ob0_world_rules.proofs.SameDocument.{found, left, same_from, Same}
 use Rattle.ob0_world_editor.specs.Moves.{AreFew}
 use Rattle.ob0_world.specs.Queues.{Within}
@@ -85,7 +85,7 @@ module _ (n : ℕ) (w : Ends) (within : Within n w.editor) where
         versions = λ q x at. let a : x.version ≤ n = within.versions q x at in omega arith;
       }
     where
-      longer : (xs : List Asked) (x : Asked) → length xs ≤ n → length (xs ++ x ∷ []) ≤ n + 1
+      longer : (xs : List SentAsk) (x : SentAsk) → length xs ≤ n → length (xs ++ x ∷ []) ≤ n + 1
       longer xs x h = rw (length-append xs (x ∷ [])) (omega arith)
 
   take_within : (queue : List ToEditor) → Within (n + 1) (takes w queue).after.editor
@@ -112,15 +112,15 @@ module _ (n : ℕ) (w : Ends) (within : Within n w.editor) where
       of_text uri d None at = more n e (without k)
       of_text uri d (Some text) at = rewritten_within n e uri d text at (without k)
 
-      of_document : (a : Asked) (o : Option Open) → if_same a (open_at e a.uri) ≡ o → Within (n + 1) (comes_of w k (applies_edits e edits a.uri o)).after.editor
+      of_document : (a : SentAsk) (o : Option Open) → if_same a (open_at e a.uri) ≡ o → Within (n + 1) (comes_of w k (applies_edits e edits a.uri o)).after.editor
       of_document a None is = more n e (without k)
       of_document a (Some d) is = let same : Same e a d = same_from e a d is in of_text a.uri d (edited e.unit d.text edits) same.at
 
-      of_asked : (o : Option Asked) → Within (n + 1) (comes_of w k (applies_asked e edits o)).after.editor
+      of_asked : (o : Option SentAsk) → Within (n + 1) (comes_of w k (applies_asked e edits o)).after.editor
       of_asked None = more n e (without k)
       of_asked (Some a) = of_document a (if_same a (open_at e a.uri)) refl
 
-  same_editor : (queue : List ToServer) (seen : Seen) (new : Ends) → Serves w queue seen new → new.editor ≡ w.editor
+  same_editor : (queue : List ToServer) (seen : Seen) (new : Ends) → ServerTakes w queue seen new → new.editor ≡ w.editor
   same_editor [] seen new h = ap (λ (x : Ends). x.editor) h.1
   same_editor (m ∷ rest) seen new (said, made, may, shown, is) = ap (λ (x : Ends). x.editor) is
 
@@ -134,5 +134,5 @@ module _ (n : ℕ) (w : Ends) (within : Within n w.editor) where
   within_step (ask_about uri ask) seen new h = of_step new _ h.1 (ask_within uri ask (open_at w.editor uri))
   within_step serve seen new h = subst (Within (n + 1)) (sym (same_editor w.to_server seen new h)) (more n w.editor within)
   within_step take_message seen new h = of_step new _ h.1 (take_within w.to_editor)
-  within_step (apply k) seen new h = of_step new _ h.1 (apply_within k (held_answer k w.editor.answers))
-  within_step (discard k) seen new h = of_step new _ h.1 (discard_within k (held_answer k w.editor.answers))
+  within_step (apply k) seen new h = of_step new _ h.1 (apply_within k (kept_answer k w.editor.answers))
+  within_step (discard k) seen new h = of_step new _ h.1 (discard_within k (kept_answer k w.editor.answers))

@@ -5,9 +5,9 @@ use Rattle.std.specs.declared.alloc.Global.{Global}
 use Rattle.std.proofs.lemmas.List.{append-nil, map-append}
 use Rattle.std.proofs.lemmas.List.Elements.{All-push, All-tail}
 use Rattle.ob0_text.specs.OpenDocuments.{TextChange}
-use Rattle.ob0_session.specs.Standing.{SessionState}
+use Rattle.ob0_session.specs.SessionStates.{SessionState}
 use Rattle.ob0_world_editor.specs.Code.{applied_of}
-use Rattle.ob0_world_editor.specs.Heard.{heard, Says}
+use Rattle.ob0_world_editor.specs.Heard.{heard, SaysToServer}
 use Rattle.ob0_world_editor.specs.Moves.{Moves, ComesOf}
 use Rattle.ob0_world_editor.specs.Understood.{understood}
 use Rattle.ob0_world_editor.specs.declared.applied.Applied as applied
@@ -16,8 +16,8 @@ use Rattle.ob0_world_editor.proofs.Hearing.{says_heard}
 use Rattle.ob0_world_editor.proofs.Moving.{none_goes}
 use Rattle.ob0_world_rules.specs.Edited.{Replacement, edited, after_changes}
 use Rattle.ob0_world_rules.specs.Asks.{Ask}
-use Rattle.ob0_world_rules.specs.Ends.{Open, Asked, Editor, numbered, open_at, ToServer, ToEditor, publishes, answers, Ends}
-use Rattle.ob0_world_rules.specs.Editing.{Move, idle, sends, opens_document, changes_text, changes_document, closes_document, asks_about, keeps, has_edits, Outcome, not_held, drops_answer, makes, held_answer, without_answer, discards, if_same, applies_text, applies_edits, applies_asked, applies_answer}
+use Rattle.ob0_world_rules.specs.Ends.{Open, SentAsk, Editor, numbered, open_at, ToServer, ToEditor, publishes, answers, Ends}
+use Rattle.ob0_world_rules.specs.Editing.{Move, idle, sends, opens_document, changes_text, changes_document, closes_document, asks_about, keeps, has_edits, ApplyOutcome, not_held, drops_answer, makes, kept_answer, without_answer, discards, if_same, applies_text, applies_edits, applies_asked, applies_answer}
 use Rattle.ob0_world_rules.specs.Events.{Is, moved, comes_of, takes, applies, drops, nothing, published, answered}
 use Rattle.ob0_world.specs.declared.events.Seen as seen
 use Rattle.ob0_world.specs.declared.played.Made as made
@@ -32,7 +32,7 @@ on_err (Err e) p = p
 -- ---- the asks of an editor only grow
 
 abbrev pub Grows : Editor → Editor → Type 0
-Grows e new = (more : List Asked) × (new.asked ≡ e.asked ++ more)
+Grows e new = (more : List SentAsk) × (new.asked ≡ e.asked ++ more)
 
 abbrev pub Extends : Editor → Move → Type 0
 Extends e idle = ⊤
@@ -77,7 +77,7 @@ grown_sound e new q r s (more, is) sound =
 pub same_sound : (e new : Editor) (q r : Contents) (s : SessionState) → new.asked ≡ e.asked → Sound e.asked q r s → Sound new.asked q r s
 same_sound e new q r s is sound = subst (λ asked. Sound asked q r s) (sym is) sound
 
-pushed_sound : (asked : List Asked) (q r : Contents) (s : SessionState) (c : Vec ℕ Global) (m : ToServer) → Says asked m c.items → Sound asked q r s → Sound asked (q ++ c ∷ []) r s
+pushed_sound : (asked : List SentAsk) (q r : Contents) (s : SessionState) (c : Vec ℕ Global) (m : ToServer) → SaysToServer asked m c.items → Sound asked q r s → Sound asked (q ++ c ∷ []) r s
 pushed_sound asked q r s c m says sound =
     record { heard_all = All-push (IsHeard asked) q c sound.heard_all (m, says); understood_all = sound.understood_all; stands = sound.stands }
 
@@ -89,7 +89,7 @@ moved_sound e new idle (Some c) q q' r s shown extends is sent sound = absurd is
 moved_sound e new (sends f m) None q q' r s shown extends is sent sound = absurd is
 moved_sound e new (sends f m) (Some c) q q' r s shown extends is sent sound =
     subst (λ x. Sound new.asked x r s) (sym sent.1)
-    (pushed_sound new.asked q r s c m (subst (λ (x : Editor). Says x.asked m c.items) (sym is.0) is.1)
+    (pushed_sound new.asked q r s c m (subst (λ (x : Editor). SaysToServer x.asked m c.items) (sym is.0) is.1)
     (grown_sound e new q r s (moves_grow e new (sends f m) (Some c) extends is) sound))
 
 -- the same queues, where more was asked
@@ -107,7 +107,7 @@ moved_happens e new idle None q q' r s ap_list md shown extends is sent sound = 
 moved_happens e new idle (Some c) q q' r s ap_list md shown extends is sent sound = absurd is
 moved_happens e new (sends f m) None q q' r s ap_list md shown extends is sent sound = absurd is
 moved_happens e new (sends f m) (Some c) q q' r s ap_list md shown extends is sent sound =
-    let says : Says new.asked m c.items = subst (λ (x : Editor). Says x.asked m c.items) (sym is.0) is.1 in
+    let says : SaysToServer new.asked m c.items = subst (λ (x : Editor). SaysToServer x.asked m c.items) (sym is.0) is.1 in
     let pushed : ends_from new (q ++ c ∷ []) s r ap_list md ≡ record (ends_from new q s r ap_list md) { to_server = all_heard new.asked q ++ m ∷ [] } =
     (λ i. record (ends_from new q s r ap_list md) { to_server = said_push (heard new.asked) q c m (says_heard new.asked m c.items says) i }) in
     let grown : ends_from new q s r ap_list md ≡ record (ends_from e q s r ap_list md) { editor = new } = queues_grown e new q r s ap_list md (moves_grow e new (sends f m) (Some c) extends is) sound in (
@@ -119,7 +119,7 @@ moved_happens e new (sends f m) (Some c) q q' r s ap_list md shown extends is se
 -- ---- answers
 
 -- the asks stay
-abbrev pub KeepsAsks : Editor → Outcome → Type 0
+abbrev pub KeepsAsks : Editor → ApplyOutcome → Type 0
 KeepsAsks e not_held = ⊤
 KeepsAsks e (drops_answer f) = f.asked ≡ e.asked
 KeepsAsks e (makes f a m) = f.asked ≡ e.asked
@@ -139,25 +139,25 @@ apply_keeps_asks e k (Some edits) = of_asked (numbered e.asked k)
     of_document uri None = refl
     of_document uri (Some d) = of_text uri d (edited f.unit d.text edits)
 
-    of_asked : (o : Option Asked) → KeepsAsks e (applies_asked f edits o)
+    of_asked : (o : Option SentAsk) → KeepsAsks e (applies_asked f edits o)
     of_asked None = refl
     of_asked (Some a) = of_document a.uri (if_same a (open_at f a.uri))
 
 -- nothing was sent
-pub let_go_happens : (e new : Editor) (k : ℕ) (o : Outcome) (q r : Contents) (s : SessionState) (ap_list : List applied.Applied) (md : List made.Made) → KeepsAsks e o → ComesOf o e applying.TheVariants.Dropped new
+pub let_go_happens : (e new : Editor) (k : ℕ) (o : ApplyOutcome) (q r : Contents) (s : SessionState) (ap_list : List applied.Applied) (md : List made.Made) → KeepsAsks e o → ComesOf o e applying.TheVariants.Dropped new
     → Is (comes_of (ends_from e q s r ap_list md) k o) (drops k) (ends_from new q s r ap_list md)
 let_go_happens e new k not_held q r s ap_list md keeps is = absurd is
 let_go_happens e new k (drops_answer f) q r s ap_list md keeps is =
     (refl, (λ i. ends_from (is i) q s r ap_list md) ∙ (λ i. record (ends_from e q s r ap_list md) { editor = f; to_server = all_heard (keeps i) q; to_editor = all_understood (keeps i) r }))
 let_go_happens e new k (makes f a m) q r s ap_list md keeps is = absurd is
 
-pub not_held_happens : (e new : Editor) (k : ℕ) (o : Outcome) (q r : Contents) (s : SessionState) (ap_list : List applied.Applied) (md : List made.Made) → ComesOf o e applying.TheVariants.NotHeld new
+pub not_held_happens : (e new : Editor) (k : ℕ) (o : ApplyOutcome) (q r : Contents) (s : SessionState) (ap_list : List applied.Applied) (md : List made.Made) → ComesOf o e applying.TheVariants.NotHeld new
     → Is (comes_of (ends_from e q s r ap_list md) k o) nothing (ends_from new q s r ap_list md)
 not_held_happens e new k not_held q r s ap_list md is = (refl, (λ i. ends_from (is i) q s r ap_list md))
 not_held_happens e new k (drops_answer f) q r s ap_list md is = absurd is
 not_held_happens e new k (makes f a m) q r s ap_list md is = absurd is
 
-pub comes_asks : (e new : Editor) (o : Outcome) (made : applying.Applying) → KeepsAsks e o → ComesOf o e made new → new.asked ≡ e.asked
+pub comes_asks : (e new : Editor) (o : ApplyOutcome) (made : applying.Applying) → KeepsAsks e o → ComesOf o e made new → new.asked ≡ e.asked
 comes_asks e new not_held applying.TheVariants.NotHeld keeps is = ap (λ (x : Editor). x.asked) is
 comes_asks e new not_held applying.TheVariants.Dropped keeps is = absurd is
 comes_asks e new not_held (applying.TheVariants.Made a c) keeps is = absurd is
@@ -169,12 +169,12 @@ comes_asks e new (makes f a m) applying.TheVariants.Dropped keeps is = absurd is
 comes_asks e new (makes f a m) (applying.TheVariants.Made b c) keeps is = ap (λ (x : Editor). x.asked) is.0 ∙ keeps
 
 -- the content of what was made says something
-pub made_says : (e new : Editor) (o : Outcome) (a : applied.Applied) (c : Vec ℕ Global) → ComesOf o e (applying.TheVariants.Made a c) new → IsHeard new.asked c
+pub made_says : (e new : Editor) (o : ApplyOutcome) (a : applied.Applied) (c : Vec ℕ Global) → ComesOf o e (applying.TheVariants.Made a c) new → IsHeard new.asked c
 made_says e new not_held a c is = absurd is
 made_says e new (drops_answer f) a c is = absurd is
-made_says e new (makes f b m) a c (is_new, is_a, says) = (m, subst (λ (x : Editor). Says x.asked m c.items) (sym is_new) says)
+made_says e new (makes f b m) a c (is_new, is_a, says) = (m, subst (λ (x : Editor). SaysToServer x.asked m c.items) (sym is_new) says)
 
-pub made_happens : (e new : Editor) (k : ℕ) (o : Outcome) (a : applied.Applied) (c : Vec ℕ Global) (q q' r : Contents) (s : SessionState) (ap_list ap_new : List applied.Applied) (md : List made.Made) → KeepsAsks e o → ComesOf o e (applying.TheVariants.Made a c) new
+pub made_happens : (e new : Editor) (k : ℕ) (o : ApplyOutcome) (a : applied.Applied) (c : Vec ℕ Global) (q q' r : Contents) (s : SessionState) (ap_list ap_new : List applied.Applied) (md : List made.Made) → KeepsAsks e o → ComesOf o e (applying.TheVariants.Made a c) new
     → q' ≡ q ++ c ∷ [] → ap_new ≡ ap_list ++ a ∷ [] → Is (comes_of (ends_from e q s r ap_list md) k o) (applies k) (ends_from new q' s r ap_new md)
 made_happens e new k not_held a c q q' r s ap_list ap_new md keeps is is_q is_ap = absurd is
 made_happens e new k (drops_answer f) a c q q' r s ap_list ap_new md keeps is is_q is_ap = absurd is
@@ -182,7 +182,7 @@ made_happens e new k (makes f b m) a c q q' r s ap_list ap_new md keeps (is_new,
     let same : new.asked ≡ e.asked = ap (λ (x : Editor). x.asked) is_new ∙ keeps in
     let pushed : all_heard new.asked q' ≡ all_heard e.asked q ++ m ∷ [] =
     ap (all_heard new.asked) is_q
-    ∙ said_push (heard new.asked) q c m (says_heard new.asked m c.items (subst (λ (x : Editor). Says x.asked m c.items) (sym is_new) says))
+    ∙ said_push (heard new.asked) q c m (says_heard new.asked m c.items (subst (λ (x : Editor). SaysToServer x.asked m c.items) (sym is_new) says))
     ∙ ap (λ asked. all_heard asked q ++ m ∷ []) same in
     let more : map applied_of ap_new ≡ map applied_of ap_list ++ b ∷ [] = ap (map applied_of) is_ap ∙ map-append applied_of ap_list (a ∷ []) ∙ ap (λ x. map applied_of ap_list ++ x ∷ []) is_a in
     (refl, (λ i. record (ends_from e q s r ap_list md) { editor = is_new i; to_server = pushed i; to_editor = all_understood (same i) r; applied = more i }))
@@ -227,21 +227,21 @@ sent_happens f old e new content q q' r s ap_list md (Ok shown) was extends is s
     subst (λ (w : Ends). Is (moved w (f w.editor)) (seen_of shown) (ends_from new q' s r ap_list md)) was (moved_happens e new (f e) content q q' r s ap_list md shown extends is sent sound)
 sent_happens f old e new content q q' r s ap_list md (Err x) was extends is sent sound = tt
 
-pub taken_sound : (asked : List Asked) (q r rest : Contents) (s : SessionState) (c : Vec ℕ Global) → r ≡ c ∷ rest → Sound asked q r s → Sound asked q rest s
+pub taken_sound : (asked : List SentAsk) (q r rest : Contents) (s : SessionState) (c : Vec ℕ Global) → r ≡ c ∷ rest → Sound asked q r s → Sound asked q rest s
 taken_sound asked q r rest s c is sound =
     record { heard_all = sound.heard_all; understood_all = All-tail (IsUnderstood asked) c rest (subst (All (IsUnderstood asked)) is sound.understood_all); stands = sound.stands }
 
--- a content may have been put behind the others
-pub maybe_pushed : (asked : List Asked) (q q' r : Contents) (s : SessionState) (c : Vec ℕ Global) (b : Bool) → q' ≡ cond b (q ++ c ∷ []) q → IsHeard asked c → Sound asked q r s → Sound asked q' r s
+-- a content may have been put after the others
+pub maybe_pushed : (asked : List SentAsk) (q q' r : Contents) (s : SessionState) (c : Vec ℕ Global) (b : Bool) → q' ≡ cond b (q ++ c ∷ []) q → IsHeard asked c → Sound asked q r s → Sound asked q' r s
 maybe_pushed asked q q' r s c true is says sound = subst (λ x. Sound asked x r s) (sym is) (pushed_sound asked q r s c says.0 says.1 sound)
 maybe_pushed asked q q' r s c false is says sound = subst (λ x. Sound asked x r s) (sym is) sound
 
-discarded : (e : Editor) (k : ℕ) (o : Option (List Replacement)) (q r : Contents) (s : SessionState) (ap_list : List applied.Applied) (md : List made.Made) (shown : Bool) (new : Editor) → o ≡ held_answer k e.answers → shown ≡ is_some o → new ≡ without_answer e k
+discarded : (e : Editor) (k : ℕ) (o : Option (List Replacement)) (q r : Contents) (s : SessionState) (ap_list : List applied.Applied) (md : List made.Made) (shown : Bool) (new : Editor) → o ≡ kept_answer k e.answers → shown ≡ is_some o → new ≡ without_answer e k
     → Is (comes_of (ends_from e q s r ap_list md) k (discards e k o)) (cond shown (drops k) nothing) (ends_from new q s r ap_list md)
 discarded e k (Some edits) q r s ap_list md shown new is held after = (ap (λ b. cond b (drops k) nothing) held, (λ i. ends_from (after i) q s r ap_list md))
 discarded e k None q r s ap_list md shown new is held after =
     (ap (λ b. cond b (drops k) nothing) held, (λ i. ends_from (after i) q s r ap_list md) ∙ (λ i. ends_from (record e { answers = none_goes k e.answers (sym is) i }) q s r ap_list md))
 
-pub discard_happens : (e new : Editor) (k : ℕ) (q r : Contents) (s : SessionState) (ap_list : List applied.Applied) (md : List made.Made) (shown : Bool) → shown ≡ is_some (held_answer k e.answers) → new ≡ without_answer e k
-    → Is (comes_of (ends_from e q s r ap_list md) k (discards e k (held_answer k e.answers))) (cond shown (drops k) nothing) (ends_from new q s r ap_list md)
-discard_happens e new k q r s ap_list md shown held after = discarded e k (held_answer k e.answers) q r s ap_list md shown new refl held after
+pub discard_happens : (e new : Editor) (k : ℕ) (q r : Contents) (s : SessionState) (ap_list : List applied.Applied) (md : List made.Made) (shown : Bool) → shown ≡ is_some (kept_answer k e.answers) → new ≡ without_answer e k
+    → Is (comes_of (ends_from e q s r ap_list md) k (discards e k (kept_answer k e.answers))) (cond shown (drops k) nothing) (ends_from new q s r ap_list md)
+discard_happens e new k q r s ap_list md shown held after = discarded e k (kept_answer k e.answers) q r s ap_list md shown new refl held after

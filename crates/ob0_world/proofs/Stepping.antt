@@ -6,29 +6,29 @@ use Rattle.ob0_world_rules.specs.Happens.{Happens}
 use Rattle.ob0_world_rules.specs.Headline.{Holds}
 use Rattle.ob0_world_rules.proofs.Interleavings.{in_every_interleaving}
 use Rattle.ob0_world_rules.proofs.MadeFor.{course_push}
-use Rattle.ob0_text.specs.declared.positions.Unit.{Unit}
+use Rattle.ob0_text.specs.declared.position_types.Unit.{Unit}
 use Rattle.ob0_world.specs.Queues.{IsReached}
-use Rattle.ob0_world.specs.Worlds.{World, MovesServer, IsTied, SameHistory, StepsFrom, Steps, FailsFrom, Fails}
+use Rattle.ob0_world.specs.Worlds.{World, MovesServer, IsTied, SameHistory, StepsFrom, WorldSteps, FailsFrom, WorldFails}
 use Rattle.ob0_world.specs.declared.faults.WorldFault.{WorldFault}
 use Rattle.ob0_world.specs.declared.faults.WorldFault.TheVariants.{Memory, Ended}
 
 pub made_step : (w old : World) (event : Event) (seen : Seen) (new : World) → w ≡ old → w.ended ≡ false → Happens w.both.ends event seen new.both.ends → MovesServer event w.both new.both → IsTied new.both
-    → new.steps ≡ w.steps + 1 → new.ended ≡ false → Steps old event seen new
+    → new.steps ≡ w.steps + 1 → new.ended ≡ false → WorldSteps old event seen new
 made_step w old event seen new same on happens moves tied counted goes_on =
-    subst (λ (x : World). Steps x event seen new) same (subst (λ b. StepsFrom b w event seen new) (sym on) (happens, moves, tied, counted, goes_on))
+    subst (λ (x : World). WorldSteps x event seen new) same (subst (λ b. StepsFrom b w event seen new) (sym on) (happens, moves, tied, counted, goes_on))
 
-pub failed_step : (w old new : World) → w ≡ old → w.ended ≡ false → SameHistory w.both.ends new.both.ends → new.steps ≡ w.steps → new.ended ≡ true → Fails old Memory new
+pub failed_step : (w old new : World) → w ≡ old → w.ended ≡ false → SameHistory w.both.ends new.both.ends → new.steps ≡ w.steps → new.ended ≡ true → WorldFails old Memory new
 failed_step w old new same on history counted over =
-    subst (λ (x : World). Fails x Memory new) same (subst (λ b. FailsFrom b w Memory new) (sym on) (history, counted, over))
+    subst (λ (x : World). WorldFails x Memory new) same (subst (λ b. FailsFrom b w Memory new) (sym on) (history, counted, over))
 
-pub ended_step : (w old new : World) → w ≡ old → w.ended ≡ true → new ≡ old → Fails old Ended new
-ended_step w old new same over is = subst (λ (x : World). new ≡ x → Fails x Ended new) same (λ here. subst (λ b. FailsFrom b w Ended new) (sym over) here) is
+pub ended_step : (w old new : World) → w ≡ old → w.ended ≡ true → new ≡ old → WorldFails old Ended new
+ended_step w old new same over is = subst (λ (x : World). new ≡ x → WorldFails x Ended new) same (λ here. subst (λ b. FailsFrom b w Ended new) (sym over) here) is
 
 -- what is known of a step of a world that hasn't ended
-pub step_made : (old : World) (event : Event) (seen : Seen) (new : World) → old.ended ≡ false → Steps old event seen new → StepsFrom false old event seen new
+pub step_made : (old : World) (event : Event) (seen : Seen) (new : World) → old.ended ≡ false → WorldSteps old event seen new → StepsFrom false old event seen new
 step_made old event seen new on steps = subst (λ b. StepsFrom b old event seen new) on steps
 
-pub step_failed : (old : World) (fault : WorldFault) (new : World) → old.ended ≡ false → Fails old fault new → SameHistory old.both.ends new.both.ends × (new.steps ≡ old.steps)
+pub step_failed : (old : World) (fault : WorldFault) (new : World) → old.ended ≡ false → WorldFails old fault new → SameHistory old.both.ends new.both.ends × (new.steps ≡ old.steps)
 step_failed old Memory new on fails = let so : FailsFrom false old Memory new = subst (λ b. FailsFrom b old Memory new) on fails in (so.0, so.1)
 step_failed old Ended new on fails = let no : FailsFrom false old Ended new = subst (λ b. FailsFrom b old Ended new) on fails in absurd no
 

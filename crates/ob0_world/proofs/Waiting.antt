@@ -10,24 +10,24 @@ use Rattle.std.proofs.lemmas.List.Elements.{All-append, All-head, All-tail, All-
 use Rattle.serde_json.specs.Data.{Data}
 use Rattle.serde_json.specs.Find.{get}
 use Rattle.serde_json.specs.Read.{read}
-use Rattle.ob0_world_editor.specs.Heard.{heard, Says, number_of}
+use Rattle.ob0_world_editor.specs.Heard.{heard, SaysToServer, number_of}
 use Rattle.ob0_world_editor.specs.Understood.{understood, value_understood, answer_understood, answer_to, publication_understood}
 use Rattle.ob0_world_editor.proofs.Hearing.{says_heard}
-use Rattle.ob0_world_rules.specs.Ends.{Asked, numbered, ToServer, tells, asks, ToEditor}
+use Rattle.ob0_world_rules.specs.Ends.{SentAsk, numbered, ToServer, tells, asks, ToEditor}
 use Rattle.ob0_world_rules.proofs.SameDocument.{numbered_push}
 use Rattle.ob0_world.specs.Queues.{Contents, bytes, all_heard, all_understood, IsHeard, IsUnderstood}
 
 -- ---- more asks
 
-module _ (asked more : List Asked) where
-  says_still : (m : ToServer) (content : List ℕ) → Says asked m content → Says (asked ++ more) m content
+module _ (asked more : List SentAsk) where
+  says_still : (m : ToServer) (content : List ℕ) → SaysToServer asked m content → SaysToServer (asked ++ more) m content
   says_still (tells note) content is = is
   says_still (asks k uri ask) content (is, of) = (is, record { sent = of.sent; is = numbered_push asked more k of.sent of.is; about = of.about; asks_this = of.asks_this })
 
-  still_answers : {X : Type 0} (f : Asked → X) (k : ℕ) (x : X) → option_map f (numbered asked k) ≡ Some x → option_map f (numbered (asked ++ more) k) ≡ Some x
+  still_answers : {X : Type 0} (f : SentAsk → X) (k : ℕ) (x : X) → option_map f (numbered asked k) ≡ Some x → option_map f (numbered (asked ++ more) k) ≡ Some x
   still_answers f k x h = go (numbered asked k) refl h
     where
-      go : (o : Option Asked) → numbered asked k ≡ o → option_map f o ≡ Some x → option_map f (numbered (asked ++ more) k) ≡ Some x
+      go : (o : Option SentAsk) → numbered asked k ≡ o → option_map f o ≡ Some x → option_map f (numbered (asked ++ more) k) ≡ Some x
       go None is h = absurd (none-some x h)
       go (Some a) is h = ap (option_map f) (numbered_push asked more k a is) ∙ h
 

@@ -1,4 +1,4 @@
--- What the values of the code stand for.
+-- What the values of the code mean.
 -- Rule: none; for contracts: what values of the code mean.
 use Rattle.std.specs.Prelude.{List, map, string_bytes}
 use Rattle.std.specs.Str.{chars}

@@ -4,16 +4,16 @@
 use Rattle.std.specs.Prelude.{◌≡◌, ◌≤◌, ⊤, ℕ, ℤ, List, [], ◌∷◌, ◌++◌, map, length, All, Bool, true, Option, Some, None, Vec, option_and_then, filter_map}
 use Rattle.std.specs.declared.alloc.Global.{Global}
 use Rattle.ob0_text.specs.OpenDocuments.{OpenDocuments, Document, InStep, OutOfStep, document_at, none_open}
-use Rattle.ob0_text.specs.declared.positions.Unit.{Unit}
-use Rattle.ob0_text.specs.declared.positions.Unit.TheVariants.{Utf16}
+use Rattle.ob0_text.specs.declared.position_types.Unit.{Unit}
+use Rattle.ob0_text.specs.declared.position_types.Unit.TheVariants.{Utf16}
 use Rattle.ob0_session.specs.Answers.{State}
-use Rattle.ob0_session.specs.Standing.{SessionState, serving, failed}
+use Rattle.ob0_session.specs.SessionStates.{SessionState, serving, failed}
 use Rattle.ob0_session.specs.declared.server.Phase.TheVariants.{Running}
-use Rattle.ob0_world_editor.specs.Heard.{heard, Says}
+use Rattle.ob0_world_editor.specs.Heard.{heard, SaysToServer}
 use Rattle.ob0_world_editor.specs.Understood.{understood}
 use Rattle.ob0_world_editor.specs.Code.{applied_of}
 use Rattle.ob0_world_editor.specs.declared.applied.Applied as applied
-use Rattle.ob0_world_rules.specs.Ends.{Open, Asked, Editor, open_at, ToServer, ToEditor, publishes, answers, Made, Ends, start}
+use Rattle.ob0_world_rules.specs.Ends.{Open, SentAsk, Editor, open_at, ToServer, ToEditor, publishes, answers, Made, Ends, start}
 use Rattle.ob0_world_rules.specs.Events.{Event, nothing, sent}
 use Rattle.ob0_world_rules.specs.Happens.{Course}
 use Rattle.ob0_world.specs.declared.events.Seen as seen
@@ -30,19 +30,19 @@ abbrev pub bytes : Contents → List (List ℕ)
 bytes contents = map (λ v. v.items) contents
 
 -- what these contents say to the server, and to the editor, where these asks were sent
-abbrev pub all_heard : List Asked → Contents → List ToServer
+abbrev pub all_heard : List SentAsk → Contents → List ToServer
 all_heard asked contents = filter_map (heard asked) (bytes contents)
 
 -- what the contents that wait say to the editor
-abbrev pub all_understood : List Asked → Contents → List ToEditor
+abbrev pub all_understood : List SentAsk → Contents → List ToEditor
 all_understood asked contents = filter_map (understood asked) (bytes contents)
 
 -- each content says something
-abbrev pub IsHeard : List Asked → Vec ℕ Global → Type 0
-IsHeard asked content = (m : ToServer) × Says asked m content.items
+abbrev pub IsHeard : List SentAsk → Vec ℕ Global → Type 0
+IsHeard asked content = (m : ToServer) × SaysToServer asked m content.items
 
 -- a content says something to the editor
-abbrev pub IsUnderstood : List Asked → Vec ℕ Global → Type 0
+abbrev pub IsUnderstood : List SentAsk → Vec ℕ Global → Type 0
 IsUnderstood asked content = (m : ToEditor) × (understood asked content.items ≡ Some m)
 
 -- ---- the session
@@ -53,9 +53,9 @@ abbrev pub IsRunning : State → Type 0
 IsRunning s = (s.phase ≡ Running) × (s.client.takes_document_changes ≡ true) × (s.client.takes_literal_actions ≡ true)
 
 -- the session runs with this editor, or has failed
-abbrev pub Stands : SessionState → Type 0
-Stands (serving s) = IsRunning s
-Stands failed = ⊤
+abbrev pub IsRunningOrFailed : SessionState → Type 0
+IsRunningOrFailed (serving s) = IsRunning s
+IsRunningOrFailed failed = ⊤
 
 -- its documents, of which nothing is said once an allocation has failed
 abbrev pub held_by : SessionState → OpenDocuments
@@ -83,10 +83,10 @@ made_first held (m ∷ ms) = made_for held m
 -- ---- the whole
 
 -- what waits says something, and the session serves unless an allocation has failed
-pub record Sound (asked : List Asked) (to_server to_editor : Contents) (session : SessionState) : Type 0 where
+pub record Sound (asked : List SentAsk) (to_server to_editor : Contents) (session : SessionState) : Type 0 where
   pub heard_all : All (IsHeard asked) to_server
   pub understood_all : All (IsUnderstood asked) to_editor
-  pub stands : Stands session
+  pub stands : IsRunningOrFailed session
 
 -- client and server, from what the code stores of them
 abbrev pub ends_from : Editor → Contents → SessionState → Contents → List applied.Applied → List made.Made → Ends
@@ -120,7 +120,7 @@ IsReached w = (unit : Unit) × (events : List Event) × Course (start unit) even
 -- ---- the steps of the server's turn
 
 -- the publication with a version that the first of these contents is
-abbrev pub made_sent : OpenDocuments → List Asked → Contents → Option Made
+abbrev pub made_sent : OpenDocuments → List SentAsk → Contents → Option Made
 made_sent held asked [] = None
 made_sent held asked (content ∷ contents) = option_and_then (made_for held) (understood asked content.items)
 

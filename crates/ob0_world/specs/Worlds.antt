@@ -1,13 +1,13 @@
 -- Client and server as the code stores them, and what a list of events makes of them.
 -- Rule: none; for contracts of `World`: a list of events, step by step.
 use Rattle.std.specs.Prelude.{◌≡◌, ◌<◌, ◌+◌, ◌++◌, ◌⊎◌, ⊤, ℕ, List, [], ◌∷◌, map, take, length, Bool, true, false, Some}
-use Rattle.ob0_text.specs.declared.positions.Unit.{Unit}
+use Rattle.ob0_text.specs.declared.position_types.Unit.{Unit}
 use Rattle.ob0_session.specs.Answers.{State, begins, Answers}
-use Rattle.ob0_session.specs.Standing.{SessionState, serving}
+use Rattle.ob0_session.specs.SessionStates.{SessionState, serving}
 use Rattle.ob0_world_editor.specs.Beginning.{client_for}
-use Rattle.ob0_world_editor.specs.Heard.{Says}
+use Rattle.ob0_world_editor.specs.Heard.{SaysToServer}
 use Rattle.ob0_world_editor.specs.Understood.{understood}
-use Rattle.ob0_world_rules.specs.Ends.{Asked, ToServer, Ends, start}
+use Rattle.ob0_world_rules.specs.Ends.{SentAsk, ToServer, Ends, start}
 use Rattle.ob0_world_rules.specs.Events.{Event, open_document, change_document, close_document, ask_about, serve, take_message, apply, discard, Seen}
 use Rattle.ob0_world_rules.specs.Happens.{Happens}
 use Rattle.ob0_world_rules.specs.Headline.{Headline}
@@ -64,9 +64,9 @@ MovesServer (apply k) old new = new.session ≡ old.session
 MovesServer (discard k) old new = new.session ≡ old.session
 
 -- each content says its message: as many contents as messages
-abbrev pub AllSay : List Asked → List ToServer → List (List ℕ) → Type 0
+abbrev pub AllSay : List SentAsk → List ToServer → List (List ℕ) → Type 0
 AllSay asked [] [] = ⊤
-AllSay asked (m ∷ messages) (content ∷ contents) = Says asked m content × AllSay asked messages contents
+AllSay asked (m ∷ messages) (content ∷ contents) = SaysToServer asked m content × AllSay asked messages contents
 AllSay asked [] (content ∷ contents) = ⊥
 AllSay asked (m ∷ messages) [] = ⊥
 
@@ -86,8 +86,8 @@ StepsFrom false old event seen new =
 StepsFrom true old event seen new = ⊥
 
 -- a step is what happens at its event, and is counted
-abbrev pub Steps : World → Event → Seen → World → Type 0
-Steps old event seen new = StepsFrom old.ended old event seen new
+abbrev pub WorldSteps : World → Event → Seen → World → Type 0
+WorldSteps old event seen new = StepsFrom old.ended old event seen new
 
 -- an allocation failed: what has come of the events before stays
 pub record SameHistory (old new : Ends) : Type 0 where
@@ -103,8 +103,8 @@ FailsFrom true old Memory new = ⊥
 FailsFrom true old Ended new = new ≡ old
 
 -- out of memory ends a world, and an ended world stays as it is
-abbrev pub Fails : World → WorldFault → World → Type 0
-Fails old fault new = FailsFrom old.ended old fault new
+abbrev pub WorldFails : World → WorldFault → World → Type 0
+WorldFails old fault new = FailsFrom old.ended old fault new
 
 -- ---- lists of events
 

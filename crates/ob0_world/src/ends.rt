@@ -2,7 +2,7 @@
 ghost use Rattle.std.specs.Prelude.{◌≡◌, IfOk, OnErr, OnOk, map, option_map, option_and_then, string_bytes};
 ghost use Rattle.std.specs.Str.{chars};
 ghost use Rattle.ob0_text.specs.OpenDocuments.{reported_change, document_at};
-ghost use Rattle.ob0_session.specs.Standing.{failed};
+ghost use Rattle.ob0_session.specs.SessionStates.{failed};
 ghost use Rattle.ob0_world_editor.specs.Code.{ask_of};
 ghost use Rattle.ob0_world_editor.specs.Moves.{AreFew};
 ghost use Rattle.ob0_world_editor.specs.Understood.{understood};

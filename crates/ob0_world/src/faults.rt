@@ -12,7 +12,7 @@ pub enum WorldFault {
     Ended,
 }
 
-/// Memory was refused; what came of the events before stands.
+/// an allocation failed; what came of the events before remains.
 #[derive(Debug, Drop, Error)]
 #[error("out of memory")]
 pub struct PlayFault {

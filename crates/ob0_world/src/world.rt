@@ -1,11 +1,11 @@
 //! Client and server, and whole lists of events.
 ghost use Rattle.std.specs.Prelude.{◌≡◌, ◌<◌, ◌-◌, ◌^◌, length, IfOk, OnOk, IfErr};
-ghost use Rattle.ob0_text.specs.declared.positions.Unit as units;
-ghost use Rattle.ob0_text.specs.declared.positions.Unit.TheVariants.{Utf16};
+ghost use Rattle.ob0_text.specs.declared.position_types.Unit as units;
+ghost use Rattle.ob0_text.specs.declared.position_types.Unit.TheVariants.{Utf16};
 ghost use Rattle.ob0_world_rules.specs.Ends.{start};
 ghost use Rattle.ob0_world_rules.specs.Headline.{Holds};
 ghost use Rattle.ob0_world.specs.Code.{event_of, seen_of};
-ghost use Rattle.ob0_world.specs.Worlds.{new_world, HasCome, Plays, PlaysBefore, Steps, Fails};
+ghost use Rattle.ob0_world.specs.Worlds.{new_world, HasCome, Plays, PlaysBefore, WorldSteps, WorldFails};
 ghost use Rattle.ob0_world.specs.declared.faults.WorldFault.TheVariants.{Memory};
 
 use crate::ends::Ends;
@@ -76,9 +76,9 @@ impl<T: TextStore> World<T> {
     /// Makes one event happen. The server is a session: its turn is one `Session::step` on the first content that waits.
     pub fn step(&mut self, event: &Event) -> Result<Seen, WorldFault>
         requires few { self.old.steps < 2 ^ 63 - 1 }
-        ensures ok { IfOk result (λ seen. Steps self.old (event_of event.now) (seen_of seen) self.new) }
+        ensures ok { IfOk result (λ seen. WorldSteps self.old (event_of event.now) (seen_of seen) self.new) }
         ensures holds { OnOk result (Holds self.new.both.ends) }
-        ensures err { IfErr result (λ fault. Fails self.old fault self.new) }
+        ensures err { IfErr result (λ fault. WorldFails self.old fault self.new) }
     {
         if self.has_ended {
             return Err(WorldFault::Ended);

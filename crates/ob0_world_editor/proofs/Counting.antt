@@ -8,10 +8,10 @@ use Rattle.std.specs.Cmp.Lexicographic.{slice_cmp}
 use Rattle.std.proofs.lemmas.Option.{none-some}
 use Rattle.std.proofs.lemmas.List.{length-append}
 use Rattle.ob0_text.specs.OpenDocuments.{TextChange}
-use Rattle.ob0_text.specs.declared.positions.Unit.{Unit}
+use Rattle.ob0_text.specs.declared.position_types.Unit.{Unit}
 use Rattle.ob0_world_rules.specs.Edited.{Replacement, after_changes}
 use Rattle.ob0_world_rules.specs.Asks.{Ask}
-use Rattle.ob0_world_rules.specs.Ends.{Open, Asked, Editor, open_at, new_editor}
+use Rattle.ob0_world_rules.specs.Ends.{Open, SentAsk, Editor, open_at, new_editor}
 use Rattle.ob0_world_rules.specs.Editing.{opens_document, changes_text, changes_document, asks_about, keeps}
 use Rattle.ob0_world_rules.proofs.SameDocument.{found}
 use Rattle.ob0_world_editor.specs.Moves.{AreFew, Moves}
@@ -83,7 +83,7 @@ change_counts n e e' uri how content counts moved = go (open_at e uri) refl cont
 pub ask_counts : (n : ℕ) (e e' : Editor) (uri : List ℕ) (ask : Ask) (content : Option (Vec ℕ Global)) → Counts n e → Moves (asks_about e uri ask (open_at e uri)) e content e' → Counts (n + 1) e'
 ask_counts n e e' uri ask content counts moved = go (open_at e uri) content moved
   where
-    longer : (xs : List Asked) (x : Asked) → length xs ≤ n → length (xs ++ x ∷ []) ≤ n + 1
+    longer : (xs : List SentAsk) (x : SentAsk) → length xs ≤ n → length (xs ++ x ∷ []) ≤ n + 1
     longer xs x h = rw (length-append xs (x ∷ [])) (omega arith)
 
     go : (o : Option Open) (content : Option (Vec ℕ Global)) → Moves (asks_about e uri ask o) e content e' → Counts (n + 1) e'

@@ -5,22 +5,22 @@ use Rattle.std.specs.Str.{is_utf8}
 use Rattle.std.proofs.lemmas.Str.{is_utf8-from_IsUtf8, IsUtf8-from_is_utf8}
 use Rattle.serde_json.specs.Data.{Data}
 use Rattle.serde_json.specs.Read.{read}
-use Rattle.ob0_text.specs.OpenDocuments.{DocumentNote, Opened, Changed, Lost, Closed}
-use Rattle.ob0_rpc.specs.Messages.{Reads, meaning_of}
-use Rattle.ob0_world_rules.specs.Ends.{Asked, ToServer, tells, asks}
-use Rattle.ob0_world_editor.specs.Heard.{heard, message_heard, note_heard, told_as, Says}
+use Rattle.ob0_text.specs.OpenDocuments.{DocumentEvent, Opened, Changed, Lost, Closed}
+use Rattle.ob0_rpc.specs.Messages.{ReadsContent, meaning_of}
+use Rattle.ob0_world_rules.specs.Ends.{SentAsk, ToServer, tells, asks}
+use Rattle.ob0_world_editor.specs.Heard.{heard, message_read, notification_read, sent_as, SaysToServer}
 use Rattle.ob0_world_editor.specs.Understood.{understood, value_understood}
 
 -- what a content says that is UTF-8, once its JSON value is known
-pub said : {M : Type 0} (f : Data → Option M) (content : List ℕ) (d : Data) → Reads content (Some d) → cond (is_utf8 content) (option_and_then f (read content)) None ≡ f d
+pub said : {M : Type 0} (f : Data → Option M) (content : List ℕ) (d : Data) → ReadsContent content (Some d) → cond (is_utf8 content) (option_and_then f (read content)) None ≡ f d
 said f content d reads = ap (λ b. cond b (option_and_then f (read content)) None) (is_utf8-from_IsUtf8 content reads.0) ∙ ap (option_and_then f) reads.1
 
 -- what the editor understands of a content whose JSON value is known, and of one that has none
-pub understood_as : (asked : List Asked) (content : List ℕ) (d : Data) → Reads content (Some d) → understood asked content ≡ value_understood asked d
+pub understood_as : (asked : List SentAsk) (content : List ℕ) (d : Data) → ReadsContent content (Some d) → understood asked content ≡ value_understood asked d
 unfolding understood
 understood_as asked content d reads = said (value_understood asked) content d reads
 
-pub not_understood : (asked : List Asked) (content : List ℕ) → Reads content None → understood asked content ≡ None
+pub not_understood : (asked : List SentAsk) (content : List ℕ) → ReadsContent content None → understood asked content ≡ None
 unfolding understood
 not_understood asked content reads = go (is_utf8 content) refl
   where
@@ -29,18 +29,18 @@ not_understood asked content reads = go (is_utf8 content) refl
     go false is = refl
 
 -- a content that says something to a server is heard so
-told_heard : (note : DocumentNote) → note_heard (told_as note) ≡ Some (tells note)
+told_heard : (note : DocumentEvent) → notification_read (sent_as note) ≡ Some (tells note)
 told_heard (Opened uri version text) = refl
 told_heard (Changed uri version all) = refl
 told_heard (Lost uri) = refl
 told_heard (Closed uri) = refl
 
-pub says_heard : (asked : List Asked) (m : ToServer) (content : List ℕ) → Says asked m content → heard asked content ≡ Some m
+pub says_heard : (asked : List SentAsk) (m : ToServer) (content : List ℕ) → SaysToServer asked m content → heard asked content ≡ Some m
 unfolding heard
 says_heard asked (tells note) content is =
-    said (λ d. message_heard asked (meaning_of d)) content is.json is.reads ∙ ap (message_heard asked) is.means ∙ ap note_heard is.told ∙ told_heard note
+    said (λ d. message_read asked (meaning_of d)) content is.json is.reads ∙ ap (message_read asked) is.means ∙ ap notification_read is.told ∙ told_heard note
 says_heard asked (asks k uri ask) content (is, of) =
-    said (λ d. message_heard asked (meaning_of d)) content is.json is.reads ∙ ap (message_heard asked) is.means
+    said (λ d. message_read asked (meaning_of d)) content is.json is.reads ∙ ap (message_read asked) is.means
     ∙ ap (option_map (λ a. asks k a.uri a.ask)) of.is ∙ (λ i. Some (asks k (of.about i) (of.asks_this i)))
 
 -- what holds of a value that a call gives, and what follows of it

@@ -5,22 +5,22 @@ use Rattle.std.specs.declared.alloc.Global.{Global}
 use Rattle.std.proofs.lemmas.List.{append_assoc, map-append, length-map}
 use Rattle.std.proofs.lemmas.Option.{slice_get-map, slice_get_read}
 use Rattle.std.proofs.Math.Seq.{drop-cons, drop-nil, take-suc}
-use Rattle.ob0_world_editor.specs.declared.editor.Asked as asked
+use Rattle.ob0_world_editor.specs.declared.editor.SentAsk as asked
 use Rattle.ob0_world_editor.specs.declared.editor.Answer as answer
 use Rattle.ob0_world_editor.specs.declared.editor.Rewritten as rewritten
 use Rattle.ob0_world_editor.specs.declared.applied.Applying as applying
 use Rattle.ob0_world_rules.specs.Edited.{Replacement}
 use Rattle.ob0_world_rules.specs.Asks.{Ask}
-use Rattle.ob0_world_rules.specs.Ends.{Open, Asked, Answer, Editor, numbered, open_at}
-use Rattle.ob0_world_rules.specs.Editing.{asks_about, held_answer, all_but, without_answer, applies_answer, Outcome, not_held, drops_answer, makes}
+use Rattle.ob0_world_rules.specs.Ends.{Open, SentAsk, Answer, Editor, numbered, open_at}
+use Rattle.ob0_world_rules.specs.Editing.{asks_about, kept_answer, all_but, without_answer, applies_answer, ApplyOutcome, not_held, drops_answer, makes}
 use Rattle.ob0_world_editor.specs.Code.{asked_of, answer_of}
 use Rattle.ob0_world_rules.specs.Edited.{replacements}
-use Rattle.ob0_world_editor.specs.Heard.{IsRequest, Says}
-use Rattle.ob0_world_editor.specs.Moves.{AreFew, Moves, IsPlaceOf, IsRewritten, IsMade, ComesOf, text_told}
+use Rattle.ob0_world_editor.specs.Heard.{IsRequest, SaysToServer}
+use Rattle.ob0_world_editor.specs.Moves.{AreFew, Moves, IsPlaceOf, IsRewritten, IsMade, ComesOf, text_sent}
 
 -- ---- asks
 
-pub numbered_at : (xs : List asked.Asked) (n i : ℕ) (a : asked.Asked) → n ≡ suc i → i < length xs → a ≡ get_or xs i a → Some (asked_of a) ≡ numbered (map asked_of xs) n
+pub numbered_at : (xs : List asked.SentAsk) (n i : ℕ) (a : asked.SentAsk) → n ≡ suc i → i < length xs → a ≡ get_or xs i a → Some (asked_of a) ≡ numbered (map asked_of xs) n
 numbered_at xs n i a is within at =
     subst (λ m. Some (asked_of a) ≡ numbered (map asked_of xs) m) (sym is)
     (sym (slice_get-map asked_of xs i ∙ ap (option_map asked_of) (slice_get_read xs (length xs) i a refl within at)))
@@ -30,7 +30,7 @@ past_end [] i h = refl
 past_end (x ∷ xs) zero h = absurd (omega arith)
 past_end (x ∷ xs) (suc i) h = past_end xs i (omega arith)
 
-pub numbered_past : (xs : List asked.Asked) (n i : ℕ) → n ≡ suc i → length xs ≤ i → None ≡ numbered (map asked_of xs) n
+pub numbered_past : (xs : List asked.SentAsk) (n i : ℕ) → n ≡ suc i → length xs ≤ i → None ≡ numbered (map asked_of xs) n
 numbered_past xs n i is past =
     subst (λ m. None ≡ numbered (map asked_of xs) m) (sym is) (sym (slice_get-map asked_of xs i ∙ ap (option_map asked_of) (past_end xs i past)))
 
@@ -38,7 +38,7 @@ numbered_past xs n i is past =
 
 -- the answers before place i aren't it
 pub record Looked (xs : List answer.Answer) (k i : ℕ) : Type 0 where
-  pub held : held_answer k (map answer_of xs) ≡ held_answer k (map answer_of (drop i xs))
+  pub held : kept_answer k (map answer_of xs) ≡ kept_answer k (map answer_of (drop i xs))
   pub rest : all_but k (map answer_of xs) ≡ map answer_of (take i xs) ++ all_but k (map answer_of (drop i xs))
 
 pub looked_none : (xs : List answer.Answer) (k : ℕ) → Looked xs k 0
@@ -67,25 +67,25 @@ nothing_left (x ∷ xs) zero h = absurd (omega arith)
 nothing_left (x ∷ xs) (suc i) h = nothing_left xs i (omega arith)
 
 pub looked_all : (xs : List answer.Answer) (k i : ℕ) → length xs ≤ i → Looked xs k i → IsPlaceOf xs k None
-looked_all xs k i h looked = looked.held ∙ ap (λ ys. held_answer k (map answer_of ys)) (nothing_left xs i h)
+looked_all xs k i h looked = looked.held ∙ ap (λ ys. kept_answer k (map answer_of ys)) (nothing_left xs i h)
 
 -- where no answer is held, all stay
-pub none_goes : (k : ℕ) (list : List Answer) → held_answer k list ≡ None → all_but k list ≡ list
+pub none_goes : (k : ℕ) (list : List Answer) → kept_answer k list ≡ None → all_but k list ≡ list
 none_goes k [] h = refl
 none_goes k (a ∷ rest) h = go (a.number == k) h (none_goes k rest)
   where
-    go : (b : Bool) → cond b (Some a.edits) (held_answer k rest) ≡ None → (held_answer k rest ≡ None → all_but k rest ≡ rest) → cond b rest (a ∷ all_but k rest) ≡ a ∷ rest
+    go : (b : Bool) → cond b (Some a.edits) (kept_answer k rest) ≡ None → (kept_answer k rest ≡ None → all_but k rest ≡ rest) → cond b rest (a ∷ all_but k rest) ≡ a ∷ rest
     go true h next = absurd (cc)
     go false h next = ap (λ xs. a ∷ xs) (next h)
 
 -- ---- what becomes of an answer
 
-pub comes_dropped : (e old : Editor) (o : Outcome) → IsRewritten e o None → ComesOf o old applying.TheVariants.Dropped e
+pub comes_dropped : (e old : Editor) (o : ApplyOutcome) → IsRewritten e o None → ComesOf o old applying.TheVariants.Dropped e
 comes_dropped e old not_held h = h
 comes_dropped e old (drops_answer f) h = sym h
 comes_dropped e old (makes f a m) h = h
 
-pub comes_made : (e old new : Editor) (o : Outcome) (r : rewritten.Rewritten) (made : applying.Applying) → IsRewritten e o (Some r) → IsMade e r made new → ComesOf o old made new
+pub comes_made : (e old new : Editor) (o : ApplyOutcome) (r : rewritten.Rewritten) (made : applying.Applying) → IsRewritten e o (Some r) → IsMade e r made new → ComesOf o old made new
 comes_made e old new not_held r made h is = absurd h
 comes_made e old new (drops_answer f) r made h is = absurd h
 comes_made e old new (makes f a m) r applying.TheVariants.NotHeld h is = is
@@ -93,7 +93,7 @@ comes_made e old new (makes f a m) r applying.TheVariants.Dropped h is = is
 comes_made e old new (makes f a m) r (applying.TheVariants.Made applied content) (is_f, is_a, is_m, few) (is_new, is_applied, says) = (
   is_new ∙ sym is_f,
   is_applied ∙ sym is_a,
-  subst (λ x. Says f.asked x content.items) (sym is_m) (subst (λ x. Says x.asked (text_told r) content.items) (is_new ∙ sym is_f) says),
+  subst (λ x. SaysToServer f.asked x content.items) (sym is_m) (subst (λ x. SaysToServer x.asked (text_sent r) content.items) (is_new ∙ sym is_f) says),
 )
 
 pub edits_at : (xs : List answer.Answer) (i : ℕ) (a : answer.Answer) → i < length xs → a ≡ get_or xs i a → Some (replacements a.edits.items) ≡ option_map (λ (x : answer.Answer). replacements x.edits.items) (slice_get xs i)
@@ -103,9 +103,9 @@ edits_at xs i a h at = sym (ap (option_map (λ (x : answer.Answer). replacements
 pub few_without : (e : Editor) (k : ℕ) → AreFew e → AreFew (without_answer e k)
 few_without e k few = record { openings = few.openings; asks = few.asks; versions = few.versions }
 
-pub comes_not_held : (e : Editor) (k : ℕ) (o : Option (List Replacement)) → o ≡ held_answer k e.answers → o ≡ None → ComesOf (applies_answer e k (held_answer k e.answers)) e applying.TheVariants.NotHeld (without_answer e k)
+pub comes_not_held : (e : Editor) (k : ℕ) (o : Option (List Replacement)) → o ≡ kept_answer k e.answers → o ≡ None → ComesOf (applies_answer e k (kept_answer k e.answers)) e applying.TheVariants.NotHeld (without_answer e k)
 comes_not_held e k o is none =
-    let absent : held_answer k e.answers ≡ None = sym is ∙ none in
+    let absent : kept_answer k e.answers ≡ None = sym is ∙ none in
     subst (λ x. ComesOf (applies_answer e k x) e applying.TheVariants.NotHeld (without_answer e k)) (sym absent) (λ i. record e { answers = none_goes k e.answers absent i })
 
 -- ---- asking
@@ -115,11 +115,11 @@ slice_get_last [] x = refl
 slice_get_last (y ∷ xs) x = slice_get_last xs x
 
 -- the editor has asked once more, and the content is that request
-pub asks_once_more : (e new : Editor) (uri : List ℕ) (ask : Ask) (d : Open) (content : Vec ℕ Global) (n : ℕ) (older : List asked.Asked) (this : asked.Asked) → open_at e uri ≡ Some d → map asked_of older ≡ e.asked → n ≡ length older
+pub asks_once_more : (e new : Editor) (uri : List ℕ) (ask : Ask) (d : Open) (content : Vec ℕ Global) (n : ℕ) (older : List asked.SentAsk) (this : asked.SentAsk) → open_at e uri ≡ Some d → map asked_of older ≡ e.asked → n ≡ length older
     → asked_of this ≡ record { ask = ask; uri = uri; opening = d.opening; version = d.version } → new ≡ record e { asked = map asked_of (older ++ this ∷ []) } → IsRequest (n + 1) uri ask content.items
     → Moves (asks_about e uri ask (open_at e uri)) e (Some content) new
 asks_once_more e new uri ask d content n older this at were count is is_new request =
-    let a : Asked = record { ask = ask; uri = uri; opening = d.opening; version = d.version } in
+    let a : SentAsk = record { ask = ask; uri = uri; opening = d.opening; version = d.version } in
     let grown : map asked_of (older ++ this ∷ []) ≡ e.asked ++ a ∷ [] = map-append asked_of older (this ∷ []) ∙ (λ i. were i ++ is i ∷ []) in
     let number : n + 1 ≡ suc (length e.asked) = rw add-one (ap suc (count ∙ sym (length-map older asked_of) ∙ ap length were)) in
     subst (λ o. Moves (asks_about e uri ask o) e (Some content) new) (sym at) (

@@ -6,10 +6,10 @@ use Rattle.serde_json.specs.Data.{Data, depth, items_depth}
 use Rattle.serde_json.specs.View.{items_of}
 use Rattle.ob0_text.specs.declared.edits.Change.{Change}
 use Rattle.ob0_text.specs.declared.edits.Indent.TheVariants.{Tab, Spaces}
-use Rattle.ob0_text.specs.declared.positions.Range.{Range}
+use Rattle.ob0_text.specs.declared.position_types.Range.{Range}
 use Rattle.ob0_text.specs.OpenDocuments.{Opened, Changed, Closed, TextChange, reported_change}
-use Rattle.ob0_rpc.specs.Asks.{call_of}
-use Rattle.ob0_rpc.specs.Messages.{Reads}
+use Rattle.ob0_rpc.specs.Requesting.{call_of}
+use Rattle.ob0_rpc.specs.Messages.{ReadsContent}
 use Rattle.ob0_rpc.specs.Notes.{change_in, all_changes, change_of, open_of}
 use Rattle.ob0_rpc.specs.Shapes.{notification_message}
 use Rattle.ob0_world_rules.specs.Edited.{whole_text}
@@ -56,7 +56,7 @@ version_read n h = rw (lt_true n (2 ^ 63) h) refl
 
 -- ---- notes
 
-pub opening_told : (content uri : List ℕ) (version : ℕ) (text : List ℕ) → version < 2 ^ 63 → Reads content (Some (notification_message (codes "textDocument/didOpen") (open_params uri version text)))
+pub opening_told : (content uri : List ℕ) (version : ℕ) (text : List ℕ) → version < 2 ^ 63 → ReadsContent content (Some (notification_message (codes "textDocument/didOpen") (open_params uri version text)))
     → IsNote (Opened uri (pos version) (chars text)) content
 opening_told content uri version text h reads =
     record {
@@ -70,7 +70,7 @@ opening_told content uri version text h reads =
     }
 
 changed_so : (content uri : List ℕ) (version : ℕ) (values : List Data) (all : List TextChange) → version < 2 ^ 63 → all_changes (items_of values) ≡ Some all
-    → Reads content (Some (notification_message (codes "textDocument/didChange") (change_params uri version values))) → IsNote (Changed uri (pos version) all) content
+    → ReadsContent content (Some (notification_message (codes "textDocument/didChange") (change_params uri version values))) → IsNote (Changed uri (pos version) all) content
 changed_so content uri version values all h are reads =
     record {
       json = notification_message (codes "textDocument/didChange") (change_params uri version values);
@@ -82,15 +82,15 @@ changed_so content uri version values all h are reads =
       fits = version_read version h;
     }
 
-pub changing_told : (content uri : List ℕ) (version : ℕ) (cs : List Change) → version < 2 ^ 63 → Reads content (Some (notification_message (codes "textDocument/didChange") (change_params uri version (map change_value cs))))
+pub changing_told : (content uri : List ℕ) (version : ℕ) (cs : List Change) → version < 2 ^ 63 → ReadsContent content (Some (notification_message (codes "textDocument/didChange") (change_params uri version (map change_value cs))))
     → IsNote (Changed uri (pos version) (map reported_change cs)) content
 changing_told content uri version cs h reads = changed_so content uri version (map change_value cs) (map reported_change cs) h (changes_read_back cs) reads
 
-pub rewriting_told : (content uri : List ℕ) (version : ℕ) (text : List ℕ) → version < 2 ^ 63 → Reads content (Some (notification_message (codes "textDocument/didChange") (change_params uri version (change_by None text ∷ []))))
+pub rewriting_told : (content uri : List ℕ) (version : ℕ) (text : List ℕ) → version < 2 ^ 63 → ReadsContent content (Some (notification_message (codes "textDocument/didChange") (change_params uri version (change_by None text ∷ []))))
     → IsNote (Changed uri (pos version) (whole_text (chars text) ∷ [])) content
 rewriting_told content uri version text h reads = changed_so content uri version (change_by None text ∷ []) (whole_text (chars text) ∷ []) h refl reads
 
-pub closing_told : (content uri : List ℕ) → Reads content (Some (notification_message (codes "textDocument/didClose") (close_params uri))) → IsNote (Closed uri) content
+pub closing_told : (content uri : List ℕ) → ReadsContent content (Some (notification_message (codes "textDocument/didClose") (close_params uri))) → IsNote (Closed uri) content
 closing_told content uri reads =
     record {
       json = notification_message (codes "textDocument/didClose") (close_params uri);
@@ -104,7 +104,7 @@ closing_told content uri reads =
 
 -- ---- asks
 
-pub ask_requested : (content : List ℕ) (k : ℕ) (uri : List ℕ) (ask : Ask) → Reads content (Some (request_message k (method_of ask) (params_for uri ask))) → IsRequest k uri ask content
+pub ask_requested : (content : List ℕ) (k : ℕ) (uri : List ℕ) (ask : Ask) → ReadsContent content (Some (request_message k (method_of ask) (params_for uri ask))) → IsRequest k uri ask content
 ask_requested content k uri ask reads =
     record { json = request_message k (method_of ask) (params_for uri ask); reads = reads; params = params_for uri ask; means = refl; calls = called ask }
   where

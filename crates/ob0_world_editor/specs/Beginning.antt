@@ -2,8 +2,8 @@
 -- Rule: LSP 3.17, initialize.
 use Rattle.std.specs.Prelude.{true, false, codes}
 use Rattle.serde_json.specs.Data.{Data, boolean, string, array, object, no_items, item, Members, member, no_members}
-use Rattle.ob0_text.specs.declared.positions.Unit.{Unit}
-use Rattle.ob0_text.specs.declared.positions.Unit.TheVariants.{Utf16, Utf8}
+use Rattle.ob0_text.specs.declared.position_types.Unit.{Unit}
+use Rattle.ob0_text.specs.declared.position_types.Unit.TheVariants.{Utf16, Utf8}
 use Rattle.ob0_text.specs.Units.{is_utf8}
 use Rattle.ob0_rpc.specs.declared.clients.Client.{Client}
 

@@ -1,15 +1,15 @@
--- What the values of the code stand for.
+-- What the values of the code mean.
 -- Rule: none; for contracts: what values of the code mean.
 use Rattle.std.specs.Prelude.{string_bytes}
 use Rattle.std.specs.Str.{chars}
 use Rattle.ob0_world_editor.specs.declared.asks.Ask as ask
-use Rattle.ob0_world_editor.specs.declared.editor.Asked as asked
+use Rattle.ob0_world_editor.specs.declared.editor.SentAsk as asked
 use Rattle.ob0_world_editor.specs.declared.editor.Answer as answer
 use Rattle.ob0_world_editor.specs.declared.reading.Message as message
 use Rattle.ob0_world_editor.specs.declared.applied.Applied as applied
 use Rattle.ob0_world_rules.specs.Edited.{replacements}
 use Rattle.ob0_world_rules.specs.Asks.{Ask, rename, inline_here, inline_all, format}
-use Rattle.ob0_world_rules.specs.Ends.{Asked, Answer, Applied, ToEditor, publishes, answers}
+use Rattle.ob0_world_rules.specs.Ends.{SentAsk, Answer, Applied, ToEditor, publishes, answers}
 
 -- an ask of the code
 abbrev pub ask_of : ask.Ask → Ask
@@ -19,7 +19,7 @@ ask_of (ask.TheVariants.InlineAll position) = inline_all position
 ask_of (ask.TheVariants.Format indent) = format indent
 
 -- a request that was sent, of the code
-abbrev pub asked_of : asked.Asked → Asked
+abbrev pub asked_of : asked.SentAsk → SentAsk
 asked_of a = record { ask = ask_of a.ask; uri = string_bytes a.uri; opening = a.opening; version = a.version }
 
 -- an answer with edits, of the code

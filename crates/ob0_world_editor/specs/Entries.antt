@@ -1,4 +1,4 @@
--- What the stored documents stand for.
+-- What the stored documents mean.
 -- Rule: none; for contracts: what values of the code mean.
 use Rattle.std.specs.Prelude.{ℕ, List, map, string_bytes, String, refl}
 use Rattle.std.specs.Str.{chars}

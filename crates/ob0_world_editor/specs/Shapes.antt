@@ -1,10 +1,10 @@
--- The messages that an editor writes, as JSON values (LSP 3.17). Members stand in byte order of their names.
+-- The messages that an editor writes, as JSON values (LSP 3.17). Members are in byte order of their names.
 -- Rule: LSP 3.17, notifications and requests of a client; docs/PROTOCOL.md, JSON shapes 4.
 use Rattle.std.specs.Prelude.{ℕ, List, true, false, Bool, Option, Some, None, codes, string_bytes}
 use Rattle.serde_json.specs.Data.{Data, boolean, number, array, object, unsigned, no_items, member, no_members}
 use Rattle.serde_json.specs.View.{items_of}
-use Rattle.ob0_text.specs.declared.positions.Position.{Position}
-use Rattle.ob0_text.specs.declared.positions.Range.{Range}
+use Rattle.ob0_text.specs.declared.position_types.Position.{Position}
+use Rattle.ob0_text.specs.declared.position_types.Range.{Range}
 use Rattle.ob0_text.specs.declared.edits.Change.{Change}
 use Rattle.ob0_text.specs.declared.edits.Indent.{Indent}
 use Rattle.ob0_text.specs.declared.edits.Indent.TheVariants.{Tab, Spaces}

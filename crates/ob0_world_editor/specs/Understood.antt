@@ -1,15 +1,15 @@
--- What a content tells the editor: a publication, or the answer to an ask, which is read as what was asked needs it.
+-- What a content says to the editor: a publication, or the answer to an ask, which is read as what was asked needs it.
 -- Rule: docs/PROTOCOL.md, JSON shapes 2.
 use Rattle.std.specs.Prelude.{ℕ, ℤ, List, [], ◌∷◌, Bool, true, false, Option, Some, None, is_some, option_and_then, option_map, unwrap_or, if◌then◌else◌, codes}
 use Rattle.std.specs.Str.{bytes_eq, chars, is_utf8}
 use Rattle.serde_json.specs.Data.{Data, Items, no_items, item}
 use Rattle.serde_json.specs.Find.{get, at, as_array, as_number, as_i64}
 use Rattle.serde_json.specs.Read.{read}
-use Rattle.ob0_text.specs.declared.positions.Range.{Range}
+use Rattle.ob0_text.specs.declared.position_types.Range.{Range}
 use Rattle.ob0_rpc.specs.Members.{text_in, range_in}
 use Rattle.ob0_world_rules.specs.Edited.{Replacement}
 use Rattle.ob0_world_rules.specs.Asks.{Ask, rename, inline_here, inline_all, format}
-use Rattle.ob0_world_rules.specs.Ends.{Asked, numbered, ToEditor, publishes, answers}
+use Rattle.ob0_world_rules.specs.Ends.{SentAsk, numbered, ToEditor, publishes, answers}
 use Rattle.ob0_world_editor.specs.Heard.{number_of}
 
 -- ---- publications
@@ -78,20 +78,20 @@ abbrev pub edits_for : Ask → Data → List Replacement
 edits_for ask answer = unwrap_or (option_and_then edits_in (option_and_then (items_for ask) (get (codes "result") answer))) []
 
 -- the answer to the request of this number, with its edits
-abbrev pub answer_to : List Asked → Data → ℕ → Option ToEditor
+abbrev pub answer_to : List SentAsk → Data → ℕ → Option ToEditor
 answer_to asked answer k = option_map (λ a. answers k (edits_for a.ask answer)) (numbered asked k)
 
 -- an answer to a request that the editor sent
-abbrev pub answer_understood : List Asked → Data → Option ToEditor
+abbrev pub answer_understood : List SentAsk → Data → Option ToEditor
 answer_understood asked answer = option_and_then (answer_to asked answer) (option_and_then number_of (get (codes "id") answer))
 
 -- ---- messages
 
 -- what a message says to the editor
-abbrev pub value_understood : List Asked → Data → Option ToEditor
+abbrev pub value_understood : List SentAsk → Data → Option ToEditor
 value_understood asked d =
     if is_some (get (codes "method") d) then option_and_then publication_understood (get (codes "params") d) else answer_understood asked d
 
 -- the message in a content, where these asks were sent
-unfoldable pub understood : List Asked → List ℕ → Option ToEditor
+unfoldable pub understood : List SentAsk → List ℕ → Option ToEditor
 understood asked content = if is_utf8 content then option_and_then (value_understood asked) (read content) else None

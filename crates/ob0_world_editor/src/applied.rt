@@ -15,6 +15,6 @@ pub enum Applying {
     NotHeld,
     /// The document isn't the one that was asked about any more.
     Dropped,
-    /// The edits were made, and this content tells the server.
+    /// The edits were made, and this content is the notification.
     Made { applied: Applied, content: Vec<u8> },
 }

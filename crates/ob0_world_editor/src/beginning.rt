@@ -1,8 +1,8 @@
 //! How an editor begins.
 ghost use Rattle.std.specs.Prelude.{◌≡◌, Some, IfOk, OnOk, codes};
 ghost use Rattle.serde_json.specs.View.{view, members_view};
-ghost use Rattle.ob0_text.specs.declared.positions.Unit.TheVariants.{Utf16, Utf8};
-ghost use Rattle.ob0_rpc.specs.Messages.{Reads};
+ghost use Rattle.ob0_text.specs.declared.position_types.Unit.TheVariants.{Utf16, Utf8};
+ghost use Rattle.ob0_rpc.specs.Messages.{ReadsContent};
 ghost use Rattle.ob0_world_editor.specs.Beginning.{actions_taken, versions_taken, utf8_offered, capabilities_for, initialize_message};
 ghost use Rattle.serde_json.specs.Data.{object, member, no_members, put as with_member};
 
@@ -15,7 +15,7 @@ use std::alloc::{AllocError, Global};
 /// The request that begins a conversation, of an editor that takes edits of versioned documents and code actions that
 /// are no commands, and offers bytes of UTF-8 where it counts them.
 pub fn initialize(alloc: Global, unit: Unit) -> Result<Vec<u8>, AllocError>
-    ensures { IfOk result (λ content. Reads content.items (Some (initialize_message unit))) }
+    ensures { IfOk result (λ content. ReadsContent content.items (Some (initialize_message unit))) }
 {
     let message = initialize_value(alloc, unit)?;
     content_of(alloc, &message)

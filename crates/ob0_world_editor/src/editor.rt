@@ -3,7 +3,7 @@ ghost use Rattle.std.specs.Prelude.{◌≡◌, IfOk, OnOk, OnErr, map, option_ma
 ghost use Rattle.std.specs.Str.{chars};
 ghost use Rattle.ob0_text.specs.OpenDocuments.{reported_change};
 ghost use Rattle.ob0_world_rules.specs.Ends.{new_editor, numbered, open_at};
-ghost use Rattle.ob0_world_rules.specs.Editing.{opens_document, changes_document, closes_document, asks_about, has_edits, keeps, held_answer, without_answer, applies_asked, applies_answer};
+ghost use Rattle.ob0_world_rules.specs.Editing.{opens_document, changes_document, closes_document, asks_about, has_edits, keeps, kept_answer, without_answer, applies_asked, applies_answer};
 ghost use Rattle.ob0_world_editor.specs.Code.{ask_of, message_of};
 ghost use Rattle.ob0_world_rules.specs.Edited.{replacements};
 ghost use Rattle.ob0_world_editor.specs.Moves.{AreFew, Moves, ComesOf, IsRewritten, IsMade, IsPlaceOf};
@@ -21,7 +21,7 @@ use std::marker::Model;
 
 /// What was asked, and the state of the document then.
 #[derive(Drop)]
-pub struct Asked {
+pub struct SentAsk {
     pub ask: Ask,
     pub uri: String,
     pub opening: u64,
@@ -50,7 +50,7 @@ pub struct Editor {
     unit: Unit,
     documents: OpenDocuments,
     openings: u64,
-    asked: Vec<Asked>,
+    asked: Vec<SentAsk>,
     answers: Vec<Answer>,
 }
 
@@ -83,7 +83,7 @@ impl Editor {
         }
     }
 
-    /// Opens a document; the content tells the server. None where it is open already.
+    /// Opens a document; the content is the notification. None where it is open already.
     pub fn open(&mut self, uri: &str, text: &str) -> Result<Option<Vec<u8>>, AllocError>
         requires { AreFew self.old }
         ensures ok { IfOk result (λ content. Moves (opens_document self.old uri.now (chars text.now) (open_at self.old uri.now)) self.old content self.new) }
@@ -108,7 +108,7 @@ impl Editor {
         Ok(Some(content))
     }
 
-    /// Changes a document; the content tells the server. None where it isn't open.
+    /// Changes a document; the content is the notification. None where it isn't open.
     pub fn change(&mut self, uri: &str, changes: &[Change]) -> Result<Option<Vec<u8>>, AllocError>
         requires { AreFew self.old }
         ensures ok { IfOk result (λ content. Moves (changes_document self.old uri.now (map reported_change changes.now) (open_at self.old uri.now)) self.old content self.new) }
@@ -133,7 +133,7 @@ impl Editor {
         Ok(Some(content))
     }
 
-    /// Closes a document; the content tells the server. None where it isn't open.
+    /// Closes a document; the content is the notification. None where it isn't open.
     pub fn close(&mut self, uri: &str) -> Result<Option<Vec<u8>>, AllocError>
         ensures ok { IfOk result (λ content. Moves (closes_document self.old uri.now (open_at self.old uri.now)) self.old content self.new) }
         ensures err { OnErr result (self.new.asked ≡ self.old.asked) }
@@ -160,7 +160,7 @@ impl Editor {
         let content = request(self.alloc, number, uri, ask)?;
         let ask = copied(self.alloc, ask)?;
         let uri = String::from_str(self.alloc, uri)?;
-        self.asked.push(Asked {
+        self.asked.push(SentAsk {
             ask,
             uri,
             opening,
@@ -169,7 +169,7 @@ impl Editor {
         Ok(Some(content))
     }
 
-    /// Reads a content that came from the server; None where it is no message for this editor.
+    /// Reads a content that came from the server; None where it isn't a message for this editor.
     pub fn read(&self, content: &[u8]) -> Result<Option<Message>, AllocError>
         ensures { IfOk result (λ found. option_map message_of found ≡ understood self.now.asked content.now) }
     {
@@ -190,13 +190,13 @@ impl Editor {
     }
 
     /// Makes the edits of answer `k`, where the document is the same opening with the same version as when it was asked
-    /// about; the content tells the server. Else the answer is dropped.
+    /// about; the content is the notification. Else the answer is dropped.
     pub fn apply(&mut self, k: u64) -> Result<Applying, AllocError>
         requires { AreFew self.old }
-        ensures ok { IfOk result (λ applying. ComesOf (applies_answer self.old k (held_answer k self.old.answers)) self.old applying self.new) }
+        ensures ok { IfOk result (λ applying. ComesOf (applies_answer self.old k (kept_answer k self.old.answers)) self.old applying self.new) }
         ensures err { OnErr result (self.new.asked ≡ self.old.asked) }
     {
-        let Some(edits) = self.let_go(k) else {
+        let Some(edits) = self.drop_document(k) else {
             return Ok(Applying::NotHeld);
         };
         match self.rewritten(k, edits.as_slice())? {
@@ -207,14 +207,14 @@ impl Editor {
 
     /// Lets answer `k` go, and says whether it was held.
     pub fn discard(&mut self, k: u64) -> bool
-        ensures held { result ≡ is_some (held_answer k self.old.answers) }
+        ensures held { result ≡ is_some (kept_answer k self.old.answers) }
         ensures after { self.new ≡ without_answer self.old k }
     {
-        self.let_go(k).is_some()
+        self.drop_document(k).is_some()
     }
 
-    fn let_go(&mut self, k: u64) -> Option<Vec<Edit>>
-        ensures edits { option_map (λ v. replacements v.items) result ≡ held_answer k self.old.answers }
+    fn drop_document(&mut self, k: u64) -> Option<Vec<Edit>>
+        ensures edits { option_map (λ v. replacements v.items) result ≡ kept_answer k self.old.answers }
         ensures after { self.new ≡ without_answer self.old k }
     {
         let place = place_of(self.answers.as_slice(), k)?;
@@ -249,7 +249,7 @@ impl Editor {
         }))
     }
 
-    /// Takes a document's new text, and tells the server.
+    /// Takes a document's new text, and notifies the server.
     fn make(&mut self, rewritten: Rewritten) -> Result<Applying, AllocError>
         requires { rewritten.version < 2 ^ 63 }
         ensures ok { IfOk result (λ applying. IsMade self.old rewritten applying self.new) }
@@ -278,7 +278,7 @@ impl Editor {
     }
 }
 
-/// Where the first answer to ask `k` stands.
+/// Where the first answer to ask `k` is.
 fn place_of(answers: &[Answer], k: u64) -> Option<usize>
     ensures { IsPlaceOf answers.now k result }
 {

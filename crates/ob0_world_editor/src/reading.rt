@@ -11,7 +11,7 @@ ghost use Rattle.ob0_world_editor.specs.Understood.{understood, value_understood
 ghost use Rattle.ob0_world_rules.specs.Ends.{numbered};
 
 use crate::asks::Ask;
-use crate::editor::Asked;
+use crate::editor::SentAsk;
 use ob0_text::{Edit, Position, Range};
 use serde_json::Value;
 use std::alloc::{AllocError, Global};
@@ -31,10 +31,10 @@ pub enum Message {
     },
 }
 
-/// Reads a content, where these asks were sent; None where it is no message that a server sends for them.
+/// Reads a content, where these asks were sent; None where it isn't a message that a server sends for them.
 pub fn read_message(
     alloc: Global,
-    asked: &[Asked],
+    asked: &[SentAsk],
     content: &[u8],
 ) -> Result<Option<Message>, AllocError>
     ensures { IfOk result (λ found. option_map message_of found ≡ understood (map asked_of asked.now) content.now) }
@@ -51,7 +51,7 @@ pub fn read_message(
 
 fn read_value(
     alloc: Global,
-    asked: &[Asked],
+    asked: &[SentAsk],
     message: &Value,
 ) -> Result<Option<Message>, AllocError>
     ensures { IfOk result (λ found. option_map message_of found ≡ value_understood (map asked_of asked.now) (view message.now)) }
@@ -108,7 +108,7 @@ fn published_diagnostics(params: &Value) -> Option<&Vec<Value>>
 
 fn read_answer(
     alloc: Global,
-    asked: &[Asked],
+    asked: &[SentAsk],
     answer: &Value,
 ) -> Result<Option<Message>, AllocError>
     ensures { IfOk result (λ found. option_map message_of found ≡ answer_understood (map asked_of asked.now) (view answer.now)) }
@@ -130,7 +130,7 @@ fn answer_number(answer: &Value) -> Option<u64>
 }
 
 /// Ask `number`; the first has number 1.
-pub fn numbered_ask(asked: &[Asked], number: u64) -> Option<&Asked>
+pub fn numbered_ask(asked: &[SentAsk], number: u64) -> Option<&SentAsk>
     ensures { option_map (λ a. asked_of a.now) result ≡ numbered (map asked_of asked.now) number }
 {
     if number == 0 {

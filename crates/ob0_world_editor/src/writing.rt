@@ -5,7 +5,7 @@ ghost use Rattle.serde_json.specs.Data.{array, depth, number, object, unsigned, 
 ghost use Rattle.serde_json.specs.View.{view, items_view, items_of, members_view};
 ghost use Rattle.ob0_text.specs.OpenDocuments.{Opened, Changed, Closed, reported_change};
 ghost use Rattle.ob0_text.specs.declared.edits.Change as change_type;
-ghost use Rattle.ob0_rpc.specs.Messages.{Reads};
+ghost use Rattle.ob0_rpc.specs.Messages.{ReadsContent};
 ghost use Rattle.ob0_rpc.specs.Shapes.{notification_message, text as text_data};
 ghost use Rattle.ob0_world_rules.specs.Edited.{whole_text};
 ghost use Rattle.ob0_world_editor.specs.Code.{ask_of};
@@ -18,13 +18,13 @@ use ob0_text::{Change, Indent, Position, Range};
 use serde_json::{Map, Value, json, put};
 use std::alloc::{AllocError, Global};
 
-/// Tells that a document was opened.
+/// Notifies that a document was opened.
 pub fn did_open(alloc: Global, uri: &str, version: u64, text: &str) -> Result<Vec<u8>, AllocError>
     requires { version < 2 ^ 63 }
     ensures { IfOk result (λ content. IsNote (Opened uri.now (pos version) (chars text.now)) content.items) }
 {
     let params = open_params(alloc, uri, version, text)?;
-    note(alloc, "textDocument/didOpen", params)
+    notification(alloc, "textDocument/didOpen", params)
 }
 
 fn put_opened(
@@ -53,7 +53,7 @@ fn open_params(alloc: Global, uri: &str, version: u64, text: &str) -> Result<Val
     Ok(Value::Object(members))
 }
 
-/// Tells how a document was changed.
+/// Notifies how a document was changed.
 pub fn did_change(
     alloc: Global,
     uri: &str,
@@ -65,10 +65,10 @@ pub fn did_change(
 {
     let changes = change_values(alloc, changes)?;
     let params = change_params(alloc, uri, version, changes)?;
-    note(alloc, "textDocument/didChange", params)
+    notification(alloc, "textDocument/didChange", params)
 }
 
-/// Tells that a document has this text now.
+/// Notifies that a document has this text now.
 pub fn did_rewrite(
     alloc: Global,
     uri: &str,
@@ -79,7 +79,7 @@ pub fn did_rewrite(
     ensures { IfOk result (λ content. IsNote (Changed uri.now (pos version) (whole_text (chars text.now) ∷ [])) content.items) }
 {
     let params = rewrite_params(alloc, uri, version, text)?;
-    note(alloc, "textDocument/didChange", params)
+    notification(alloc, "textDocument/didChange", params)
 }
 
 fn rewrite_params(alloc: Global, uri: &str, version: u64, text: &str) -> Result<Value, AllocError>
@@ -93,12 +93,12 @@ fn rewrite_params(alloc: Global, uri: &str, version: u64, text: &str) -> Result<
     Ok(Value::Object(members))
 }
 
-/// Tells that a document was closed.
+/// Notifies that a document was closed.
 pub fn did_close(alloc: Global, uri: &str) -> Result<Vec<u8>, AllocError>
     ensures { IfOk result (λ content. IsNote (Closed uri.now) content.items) }
 {
     let params = close_params(alloc, uri)?;
-    note(alloc, "textDocument/didClose", params)
+    notification(alloc, "textDocument/didClose", params)
 }
 
 fn close_params(alloc: Global, uri: &str) -> Result<Value, AllocError>
@@ -320,14 +320,14 @@ fn position_value(alloc: Global, position: Position) -> Result<Value, AllocError
     Ok(Value::Object(members))
 }
 
-fn note(alloc: Global, method: &str, params: Value) -> Result<Vec<u8>, AllocError>
-    ensures { IfOk result (λ content. depth (view params) ≤ 126 → Reads content.items (Some (notification_message method.now (view params)))) }
+fn notification(alloc: Global, method: &str, params: Value) -> Result<Vec<u8>, AllocError>
+    ensures { IfOk result (λ content. depth (view params) ≤ 126 → ReadsContent content.items (Some (notification_message method.now (view params)))) }
 {
-    let message = note_value(alloc, method, params)?;
+    let message = notification_value(alloc, method, params)?;
     content_of(alloc, &message)
 }
 
-fn note_value(alloc: Global, method: &str, params: Value) -> Result<Value, AllocError>
+fn notification_value(alloc: Global, method: &str, params: Value) -> Result<Value, AllocError>
     ensures { IfOk result (λ v. view v ≡ notification_message method.now (view params)) }
 {
     let mut members = Map::new(alloc);
@@ -338,7 +338,7 @@ fn note_value(alloc: Global, method: &str, params: Value) -> Result<Value, Alloc
 
 /// The content of a message, which reads back as that message where it isn't nested too deep for the reader.
 pub fn content_of(alloc: Global, message: &Value) -> Result<Vec<u8>, AllocError>
-    ensures { IfOk result (λ content. depth (view message.now) ≤ 127 → Reads content.items (Some (view message.now))) }
+    ensures { IfOk result (λ content. depth (view message.now) ≤ 127 → ReadsContent content.items (Some (view message.now))) }
 {
     let text = message.to_string(alloc)?;
     Ok(text.into_bytes())

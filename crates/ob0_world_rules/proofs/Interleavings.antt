@@ -8,18 +8,18 @@ use Rattle.std.specs.FinMap as map_of
 use Rattle.std.proofs.lemmas.Option.{same_Some, none-some}
 use Rattle.std.proofs.lemmas.List.{append-nil}
 use Rattle.std.proofs.lemmas.List.Elements.{All-nil, All-head, All-tail, All-push, All-append, All-cons}
-use Rattle.ob0_text.specs.declared.positions.Unit.{Unit}
-use Rattle.ob0_text.specs.OpenDocuments.{OpenDocuments, Document, InStep, OutOfStep, DocumentNote, Opened, Changed, Lost, Closed, TextChange, changed_text, updated, after_note, changed_document, document_at}
+use Rattle.ob0_text.specs.declared.position_types.Unit.{Unit}
+use Rattle.ob0_text.specs.OpenDocuments.{OpenDocuments, Document, InStep, OutOfStep, DocumentEvent, Opened, Changed, Lost, Closed, TextChange, changed_text, updated, after_event, changed_document, document_at}
 use Rattle.ob0_text.proofs.EntryLaws.{updated-some, updated-none}
 use Rattle.ob0_world_rules.specs.Language.{WellTypedText, SameRun}
 use Rattle.ob0_world_rules.specs.Edited.{Replacement, edited, whole_text, after_changes}
 use Rattle.ob0_world_rules.specs.Asks.{Ask}
 use Rattle.ob0_world_rules.specs.Answers.{IsAnswer}
-use Rattle.ob0_world_rules.specs.Ends.{Open, Asked, Answer, Editor, numbered, open_at, ToServer, tells, asks, ToEditor, publishes, answers, Applied, Made, Ends, start, after_message, will_hold, as_held}
-use Rattle.ob0_world_rules.specs.Editing.{opens_document, changes_text, changes_document, closes_document, asks_about, keeps, held_answer, all_but, without_answer, discards, if_same, applies_text, applies_edits, applies_asked, applies_answer, Move, idle, sends, Outcome, not_held, drops_answer, makes}
+use Rattle.ob0_world_rules.specs.Ends.{Open, SentAsk, Answer, Editor, numbered, open_at, ToServer, tells, asks, ToEditor, publishes, answers, Applied, Made, Ends, start, after_message, will_have, as_open}
+use Rattle.ob0_world_rules.specs.Editing.{opens_document, changes_text, changes_document, closes_document, asks_about, keeps, kept_answer, all_but, without_answer, discards, if_same, applies_text, applies_edits, applies_asked, applies_answer, Move, idle, sends, ApplyOutcome, not_held, drops_answer, makes}
 use Rattle.ob0_world_rules.specs.Serving.{Publishes, cleared, RepliesToNotification, Replies}
 use Rattle.ob0_world_rules.specs.Events.{Event, open_document, change_document, close_document, ask_about, serve, take_message, apply, discard, Seen, moved, takes, comes_of}
-use Rattle.ob0_world_rules.specs.Happens.{Serves, Happens, Course}
+use Rattle.ob0_world_rules.specs.Happens.{ServerTakes, Happens, Course}
 use Rattle.ob0_world_rules.specs.Headline.{KeepsTheRun, IsRight, IsMadeFor, latest, AreUpToDate, Holds}
 use Rattle.ob0_world_rules.specs.Laws.{EditsPreserveRun}
 use Rattle.ob0_world_rules.proofs.UriLaws.{get_put, get_removed, same_uri, uri_itself}
@@ -61,9 +61,9 @@ module _ (unit : Unit) where
   ask_kept : (w : Ends) (uri : List ℕ) (ask : Ask) (o : Option Open) → open_at w.editor uri ≡ o → Kept unit w → Kept unit (moved w (asks_about w.editor uri ask o)).after
   ask_kept w uri ask None is kept = kept
   ask_kept w uri ask (Some d) is kept =
-      let a : Asked = record { ask = ask; uri = uri; opening = d.opening; version = d.version } in
+      let a : SentAsk = record { ask = ask; uri = uri; opening = d.opening; version = d.version } in
       let e : Editor = record w.editor { asked = w.editor.asked ++ a ∷ [] } in
-      let known : Known e (suc (length w.editor.asked)) (λ x. document_at (will_hold w) uri ≡ Some (as_held x)) =
+      let known : Known e (suc (length w.editor.asked)) (λ x. document_at (will_have w) uri ≡ Some (as_open x)) =
       record {
         asked = a;
         is = slice_get_last w.editor.asked a;
@@ -71,7 +71,7 @@ module _ (unit : Unit) where
           known = kept.openings uri d is;
           risen = λ x at opening. subst (λ y. d.version ≤ y.version) (same_Some d x (sym is ∙ at)) (omega arith);
         };
-        still = λ x same. kept.mirror uri ∙ ap (option_map as_held) same.at;
+        still = λ x same. kept.mirror uri ∙ ap (option_map as_open) same.at;
       } in
       sends_kept unit w e (asks (suc (length w.editor.asked)) uri ask) kept (later_ask w.editor (a ∷ []))
       kept.openings refl refl kept.mirror (known, tt)
@@ -137,21 +137,21 @@ module _ (unit : Unit) where
       rewrites_kept unit (record w { editor = e; applied = w.applied ++ a ∷ [] }) uri d (whole_text text ∷ []) text
       (applied_kept (record w { editor = e }) a kept keeps) at (whole e.unit d.text text)
 
-  edits_kept : (w : Ends) (e : Editor) (k : ℕ) (edits : List Replacement) (a : Asked) (o : Option Open) → if_same a (open_at e a.uri) ≡ o → Kept unit (record w { editor = e })
+  edits_kept : (w : Ends) (e : Editor) (k : ℕ) (edits : List Replacement) (a : SentAsk) (o : Option Open) → if_same a (open_at e a.uri) ≡ o → Kept unit (record w { editor = e })
       → ((d : Open) → Same e a d → EditsPreserveRun unit d.text edits) → Kept unit (comes_of w k (applies_edits e edits a.uri o)).after
   edits_kept w e k edits a None is kept keep = kept
   edits_kept w e k edits a (Some d) is kept keep =
       let same : Same e a d = same_from e a d is in
       text_kept w e k a.uri d edits (edited e.unit d.text edits) (ap (λ u. edited u d.text edits) (sym kept.counts)) same.at kept (keep d same)
 
-  asked_kept : (w : Ends) (e : Editor) (k : ℕ) (edits : List Replacement) (o : Option Asked) → numbered e.asked k ≡ o → Kept unit (record w { editor = e }) → Known e k (λ d. EditsPreserveRun unit d.text edits)
+  asked_kept : (w : Ends) (e : Editor) (k : ℕ) (edits : List Replacement) (o : Option SentAsk) → numbered e.asked k ≡ o → Kept unit (record w { editor = e }) → Known e k (λ d. EditsPreserveRun unit d.text edits)
       → Kept unit (comes_of w k (applies_asked e edits o)).after
   asked_kept w e k edits None is kept known = kept
   asked_kept w e k edits (Some a) is kept known =
       let same : known.asked ≡ a = same_Some known.asked a (sym known.is ∙ is) in
       edits_kept w e k edits a (if_same a (open_at e a.uri)) refl kept (subst (λ x. (d : Open) → Same e x d → EditsPreserveRun unit d.text edits) same known.still)
 
-  apply_kept : (w : Ends) (k : ℕ) (o : Option (List Replacement)) → held_answer k w.editor.answers ≡ o → Kept unit w → Kept unit (comes_of w k (applies_answer w.editor k o)).after
+  apply_kept : (w : Ends) (k : ℕ) (o : Option (List Replacement)) → kept_answer k w.editor.answers ≡ o → Kept unit w → Kept unit (comes_of w k (applies_answer w.editor k o)).after
   apply_kept w k None is kept = kept
   apply_kept w k (Some edits) is kept =
       let e : Editor = without_answer w.editor k in
@@ -176,7 +176,7 @@ module _ (unit : Unit) where
       let itself : bytes_eq uri q ≡ true = subst (λ x. bytes_eq uri x ≡ true) (sym (same_uri q uri same)) (uri_itself uri) in
       both_answers itself differ
 
-  -- the document that is held under a uri, and it alone, was published anew
+  -- the document that is held under a uri, and it alone, was published again
   others_and_this : (held : OpenDocuments) (uri : List ℕ) (made : List Made) → Others held uri made
       → ((q : List ℕ) (version : ℤ) (text : List ℕ) → uri ≡ q → document_at held q ≡ Some (InStep version text) → IsMadeFor version text (latest q made)) → AreLatest held made
   others_and_this held uri made others this q version text at = go (bytes_eq uri q) refl
@@ -244,10 +244,10 @@ module _ (unit : Unit) where
       go (Some d) is = subst (λ m. Others (record { unit = held.unit; by_uri = m }) uri made) (sym (updated-some held.by_uri uri f d is)) (put_others held uri (f d) made now)
 
   -- a document that is lost is in step no more
-  lost_latest : (held : OpenDocuments) (uri : List ℕ) (made : List Made) → AreLatest held made → AreLatest (after_note held (Lost uri)) made
+  lost_latest : (held : OpenDocuments) (uri : List ℕ) (made : List Made) → AreLatest held made → AreLatest (after_event held (Lost uri)) made
   lost_latest held uri made now = go (document_at held uri) refl
     where
-      go : (o : Option Document) → document_at held uri ≡ o → AreLatest (after_note held (Lost uri)) made
+      go : (o : Option Document) → document_at held uri ≡ o → AreLatest (after_event held (Lost uri)) made
       go None is = subst (λ m. AreLatest (record { unit = held.unit; by_uri = m }) made) (sym (updated-none held.by_uri uri (λ _. OutOfStep) is)) (λ q version text at. now q version text at)
       go (Some d) is =
           subst (λ m. AreLatest (record { unit = held.unit; by_uri = m }) made) (sym (updated-some held.by_uri uri (λ _. OutOfStep) d is))
@@ -260,22 +260,22 @@ module _ (unit : Unit) where
               get_put held.by_uri uri OutOfStep q ∙ ap (λ b. cond b (Some OutOfStep) (document_at held q)) (subst (λ x. bytes_eq x uri ≡ true) same (uri_itself uri)) in
               let other : OutOfStep ≡ InStep version text = same_Some _ _ (sym put ∙ at) in cc
 
-  remove_latest : (held : OpenDocuments) (uri : List ℕ) (made : List Made) → AreLatest held made → AreLatest (after_note held (Closed uri)) made
+  remove_latest : (held : OpenDocuments) (uri : List ℕ) (made : List Made) → AreLatest held made → AreLatest (after_event held (Closed uri)) made
   remove_latest held uri made now q version text at = go (bytes_eq q uri) (sym (get_removed held.by_uri uri q) ∙ at)
     where
       go : (b : Bool) → cond b None (document_at held q) ≡ Some (InStep version text) → IsMadeFor version text (latest q made)
       go true h = absurd (none-some (InStep version text) h)
       go false h = now q version text h
 
-  note_sound : (e : Editor) (held : OpenDocuments) (note : DocumentNote) (said : List ToEditor) (made more : List Made) → AreLatest held made → RepliesToNotification held note said more → Sound e (after_note held note) said made more
+  note_sound : (e : Editor) (held : OpenDocuments) (note : DocumentEvent) (said : List ToEditor) (made more : List Made) → AreLatest held made → RepliesToNotification held note said more → Sound e (after_event held note) said made more
   note_sound e held (Opened uri version text) said made more now h =
-      publish_sound e (after_note held (Opened uri version text)) uri (document_at (after_note held (Opened uri version text)) uri) said made more refl (put_others held uri (InStep version text) made now) h
+      publish_sound e (after_event held (Opened uri version text)) uri (document_at (after_event held (Opened uri version text)) uri) said made more refl (put_others held uri (InStep version text) made now) h
   note_sound e held (Changed uri version how) said made more now h =
-      publish_sound e (after_note held (Changed uri version how)) uri (document_at (after_note held (Changed uri version how)) uri) said made more refl
+      publish_sound e (after_event held (Changed uri version how)) uri (document_at (after_event held (Changed uri version how)) uri) said made more refl
       (update_others held uri (changed_document held.unit version how) made now) h
-  note_sound e held (Lost uri) said made more now h = silent e (after_note held (Lost uri)) made said more h.0 h.1 (lost_latest held uri made now)
+  note_sound e held (Lost uri) said made more now h = silent e (after_event held (Lost uri)) made said more h.0 h.1 (lost_latest held uri made now)
   note_sound e held (Closed uri) said made more now h =
-      let quiet : Sound e (after_note held (Closed uri)) [] made more = silent e (after_note held (Closed uri)) made [] more refl h.1 (remove_latest held uri made now) in
+      let quiet : Sound e (after_event held (Closed uri)) [] made more = silent e (after_event held (Closed uri)) made [] more refl h.1 (remove_latest held uri made now) in
       record {
         fit = subst (All (AnswerFits unit e)) (sym h.0) (taken_back_fits e uri (is_some (document_at held uri)));
         right = quiet.right;
@@ -283,12 +283,12 @@ module _ (unit : Unit) where
       }
 
   -- an ask is answered for the document that the editor meant, where that is still the same
-  ask_fits : (e : Editor) (held : OpenDocuments) (k : ℕ) (uri : List ℕ) (ask : Ask) (edits : List Replacement) → held.unit ≡ unit → Known e k (λ d. document_at held uri ≡ Some (as_held d)) → IsAnswer held.unit (document_at held uri) ask edits
+  ask_fits : (e : Editor) (held : OpenDocuments) (k : ℕ) (uri : List ℕ) (ask : Ask) (edits : List Replacement) → held.unit ≡ unit → Known e k (λ d. document_at held uri ≡ Some (as_open d)) → IsAnswer held.unit (document_at held uri) ask edits
       → Known e k (Fits unit edits)
   ask_fits e held k uri ask edits same_unit known may =
       record { asked = known.asked; is = known.is; past = known.past; still = λ d same. go (document_at held uri) d (known.still d same) (subst (λ u. IsAnswer u (document_at held uri) ask edits) same_unit may) }
     where
-      go : (o : Option Document) (d : Open) → o ≡ Some (as_held d) → IsAnswer unit o ask edits → Fits unit edits d
+      go : (o : Option Document) (d : Open) → o ≡ Some (as_open d) → IsAnswer unit o ask edits → Fits unit edits d
       go o d is may = answer_keeps unit d.text ask edits (subst (λ x. IsAnswer unit x ask edits) is may)
 
   -- the server, as it takes this message, meets what the editor asked about
@@ -308,12 +308,12 @@ module _ (unit : Unit) where
   abbrev Both : Ends → Type 0
   Both w = Kept unit w × AreLatest w.held w.made
 
-  -- the first message, and those behind it
+  -- the first message, and those after it
   sees_first : (e : Editor) (held : OpenDocuments) (m : ToServer) (rest : List ToServer) → AsksSee e held (m ∷ rest) → Meets e held m × AsksSee e (after_message held m) rest
   sees_first e held (tells note) rest h = (tt, h)
   sees_first e held (asks k uri ask) rest h = ((h.0, tt), h.1)
 
-  serve_kept : (w : Ends) (queue : List ToServer) (seen : Seen) (new : Ends) → w.to_server ≡ queue → Both w → Serves w queue seen new → Both new
+  serve_kept : (w : Ends) (queue : List ToServer) (seen : Seen) (new : Ends) → w.to_server ≡ queue → Both w → ServerTakes w queue seen new → Both new
   serve_kept w [] seen new is both h = subst Both (sym h.1) both
   serve_kept w (m ∷ rest) seen new is (kept, now) (said, more, may, shown, is_new) =
       let see : Meets w.editor w.held m × AsksSee w.editor (after_message w.held m) rest = sees_first w.editor w.held m rest (subst (AsksSee w.editor w.held) is kept.asked) in
@@ -322,7 +322,7 @@ module _ (unit : Unit) where
         record {
           counts = kept.counts;
           holds = message_unit w.held m ∙ kept.holds;
-          mirror = subst (λ q. (uri : List ℕ) → document_at (fold after_message w.held q) uri ≡ option_map as_held (open_at w.editor uri)) is kept.mirror;
+          mirror = subst (λ q. (uri : List ℕ) → document_at (fold after_message w.held q) uri ≡ option_map as_open (open_at w.editor uri)) is kept.mirror;
           openings = kept.openings;
           asked = see.1;
           answered = All-append (AnswerFits unit w.editor) w.to_editor said kept.answered sound.fit;
@@ -348,7 +348,7 @@ module _ (unit : Unit) where
   take_unmoved w (publishes uri version empty ∷ rest) = (refl, refl)
   take_unmoved w (answers k edits ∷ rest) = (refl, refl)
 
-  outcome_unmoved : (w : Ends) (k : ℕ) (o : Outcome) → Unmoved w (comes_of w k o).after
+  outcome_unmoved : (w : Ends) (k : ℕ) (o : ApplyOutcome) → Unmoved w (comes_of w k o).after
   outcome_unmoved w k not_held = (refl, refl)
   outcome_unmoved w k (drops_answer e) = (refl, refl)
   outcome_unmoved w k (makes e a m) = (refl, refl)
@@ -362,7 +362,7 @@ module _ (unit : Unit) where
   move_kept : (w : Ends) (m : Move) (new : Ends) → new ≡ (moved w m).after → Kept unit (moved w m).after → AreLatest w.held w.made → Both new
   move_kept w m new is kept now = at_the_editor w (moved w m).after new is kept (move_unmoved w m) now
 
-  outcome_kept : (w : Ends) (k : ℕ) (o : Outcome) (new : Ends) → new ≡ (comes_of w k o).after → Kept unit (comes_of w k o).after → AreLatest w.held w.made → Both new
+  outcome_kept : (w : Ends) (k : ℕ) (o : ApplyOutcome) (new : Ends) → new ≡ (comes_of w k o).after → Kept unit (comes_of w k o).after → AreLatest w.held w.made → Both new
   outcome_kept w k o new is kept now = at_the_editor w (comes_of w k o).after new is kept (outcome_unmoved w k o) now
 
   event_kept : (w : Ends) (event : Event) (seen : Seen) (new : Ends) → Both w → Happens w event seen new → Both new
@@ -378,9 +378,9 @@ module _ (unit : Unit) where
   event_kept w take_message seen new (kept, now) h =
       at_the_editor w (takes w w.to_editor).after new h.1 (take_kept w w.to_editor kept kept.answered) (take_unmoved w w.to_editor) now
   event_kept w (apply k) seen new (kept, now) h =
-      let o : Option (List Replacement) = held_answer k w.editor.answers in outcome_kept w k (applies_answer w.editor k o) new h.1 (apply_kept w k o refl kept) now
+      let o : Option (List Replacement) = kept_answer k w.editor.answers in outcome_kept w k (applies_answer w.editor k o) new h.1 (apply_kept w k o refl kept) now
   event_kept w (discard k) seen new (kept, now) h =
-      let o : Option (List Replacement) = held_answer k w.editor.answers in outcome_kept w k (discards w.editor k o) new h.1 (discard_kept w k o kept) now
+      let o : Option (List Replacement) = kept_answer k w.editor.answers in outcome_kept w k (discards w.editor k o) new h.1 (discard_kept w k o kept) now
 
   run_kept : (events : List Event) (w new : Ends) → Both w → Course w events new → Both new
   run_kept [] w new both h = subst Both (sym h) both
@@ -394,7 +394,7 @@ module _ (unit : Unit) where
     record {
       counts = refl;
       holds = refl;
-      mirror = λ q. map_of.get-empty (slice_cmp nat_cmp) q ∙ sym (ap (option_map as_held) (map_of.get-empty (slice_cmp nat_cmp) q));
+      mirror = λ q. map_of.get-empty (slice_cmp nat_cmp) q ∙ sym (ap (option_map as_open) (map_of.get-empty (slice_cmp nat_cmp) q));
       openings = λ uri d at. nothing_at uri d (d.opening ≤ 0) at;
       asked = tt;
       answered = All-nil (AnswerFits unit (start unit).editor);
@@ -407,7 +407,7 @@ module _ (unit : Unit) where
 
   up_to_date : (w : Ends) → Both w → w.to_server ≡ [] → AreUpToDate w.editor w.made
   up_to_date w (kept, now) nothing_waits uri d at =
-      let held : document_at w.held uri ≡ Some (as_held d) = subst (λ q. document_at (fold after_message w.held q) uri ≡ Some (as_held d)) nothing_waits (kept.mirror uri ∙ ap (option_map as_held) at) in
+      let held : document_at w.held uri ≡ Some (as_open d) = subst (λ q. document_at (fold after_message w.held q) uri ≡ Some (as_open d)) nothing_waits (kept.mirror uri ∙ ap (option_map as_open) at) in
       now uri (pos d.version) d.text held
 
 pub in_every_interleaving : (unit : Unit) (events : List Event) (w : Ends) → Course (start unit) events w → Holds w

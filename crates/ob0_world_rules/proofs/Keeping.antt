@@ -7,12 +7,12 @@ use Rattle.std.proofs.lemmas.Bool.{eqb-true}
 use Rattle.std.proofs.lemmas.Option.{same_Some, none-some}
 use Rattle.std.proofs.lemmas.List.Elements.{All-head, All-tail, All-weaker}
 use Rattle.std.proofs.lemmas.List.Sums.{fold_push}
-use Rattle.ob0_text.specs.declared.positions.Unit.{Unit}
-use Rattle.ob0_text.specs.OpenDocuments.{OpenDocuments, document, DocumentNote, Opened, Changed, Lost, Closed, TextChange, after_note, changed_document, document_at}
+use Rattle.ob0_text.specs.declared.position_types.Unit.{Unit}
+use Rattle.ob0_text.specs.OpenDocuments.{OpenDocuments, document, DocumentEvent, Opened, Changed, Lost, Closed, TextChange, after_event, changed_document, document_at}
 use Rattle.ob0_text.proofs.EntryLaws.{updated-some}
 use Rattle.ob0_world_rules.specs.Edited.{Replacement, after_changes}
-use Rattle.ob0_world_rules.specs.Ends.{Open, Answer, Editor, open_at, ToServer, tells, asks, ToEditor, publishes, answers, Ends, after_message, will_hold, as_held, Mirrors}
-use Rattle.ob0_world_rules.specs.Editing.{held_answer, rewritten, rewrites}
+use Rattle.ob0_world_rules.specs.Ends.{Open, Answer, Editor, open_at, ToServer, tells, asks, ToEditor, publishes, answers, Ends, after_message, will_have, as_open, Mirrors}
+use Rattle.ob0_world_rules.specs.Editing.{kept_answer, rewritten, rewrites}
 use Rattle.ob0_world_rules.specs.Headline.{KeepsTheRun, IsRight}
 use Rattle.ob0_world_rules.specs.Laws.{EditsPreserveRun}
 use Rattle.ob0_world_rules.proofs.UriLaws.{get_put, get_removed, mapped_choice}
@@ -34,8 +34,8 @@ HeldFits unit e a = Known e a.number (λ d. EditsPreserveRun unit d.text a.edits
 -- the server, as it takes an ask, will hold the document that was asked about, where that is still the same
 abbrev pub AsksSee : Editor → OpenDocuments → List ToServer → Type 0
 AsksSee e held [] = ⊤
-AsksSee e held (tells note ∷ rest) = AsksSee e (after_note held note) rest
-AsksSee e held (asks k uri ask ∷ rest) = Known e k (λ d. document_at held uri ≡ Some (as_held d)) × AsksSee e held rest
+AsksSee e held (tells note ∷ rest) = AsksSee e (after_event held note) rest
+AsksSee e held (asks k uri ask ∷ rest) = Known e k (λ d. document_at held uri ≡ Some (as_open d)) × AsksSee e held rest
 
 abbrev pub KnowsOpenings : Editor → Type 0
 KnowsOpenings e = (uri : List ℕ) (d : Open) → open_at e uri ≡ Some d → d.opening ≤ e.openings
@@ -54,7 +54,7 @@ pub record Kept (unit : Unit) (w : Ends) : Type 0 where
 
 -- ---- the unit
 
-pub note_unit : (held : OpenDocuments) (note : DocumentNote) → (after_note held note).unit ≡ held.unit
+pub note_unit : (held : OpenDocuments) (note : DocumentEvent) → (after_event held note).unit ≡ held.unit
 note_unit held (Opened uri version text) = refl
 note_unit held (Changed uri version how) = refl
 note_unit held (Lost uri) = refl
@@ -83,13 +83,13 @@ held_later unit e e' later list h =
 
 pub asks_later : (e e' : Editor) → Later e e' → (held : OpenDocuments) (q : List ToServer) → AsksSee e held q → AsksSee e' held q
 asks_later e e' later held [] h = h
-asks_later e e' later held (tells note ∷ rest) h = asks_later e e' later (after_note held note) rest h
+asks_later e e' later held (tells note ∷ rest) h = asks_later e e' later (after_event held note) rest h
 asks_later e e' later held (asks k uri ask ∷ rest) h =
-    (still_known e e' k (λ d. document_at held uri ≡ Some (as_held d)) later h.0, asks_later e e' later held rest h.1)
+    (still_known e e' k (λ d. document_at held uri ≡ Some (as_open d)) later h.0, asks_later e e' later held rest h.1)
 
 asks_append : (e : Editor) (held : OpenDocuments) (q more : List ToServer) → AsksSee e held q → AsksSee e (fold after_message held q) more → AsksSee e held (q ++ more)
 asks_append e held [] more h k = k
-asks_append e held (tells note ∷ rest) more h k = asks_append e (after_note held note) rest more h k
+asks_append e held (tells note ∷ rest) more h k = asks_append e (after_event held note) rest more h k
 asks_append e held (asks n uri ask ∷ rest) more h k = (h.0, asks_append e held rest more h.1 k)
 
 -- ---- the editor sends
@@ -99,7 +99,7 @@ abbrev pub sent_by : Ends → Editor → ToServer → Ends
 sent_by w e m = record w { editor = e; to_server = w.to_server ++ m ∷ [] }
 
 pub sends_kept : (unit : Unit) (w : Ends) (e : Editor) (m : ToServer) → Kept unit w → Later w.editor e → KnowsOpenings e → e.unit ≡ w.editor.unit → e.answers ≡ w.editor.answers
-    → ((uri : List ℕ) → document_at (after_message (will_hold w) m) uri ≡ option_map as_held (open_at e uri)) → AsksSee e (will_hold w) (m ∷ []) → Kept unit (sent_by w e m)
+    → ((uri : List ℕ) → document_at (after_message (will_have w) m) uri ≡ option_map as_open (open_at e uri)) → AsksSee e (will_have w) (m ∷ []) → Kept unit (sent_by w e m)
 sends_kept unit w e m kept later openings same_unit same mirror see =
     record {
       counts = same_unit ∙ kept.counts;
@@ -115,31 +115,31 @@ sends_kept unit w e m kept later openings same_unit same mirror see =
 
 -- a document is put in at both ends
 put_mirror : (w : Ends) (uri : List ℕ) (d : Open) → Mirrors w → (q : List ℕ)
-    → map_of.get (map_of.insert (will_hold w).by_uri uri (as_held d)) q ≡ option_map as_held (map_of.get (map_of.insert w.editor.documents uri d) q)
+    → map_of.get (map_of.insert (will_have w).by_uri uri (as_open d)) q ≡ option_map as_open (map_of.get (map_of.insert w.editor.documents uri d) q)
 put_mirror w uri d mirror q =
-    get_put (will_hold w).by_uri uri (as_held d) q ∙ ap (cond (bytes_eq q uri) (Some (as_held d))) (mirror q)
-    ∙ sym (mapped_choice as_held (bytes_eq q uri) (Some d) (map_of.get w.editor.documents q))
-    ∙ ap (option_map as_held) (sym (get_put w.editor.documents uri d q))
+    get_put (will_have w).by_uri uri (as_open d) q ∙ ap (cond (bytes_eq q uri) (Some (as_open d))) (mirror q)
+    ∙ sym (mapped_choice as_open (bytes_eq q uri) (Some d) (map_of.get w.editor.documents q))
+    ∙ ap (option_map as_open) (sym (get_put w.editor.documents uri d q))
 
 pub put_mirrors : (w : Ends) (uri : List ℕ) (d : Open) → Mirrors w → (q : List ℕ)
-    → map_of.get (map_of.insert (will_hold w).by_uri uri (as_held d)) q ≡ option_map as_held (map_of.get (map_of.insert w.editor.documents uri d) q)
+    → map_of.get (map_of.insert (will_have w).by_uri uri (as_open d)) q ≡ option_map as_open (map_of.get (map_of.insert w.editor.documents uri d) q)
 put_mirrors w uri d mirror q = put_mirror w uri d mirror q
 
 pub remove_mirrors : (w : Ends) (uri : List ℕ) → Mirrors w → (q : List ℕ)
-    → map_of.get (map_of.remove (will_hold w).by_uri uri) q ≡ option_map as_held (map_of.get (map_of.remove w.editor.documents uri) q)
+    → map_of.get (map_of.remove (will_have w).by_uri uri) q ≡ option_map as_open (map_of.get (map_of.remove w.editor.documents uri) q)
 remove_mirrors w uri mirror q =
-    get_removed (will_hold w).by_uri uri q ∙ ap (cond (bytes_eq q uri) None) (mirror q)
-    ∙ sym (mapped_choice as_held (bytes_eq q uri) None (map_of.get w.editor.documents q))
-    ∙ ap (option_map as_held) (sym (get_removed w.editor.documents uri q))
+    get_removed (will_have w).by_uri uri q ∙ ap (cond (bytes_eq q uri) None) (mirror q)
+    ∙ sym (mapped_choice as_open (bytes_eq q uri) None (map_of.get w.editor.documents q))
+    ∙ ap (option_map as_open) (sym (get_removed w.editor.documents uri q))
 
 -- a document that gets a new text is changed so at the server
-change_mirrors : (w : Ends) (uri : List ℕ) (d new : Open) (how : List TextChange) → Mirrors w → (will_hold w).unit ≡ w.editor.unit → open_at w.editor uri ≡ Some d
+change_mirrors : (w : Ends) (uri : List ℕ) (d new : Open) (how : List TextChange) → Mirrors w → (will_have w).unit ≡ w.editor.unit → open_at w.editor uri ≡ Some d
     → after_changes w.editor.unit (Some d.text) how ≡ Some new.text → (q : List ℕ)
-    → document_at (after_note (will_hold w) (Changed uri (pos new.version) how)) q ≡ option_map as_held (map_of.get (map_of.insert w.editor.documents uri new) q)
+    → document_at (after_event (will_have w) (Changed uri (pos new.version) how)) q ≡ option_map as_open (map_of.get (map_of.insert w.editor.documents uri new) q)
 change_mirrors w uri d new how mirror same_unit was_open is q =
-    let held : document_at (will_hold w) uri ≡ Some (as_held d) = mirror uri ∙ ap (option_map as_held) was_open in
-    ap (λ m. map_of.get m q) (updated-some (will_hold w).by_uri uri (changed_document (will_hold w).unit (pos new.version) how) (as_held d) held)
-    ∙ ap (λ text. map_of.get (map_of.insert (will_hold w).by_uri uri (document (pos new.version) text)) q) (ap (λ u. after_changes u (Some d.text) how) same_unit ∙ is)
+    let held : document_at (will_have w) uri ≡ Some (as_open d) = mirror uri ∙ ap (option_map as_open) was_open in
+    ap (λ m. map_of.get m q) (updated-some (will_have w).by_uri uri (changed_document (will_have w).unit (pos new.version) how) (as_open d) held)
+    ∙ ap (λ text. map_of.get (map_of.insert (will_have w).by_uri uri (document (pos new.version) text)) q) (ap (λ u. after_changes u (Some d.text) how) same_unit ∙ is)
     ∙ put_mirror w uri new mirror q
 
 pub rewrites_kept : (unit : Unit) (w : Ends) (uri : List ℕ) (d : Open) (how : List TextChange) (text : List ℕ) → Kept unit w → open_at w.editor uri ≡ Some d
@@ -172,12 +172,12 @@ answers_kept unit w list queue kept held fit =
       made = kept.made;
     }
 
-pub held_known : (unit : Unit) (e : Editor) (k : ℕ) (list : List Answer) (edits : List Replacement) → held_answer k list ≡ Some edits → All (HeldFits unit e) list → Known e k (λ d. EditsPreserveRun unit d.text edits)
+pub held_known : (unit : Unit) (e : Editor) (k : ℕ) (list : List Answer) (edits : List Replacement) → kept_answer k list ≡ Some edits → All (HeldFits unit e) list → Known e k (λ d. EditsPreserveRun unit d.text edits)
 held_known unit e k [] edits h all = absurd (none-some edits h)
 held_known unit e k (a ∷ rest) edits h all =
     go (a.number == k) refl h (λ later. held_known unit e k rest edits later (All-tail (HeldFits unit e) a rest all))
   where
-    go : (b : Bool) → a.number == k ≡ b → cond b (Some a.edits) (held_answer k rest) ≡ Some edits → (held_answer k rest ≡ Some edits → Known e k (λ d. EditsPreserveRun unit d.text edits)) → Known e k (λ d. EditsPreserveRun unit d.text edits)
+    go : (b : Bool) → a.number == k ≡ b → cond b (Some a.edits) (kept_answer k rest) ≡ Some edits → (kept_answer k rest ≡ Some edits → Known e k (λ d. EditsPreserveRun unit d.text edits)) → Known e k (λ d. EditsPreserveRun unit d.text edits)
     go true is h next =
         subst (λ n. Known e n (λ d. EditsPreserveRun unit d.text edits)) (eqb-true a.number k is)
         (subst (λ es. Known e a.number (λ d. EditsPreserveRun unit d.text es)) (same_Some a.edits edits h) (All-head (HeldFits unit e) a rest all))

@@ -1,8 +1,8 @@
--- What is handed out keeps the run.
+-- What is returned keeps the run.
 use Rattle.std.proofs.Common.{◌≡◌, ◌∙◌, ℕ, List, [], sym, subst, inl, inr}
 use Rattle.std.specs.Prelude.{◌⊎◌, Some}
 use Rattle.ob0_text.specs.declared.edits.Edit.{Edit}
-use Rattle.ob0_text.specs.declared.positions.Unit.{Unit}
+use Rattle.ob0_text.specs.declared.position_types.Unit.{Unit}
 use Rattle.ob0_text.specs.Units.{width_of}
 use Rattle.ob0_text.specs.Patches.{patched}
 use Rattle.ob0_session_offers.specs.RunsKept.{RunsAsBefore}
@@ -10,7 +10,7 @@ use Rattle.ob0_session_offers.specs.Texts.{utf8}
 use Rattle.ob0_world_rules.specs.Edited.{Replacement, replacements}
 use Rattle.ob0_world_rules.proofs.EditedTexts.{edited_as_patched}
 use Rattle.ob0_world_rules.specs.Asks.{Ask, rename, inline_here, inline_all, format}
-use Rattle.ob0_world_rules.specs.Answers.{HandsOut, AnswersFor}
+use Rattle.ob0_world_rules.specs.Answers.{GivesEdits, AnswersFor}
 use Rattle.ob0_world_rules.specs.Laws.{EditsPreserveRun}
 use Rattle.ob0_world_rules.proofs.Trees.{same_run}
 
@@ -25,7 +25,7 @@ runs_kept unit text after edits made runs =
       same = same_run text after runs;
     }
 
-pub edits_keep_the_run : (unit : Unit) (text : List ℕ) (ask : Ask) (edits : List Edit) → HandsOut unit text ask edits → EditsPreserveRun unit text (replacements edits)
+pub edits_keep_the_run : (unit : Unit) (text : List ℕ) (ask : Ask) (edits : List Edit) → GivesEdits unit text ask edits → EditsPreserveRun unit text (replacements edits)
 edits_keep_the_run unit text (rename position name) edits found = runs_kept unit text found.after edits found.made found.runs
 edits_keep_the_run unit text (inline_here position) edits (list, found, is) = subst (λ es. EditsPreserveRun unit text (replacements es)) (sym is) (runs_kept unit text found.after list.items found.made found.runs)
 edits_keep_the_run unit text (inline_all position) edits (list, found, is) = subst (λ es. EditsPreserveRun unit text (replacements es)) (sym is) (runs_kept unit text found.after list.items found.made found.runs)

@@ -4,13 +4,13 @@ use Rattle.std.proofs.Common.{◌≡◌, ◌∙◌, ℕ, List, [], ◌∷◌, �
 use Rattle.std.specs.Prelude.{ℤ, pos, fold, All, Option, Some, None, option_map}
 use Rattle.std.proofs.lemmas.Option.{same_Some, none-some}
 use Rattle.std.proofs.lemmas.List.Elements.{All-nil, All-push, All-append, All-weaker}
-use Rattle.ob0_text.specs.declared.positions.Unit.{Unit}
-use Rattle.ob0_text.specs.OpenDocuments.{OpenDocuments, Document, InStep, OutOfStep, DocumentNote, Opened, Changed, Lost, Closed, after_note, document_at}
-use Rattle.ob0_world_rules.specs.Ends.{Open, open_at, ToServer, tells, asks, ToEditor, publishes, answers, Made, Ends, start, after_message, will_hold, as_held}
-use Rattle.ob0_world_rules.specs.Editing.{Move, idle, sends, opens_document, changes_document, closes_document, asks_about, held_answer, Outcome, not_held, drops_answer, makes, discards, applies_answer}
+use Rattle.ob0_text.specs.declared.position_types.Unit.{Unit}
+use Rattle.ob0_text.specs.OpenDocuments.{OpenDocuments, Document, InStep, OutOfStep, DocumentEvent, Opened, Changed, Lost, Closed, after_event, document_at}
+use Rattle.ob0_world_rules.specs.Ends.{Open, open_at, ToServer, tells, asks, ToEditor, publishes, answers, Made, Ends, start, after_message, will_have, as_open}
+use Rattle.ob0_world_rules.specs.Editing.{Move, idle, sends, opens_document, changes_document, closes_document, asks_about, kept_answer, ApplyOutcome, not_held, drops_answer, makes, discards, applies_answer}
 use Rattle.ob0_world_rules.specs.Serving.{Publishes, RepliesToNotification, Replies}
-use Rattle.ob0_world_rules.specs.Events.{Event, open_document, change_document, close_document, ask_about, serve, take_message, apply, discard, Seen, Step, Is, moved, takes, comes_of}
-use Rattle.ob0_world_rules.specs.Happens.{Serves, Happens, Course}
+use Rattle.ob0_world_rules.specs.Events.{Event, open_document, change_document, close_document, ask_about, serve, take_message, apply, discard, Seen, EventStep, Is, moved, takes, comes_of}
+use Rattle.ob0_world_rules.specs.Happens.{ServerTakes, Happens, Course}
 use Rattle.ob0_world_rules.specs.Headline.{WasOpen, WasMadeFor}
 use Rattle.ob0_world_rules.proofs.Interleavings.{in_every_interleaving}
 
@@ -65,16 +65,16 @@ module _ (unit : Unit) where
   made_more events more made all = All-weaker (WasMadeFor unit events) (WasMadeFor unit (events ++ more)) (λ m was. was_open_more events more m.uri m.version m.text was) made all
 
   -- once it has taken what waits for it the server holds what the editor has
-  at_last : (events : List Event) (w : Ends) → Course (start unit) events w → WereOpenIn events (will_hold w)
+  at_last : (events : List Event) (w : Ends) → Course (start unit) events w → WereOpenIn events (will_have w)
   at_last events w run uri version text at = go (open_at w.editor uri) refl
     where
-      mirror : document_at (will_hold w) uri ≡ option_map as_held (open_at w.editor uri)
+      mirror : document_at (will_have w) uri ≡ option_map as_open (open_at w.editor uri)
       mirror = (in_every_interleaving unit events w run).mirror uri
 
       go : (o : Option Open) → open_at w.editor uri ≡ o → WasOpen unit events uri version text
-      go None is = absurd (none-some (InStep version text) (sym (ap (option_map as_held) is) ∙ (sym mirror ∙ at)))
+      go None is = absurd (none-some (InStep version text) (sym (ap (option_map as_open) is) ∙ (sym mirror ∙ at)))
       go (Some d) is =
-          let both : InStep (pos d.version) d.text ≡ InStep version text = same_Some (as_held d) (InStep version text) (sym (mirror ∙ ap (option_map as_held) is) ∙ at) in
+          let both : InStep (pos d.version) d.text ≡ InStep version text = same_Some (as_open d) (InStep version text) (sym (mirror ∙ ap (option_map as_open) is) ∙ at) in
           record {
             before = events;
             behind = [];
@@ -112,7 +112,7 @@ module _ (unit : Unit) where
   takes_open events e w (answers k edits ∷ rest) was run =
       record { reached = run; held = by_more events (e ∷ []) w.held w.to_server was.held; made = made_more events (e ∷ []) w.made was.made }
 
-  comes_open : (events : List Event) (e : Event) (w : Ends) (k : ℕ) (outcome : Outcome) → WereOpen events w → Course (start unit) (events ++ e ∷ []) (comes_of w k outcome).after → WereOpen (events ++ e ∷ []) (comes_of w k outcome).after
+  comes_open : (events : List Event) (e : Event) (w : Ends) (k : ℕ) (outcome : ApplyOutcome) → WereOpen events w → Course (start unit) (events ++ e ∷ []) (comes_of w k outcome).after → WereOpen (events ++ e ∷ []) (comes_of w k outcome).after
   comes_open events e w k not_held was run =
       record { reached = run; held = by_more events (e ∷ []) w.held w.to_server was.held; made = made_more events (e ∷ []) w.made was.made }
   comes_open events e w k (drops_answer editor) was run =
@@ -135,11 +135,11 @@ module _ (unit : Unit) where
   publish_open events uri (Some OutOfStep) said made was h = subst (All (WasMadeFor unit events)) (sym h.1) (All-nil (WasMadeFor unit events))
   publish_open events uri None said made was h = subst (All (WasMadeFor unit events)) (sym h.1) (All-nil (WasMadeFor unit events))
 
-  note_open : (events : List Event) (held : OpenDocuments) (note : DocumentNote) (said : List ToEditor) (made : List Made) → WereOpenIn events (after_note held note) → RepliesToNotification held note said made → All (WasMadeFor unit events) made
+  note_open : (events : List Event) (held : OpenDocuments) (note : DocumentEvent) (said : List ToEditor) (made : List Made) → WereOpenIn events (after_event held note) → RepliesToNotification held note said made → All (WasMadeFor unit events) made
   note_open events held (Opened uri version text) said made were h =
-      publish_open events uri (document_at (after_note held (Opened uri version text)) uri) said made (were uri) h
+      publish_open events uri (document_at (after_event held (Opened uri version text)) uri) said made (were uri) h
   note_open events held (Changed uri version how) said made were h =
-      publish_open events uri (document_at (after_note held (Changed uri version how)) uri) said made (were uri) h
+      publish_open events uri (document_at (after_event held (Changed uri version how)) uri) said made (were uri) h
   note_open events held (Lost uri) said made were h = subst (All (WasMadeFor unit events)) (sym h.1) (All-nil (WasMadeFor unit events))
   note_open events held (Closed uri) said made were h = subst (All (WasMadeFor unit events)) (sym h.1) (All-nil (WasMadeFor unit events))
 
@@ -147,7 +147,7 @@ module _ (unit : Unit) where
   sent_open events held (tells note) said made were h = note_open events held note said made were h
   sent_open events held (asks k uri ask) said made were (edits, answer, is_said, none) = subst (All (WasMadeFor unit events)) (sym none) (All-nil (WasMadeFor unit events))
 
-  serve_open : (events : List Event) (e : Event) (w : Ends) (queue : List ToServer) (seen : Seen) (new : Ends) → w.to_server ≡ queue → WereOpen events w → Course (start unit) (events ++ e ∷ []) new → Serves w queue seen new → WereOpen (events ++ e ∷ []) new
+  serve_open : (events : List Event) (e : Event) (w : Ends) (queue : List ToServer) (seen : Seen) (new : Ends) → w.to_server ≡ queue → WereOpen events w → Course (start unit) (events ++ e ∷ []) new → ServerTakes w queue seen new → WereOpen (events ++ e ∷ []) new
   serve_open events e w [] seen new is was run h =
       let still : Course (start unit) (events ++ e ∷ []) w = subst (Course (start unit) (events ++ e ∷ [])) h.1 run in
       subst (WereOpen (events ++ e ∷ [])) (sym h.1) (record { reached = still; held = by_more events (e ∷ []) w.held w.to_server was.held; made = made_more events (e ∷ []) w.made was.made })
@@ -163,7 +163,7 @@ module _ (unit : Unit) where
 
   -- ---- every event
 
-  stepped : (events : List Event) (e : Event) (step : Step) (seen : Seen) (new : Ends) → (Course (start unit) (events ++ e ∷ []) step.after → WereOpen (events ++ e ∷ []) step.after) → Course (start unit) (events ++ e ∷ []) new → Is step seen new → WereOpen (events ++ e ∷ []) new
+  stepped : (events : List Event) (e : Event) (step : EventStep) (seen : Seen) (new : Ends) → (Course (start unit) (events ++ e ∷ []) step.after → WereOpen (events ++ e ∷ []) step.after) → Course (start unit) (events ++ e ∷ []) new → Is step seen new → WereOpen (events ++ e ∷ []) new
   stepped events e step seen new so run is = subst (WereOpen (events ++ e ∷ [])) (sym is.1) (so (subst (Course (start unit) (events ++ e ∷ [])) is.1 run))
 
   event_open : (events : List Event) (w : Ends) (e : Event) (seen : Seen) (new : Ends) → WereOpen events w → Happens w e seen new → Course (start unit) (events ++ e ∷ []) new → WereOpen (events ++ e ∷ []) new
@@ -183,10 +183,10 @@ module _ (unit : Unit) where
   event_open events w take_message seen new was h run =
       stepped events take_message (takes w w.to_editor) seen new (takes_open events take_message w w.to_editor was) run h
   event_open events w (apply k) seen new was h run =
-      let outcome : Outcome = applies_answer w.editor k (held_answer k w.editor.answers) in
+      let outcome : ApplyOutcome = applies_answer w.editor k (kept_answer k w.editor.answers) in
       stepped events (apply k) (comes_of w k outcome) seen new (comes_open events (apply k) w k outcome was) run h
   event_open events w (discard k) seen new was h run =
-      let outcome : Outcome = discards w.editor k (held_answer k w.editor.answers) in
+      let outcome : ApplyOutcome = discards w.editor k (kept_answer k w.editor.answers) in
       stepped events (discard k) (comes_of w k outcome) seen new (comes_open events (discard k) w k outcome was) run h
 
   run_open : (more events : List Event) (w new : Ends) → WereOpen events w → Course w more new → WereOpen (events ++ more) new

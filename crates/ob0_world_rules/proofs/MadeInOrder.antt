@@ -5,15 +5,15 @@ use Rattle.std.specs.Prelude.{⊤, pos, fold, Option, Some, None, option_map}
 use Rattle.std.specs.FinMap as map_of
 use Rattle.std.proofs.lemmas.List.{map-append}
 use Rattle.std.proofs.lemmas.List.Sums.{fold_push}
-use Rattle.ob0_text.specs.declared.positions.Unit.{Unit}
-use Rattle.ob0_text.specs.OpenDocuments.{OpenDocuments, TextChange, Opened, Changed, Lost, Closed, after_note, document_at}
-use Rattle.ob0_world_rules.specs.Ends.{Open, Documents, Asked, Editor, numbered, open_at, ToServer, tells, asks, ToEditor, publishes, answers, Made, Ends, start, after_message, as_held, Mirrors}
+use Rattle.ob0_text.specs.declared.position_types.Unit.{Unit}
+use Rattle.ob0_text.specs.OpenDocuments.{OpenDocuments, TextChange, Opened, Changed, Lost, Closed, after_event, document_at}
+use Rattle.ob0_world_rules.specs.Ends.{Open, Documents, SentAsk, Editor, numbered, open_at, ToServer, tells, asks, ToEditor, publishes, answers, Made, Ends, start, after_message, as_open, Mirrors}
 use Rattle.ob0_world_rules.specs.Edited.{Replacement, edited, after_changes}
 use Rattle.ob0_world_rules.specs.Asks.{Ask}
-use Rattle.ob0_world_rules.specs.Editing.{Move, idle, sends, opens_document, rewritten, changes_text, changes_document, closes_document, asks_about, held_answer, without_answer, Outcome, not_held, drops_answer, makes, discards, if_same, applies_text, applies_edits, applies_asked, applies_answer}
+use Rattle.ob0_world_rules.specs.Editing.{Move, idle, sends, opens_document, rewritten, changes_text, changes_document, closes_document, asks_about, kept_answer, without_answer, ApplyOutcome, not_held, drops_answer, makes, discards, if_same, applies_text, applies_edits, applies_asked, applies_answer}
 use Rattle.ob0_world_rules.specs.Serving.{Publishes, Replies}
-use Rattle.ob0_world_rules.specs.Events.{Event, open_document, change_document, close_document, ask_about, serve, take_message, apply, discard, Seen, Step, Is, moved, takes, comes_of}
-use Rattle.ob0_world_rules.specs.Happens.{Serves, Happens, Course}
+use Rattle.ob0_world_rules.specs.Events.{Event, open_document, change_document, close_document, ask_about, serve, take_message, apply, discard, Seen, EventStep, Is, moved, takes, comes_of}
+use Rattle.ob0_world_rules.specs.Happens.{ServerTakes, Happens, Course}
 use Rattle.ob0_world_rules.specs.MadeInOrder.{Announced, announced_at, announced_by, announced_in_move, announced_in_outcome, announced_at_event, AreAnnounced, named_by, named_in, name_of, AreMadeOf, AreMadeInOrder}
 use Rattle.ob0_world_rules.proofs.UriLaws.{get_put, uri_itself}
 use Rattle.ob0_world_rules.proofs.Interleavings.{in_every_interleaving}
@@ -56,7 +56,7 @@ abbrev MoveNames : Move → Type 0
 MoveNames idle = ⊤
 MoveNames (sends e m) = Names e m
 
-abbrev OutcomeNames : Outcome → Type 0
+abbrev OutcomeNames : ApplyOutcome → Type 0
 OutcomeNames not_held = ⊤
 OutcomeNames (drops_answer e) = ⊤
 OutcomeNames (makes e applied m) = Names e m
@@ -93,7 +93,7 @@ edits_names : (e : Editor) (edits : List Replacement) (uri : List ℕ) (o : Opti
 edits_names e edits uri None = tt
 edits_names e edits uri (Some d) = applied_names e uri d (edited e.unit d.text edits)
 
-asked_names : (e : Editor) (edits : List Replacement) (o : Option Asked) → OutcomeNames (applies_asked e edits o)
+asked_names : (e : Editor) (edits : List Replacement) (o : Option SentAsk) → OutcomeNames (applies_asked e edits o)
 asked_names e edits None = tt
 asked_names e edits (Some asked) = edits_names e edits asked.uri (if_same asked (open_at e asked.uri))
 
@@ -108,12 +108,12 @@ discards_names e k (Some edits) = tt
 -- ---- what waits for the server
 
 abbrev AwaitedAt : OpenDocuments → List ℕ → List Announced → Type 0
-AwaitedAt held uri now = (o : Option Open) × (document_at held uri ≡ option_map as_held o) × (now ≡ announced_at uri o)
+AwaitedAt held uri now = (o : Option Open) × (document_at held uri ≡ option_map as_open o) × (now ≡ announced_at uri o)
 
 -- the documents that will be published for as this message is taken, where these were held before
 abbrev Awaits : OpenDocuments → ToServer → List Announced → Type 0
-Awaits held (tells (Opened uri version text)) now = AwaitedAt (after_note held (Opened uri version text)) uri now
-Awaits held (tells (Changed uri version how)) now = AwaitedAt (after_note held (Changed uri version how)) uri now
+Awaits held (tells (Opened uri version text)) now = AwaitedAt (after_event held (Opened uri version text)) uri now
+Awaits held (tells (Changed uri version how)) now = AwaitedAt (after_event held (Changed uri version how)) uri now
 Awaits held (tells (Lost uri)) now = now ≡ []
 Awaits held (tells (Closed uri)) now = now ≡ []
 Awaits held (asks number uri ask) now = now ≡ []
@@ -130,7 +130,7 @@ pending_push held (x ∷ queue) m waiting now (first, later, is, so, rest) await
     (first, later ++ now, ap (λ ts. ts ++ now) is ∙ append_assoc first later now, so, pending_push (after_message held x) queue m later now rest awaits)
 
 -- what the editor has as it sends the message
-sent_awaits : (held : OpenDocuments) (e : Editor) (m : ToServer) → ((uri : List ℕ) → document_at (after_message held m) uri ≡ option_map as_held (open_at e uri)) → Awaits held m (announced_by e m)
+sent_awaits : (held : OpenDocuments) (e : Editor) (m : ToServer) → ((uri : List ℕ) → document_at (after_message held m) uri ≡ option_map as_open (open_at e uri)) → Awaits held m (announced_by e m)
 sent_awaits held e (tells (Opened uri version text)) mirror = (open_at e uri, mirror uri, refl)
 sent_awaits held e (tells (Changed uri version how)) mirror = (open_at e uri, mirror uri, refl)
 sent_awaits held e (tells (Lost uri)) mirror = refl
@@ -138,7 +138,7 @@ sent_awaits held e (tells (Closed uri)) mirror = refl
 sent_awaits held e (asks number uri ask) mirror = refl
 
 pending_sent : (held : OpenDocuments) (queue : List ToServer) (e : Editor) (m : ToServer) (waiting : List Announced) → Pending held queue waiting → Names e m
-    → ((uri : List ℕ) → document_at (fold after_message held (queue ++ m ∷ [])) uri ≡ option_map as_held (open_at e uri)) → Pending held (queue ++ m ∷ []) (waiting ++ announced_by e m)
+    → ((uri : List ℕ) → document_at (fold after_message held (queue ++ m ∷ [])) uri ≡ option_map as_open (open_at e uri)) → Pending held (queue ++ m ∷ []) (waiting ++ announced_by e m)
 pending_sent held queue e m waiting pending names mirror =
     pending_push held queue m waiting (announced_by e m) pending
     (sent_awaits (fold after_message held queue) e m (λ uri. sym (ap (λ h. document_at h uri) (fold_push after_message held queue m)) ∙ mirror uri), names)
@@ -156,7 +156,7 @@ made_append (m ∷ made) more (t ∷ announced) later h k = (h.0, made_append ma
 made_append [] more (t ∷ announced) later h k = absurd h
 made_append (m ∷ made) more [] later h k = absurd h
 
-published : (uri : List ℕ) (o : Option Open) (said : List ToEditor) (made : List Made) → Publishes uri (option_map as_held o) said made → AreMadeOf made (announced_at uri o)
+published : (uri : List ℕ) (o : Option Open) (said : List ToEditor) (made : List Made) → Publishes uri (option_map as_open o) said made → AreMadeOf made (announced_at uri o)
 published uri (Some d) said made (empty, right, is_said, is_made) = subst (λ ms. AreMadeOf ms (announced_at uri (Some d))) (sym is_made) ((refl, refl, refl), tt)
 published uri None said made h = subst (λ ms. AreMadeOf ms []) (sym h.1) tt
 
@@ -167,15 +167,15 @@ none_made : (made : List Made) (now : List Announced) → made ≡ [] → now �
 none_made made now no_made none_announced = subst (AreMadeOf made) (sym none_announced) (subst (λ ms. AreMadeOf ms []) (sym no_made) tt)
 
 message_made : (held : OpenDocuments) (m : ToServer) (said : List ToEditor) (made : List Made) (now : List Announced) → Replies held m said made → Awaits held m now → AreMadeOf made now
-message_made held (tells (Opened uri version text)) said made now may awaits = awaited (after_note held (Opened uri version text)) uri said made now may awaits
-message_made held (tells (Changed uri version how)) said made now may awaits = awaited (after_note held (Changed uri version how)) uri said made now may awaits
+message_made held (tells (Opened uri version text)) said made now may awaits = awaited (after_event held (Opened uri version text)) uri said made now may awaits
+message_made held (tells (Changed uri version how)) said made now may awaits = awaited (after_event held (Changed uri version how)) uri said made now may awaits
 message_made held (tells (Lost uri)) said made now may awaits = none_made made now may.1 awaits
 message_made held (tells (Closed uri)) said made now may awaits = none_made made now may.1 awaits
 message_made held (asks number uri ask) said made now (edits, answer, is_said, none) awaits = none_made made now none awaits
 
 -- ---- every event
 
--- These are announced of now, behind those that publications were made for and those that wait: so it stands after the event.
+-- These are announced of now, after those that publications were made for and those that wait: so it is after the event.
 record Next (announced waiting now : List Announced) (new : Ends) : Type 0 where
   pub done : List Announced
   pub awaits : List Announced
@@ -199,7 +199,7 @@ module _ (announced waiting : List Announced) where
         pending = pending_sent w.held w.to_server e m waiting pending names mirror;
       }
 
-  comes_next : (w : Ends) (k : ℕ) (outcome : Outcome) → OutcomeNames outcome → AreMadeOf w.made announced → Pending w.held w.to_server waiting → Mirrors (comes_of w k outcome).after → Next announced waiting (announced_in_outcome outcome) (comes_of w k outcome).after
+  comes_next : (w : Ends) (k : ℕ) (outcome : ApplyOutcome) → OutcomeNames outcome → AreMadeOf w.made announced → Pending w.held w.to_server waiting → Mirrors (comes_of w k outcome).after → Next announced waiting (announced_in_outcome outcome) (comes_of w k outcome).after
   comes_next w k not_held names made_of pending mirror = stays w made_of pending
   comes_next w k (drops_answer e) names made_of pending mirror = stays (record w { editor = e }) made_of pending
   comes_next w k (makes e applied m) names made_of pending mirror =
@@ -216,7 +216,7 @@ module _ (announced waiting : List Announced) where
   takes_next w (publishes uri version empty ∷ rest) made_of pending = stays (takes w (publishes uri version empty ∷ rest)).after made_of pending
   takes_next w (answers k edits ∷ rest) made_of pending = stays (takes w (answers k edits ∷ rest)).after made_of pending
 
-  serve_next : (w : Ends) (queue : List ToServer) (seen : Seen) (new : Ends) → AreMadeOf w.made announced → Pending w.held queue waiting → w.to_server ≡ queue → Serves w queue seen new → Next announced waiting [] new
+  serve_next : (w : Ends) (queue : List ToServer) (seen : Seen) (new : Ends) → AreMadeOf w.made announced → Pending w.held queue waiting → w.to_server ≡ queue → ServerTakes w queue seen new → Next announced waiting [] new
   serve_next w [] seen new made_of pending is h =
       subst (Next announced waiting []) (sym h.1) (stays w made_of (subst (λ q. Pending w.held q waiting) (sym is) pending))
   serve_next w (m ∷ rest) seen new made_of (now, later, parts, awaits, behind) is (said, made, may, is_seen, is_new) =
@@ -229,7 +229,7 @@ module _ (announced waiting : List Announced) where
         pending = behind;
       })
 
-  stepped : (now : List Announced) (step : Step) (seen : Seen) (new : Ends) → (Mirrors step.after → Next announced waiting now step.after) → Mirrors new → Is step seen new → Next announced waiting now new
+  stepped : (now : List Announced) (step : EventStep) (seen : Seen) (new : Ends) → (Mirrors step.after → Next announced waiting now step.after) → Mirrors new → Is step seen new → Next announced waiting now new
   stepped now step seen new so mirror is = subst (Next announced waiting now) (sym is.1) (so (subst Mirrors is.1 mirror))
 
   event_next : (w : Ends) (e : Event) (seen : Seen) (new : Ends) → AreMadeOf w.made announced → Pending w.held w.to_server waiting → Mirrors new → Happens w e seen new → Next announced waiting (announced_at_event w e) new
@@ -249,11 +249,11 @@ module _ (announced waiting : List Announced) where
   event_next w take_message seen new made_of pending mirror h =
       stepped [] (takes w w.to_editor) seen new (λ _. takes_next w w.to_editor made_of pending) mirror h
   event_next w (apply k) seen new made_of pending mirror h =
-      let outcome : Outcome = applies_answer w.editor k (held_answer k w.editor.answers) in
-      stepped (announced_in_outcome outcome) (comes_of w k outcome) seen new (comes_next w k outcome (applies_names w.editor k (held_answer k w.editor.answers)) made_of pending) mirror h
+      let outcome : ApplyOutcome = applies_answer w.editor k (kept_answer k w.editor.answers) in
+      stepped (announced_in_outcome outcome) (comes_of w k outcome) seen new (comes_next w k outcome (applies_names w.editor k (kept_answer k w.editor.answers)) made_of pending) mirror h
   event_next w (discard k) seen new made_of pending mirror h =
-      let outcome : Outcome = discards w.editor k (held_answer k w.editor.answers) in
-      stepped (announced_in_outcome outcome) (comes_of w k outcome) seen new (comes_next w k outcome (discards_names w.editor k (held_answer k w.editor.answers)) made_of pending) mirror h
+      let outcome : ApplyOutcome = discards w.editor k (kept_answer k w.editor.answers) in
+      stepped (announced_in_outcome outcome) (comes_of w k outcome) seen new (comes_next w k outcome (discards_names w.editor k (kept_answer k w.editor.answers)) made_of pending) mirror h
 
 -- ---- every run
 

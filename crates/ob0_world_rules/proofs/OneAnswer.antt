@@ -1,14 +1,14 @@
 -- An ask about a text has one answer.
 use Rattle.std.proofs.Common.{◌≡◌, ◌∙◌, ℕ, List, sym, ap, inl, inr}
 use Rattle.ob0_text.specs.declared.edits.Edit.{Edit}
-use Rattle.ob0_text.specs.declared.positions.Position.{Position}
-use Rattle.ob0_text.specs.declared.positions.Unit.{Unit}
+use Rattle.ob0_text.specs.declared.position_types.Position.{Position}
+use Rattle.ob0_text.specs.declared.position_types.Unit.{Unit}
 use Rattle.ob0_session_offers.specs.declared.inlining.Inlining.{Inlining}
 use Rattle.ob0_session_offers.specs.declared.inlining.Inlining.TheVariants.{Here, Everywhere}
 use Rattle.ob0_session_offers.specs.Inlinings.{IsNotInlinedIn}
 use Rattle.ob0_world_rules.specs.Edited.{replacements}
 use Rattle.ob0_world_rules.specs.Asks.{Ask, rename, inline_here, inline_all, format, indent_read}
-use Rattle.ob0_world_rules.specs.Answers.{place_at, InlinesAt, HandsOut, Refuses}
+use Rattle.ob0_world_rules.specs.Answers.{place_at, InlinesAt, GivesEdits, Refuses}
 use Rattle.ob0_world_rules.specs.Laws.{AnswersAreOne}
 use Rattle.ob0_world_rules.proofs.KeptRuns.{edits_keep_the_run}
 use Rattle.ob0_world_rules.proofs.OneLayout.{lays_out_one, lays_out_or_long}
@@ -22,13 +22,13 @@ inlines_at_one how unit text position xs ys (found, h, is) (also, k, too) =
 inlines_at_or_refused : (how : Inlining) (unit : Unit) (text : List ℕ) (position : Position) (xs : List Edit) → InlinesAt how unit text position xs → IsNotInlinedIn how unit text (place_at unit text position) → ⊥
 inlines_at_or_refused how unit text position xs (found, h, is) k = inlines_or_refused unit text (place_at unit text position) found how h k
 
-hands_out_one : (unit : Unit) (text : List ℕ) (ask : Ask) (xs ys : List Edit) → HandsOut unit text ask xs → HandsOut unit text ask ys → replacements xs ≡ replacements ys
+hands_out_one : (unit : Unit) (text : List ℕ) (ask : Ask) (xs ys : List Edit) → GivesEdits unit text ask xs → GivesEdits unit text ask ys → replacements xs ≡ replacements ys
 hands_out_one unit text (rename position name) xs ys h k = renames_one unit text position name xs ys h k
 hands_out_one unit text (inline_here position) xs ys h k = inlines_at_one Here unit text position xs ys h k
 hands_out_one unit text (inline_all position) xs ys h k = inlines_at_one Everywhere unit text position xs ys h k
 hands_out_one unit text (format indent) xs ys h k = lays_out_one unit (indent_read indent) text xs ys h k
 
-hands_out_or_refuses : (unit : Unit) (text : List ℕ) (ask : Ask) (xs : List Edit) → HandsOut unit text ask xs → Refuses unit text ask → ⊥
+hands_out_or_refuses : (unit : Unit) (text : List ℕ) (ask : Ask) (xs : List Edit) → GivesEdits unit text ask xs → Refuses unit text ask → ⊥
 hands_out_or_refuses unit text (rename position name) xs h k = renames_or_refused unit text position name xs k.0 h k.1
 hands_out_or_refuses unit text (inline_here position) xs h k = inlines_at_or_refused Here unit text position xs h k
 hands_out_or_refuses unit text (inline_all position) xs h k = inlines_at_or_refused Everywhere unit text position xs h k

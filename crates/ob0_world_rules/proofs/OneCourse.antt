@@ -1,16 +1,16 @@
 -- An ask about a text has one answer, so an event does one thing, and a list of events has one course.
 use Rattle.std.proofs.Common.{◌≡◌, ◌∙◌, ℕ, Bool, true, false, List, [], ◌∷◌, ◌++◌, length, refl, sym, ap, subst}
 use Rattle.std.specs.Prelude.{◌↔◌, IsTrue, ℤ, Option, Some, None}
-use Rattle.ob0_text.specs.declared.positions.Unit.{Unit}
-use Rattle.ob0_text.specs.OpenDocuments.{OpenDocuments, Document, InStep, OutOfStep, DocumentNote, Opened, Changed, Lost, Closed, after_note, document_at}
+use Rattle.ob0_text.specs.declared.position_types.Unit.{Unit}
+use Rattle.ob0_text.specs.OpenDocuments.{OpenDocuments, Document, InStep, OutOfStep, DocumentEvent, Opened, Changed, Lost, Closed, after_event, document_at}
 use Rattle.ob0_world_rules.specs.Language.{WellTypedText}
 use Rattle.ob0_world_rules.specs.Edited.{Replacement}
 use Rattle.ob0_world_rules.specs.Asks.{Ask}
 use Rattle.ob0_world_rules.specs.Answers.{IsAnswer}
 use Rattle.ob0_world_rules.specs.Ends.{ToServer, tells, asks, ToEditor, publishes, answers, Made, Ends, after_message}
 use Rattle.ob0_world_rules.specs.Serving.{Publishes, RepliesToNotification, Replies}
-use Rattle.ob0_world_rules.specs.Events.{Event, open_document, change_document, close_document, ask_about, serve, take_message, apply, discard, Seen, served, Step, Is}
-use Rattle.ob0_world_rules.specs.Happens.{Serves, Happens, Course}
+use Rattle.ob0_world_rules.specs.Events.{Event, open_document, change_document, close_document, ask_about, serve, take_message, apply, discard, Seen, served, EventStep, Is}
+use Rattle.ob0_world_rules.specs.Happens.{ServerTakes, Happens, Course}
 use Rattle.ob0_world_rules.proofs.OneAnswer.{answers_are_one}
 
 same_truth : (a b : Bool) (P : Type 0) → IsTrue a ↔ P → IsTrue b ↔ P → a ≡ b
@@ -29,9 +29,9 @@ publishes_one uri (Some (InStep version text)) said also made more (e, right, is
 publishes_one uri (Some OutOfStep) said also made more h k = (h.0 ∙ sym k.0, h.1 ∙ sym k.1)
 publishes_one uri None said also made more h k = (h.0 ∙ sym k.0, h.1 ∙ sym k.1)
 
-tells_one : (held : OpenDocuments) (note : DocumentNote) (said also : List ToEditor) (made more : List Made) → RepliesToNotification held note said made → RepliesToNotification held note also more → (said ≡ also) × (made ≡ more)
-tells_one held (Opened uri version text) said also made more h k = publishes_one uri (document_at (after_note held (Opened uri version text)) uri) said also made more h k
-tells_one held (Changed uri version how) said also made more h k = publishes_one uri (document_at (after_note held (Changed uri version how)) uri) said also made more h k
+tells_one : (held : OpenDocuments) (note : DocumentEvent) (said also : List ToEditor) (made more : List Made) → RepliesToNotification held note said made → RepliesToNotification held note also more → (said ≡ also) × (made ≡ more)
+tells_one held (Opened uri version text) said also made more h k = publishes_one uri (document_at (after_event held (Opened uri version text)) uri) said also made more h k
+tells_one held (Changed uri version how) said also made more h k = publishes_one uri (document_at (after_event held (Changed uri version how)) uri) said also made more h k
 tells_one held (Lost uri) said also made more h k = (h.0 ∙ sym k.0, h.1 ∙ sym k.1)
 tells_one held (Closed uri) said also made more h k = (h.0 ∙ sym k.0, h.1 ∙ sym k.1)
 
@@ -46,7 +46,7 @@ sends_one held (asks number uri ask) said also made more (given, h, is_said, is_
     let same : given ≡ other = answers_one held.unit (document_at held uri) ask given other h k in
     (is_said ∙ ap (λ edits. answers number edits ∷ []) same ∙ sym is_also, is_made ∙ sym is_more)
 
-serves_one : (w : Ends) (queue : List ToServer) (seen shown : Seen) (new other : Ends) → Serves w queue seen new → Serves w queue shown other → (seen ≡ shown) × (new ≡ other)
+serves_one : (w : Ends) (queue : List ToServer) (seen shown : Seen) (new other : Ends) → ServerTakes w queue seen new → ServerTakes w queue shown other → (seen ≡ shown) × (new ≡ other)
 serves_one w [] seen shown new other h k = (h.0 ∙ sym k.0, h.1 ∙ sym k.1)
 serves_one w (m ∷ rest) seen shown new other (said, made, replies, is_seen, is) (also, more, replies_too, is_shown, is_too) =
     let both : (said ≡ also) × (made ≡ more) = sends_one w.held m said also made more replies replies_too in (
@@ -54,7 +54,7 @@ serves_one w (m ∷ rest) seen shown new other (said, made, replies, is_seen, is
       is ∙ (λ i. record w { to_server = rest; held = after_message w.held m; to_editor = w.to_editor ++ both.0 i; made = w.made ++ both.1 i }) ∙ sym is_too,
     )
 
-one_of : (step : Step) (seen shown : Seen) (new other : Ends) → Is step seen new → Is step shown other → (seen ≡ shown) × (new ≡ other)
+one_of : (step : EventStep) (seen shown : Seen) (new other : Ends) → Is step seen new → Is step shown other → (seen ≡ shown) × (new ≡ other)
 one_of step seen shown new other h k = (h.0 ∙ sym k.0, h.1 ∙ sym k.1)
 
 pub one_step : (w : Ends) (event : Event) (seen shown : Seen) (new other : Ends) → Happens w event seen new → Happens w event shown other → (seen ≡ shown) × (new ≡ other)

@@ -3,7 +3,7 @@ use Rattle.std.proofs.Common.{◌≡◌, ◌≢◌, ◌∙◌, ℕ, suc, ◌+◌
 use Rattle.std.proofs.Math.ListN.{length-set}
 use Rattle.std.proofs.lemmas.List.{get_or-replicate, length-replicate}
 use Rattle.ob0_tree.specs.declared.tree.Role.TheVariants as role
-use Rattle.ob0_tree.specs.Lexeme.{Lexeme, Name, Number, Mark, EndOfText, relabelled}
+use Rattle.ob0_tree.specs.Lexeme.{Terminal, Name, Number, Mark, EndOfText, relabelled}
 use Rattle.ob0_tree.specs.Order.{Ascending, leaves}
 use Rattle.ob0_tree.specs.Parsed.{tree_of}
 use Rattle.ob0_tree.specs.Places.{text_at, value_at}
@@ -23,7 +23,7 @@ use Rattle.ob0_world_rules.proofs.OneModule.{Same, one_named_tree}
 
 -- ---- the table of a module's fields
 
--- what stands below stays
+-- what is below stays
 kept_below : (xs : List (ℕ × Option ℕ)) (table : List (Option ℕ)) (low high i : ℕ) → Ascending low (tokens xs) high → i < low → ordinal_in (with_fields_at table (fields_among xs)) i ≡ ordinal_in table i
 kept_below [] table low high i ascend below = refl
 kept_below ((x, None) ∷ xs) table low high i ascend below = kept_below xs table (x + 1) high i ascend.1 (omega (arith, ascend.0, below))
@@ -65,7 +65,7 @@ module _ (r : Resolution) (well : IsWellTyped r) where
 
 -- ---- two tables of one module
 
-names_relabelled : {N M : Type 0} (f : N → M) (g : ℕ → ℕ) (xs : List (Lexeme N)) → lexeme_names (map (relabelled f g) xs) ≡ map f (lexeme_names xs)
+names_relabelled : {N M : Type 0} (f : N → M) (g : ℕ → ℕ) (xs : List (Terminal N)) → lexeme_names (map (relabelled f g) xs) ≡ map f (lexeme_names xs)
 names_relabelled f g [] = refl
 names_relabelled f g (Name n ∷ xs) = ap (λ z. f n ∷ z) (names_relabelled f g xs)
 names_relabelled f g (Number n ∷ xs) = names_relabelled f g xs

@@ -5,7 +5,7 @@ use Rattle.std.specs.List.{filter, list_any, position_from, zip}
 use Rattle.std.specs.declared.alloc.Global.{Global}
 use Rattle.ob0_scan.specs.Scanned.{Scanned, max_text}
 use Rattle.ob0_text.specs.declared.edits.Edit.{Edit}
-use Rattle.ob0_text.specs.declared.positions.Unit.{Unit}
+use Rattle.ob0_text.specs.declared.position_types.Unit.{Unit}
 use Rattle.ob0_text.specs.declared.refusals.EditRefusal.{EditRefusal}
 use Rattle.ob0_text.specs.declared.refusals.EditRefusal.TheVariants.{CommentInside, Memory, Shadowed, TooDeep, TooLong}
 use Rattle.ob0_text.specs.Units.{width_of}
@@ -26,11 +26,11 @@ use Rattle.ob0_values.specs.declared.scalar.Scalar.TheVariants as scalar
 use Rattle.ob0_values.specs.Scalars.{scalar_value}
 use Rattle.ob0_scope.specs.declared.naming.Named.{Named}
 use Rattle.ob0_types_rules.specs.ConstantValues.{value_of_constant}
-use Rattle.ob0_inline.specs.declared.constants.Constant.{Constant}
+use Rattle.ob0_inline.specs.declared.constants.NamedConstant.{NamedConstant}
 use Rattle.ob0_inline.specs.declared.uses.Use.{Use}
 use Rattle.ob0_inline.specs.Declarations.{is_inside, is_semicolon}
 use Rattle.ob0_inline.specs.Everywhere.{AnswersEverywhere, IsConstantAt, any_hidden, refusal_everywhere}
-use Rattle.ob0_inline.specs.Uses.{AnswersHere, IsUseAt, is_shown, refusal_here}
+use Rattle.ob0_inline.specs.Uses.{AnswersHere, IsUseAt, is_predeclared_truth, refusal_here}
 use Rattle.ob0_inline.specs.Values.{value_factor, value_text}
 use Rattle.ob0_inline.proofs.UsesStand.{one_place}
 use Rattle.ob0_session_offers.specs.Inlinings.{InlinesIn, IsNotInlinedIn}
@@ -58,7 +58,7 @@ abbrev refused_at : Scanned → Tree ℕ module_text → ℕ → ℕ → Scalar 
 refused_at s t token occurrence value =
     if nat_lt max_text (length (with_text_at s (token ∷ []) (value_text value))) then Some TooLong
     else if nat_lt 100 (nesting (inlined (named s t) (only occurrence) (value_factor value))) then Some TooDeep
-    else if is_shown (named s t) occurrence value then None
+    else if is_predeclared_truth (named s t) occurrence value then None
     else Some Shadowed
 
 module _ {m n : Parsed} (e : Same m n) (parsed : IsParsed n) (offset : ℕ) (u v : Use) (at : IsUseAt m offset u) (also : IsUseAt n offset v) where
@@ -121,7 +121,7 @@ refused_everywhere s t ordinal value first last =
     else if list_any (is_inside (span_over s.tokens first last)) s.comments then Some CommentInside
     else None
 
-module _ {m n : Parsed} (e : Same m n) (offset : ℕ) (c d : Constant) (at : IsConstantAt m offset c) (also : IsConstantAt n offset d) where
+module _ {m n : Parsed} (e : Same m n) (offset : ℕ) (c d : NamedConstant) (at : IsConstantAt m offset c) (also : IsConstantAt n offset d) where
   same_constant : Some (named_with at.token c.ordinal) ≡ Some (named_with also.token d.ordinal)
   same_constant = sym at.named ∙ (one_name e offset ∙ also.named)
 

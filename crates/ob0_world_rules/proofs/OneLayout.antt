@@ -8,24 +8,24 @@ use Rattle.ob0_scan.proofs.Cuts.{one_cut}
 use Rattle.ob0_scan.proofs.Spans.{one_scan}
 use Rattle.ob0_text.specs.declared.edits.Edit.{Edit}
 use Rattle.ob0_text.specs.declared.edits.Indent.{Indent}
-use Rattle.ob0_text.specs.declared.positions.Unit.{Unit}
+use Rattle.ob0_text.specs.declared.position_types.Unit.{Unit}
 use Rattle.ob0_text.specs.Units.{width_of}
 use Rattle.ob0_tree.specs.Tree.{Tree, module_text}
 use Rattle.ob0_scope_rules.specs.Names.{Name}
 use Rattle.ob0_layout.specs.Layout.{layout}
-use Rattle.ob0_layout.specs.Sites.{Said, said, edit_of, changed_sites, all_sites}
-use Rattle.ob0_layout.specs.Standings.{line_roles}
+use Rattle.ob0_layout.specs.Sites.{EditText, edit_text, edit_of, changed_sites, all_sites}
+use Rattle.ob0_layout.specs.LineRoles.{line_roles}
 use Rattle.ob0_session_offers.specs.Diagnosed.{IsTextOf, IsWellTypedModule}
 use Rattle.ob0_session_offers.specs.Texts.{utf8}
 use Rattle.ob0_session_offers.specs.Layouts.{LaysOut, IsTooLongLaidOut, changes_of, layout_of}
 use Rattle.ob0_world_rules.specs.Edited.{Replacement, replacements}
 use Rattle.ob0_world_rules.proofs.Trees.{same_tree}
 
-abbrev said_as : Said → Replacement
+abbrev said_as : EditText → Replacement
 said_as s = record { range = s.range; text = chars s.text }
 
-same_said : (xs ys : List Edit) → map said xs ≡ map said ys → replacements xs ≡ replacements ys
-same_said xs ys e = sym (map-map said_as said xs) ∙ (ap (map said_as) e ∙ map-map said_as said ys)
+same_said : (xs ys : List Edit) → map edit_text xs ≡ map edit_text ys → replacements xs ≡ replacements ys
+same_said xs ys e = sym (map-map said_as edit_text xs) ∙ (ap (map said_as) e ∙ map-map said_as edit_text ys)
 
 module _ (text : List ℕ) (m n : IsWellTypedModule (utf8 text)) where
   one_source : m.text_of.scanned ≡ n.text_of.scanned
@@ -47,7 +47,7 @@ module _ (text : List ℕ) (m n : IsWellTypedModule (utf8 text)) where
   one_change unit indent = λ i. map (edit_of indent (width_of unit) text) (changed_sites indent (one_source i).text (all_sites (line_roles 0 (one_module i)) (one_lexing i)))
 
 -- by the bytes of their texts too
-pub lays_out_said : (unit : Unit) (indent : Indent) (text : List ℕ) (xs ys : List Edit) → LaysOut unit indent text xs → LaysOut unit indent text ys → map said xs ≡ map said ys
+pub lays_out_said : (unit : Unit) (indent : Indent) (text : List ℕ) (xs ys : List Edit) → LaysOut unit indent text xs → LaysOut unit indent text ys → map edit_text xs ≡ map edit_text ys
 lays_out_said unit indent text xs ys h k = h.changes ∙ (one_change text h.before k.before unit indent ∙ sym k.changes)
 
 pub lays_out_one : (unit : Unit) (indent : Indent) (text : List ℕ) (xs ys : List Edit) → LaysOut unit indent text xs → LaysOut unit indent text ys → replacements xs ≡ replacements ys

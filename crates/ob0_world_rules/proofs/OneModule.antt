@@ -8,7 +8,7 @@ use mathlib.Core.List.{map-map}
 use Rattle.ob0_scan.specs.Scanned.{Scanned, IsScanOf}
 use Rattle.ob0_scan.proofs.Spans.{one_scan}
 use Rattle.ob0_text.specs.declared.edits.Edit.{Edit}
-use Rattle.ob0_text.specs.declared.positions.Range.{Range}
+use Rattle.ob0_text.specs.declared.position_types.Range.{Range}
 use Rattle.ob0_tree.specs.declared.tree.Role.TheVariants as role
 use Rattle.ob0_tree.specs.Lexeme.{EndOfText}
 use Rattle.ob0_tree.specs.Order.{leaves}
@@ -20,7 +20,7 @@ use Rattle.ob0_scope_rules.specs.Scopes.{numbered}
 use Rattle.ob0_parse.proofs.Unique.{same}
 use Rattle.ob0_edits.specs.Replaced.{parts}
 use Rattle.ob0_scope_rules.specs.Spans.{is_on}
-use Rattle.ob0_scope.specs.Standing.{BoundIdentifier, name_on, named_by}
+use Rattle.ob0_scope.specs.NamesAtPlaces.{BoundIdentifier, name_on, named_by}
 use Rattle.ob0_scope.specs.declared.naming.Named.{Named}
 use Rattle.ob0_world_rules.specs.Edited.{Replacement, replacements}
 

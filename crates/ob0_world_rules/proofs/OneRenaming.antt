@@ -5,9 +5,9 @@ use Rattle.std.specs.List.{filter}
 use Rattle.ob0_scan.specs.Classes.{IsIdentifier}
 use Rattle.ob0_scan.specs.Scanned.{Scanned, max_text}
 use Rattle.ob0_text.specs.declared.edits.Edit.{Edit}
-use Rattle.ob0_text.specs.declared.positions.Position.{Position}
-use Rattle.ob0_text.specs.declared.positions.Range.{Range}
-use Rattle.ob0_text.specs.declared.positions.Unit.{Unit}
+use Rattle.ob0_text.specs.declared.position_types.Position.{Position}
+use Rattle.ob0_text.specs.declared.position_types.Range.{Range}
+use Rattle.ob0_text.specs.declared.position_types.Unit.{Unit}
 use Rattle.ob0_text.specs.declared.refusals.EditRefusal.{EditRefusal}
 use Rattle.ob0_text.specs.declared.refusals.EditRefusal.TheVariants as refusal
 use Rattle.ob0_text.specs.Texts.{offset_of}
@@ -23,14 +23,14 @@ use Rattle.ob0_scope_rules.specs.Parts.{module_block}
 use Rattle.ob0_scope_rules.specs.Resolution.{Resolution, declaring_only, span_at, token_declaring}
 use Rattle.ob0_scope.proofs.FirstCaptures.{captured_where_not_free-holds}
 use Rattle.ob0_scope.specs.Renames.{namesake}
-use Rattle.ob0_scope.specs.Standing.{refers}
+use Rattle.ob0_scope.specs.NamesAtPlaces.{refers}
 use Rattle.ob0_edits.specs.Ranges.{range_of}
 use Rattle.ob0_rename_laws.specs.Renaming.{is_duplicate_field}
 use Rattle.ob0_types_fields.specs.Identifiers.{declared_in, field_identifiers, field_on, first, tokens_among}
 use Rattle.ob0_session_offers.specs.Analysed.{IsModuleIn}
 use Rattle.ob0_session_offers.specs.Texts.{utf8}
-use Rattle.ob0_rename.specs.Renaming.{Meant, Renaming, declaration, field_of, field_tokens_renamed, meant, meant_by, nothing, occurrence_range, other_field_range, other_range, predeclared, text_with, tokens_renamed}
-use Rattle.ob0_rename.specs.Answers.{AreEdits, IsRefused, IsRefusedTo, IsRefusedToField, IsRefusedToNamed, Renames, RenamesField, Writes}
+use Rattle.ob0_rename.specs.Renaming.{Meant, Renaming, declaration, field_of, field_tokens_to_rename, meant, meant_by, nothing, occurrence_range, other_field_range, other_range, predeclared, text_with, tokens_to_rename}
+use Rattle.ob0_rename.specs.Answers.{AreEdits, IsRefused, IsRefusedTo, IsRefusedToField, IsRefusedToNamed, Renames, RenamesField, WritesName}
 use Rattle.ob0_rename.specs.InTexts.{IsRefusedIn, RenamesIn, renaming_of}
 use Rattle.ob0_world_rules.specs.Edited.{replacements}
 use Rattle.ob0_world_rules.proofs.OneModule.{Same, same_module, one_named_tree, one_name, standing_of, same_parts}
@@ -126,17 +126,17 @@ module _ (unit : Unit) (text : List ℕ) (place : Position) (new : Name) (names 
   one_meaning : meant r ≡ meant q
   one_meaning = λ i. meant_by (e.source i) (one_name e (offset_of (width_of unit) text place) i) (field_on (e.source i) (offset_of (width_of unit) text place) (fields i))
 
-  one_place_list : (d : ℕ) → tokens_renamed names.module_read d new ≡ tokens_renamed others.module_read d new
+  one_place_list : (d : ℕ) → tokens_to_rename names.module_read d new ≡ tokens_to_rename others.module_read d new
   one_place_list d = λ i. tokens_in (e.source i) (e.tree i) d new
 
-  one_field_list : (k : ℕ) (f : Name) → field_tokens_renamed names k f new ≡ field_tokens_renamed others k f new
+  one_field_list : (k : ℕ) (f : Name) → field_tokens_to_rename names k f new ≡ field_tokens_to_rename others k f new
   one_field_list k f = λ i. if same_name new f then [] else tokens_among (e.source i) k f (fields i)
 
   one_text : (xs ys : List ℕ) → xs ≡ ys → text_with r xs ≡ text_with q ys
   one_text xs ys same = λ i. with_text_at (e.source i) (same i) new
 
   -- edits that write the new name at tokens
-  one_writing : (xs ys : List ℕ) (t u : Tree Name module_text) (es fs : List Edit) → xs ≡ ys → Writes r xs t es → Writes q ys u fs → map parts es ≡ map parts fs
+  one_writing : (xs ys : List ℕ) (t u : Tree Name module_text) (es fs : List Edit) → xs ≡ ys → WritesName r xs t es → WritesName q ys u fs → map parts es ≡ map parts fs
   one_writing xs ys t u es fs same h k =
       h.changes ∙ ((λ i. map (edit_at unit text ((e.source i).tokens) new) (same i)) ∙ sym k.changes)
 
@@ -152,16 +152,16 @@ module _ (unit : Unit) (text : List ℕ) (place : Position) (new : Name) (names 
   edits_one : (es fs : List Edit) → AreEdits r es → AreEdits q fs → map parts es ≡ map parts fs
   edits_one es fs (inl (c, means, h)) (inl (d, also, k)) =
       let same : c ≡ d = one_declaration (sym means ∙ (one_meaning ∙ also)) in
-      one_writing _ _ _ _ es fs (one_place_list c ∙ ap (λ x. tokens_renamed others.module_read x new) same) h.writes k.writes
+      one_writing _ _ _ _ es fs (one_place_list c ∙ ap (λ x. tokens_to_rename others.module_read x new) same) h.writes k.writes
   edits_one es fs (inl (c, means, h)) (inr (l, (g, also, k))) = let both : declaration c ≡ field_of l g = sym means ∙ (one_meaning ∙ also) in absurd (cc)
   edits_one es fs (inr (l, (g, means, h))) (inl (d, also, k)) = let both : field_of l g ≡ declaration d = sym means ∙ (one_meaning ∙ also) in absurd (cc)
   edits_one es fs (inr (l, (g, means, h))) (inr (l₂, (g₂, also, k))) =
       let both : field_of l g ≡ field_of l₂ g₂ = sym means ∙ (one_meaning ∙ also) in
-      one_writing _ _ _ _ es fs (one_field_list l g ∙ (λ i. field_tokens_renamed others (one_record both i) (one_field both i) new)) h.writes k.writes
+      one_writing _ _ _ _ es fs (one_field_list l g ∙ (λ i. field_tokens_to_rename others (one_record both i) (one_field both i) new)) h.writes k.writes
 
   -- ---- edits, or a refusal
 
-  too_long : (xs ys : List ℕ) (t : Tree Name module_text) (es : List Edit) → xs ≡ ys → Writes r xs t es → max_text < length (text_with q ys) → ⊥
+  too_long : (xs ys : List ℕ) (t : Tree Name module_text) (es : List Edit) → xs ≡ ys → WritesName r xs t es → max_text < length (text_with q ys) → ⊥
   too_long xs ys t es same h long =
       let short : length (text_with q ys) ≤ max_text = subst (λ x. length x ≤ max_text) (one_text xs ys same) h.short in
       omega (arith, short, long)

@@ -6,22 +6,22 @@ use Rattle.std.specs.Str.{bytes_eq}
 use Rattle.std.specs.FinMap as map_of
 use Rattle.std.proofs.lemmas.Bool.{eqb-true, and_parts}
 use Rattle.std.proofs.lemmas.Option.{cond_some, same_Some, none-some}
-use Rattle.ob0_world_rules.specs.Ends.{Open, Documents, Asked, Answer, Editor, numbered, open_at}
+use Rattle.ob0_world_rules.specs.Ends.{Open, Documents, SentAsk, Answer, Editor, numbered, open_at}
 use Rattle.ob0_world_rules.specs.Editing.{if_same}
 use Rattle.ob0_world_rules.proofs.UriLaws.{get_put, get_removed, same_uri}
 
 -- an ask of the past: its opening's number isn't fresh any more, and in that opening the version only rose
-pub record Past (e : Editor) (a : Asked) : Type 0 where
+pub record Past (e : Editor) (a : SentAsk) : Type 0 where
   pub known : a.opening ≤ e.openings
   pub risen : (d : Open) → open_at e a.uri ≡ Some d → d.opening ≡ a.opening → a.version ≤ d.version
 
 -- the document that was asked about is d, the same opening with the same version
-pub record Same (e : Editor) (a : Asked) (d : Open) : Type 0 where
+pub record Same (e : Editor) (a : SentAsk) (d : Open) : Type 0 where
   pub at : open_at e a.uri ≡ Some d
   pub opening : d.opening ≡ a.opening
   pub version : d.version ≡ a.version
 
-pub same_from : (e : Editor) (a : Asked) (d : Open) → if_same a (open_at e a.uri) ≡ Some d → Same e a d
+pub same_from : (e : Editor) (a : SentAsk) (d : Open) → if_same a (open_at e a.uri) ≡ Some d → Same e a d
 same_from e a d h = go (open_at e a.uri) refl h
   where
     go : (o : Option Open) → open_at e a.uri ≡ o → if_same a o ≡ Some d → Same e a d
@@ -37,13 +37,13 @@ same_from e a d h = go (open_at e a.uri) refl h
 
 -- an editor, and what it is later on
 pub record Later (e e' : Editor) : Type 0 where
-  pub asked : (k : ℕ) (a : Asked) → numbered e.asked k ≡ Some a → numbered e'.asked k ≡ Some a
-  pub past : (a : Asked) → Past e a → Past e' a
-  pub same : (a : Asked) (d : Open) → Past e a → Same e' a d → Same e a d
+  pub asked : (k : ℕ) (a : SentAsk) → numbered e.asked k ≡ Some a → numbered e'.asked k ≡ Some a
+  pub past : (a : SentAsk) → Past e a → Past e' a
+  pub same : (a : SentAsk) (d : Open) → Past e a → Same e' a d → Same e a d
 
 -- what holds of the document of ask k, where it is still the same
 pub record Known (e : Editor) (k : ℕ) (P : Open → Type 0) : Type 0 where
-  pub asked : Asked
+  pub asked : SentAsk
   pub is : numbered e.asked k ≡ Some asked
   pub past : Past e asked
   pub still : (d : Open) → Same e asked d → P d
@@ -76,11 +76,11 @@ pub slice_get_last : {A : Type 0} (xs : List A) (x : A) → slice_get (xs ++ x �
 slice_get_last [] x = refl
 slice_get_last (y ∷ xs) x = slice_get_last xs x
 
-pub numbered_push : (asked more : List Asked) (k : ℕ) (a : Asked) → numbered asked k ≡ Some a → numbered (asked ++ more) k ≡ Some a
+pub numbered_push : (asked more : List SentAsk) (k : ℕ) (a : SentAsk) → numbered asked k ≡ Some a → numbered (asked ++ more) k ≡ Some a
 numbered_push asked more zero a h = h
 numbered_push asked more (suc k) a h = slice_get_push asked more k a h
 
-pub later_ask : (e : Editor) (more : List Asked) → Later e (record e { asked = e.asked ++ more })
+pub later_ask : (e : Editor) (more : List SentAsk) → Later e (record e { asked = e.asked ++ more })
 later_ask e more =
     record {
       asked = numbered_push e.asked more;
@@ -117,7 +117,7 @@ later_open e uri new fresh =
       same = λ a d past same. found e.documents uri a.uri new d (Same e a d) same.at (λ at is. absurd (not_fresh a past d is same.opening)) (λ was. record { at = was; opening = same.opening; version = same.version });
     }
   where
-    not_fresh : (a : Asked) → Past e a → (d : Open) → new ≡ d → d.opening ≡ a.opening → ⊥
+    not_fresh : (a : SentAsk) → Past e a → (d : Open) → new ≡ d → d.opening ≡ a.opening → ⊥
     not_fresh a past d is opening =
         let known : a.opening ≤ e.openings = past.known in
         let equal : e.openings + 1 ≡ a.opening = sym fresh ∙ ap (λ y. y.opening) is ∙ opening in
@@ -146,7 +146,7 @@ later_rewrite e uri d text was_open =
     new : Open
     new = record { version = d.version + 1; text = text; opening = d.opening }
 
-    risen_before : (a : Asked) → Past e a → (x : Open) → a.uri ≡ uri → new ≡ x → x.opening ≡ a.opening → a.version ≤ d.version
+    risen_before : (a : SentAsk) → Past e a → (x : Open) → a.uri ≡ uri → new ≡ x → x.opening ≡ a.opening → a.version ≤ d.version
     risen_before a past x same is opening = past.risen d (ap (open_at e) same ∙ was_open) (ap (λ y. y.opening) is ∙ opening)
 
 pub later_close : (e : Editor) (uri : List ℕ) → Later e (record e { documents = map_of.remove e.documents uri })

@@ -2,8 +2,8 @@
 -- Rule: docs/PROTOCOL.md, Requests on documents 6 to 10.
 use Rattle.std.specs.Prelude.{◌≡◌, ◌⊎◌, ℕ, List, [], Bool, Option, Some, None, IsTrue, ◌↔◌, Vec}
 use Rattle.std.specs.declared.alloc.Global.{Global}
-use Rattle.ob0_text.specs.declared.positions.Position.{Position}
-use Rattle.ob0_text.specs.declared.positions.Unit.{Unit}
+use Rattle.ob0_text.specs.declared.position_types.Position.{Position}
+use Rattle.ob0_text.specs.declared.position_types.Unit.{Unit}
 use Rattle.ob0_text.specs.declared.edits.Edit.{Edit}
 use Rattle.ob0_text.specs.declared.refusals.EditRefusal.{EditRefusal}
 use Rattle.ob0_text.specs.OpenDocuments.{Document, InStep, OutOfStep}
@@ -27,11 +27,11 @@ abbrev pub InlinesAt : Inlining → Unit → List ℕ → Position → List Edit
 InlinesAt how unit text position edits = (found : Vec Edit Global) × InlinesIn how unit text (place_at unit text position) found × (edits ≡ found.items)
 
 -- These edits are the ones requested: they write the new name, inline here or everywhere, or format the text.
-abbrev pub HandsOut : Unit → List ℕ → Ask → List Edit → Type 0
-HandsOut unit text (rename position name) edits = RenamesIn unit text position name edits
-HandsOut unit text (inline_here position) edits = InlinesAt Here unit text position edits
-HandsOut unit text (inline_all position) edits = InlinesAt Everywhere unit text position edits
-HandsOut unit text (format indent) edits = LaysOut unit (indent_read indent) text edits
+abbrev pub GivesEdits : Unit → List ℕ → Ask → List Edit → Type 0
+GivesEdits unit text (rename position name) edits = RenamesIn unit text position name edits
+GivesEdits unit text (inline_here position) edits = InlinesAt Here unit text position edits
+GivesEdits unit text (inline_all position) edits = InlinesAt Everywhere unit text position edits
+GivesEdits unit text (format indent) edits = LaysOut unit (indent_read indent) text edits
 
 -- there are none, for a reason: the new name is refused, or the inlining, or the layout is too long
 abbrev pub Refuses : Unit → List ℕ → Ask → Type 0
@@ -43,7 +43,7 @@ Refuses unit text (format indent) = IsTooLongLaidOut (indent_read indent) text
 -- the answer about a text: the requested edits; none when they are refused, or the text isn't a well-typed module
 abbrev pub AnswersFor : Unit → List ℕ → Ask → List Replacement → Type 0
 AnswersFor unit text ask given =
-    ((edits : List Edit) × HandsOut unit text ask edits × (given ≡ replacements edits))
+    ((edits : List Edit) × GivesEdits unit text ask edits × (given ≡ replacements edits))
     ⊎ ((Refuses unit text ask ⊎ ¬ WellTypedText text) × (given ≡ []))
 
 -- the answer about a document: no edits when it isn't open, or is out of step

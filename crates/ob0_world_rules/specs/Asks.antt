@@ -1,7 +1,7 @@
 -- What an editor may ask for.
 -- Rule: docs/PROTOCOL.md, Requests on documents 6 to 8.
 use Rattle.std.specs.Prelude.{ℕ, List, max, min}
-use Rattle.ob0_text.specs.declared.positions.Position.{Position}
+use Rattle.ob0_text.specs.declared.position_types.Position.{Position}
 use Rattle.ob0_text.specs.declared.edits.Indent.{Indent}
 use Rattle.ob0_text.specs.declared.edits.Indent.TheVariants.{Tab, Spaces}
 
@@ -9,7 +9,7 @@ use Rattle.ob0_text.specs.declared.edits.Indent.TheVariants.{Tab, Spaces}
 pub data Ask : Type 0 where
   -- the place, and the bytes of the new name
   rename : Position → List ℕ → Ask
-  -- the constant's value in place of the use that stands there, or of all uses
+  -- the constant's value in place of the use that is there, or of all uses
   inline_here : Position → Ask
   inline_all : Position → Ask
   format : Indent → Ask

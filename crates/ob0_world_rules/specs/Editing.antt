@@ -5,7 +5,7 @@ use Rattle.std.specs.FinMap as map_of
 use Rattle.ob0_text.specs.OpenDocuments.{TextChange, Opened, Changed, Closed}
 use Rattle.ob0_world_rules.specs.Edited.{Replacement, edited, whole_text, after_changes}
 use Rattle.ob0_world_rules.specs.Asks.{Ask}
-use Rattle.ob0_world_rules.specs.Ends.{Open, Asked, Answer, Editor, numbered, open_at, ToServer, tells, asks, Applied}
+use Rattle.ob0_world_rules.specs.Ends.{Open, SentAsk, Answer, Editor, numbered, open_at, ToServer, tells, asks, Applied}
 
 -- nothing, or the editor becomes this one and sends this message
 pub data Move : Type 0 where
@@ -49,7 +49,7 @@ closes_document e uri None = idle
 -- a request about an open document is sent, with the next number
 abbrev pub asks_about : Editor → List ℕ → Ask → Option Open → Move
 asks_about e uri ask (Some d) =
-    let asked : Asked = record { ask = ask; uri = uri; opening = d.opening; version = d.version } in
+    let asked : SentAsk = record { ask = ask; uri = uri; opening = d.opening; version = d.version } in
     sends (record e { asked = e.asked ++ asked ∷ [] }) (asks (suc (length e.asked)) uri ask)
 asks_about e uri ask None = idle
 
@@ -64,11 +64,11 @@ keeps e number [] = e
 keeps e number (edit ∷ edits) = record e { answers = e.answers ++ record { number = number; edits = edit ∷ edits } ∷ [] }
 
 -- the edits of the answer with this number
-abbrev pub held_answer : ℕ → List Answer → Option (List Replacement)
-held_answer k [] = None
-held_answer k (a ∷ rest) = if a.number == k then Some a.edits else held_answer k rest
+abbrev pub kept_answer : ℕ → List Answer → Option (List Replacement)
+kept_answer k [] = None
+kept_answer k (a ∷ rest) = if a.number == k then Some a.edits else kept_answer k rest
 
--- all answers but the one that `held_answer` finds
+-- all answers but the one that `kept_answer` finds
 abbrev pub all_but : ℕ → List Answer → List Answer
 all_but k [] = []
 all_but k (a ∷ rest) = if a.number == k then rest else a ∷ all_but k rest
@@ -80,41 +80,41 @@ without_answer e k = record e { answers = all_but k e.answers }
 -- ---- applying
 
 -- what becomes of an answer that is to be applied or dropped
-pub data Outcome : Type 0 where
-  not_held : Outcome
+pub data ApplyOutcome : Type 0 where
+  not_held : ApplyOutcome
   -- the editor drops it
-  drops_answer : Editor → Outcome
+  drops_answer : Editor → ApplyOutcome
   -- the editor makes the edits, and sends the whole text
-  makes : Editor → Applied → ToServer → Outcome
+  makes : Editor → Applied → ToServer → ApplyOutcome
 
 -- an answer is dropped
-abbrev pub discards : Editor → ℕ → Option (List Replacement) → Outcome
+abbrev pub discards : Editor → ℕ → Option (List Replacement) → ApplyOutcome
 discards e k (Some edits) = drops_answer (without_answer e k)
 discards e k None = not_held
 
 -- the document, where it is the same opening with the same version as when it was asked about
-abbrev pub if_same : Asked → Option Open → Option Open
+abbrev pub if_same : SentAsk → Option Open → Option Open
 if_same asked (Some d) = if d.opening == asked.opening && d.version == asked.version then Some d else None
 if_same asked None = None
 
 -- an open document gets the text that edits make
-abbrev pub applies_text : Editor → List ℕ → Open → Option (List ℕ) → Outcome
+abbrev pub applies_text : Editor → List ℕ → Open → Option (List ℕ) → ApplyOutcome
 applies_text e uri d (Some text) =
     makes (rewrites e uri d text) (record { uri = uri; before = d.text; after = text })
     (tells (Changed uri (pos (d.version + 1)) (whole_text text ∷ [])))
 applies_text e uri d None = drops_answer e
 
 -- edits are applied to an open document
-abbrev pub applies_edits : Editor → List Replacement → List ℕ → Option Open → Outcome
+abbrev pub applies_edits : Editor → List Replacement → List ℕ → Option Open → ApplyOutcome
 applies_edits e edits uri (Some d) = applies_text e uri d (edited e.unit d.text edits)
 applies_edits e edits uri None = drops_answer e
 
 -- edits are applied where the document is as it was when they were requested
-abbrev pub applies_asked : Editor → List Replacement → Option Asked → Outcome
+abbrev pub applies_asked : Editor → List Replacement → Option SentAsk → ApplyOutcome
 applies_asked e edits (Some asked) = applies_edits e edits asked.uri (if_same asked (open_at e asked.uri))
 applies_asked e edits None = drops_answer e
 
 -- the edits of answer k are made of the document, where that is the same as when it was asked about; else the answer is dropped
-abbrev pub applies_answer : Editor → ℕ → Option (List Replacement) → Outcome
+abbrev pub applies_answer : Editor → ℕ → Option (List Replacement) → ApplyOutcome
 applies_answer e k (Some edits) = applies_asked (without_answer e k) edits (numbered e.asked k)
 applies_answer e k None = not_held

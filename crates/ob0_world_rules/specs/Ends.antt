@@ -4,8 +4,8 @@ use Rattle.std.specs.Prelude.{◌≡◌, ℕ, zero, suc, ℤ, pos, List, [], Boo
 use Rattle.std.specs.Ordering.{nat_cmp}
 use Rattle.std.specs.Cmp.Lexicographic.{slice_cmp}
 use Rattle.std.specs.FinMap as map_of
-use Rattle.ob0_text.specs.declared.positions.Unit.{Unit}
-use Rattle.ob0_text.specs.OpenDocuments.{OpenDocuments, Document, InStep, DocumentNote, after_note, none_open, document_at}
+use Rattle.ob0_text.specs.declared.position_types.Unit.{Unit}
+use Rattle.ob0_text.specs.OpenDocuments.{OpenDocuments, Document, InStep, DocumentEvent, after_event, none_open, document_at}
 use Rattle.ob0_world_rules.specs.Edited.{Replacement}
 use Rattle.ob0_world_rules.specs.Asks.{Ask}
 
@@ -22,7 +22,7 @@ abbrev pub Documents : Type 0
 Documents = map_of.FinMap (slice_cmp nat_cmp) Open
 
 -- an ask, by what it asks, the document that it is about and the state in which that was then
-pub record Asked : Type 0 where
+pub record SentAsk : Type 0 where
   pub ask : Ask
   pub uri : List ℕ
   pub opening : ℕ
@@ -41,7 +41,7 @@ pub record Editor : Type 0 where
   -- how many documents were opened so far
   pub openings : ℕ
   -- the asks that were sent; the first has number 1
-  pub asked : List Asked
+  pub asked : List SentAsk
   pub answers : List Answer
 
 -- an editor with no open document
@@ -49,7 +49,7 @@ abbrev pub new_editor : Unit → Editor
 new_editor unit = record { unit = unit; documents = map_of.empty; openings = 0; asked = []; answers = [] }
 
 -- the request of this number, counted from 1
-abbrev pub numbered : List Asked → ℕ → Option Asked
+abbrev pub numbered : List SentAsk → ℕ → Option SentAsk
 numbered asked zero = None
 numbered asked (suc k) = slice_get asked k
 
@@ -61,7 +61,7 @@ open_at e uri = map_of.get e.documents uri
 
 -- a message to the server
 pub data ToServer : Type 0 where
-  tells : DocumentNote → ToServer
+  tells : DocumentEvent → ToServer
   -- the ask's number, the uri and what is asked
   asks : ℕ → List ℕ → Ask → ToServer
 
@@ -113,17 +113,17 @@ start unit =
 
 -- the documents that the server will hold once it has taken the messages that wait for it
 abbrev pub after_message : OpenDocuments → ToServer → OpenDocuments
-after_message held (tells note) = after_note held note
+after_message held (tells note) = after_event held note
 after_message held (asks number uri ask) = held
 
 -- the server's documents, once it has taken what waits for it
-abbrev pub will_hold : Ends → OpenDocuments
-will_hold w = fold after_message w.held w.to_server
+abbrev pub will_have : Ends → OpenDocuments
+will_have w = fold after_message w.held w.to_server
 
 -- a document of the editor, as the server holds it
-abbrev pub as_held : Open → Document
-as_held d = InStep (pos d.version) d.text
+abbrev pub as_open : Open → Document
+as_open d = InStep (pos d.version) d.text
 
 -- The mirror: what is held, followed by the messages that wait for the server, is the editor's documents.
 abbrev pub Mirrors : Ends → Type 0
-Mirrors w = (uri : List ℕ) → document_at (will_hold w) uri ≡ option_map as_held (open_at w.editor uri)
+Mirrors w = (uri : List ℕ) → document_at (will_have w) uri ≡ option_map as_open (open_at w.editor uri)

@@ -4,7 +4,7 @@ use Rattle.std.specs.Prelude.{◌≡◌, ℕ, List, [], ◌∷◌, ◌++◌, Boo
 use Rattle.ob0_text.specs.OpenDocuments.{TextChange}
 use Rattle.ob0_world_rules.specs.Asks.{Ask}
 use Rattle.ob0_world_rules.specs.Ends.{ToEditor, publishes, answers, Ends}
-use Rattle.ob0_world_rules.specs.Editing.{Move, idle, sends, has_edits, keeps, Outcome, not_held, drops_answer, makes}
+use Rattle.ob0_world_rules.specs.Editing.{Move, idle, sends, has_edits, keeps, ApplyOutcome, not_held, drops_answer, makes}
 
 -- what may happen
 pub data Event : Type 0 where
@@ -34,33 +34,33 @@ pub data Seen : Type 0 where
   drops : ℕ → Seen
 
 -- what is seen, and what comes after
-pub record Step : Type 0 where
+pub record EventStep : Type 0 where
   pub seen : Seen
   pub after : Ends
 
 -- nothing changes
-abbrev pub nothing_happens : Ends → Step
+abbrev pub nothing_happens : Ends → EventStep
 nothing_happens w = record { seen = nothing; after = w }
 
 -- the editor's move
-abbrev pub moved : Ends → Move → Step
+abbrev pub moved : Ends → Move → EventStep
 moved w idle = nothing_happens w
 moved w (sends e message) = record { seen = sent; after = record w { editor = e; to_server = w.to_server ++ message ∷ [] } }
 
 -- the editor takes the first message that waits for it
-abbrev pub takes : Ends → List ToEditor → Step
+abbrev pub takes : Ends → List ToEditor → EventStep
 takes w [] = nothing_happens w
 takes w (publishes uri version empty ∷ rest) = record { seen = published uri empty; after = record w { to_editor = rest } }
 takes w (answers number edits ∷ rest) =
     record { seen = answered number (has_edits edits); after = record w { editor = keeps w.editor number edits; to_editor = rest } }
 
 -- what becomes of answer k
-abbrev pub comes_of : Ends → ℕ → Outcome → Step
+abbrev pub comes_of : Ends → ℕ → ApplyOutcome → EventStep
 comes_of w k not_held = nothing_happens w
 comes_of w k (drops_answer e) = record { seen = drops k; after = record w { editor = e } }
 comes_of w k (makes e applied message) =
     record { seen = applies k; after = record w { editor = e; to_server = w.to_server ++ message ∷ []; applied = w.applied ++ applied ∷ [] } }
 
 -- this is the step
-abbrev pub Is : Step → Seen → Ends → Type 0
+abbrev pub Is : EventStep → Seen → Ends → Type 0
 Is step seen new = (seen ≡ step.seen) × (new ≡ step.after)

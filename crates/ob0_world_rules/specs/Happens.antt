@@ -2,14 +2,14 @@
 -- Rule: LSP 3.17: a model of client and server.
 use Rattle.std.specs.Prelude.{◌≡◌, List, [], ◌∷◌, ◌++◌, length}
 use Rattle.ob0_world_rules.specs.Ends.{open_at, ToServer, ToEditor, Made, Ends, after_message}
-use Rattle.ob0_world_rules.specs.Editing.{opens_document, changes_document, closes_document, asks_about, held_answer, discards, applies_answer}
+use Rattle.ob0_world_rules.specs.Editing.{opens_document, changes_document, closes_document, asks_about, kept_answer, discards, applies_answer}
 use Rattle.ob0_world_rules.specs.Events.{Event, open_document, change_document, close_document, ask_about, serve, take_message, apply, discard, Seen, nothing, served, Is, moved, takes, comes_of}
 use Rattle.ob0_world_rules.specs.Serving.{Replies}
 
 -- the server takes the first message that waits for it, and sends what it replies
-abbrev pub Serves : Ends → List ToServer → Seen → Ends → Type 0
-Serves w [] seen new = (seen ≡ nothing) × (new ≡ w)
-Serves w (message ∷ rest) seen new =
+abbrev pub ServerTakes : Ends → List ToServer → Seen → Ends → Type 0
+ServerTakes w [] seen new = (seen ≡ nothing) × (new ≡ w)
+ServerTakes w (message ∷ rest) seen new =
     (said : List ToEditor) × (made : List Made) × Replies w.held message said made × (seen ≡ served (length said))
     × (new ≡ record w { to_server = rest; held = after_message w.held message; to_editor = w.to_editor ++ said; made = w.made ++ made })
 
@@ -19,10 +19,10 @@ Happens w (open_document uri text) seen new = Is (moved w (opens_document w.edit
 Happens w (change_document uri how) seen new = Is (moved w (changes_document w.editor uri how (open_at w.editor uri))) seen new
 Happens w (close_document uri) seen new = Is (moved w (closes_document w.editor uri (open_at w.editor uri))) seen new
 Happens w (ask_about uri ask) seen new = Is (moved w (asks_about w.editor uri ask (open_at w.editor uri))) seen new
-Happens w serve seen new = Serves w w.to_server seen new
+Happens w serve seen new = ServerTakes w w.to_server seen new
 Happens w take_message seen new = Is (takes w w.to_editor) seen new
-Happens w (apply k) seen new = Is (comes_of w k (applies_answer w.editor k (held_answer k w.editor.answers))) seen new
-Happens w (discard k) seen new = Is (comes_of w k (discards w.editor k (held_answer k w.editor.answers))) seen new
+Happens w (apply k) seen new = Is (comes_of w k (applies_answer w.editor k (kept_answer k w.editor.answers))) seen new
+Happens w (discard k) seen new = Is (comes_of w k (discards w.editor k (kept_answer k w.editor.answers))) seen new
 
 -- these events, one after another, lead from one state to the other
 abbrev pub Course : Ends → List Event → Ends → Type 0

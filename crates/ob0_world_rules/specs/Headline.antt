@@ -2,7 +2,7 @@
 -- Rule: docs/PROMISES.md, the two ends.
 use Rattle.std.specs.Prelude.{◌≡◌, ℕ, ℤ, pos, List, [], ◌∷◌, ◌++◌, All, Option, Some, None, if◌then◌else◌}
 use Rattle.std.specs.Str.{bytes_eq}
-use Rattle.ob0_text.specs.declared.positions.Unit.{Unit}
+use Rattle.ob0_text.specs.declared.position_types.Unit.{Unit}
 use Rattle.ob0_world_rules.specs.Language.{WellTypedText, SameRun}
 use Rattle.ob0_world_rules.specs.Answers.{IsEmptyIfCorrect}
 use Rattle.ob0_world_rules.specs.Ends.{Open, Editor, open_at, Applied, Made, Ends, start, Mirrors}

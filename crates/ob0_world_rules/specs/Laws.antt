@@ -1,11 +1,11 @@
 -- Laws of the definitions of client and server.
 use Rattle.std.specs.Prelude.{◌≡◌, ℕ, List, All, Option, Some}
 use Rattle.ob0_text.specs.declared.edits.Edit.{Edit}
-use Rattle.ob0_text.specs.declared.positions.Unit.{Unit}
+use Rattle.ob0_text.specs.declared.position_types.Unit.{Unit}
 use Rattle.ob0_world_rules.specs.Language.{WellTypedText, SameRun}
 use Rattle.ob0_world_rules.specs.Edited.{Replacement, replacements, edited}
 use Rattle.ob0_world_rules.specs.Asks.{Ask}
-use Rattle.ob0_world_rules.specs.Answers.{HandsOut, AnswersFor}
+use Rattle.ob0_world_rules.specs.Answers.{GivesEdits, AnswersFor}
 use Rattle.ob0_world_rules.specs.Ends.{Ends, start}
 use Rattle.ob0_world_rules.specs.Events.{Event, Seen}
 use Rattle.ob0_world_rules.specs.Happens.{Course, Happens}
@@ -23,7 +23,7 @@ pub record EditsPreserveRun (unit : Unit) (text : List ℕ) (edits : List Replac
 
 -- edits that answer an ask keep the run of the text
 abbrev pub EditsKeepTheRun : Type 0
-EditsKeepTheRun = (unit : Unit) (text : List ℕ) (ask : Ask) (edits : List Edit) → HandsOut unit text ask edits → EditsPreserveRun unit text (replacements edits)
+EditsKeepTheRun = (unit : Unit) (text : List ℕ) (ask : Ask) (edits : List Edit) → GivesEdits unit text ask edits → EditsPreserveRun unit text (replacements edits)
 
 -- an ask about a text has one answer
 abbrev pub AnswersAreOne : Type 0

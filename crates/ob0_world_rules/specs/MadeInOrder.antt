@@ -1,9 +1,9 @@
 -- The order of publications: each is made for the next document that the editor announced to the server.
 use Rattle.std.specs.Prelude.{◌≡◌, ⊤, ℕ, ℤ, pos, List, [], ◌∷◌, ◌++◌, map, Option, Some, None}
-use Rattle.ob0_text.specs.declared.positions.Unit.{Unit}
+use Rattle.ob0_text.specs.declared.position_types.Unit.{Unit}
 use Rattle.ob0_text.specs.OpenDocuments.{Opened, Changed, Lost, Closed}
 use Rattle.ob0_world_rules.specs.Ends.{Open, Editor, open_at, ToServer, tells, asks, Made, Ends, start}
-use Rattle.ob0_world_rules.specs.Editing.{Move, idle, sends, opens_document, changes_document, closes_document, asks_about, held_answer, Outcome, not_held, drops_answer, makes, discards, applies_answer}
+use Rattle.ob0_world_rules.specs.Editing.{Move, idle, sends, opens_document, changes_document, closes_document, asks_about, kept_answer, ApplyOutcome, not_held, drops_answer, makes, discards, applies_answer}
 use Rattle.ob0_world_rules.specs.Events.{Event, open_document, change_document, close_document, ask_about, serve, take_message, apply, discard, Seen}
 use Rattle.ob0_world_rules.specs.Happens.{Happens, Course}
 
@@ -30,7 +30,7 @@ abbrev pub announced_in_move : Move → List Announced
 announced_in_move idle = []
 announced_in_move (sends e message) = announced_by e message
 
-abbrev pub announced_in_outcome : Outcome → List Announced
+abbrev pub announced_in_outcome : ApplyOutcome → List Announced
 announced_in_outcome not_held = []
 announced_in_outcome (drops_answer e) = []
 announced_in_outcome (makes e applied message) = announced_by e message
@@ -43,8 +43,8 @@ announced_at_event w (close_document uri) = announced_in_move (closes_document w
 announced_at_event w (ask_about uri ask) = announced_in_move (asks_about w.editor uri ask (open_at w.editor uri))
 announced_at_event w serve = []
 announced_at_event w take_message = []
-announced_at_event w (apply k) = announced_in_outcome (applies_answer w.editor k (held_answer k w.editor.answers))
-announced_at_event w (discard k) = announced_in_outcome (discards w.editor k (held_answer k w.editor.answers))
+announced_at_event w (apply k) = announced_in_outcome (applies_answer w.editor k (kept_answer k w.editor.answers))
+announced_at_event w (discard k) = announced_in_outcome (discards w.editor k (kept_answer k w.editor.answers))
 
 -- in the course of these events exactly these documents are announced, in this order
 abbrev pub AreAnnounced : Ends → List Event → List Announced → Type 0

@@ -1,7 +1,7 @@
 -- What the server sends for each message that it takes. It has no choice: for each message there is one list.
 -- Rule: docs/PROTOCOL.md, Documents, Publishing, Requests on documents.
 use Rattle.std.specs.Prelude.{◌≡◌, ℕ, List, [], ◌∷◌, Bool, true, false, Option, Some, None, is_some}
-use Rattle.ob0_text.specs.OpenDocuments.{OpenDocuments, Document, InStep, OutOfStep, DocumentNote, Opened, Changed, Lost, Closed, document_at, after_note}
+use Rattle.ob0_text.specs.OpenDocuments.{OpenDocuments, Document, InStep, OutOfStep, DocumentEvent, Opened, Changed, Lost, Closed, document_at, after_event}
 use Rattle.ob0_world_rules.specs.Edited.{Replacement}
 use Rattle.ob0_world_rules.specs.Answers.{IsAnswer, IsEmptyIfCorrect}
 use Rattle.ob0_world_rules.specs.Ends.{ToServer, tells, asks, ToEditor, publishes, answers, Made}
@@ -20,9 +20,9 @@ cleared uri true = publishes uri None true ∷ []
 cleared uri false = []
 
 -- what is sent for a notification, and the publications with a version among it, when these documents were open before
-abbrev pub RepliesToNotification : OpenDocuments → DocumentNote → List ToEditor → List Made → Type 0
-RepliesToNotification held (Opened uri version text) sent made = Publishes uri (document_at (after_note held (Opened uri version text)) uri) sent made
-RepliesToNotification held (Changed uri version how) sent made = Publishes uri (document_at (after_note held (Changed uri version how)) uri) sent made
+abbrev pub RepliesToNotification : OpenDocuments → DocumentEvent → List ToEditor → List Made → Type 0
+RepliesToNotification held (Opened uri version text) sent made = Publishes uri (document_at (after_event held (Opened uri version text)) uri) sent made
+RepliesToNotification held (Changed uri version how) sent made = Publishes uri (document_at (after_event held (Changed uri version how)) uri) sent made
 RepliesToNotification held (Lost uri) sent made = (sent ≡ []) × (made ≡ [])
 RepliesToNotification held (Closed uri) sent made = (sent ≡ cleared uri (is_some (document_at held uri))) × (made ≡ [])
 

@@ -1,13 +1,13 @@
 //! The documents of a session.
 ghost use Rattle.std.specs.Prelude.{◌≡◌};
 ghost use Rattle.ob0_session.specs.Answers.{State};
-ghost use Rattle.ob0_session.specs.Standing.{serving};
+ghost use Rattle.ob0_session.specs.SessionStates.{serving};
 
 use super::Session;
 use ob0_text::{Documents, TextStore};
 
 impl<T: TextStore> Session<T> {
-    /// The documents that the editor has told of. Nothing is said of them once memory was refused.
+    /// The documents that the client has open. Nothing is said of them once an allocation failed.
     pub fn documents(&self) -> &Documents<T>
         ensures { (s : State) → self.now ≡ serving s → result.now ≡ s.held }
     {

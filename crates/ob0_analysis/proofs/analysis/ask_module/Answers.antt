@@ -2,7 +2,7 @@ use Rattle.std.proofs.Common.{◌∙◌, map, ap, sym, subst}
 use Rattle.ob0_scan.specs.Scanned.{IsScan}
 use Rattle.ob0_tree.specs.Parsed.{Parsed}
 use Rattle.ob0_scope_rules.specs.Resolution.{Resolution}
-use Rattle.ob0_analysis.specs.Diagnosed.{IsWellTypedModule, TellsFaults, complaint_in, complaint_of}
+use Rattle.ob0_analysis.specs.Diagnosed.{IsWellTypedModule, ReportsFaults, complaint_in, complaint_of}
 use Rattle.ob0_analysis.proofs.Scanning.{finds_types, module_in}
 use Rattle.ob0_analysis.proofs.analysis.ask_module.Goals as goal
 
@@ -19,4 +19,4 @@ returns g c =
     let told = c.faults-faults.ensures in
     let found = finds_types c.in_ok-checked.checked (map complaint_in c.in_ok-of_faults-in-None.field-0.items) c.one_scan.ensures c.one_tree.ensures (subst (λ (p : Parsed). IsScan p.source) (sym is) scan)
     told.checked c.in-None.ensures (c.in_ok-of_faults-in-None.ensures ∙ ap (map complaint_of) told.value) in
-    subst (λ (p : Parsed). (IsWellTypedModule p.source.text → ⊥) × TellsFaults p.source.text (map complaint_in c.in_ok-of_faults-in-None.field-0.items)) is found
+    subst (λ (p : Parsed). (IsWellTypedModule p.source.text → ⊥) × ReportsFaults p.source.text (map complaint_in c.in_ok-of_faults-in-None.field-0.items)) is found

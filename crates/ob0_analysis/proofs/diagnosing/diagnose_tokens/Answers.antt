@@ -1,6 +1,6 @@
 use Rattle.std.proofs.Common.{IfOk, map, inr, subst}
 use Rattle.ob0_scan.specs.Scanned.{Scanned}
-use Rattle.ob0_analysis.specs.Diagnosed.{Tells, complaint_in}
+use Rattle.ob0_analysis.specs.Diagnosed.{Reports, complaint_in}
 use Rattle.ob0_analysis.proofs.Scanning.{finds_parser}
 use Rattle.ob0_analysis.proofs.diagnosing.diagnose_tokens.Goals as goal
 
@@ -11,4 +11,4 @@ returns-in_ok-push-in-Err c =
 
 pub returns-in-Ok : goal.returns-in-Ok
 returns-in-Ok c =
-    subst (λ (s : Scanned). IfOk c.diagnose_module.result (λ list. Tells s.text (map complaint_in list.items))) c.in-Ok.ensures.found.0 c.diagnose_module.ensures
+    subst (λ (s : Scanned). IfOk c.diagnose_module.result (λ list. Reports s.text (map complaint_in list.items))) c.in-Ok.ensures.found.0 c.diagnose_module.ensures

@@ -1,7 +1,7 @@
 use Rattle.std.proofs.Common.{◌≡◌, ◌∙◌, List, [], ap, map, subst, sym}
 use Rattle.clap.specs.Faults.{is_simple_and_free}
 use Rattle.clap.specs.Words.{App, Text, fault_of}
-use Rattle.ob0_cli.specs.Given.{Found, IsReadFrom}
+use Rattle.ob0_cli.specs.Given.{FoundCommand, IsReadFrom}
 use Rattle.ob0_cli.specs.Lines.{ob0_app}
 use Rattle.ob0_cli.proofs.Named.{parsed, simple_and_free}
 use Rattle.ob0_cli.proofs.line.command.Goals as goal
@@ -22,6 +22,6 @@ returns-in-Ok-try_get_matches_from c =
     let none : fault_of ob0_app words ≡ [] = ap (λ (a : App). fault_of a words) (sym is) ∙ matches.ensures.kinds (ap is_simple_and_free is ∙ simple_and_free) in
     let same = (parsed c.in-Ok.definition words matches.matches is none matches.ensures.parsed matches.ensures.matches).0 in
     record {
-      gives = record { fine = none; read = subst (λ (f : Found). IsReadFrom f c.line_of.result) same c.line_of.ensures };
+      gives = record { fine = none; read = subst (λ (f : FoundCommand). IsReadFrom f c.line_of.result) same c.line_of.ensures };
       refuses = tt;
     }

@@ -5,8 +5,8 @@ use Rattle.ob0_analysis.specs.Diagnosed.{complaint_in}
 use Rattle.ob0_analysis.specs.declared.diagnoses.Diagnosis.{Diagnosis}
 use Rattle.ob0_text.specs.Texts.{position_of}
 use Rattle.ob0_text.specs.Units.{width_of}
-use Rattle.ob0_text.specs.declared.positions.Unit.{Unit}
-use Rattle.ob0_text.specs.declared.positions.Unit.TheVariants.{Utf16}
+use Rattle.ob0_text.specs.declared.position_types.Unit.{Unit}
+use Rattle.ob0_text.specs.declared.position_types.Unit.TheVariants.{Utf16}
 use Rattle.ob0_commands.proofs.Lines.{placed}
 use Rattle.ob0_commands.specs.Printed.{lines_at}
 use Rattle.ob0_commands.proofs.checking.lines_of.Goals as goal

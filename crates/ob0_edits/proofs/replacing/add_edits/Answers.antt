@@ -1,7 +1,7 @@
 use Rattle.std.proofs.Common.{◌≡◌, ◌++◌, ◌∙◌, List, map, take, ap, arith}
 use Rattle.std.proofs.lemmas.List.{take_all}
 use Rattle.ob0_scan.specs.declared.lexeme.Token.{Token}
-use Rattle.ob0_text.specs.declared.positions.Range.{Range}
+use Rattle.ob0_text.specs.declared.position_types.Range.{Range}
 use Rattle.ob0_edits.specs.Replaced.{parts, span_at}
 use Rattle.ob0_text.specs.Units.{width_of}
 use Rattle.ob0_edits.specs.Ranges.{range_of}

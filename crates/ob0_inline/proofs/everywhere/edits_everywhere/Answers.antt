@@ -6,7 +6,7 @@ use Rattle.ob0_tree.specs.Parsed.{Parsed, tree_of}
 use Rattle.ob0_tree.specs.Tree.{nesting}
 use Rattle.ob0_edits.specs.Changed.{at_each, changed, words_of}
 use Rattle.ob0_edits.specs.Removed.{IsDeclaration, without}
-use Rattle.ob0_edits.specs.Replaced.{AreNames, LeavesWords, StandsForName}
+use Rattle.ob0_edits.specs.Replaced.{AreNames, LeavesWords, ReplacesName}
 use Rattle.ob0_inline.specs.Everywhere.{inlined_all, uses_of}
 use Rattle.ob0_inline.specs.Values.{value_words}
 use Rattle.ob0_inline.proofs.Ended.{are_uses, is_taken, left_spelled}
@@ -36,7 +36,7 @@ returns-then-branch-clause-too_deep g c = λ alone _.
     let items = c.in_ok-edits.edits.items in
     let ws : List Word = changed (without k.first k.last (at_each (uses_of m k.ordinal) vs)) 0 (words_of m.source) in
     let spelled = left_spelled c.args.names.now c.module-read.ensures.resolved k c.requires.is_constant alone in
-    let stands = subst (λ n. StandsForName n vs) (sym (c.deref-2.ensures ∙ c.in_ok-text.ensures.text)) c.value_text.ensures.stands in
+    let stands = subst (λ n. ReplacesName n vs) (sym (c.deref-2.ensures ∙ c.in_ok-text.ensures.text)) c.value_text.ensures.stands in
     let uses = c.deref.ensures.value ∙ c.in_ok-uses.ensures in
     let leaves : LeavesWords unit content items ws =
     subst (λ (ps : List ℕ). LeavesWords unit content items (changed (without k.first k.last (at_each ps vs)) 0 (words_of m.source))) uses
@@ -55,7 +55,7 @@ returns-clause-inlined g c = λ alone.
     let items = c.in_ok-edits.edits.items in
     let ws : List Word = changed (without k.first k.last (at_each (uses_of m k.ordinal) vs)) 0 (words_of m.source) in
     let spelled = left_spelled c.args.names.now c.module-read.ensures.resolved k c.requires.is_constant alone in
-    let stands = subst (λ n. StandsForName n vs) (sym (c.deref-2.ensures ∙ c.in_ok-text.ensures.text)) c.value_text.ensures.stands in
+    let stands = subst (λ n. ReplacesName n vs) (sym (c.deref-2.ensures ∙ c.in_ok-text.ensures.text)) c.value_text.ensures.stands in
     let uses = c.deref.ensures.value ∙ c.in_ok-uses.ensures in
     let leaves : LeavesWords unit content items ws =
     subst (λ (ps : List ℕ). LeavesWords unit content items (changed (without k.first k.last (at_each ps vs)) 0 (words_of m.source))) uses

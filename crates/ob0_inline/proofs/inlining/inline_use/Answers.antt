@@ -2,7 +2,7 @@ use Rattle.std.proofs.Common.{Err, [], ◌∷◌, inl, sym, ap, ◌∙◌, subst
 use Rattle.ob0_edits.specs.Replaced.{AreNames}
 use Rattle.ob0_tree.specs.Parsed.{named_tree_of}
 use Rattle.ob0_scope_rules.specs.Resolution.{Resolution}
-use Rattle.ob0_inline.specs.Uses.{is_shown}
+use Rattle.ob0_inline.specs.Uses.{is_predeclared_truth}
 use Rattle.ob0_inline.proofs.AtUses.{Made, Refused, answer_ok, answer_refused, answer_shadowed, are_names}
 use Rattle.ob0_inline.proofs.inlining.inline_use.Goals as goal
 
@@ -18,7 +18,7 @@ returns-in-Err g c =
     let refusal = c.in-Err.refusal in
     let there : Refused c.resolved-names.result.now u refusal =
     record { too_long = λ e. c.in-Err.ensures.too_long (λ i. Err (e i)); too_deep = λ alone e. c.in-Err.ensures.too_deep alone (λ i. Err (e i)); deep_and_short = λ e. c.in-Err.ensures.deep_and_short (λ i. Err (e i)); one_of = c.in-Err.ensures.refusals } in
-    answer_refused c.args.«module».now c.resolved-names.ensures.well_typed u c.requires.is_use c.constants_stand_alone.ensures c.is_scalar.ensures refusal
+    answer_refused c.args.«module».now c.resolved-names.ensures.well_typed u c.requires.is_use c.constants_are_alone.ensures c.is_scalar.ensures refusal
     (subst (λ (r : Resolution). Refused r u refusal) c.resolved-names.ensures.value there)
 
 pub returns-then-branch : goal.returns-then-branch
@@ -29,9 +29,9 @@ returns-then-branch g c =
     let edits = c.in-Ok.edits.items in
     let there : Made c.resolved-names.result.now u unit content edits =
     record { edits_are = c.in-Ok.ensures.edits; leaves = c.in-Ok.ensures.inlined; short = c.in-Ok.ensures.short } in
-    answer_ok c.args.«module».now c.resolved-names.ensures.well_typed u c.requires.is_use c.constants_stand_alone.ensures c.is_scalar.ensures c.inlining_keeps_modules.ensures unit content edits
+    answer_ok c.args.«module».now c.resolved-names.ensures.well_typed u c.requires.is_use c.constants_are_alone.ensures c.is_scalar.ensures c.inlining_keeps_modules.ensures unit content edits
     (subst (λ (r : Resolution). Made r u unit content edits) c.resolved-names.ensures.value there)
-    (ap (λ (r : Resolution). is_shown (named_tree_of r.module_read) u.occurrence u.value) (sym c.resolved-names.ensures.value) ∙ (sym c.in_ok-is_shown-in-Ok.ensures ∙ c.if-branch.true))
+    (ap (λ (r : Resolution). is_predeclared_truth (named_tree_of r.module_read) u.occurrence u.value) (sym c.resolved-names.ensures.value) ∙ (sym c.in_ok-is_predeclared_truth-in-Ok.ensures ∙ c.if-branch.true))
 
 pub returns-else-branch : goal.returns-else-branch
 returns-else-branch g c =
@@ -41,6 +41,6 @@ returns-else-branch g c =
     let edits = c.in-Ok.edits.items in
     let there : Made c.resolved-names.result.now u unit content edits =
     record { edits_are = c.in-Ok.ensures.edits; leaves = c.in-Ok.ensures.inlined; short = c.in-Ok.ensures.short } in
-    inl (answer_shadowed c.args.«module».now c.resolved-names.ensures.well_typed u c.requires.is_use c.constants_stand_alone.ensures c.is_scalar.ensures unit content edits
+    inl (answer_shadowed c.args.«module».now c.resolved-names.ensures.well_typed u c.requires.is_use c.constants_are_alone.ensures c.is_scalar.ensures unit content edits
     (subst (λ (r : Resolution). Made r u unit content edits) c.resolved-names.ensures.value there)
-    (ap (λ (r : Resolution). is_shown (named_tree_of r.module_read) u.occurrence u.value) (sym c.resolved-names.ensures.value) ∙ (sym c.in_ok-is_shown-in-Ok.ensures ∙ c.if-branch.false)))
+    (ap (λ (r : Resolution). is_predeclared_truth (named_tree_of r.module_read) u.occurrence u.value) (sym c.resolved-names.ensures.value) ∙ (sym c.in_ok-is_predeclared_truth-in-Ok.ensures ∙ c.if-branch.false)))

@@ -5,7 +5,7 @@ use Rattle.ob0_text.specs.declared.edits.Edit.{Edit}
 use Rattle.ob0_tree.specs.Parsed.{Parsed, tree_of}
 use Rattle.ob0_tree.specs.Tree.{nesting}
 use Rattle.ob0_edits.specs.Changed.{at_each, changed, words_of}
-use Rattle.ob0_edits.specs.Replaced.{LeavesWords, StandsForName}
+use Rattle.ob0_edits.specs.Replaced.{LeavesWords, ReplacesName}
 use Rattle.ob0_inline.specs.Inlined.{inlined_at}
 use Rattle.ob0_inline.specs.Values.{value_words}
 use Rattle.ob0_inline.proofs.Shallower.{inlined_shallow}
@@ -20,7 +20,7 @@ returns-then-branch-clause-too_deep g c = λ alone _.
     let content = g.T.TextStore.content c.args.store.now in
     let ws : List Word = changed (at_each places (value_words c.args.value)) 0 (words_of m.source) in
     let spelled = inlined_spelled m c.module-read.ensures.resolved.parsed places c.requires.names c.args.value alone in
-    let stands = subst (λ n. StandsForName n (value_words c.args.value)) (sym (c.deref.ensures ∙ c.in_ok-text.ensures.text)) c.value_text.ensures.stands in
+    let stands = subst (λ n. ReplacesName n (value_words c.args.value)) (sym (c.deref.ensures ∙ c.in_ok-text.ensures.text)) c.value_text.ensures.stands in
     let leaves : LeavesWords unit content c.in_ok-edits.edits.items ws =
     subst (λ (s : Scanned). LeavesWords unit content c.in_ok-edits.edits.items (changed (at_each places (value_words c.args.value)) 0 (words_of s))) c.tokens.ensures (c.in_ok-edits.ensures.words (value_words c.args.value) stands) in
     let shallow = subst (λ (p : Parsed). nesting (inlined_at m places c.args.value) ≤ nesting (tree_of p) + 1) (sym c.module-read.ensures.value) (inlined_shallow m places c.args.value) in
@@ -35,7 +35,7 @@ returns-clause-inlined g c = λ alone.
     let content = g.T.TextStore.content c.args.store.now in
     let ws : List Word = changed (at_each places (value_words c.args.value)) 0 (words_of m.source) in
     let spelled = inlined_spelled m c.module-read.ensures.resolved.parsed places c.requires.names c.args.value alone in
-    let stands = subst (λ n. StandsForName n (value_words c.args.value)) (sym (c.deref.ensures ∙ c.in_ok-text.ensures.text)) c.value_text.ensures.stands in
+    let stands = subst (λ n. ReplacesName n (value_words c.args.value)) (sym (c.deref.ensures ∙ c.in_ok-text.ensures.text)) c.value_text.ensures.stands in
     let leaves : LeavesWords unit content c.in_ok-edits.edits.items ws =
     subst (λ (s : Scanned). LeavesWords unit content c.in_ok-edits.edits.items (changed (at_each places (value_words c.args.value)) 0 (words_of s))) c.tokens.ensures (c.in_ok-edits.ensures.words (value_words c.args.value) stands) in
     let shallow = subst (λ (p : Parsed). nesting (inlined_at m places c.args.value) ≤ nesting (tree_of p) + 1) (sym c.module-read.ensures.value) (inlined_shallow m places c.args.value) in

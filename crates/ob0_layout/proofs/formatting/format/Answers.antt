@@ -13,21 +13,21 @@ use Rattle.ob0_text.specs.Patches.{patched}
 use Rattle.ob0_layout.proofs.Patched.{gaps_patched}
 use Rattle.ob0_layout.proofs.Pieced.{all_length}
 use Rattle.ob0_layout.proofs.Unnamed.{standings_mapped}
-use Rattle.ob0_layout.specs.declared.sites.Site.{Site}
-use Rattle.ob0_layout.specs.declared.standing.LineRole.{LineRole}
-use Rattle.ob0_layout.specs.Standings.{line_roles}
+use Rattle.ob0_layout.specs.declared.sites.GapSite.{GapSite}
+use Rattle.ob0_layout.specs.declared.line_role.LineRole.{LineRole}
+use Rattle.ob0_layout.specs.LineRoles.{line_roles}
 use Rattle.ob0_layout.specs.Sites.{all_sites, changed_sites, edit_of, laid_len, LiesIn}
 use Rattle.ob0_layout.proofs.Ahead.{all_lie}
 use Rattle.ob0_layout.proofs.formatting.format.Goals as goal
 
 -- the gaps that the code found are those of the source
-of_source : {s t : Scanned} (e : s ≡ t) (found read : List Site) (ss is : List LineRole) → read ≡ found → ss ≡ is → ((scan : IsScan s) → found ≡ all_sites ss scan.lexemes) → (scan : IsScan t) → read ≡ all_sites is scan.lexemes
+of_source : {s t : Scanned} (e : s ≡ t) (found read : List GapSite) (ss is : List LineRole) → read ≡ found → ss ≡ is → ((scan : IsScan s) → found ≡ all_sites ss scan.lexemes) → (scan : IsScan t) → read ≡ all_sites is scan.lexemes
 of_source e found read ss is r f h = λ scan. r ∙ subst (λ (x : Scanned). (scan : IsScan x) → found ≡ all_sites ss scan.lexemes) e h scan ∙ ap (λ xs. all_sites xs scan.lexemes) f
 
-lie_in_source : {s t : Scanned} (e : s ≡ t) (bytes : List ℕ) (read : List Site) (is : List LineRole) → IsScan s → bytes ≡ t.text → ((scan : IsScan t) → read ≡ all_sites is scan.lexemes) → All (LiesIn (length bytes)) read
+lie_in_source : {s t : Scanned} (e : s ≡ t) (bytes : List ℕ) (read : List GapSite) (is : List LineRole) → IsScan s → bytes ≡ t.text → ((scan : IsScan t) → read ≡ all_sites is scan.lexemes) → All (LiesIn (length bytes)) read
 lie_in_source {t = t} e bytes read is scan b h =
     let there = subst IsScan e scan in
-    subst (λ (xs : List ℕ). All (LiesIn (length xs)) read) (sym b) (subst (λ (gs : List Site). All (LiesIn (length t.text)) gs) (sym (h there)) (all_lie t there is))
+    subst (λ (xs : List ℕ). All (LiesIn (length xs)) read) (sym b) (subst (λ (gs : List GapSite). All (LiesIn (length t.text)) gs) (sym (h there)) (all_lie t there is))
 
 -- the length that is counted is that of the layout
 counted : (m : Parsed) (indent : Indent) (scan : IsScan m.source) → laid_len indent (length m.source.text) 0 (all_sites (line_roles 0 (tree_of m)) scan.lexemes) ≡ length (layout indent (named_tree_of m) scan.lexemes)

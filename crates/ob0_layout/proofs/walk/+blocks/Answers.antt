@@ -3,8 +3,8 @@ use Rattle.ob0_tree.proofs.Viewed.{block_parts, procedure_made}
 use Rattle.ob0_tree.specs.declared.tree.Block.{out-Block}
 use Rattle.ob0_tree.specs.declared.tree.Procedure.{out-Procedure, roll-out-Procedure}
 use Rattle.ob0_tree.specs.View.{items_of, constants_of, types_of, variables_of, procedure_of, body_of, formals_of, block_of}
-use Rattle.ob0_layout.specs.declared.standing.LineRole.TheVariants.{Begins, Plain}
-use Rattle.ob0_layout.specs.Standings.{line_roles, deeper}
+use Rattle.ob0_layout.specs.declared.line_role.LineRole.TheVariants.{Begins, Plain}
+use Rattle.ob0_layout.specs.LineRoles.{line_roles, deeper}
 use Rattle.ob0_layout.proofs.Walks.{step, closing, walk_ends, block_shape, procedure_shape}
 use Rattle.ob0_layout.proofs.walk.+blocks.Goals as goal
 

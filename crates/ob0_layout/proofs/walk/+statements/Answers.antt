@@ -3,8 +3,8 @@ use Rattle.ob0_tree.proofs.Viewed.{while_made, repeat_made, if_parts}
 use Rattle.ob0_tree.specs.declared.tree.If.{out-If}
 use Rattle.ob0_tree.specs.Tree.{branches}
 use Rattle.ob0_tree.specs.View.{items_of, expression_of, statement_of, sequence_listed, elsif_of, else_in}
-use Rattle.ob0_layout.specs.declared.standing.LineRole.TheVariants.{Begins, Plain}
-use Rattle.ob0_layout.specs.Standings.{line_roles, deeper}
+use Rattle.ob0_layout.specs.declared.line_role.LineRole.TheVariants.{Begins, Plain}
+use Rattle.ob0_layout.specs.LineRoles.{line_roles, deeper}
 use Rattle.ob0_layout.proofs.Walks.{step, closing, while_shape, repeat_shape, else_shape, if_shape}
 use Rattle.ob0_layout.proofs.walk.+statements.Goals as goal
 

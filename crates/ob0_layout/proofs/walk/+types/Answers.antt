@@ -1,7 +1,7 @@
 use Rattle.std.proofs.Common.{◌≡◌, ◌++◌, IfOk, sym, ap, ◌∙◌, subst}
 use Rattle.ob0_tree.proofs.Viewed.{record_made}
 use Rattle.ob0_tree.specs.View.{type_of}
-use Rattle.ob0_layout.specs.Standings.{line_roles}
+use Rattle.ob0_layout.specs.LineRoles.{line_roles}
 use Rattle.ob0_layout.proofs.walk.+types.Goals as goal
 
 pub written_type-returns-in-Record : goal.written_type-returns-in-Record

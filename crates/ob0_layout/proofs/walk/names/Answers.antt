@@ -1,6 +1,6 @@
 use Rattle.std.proofs.Common.{◌++◌, [], ◌∷◌, get_or, ap, ◌∙◌, append_assoc}
 use Rattle.ob0_text.proofs.PatchSteps.{any_default}
-use Rattle.ob0_layout.specs.declared.standing.LineRole.TheVariants.{Plain}
+use Rattle.ob0_layout.specs.declared.line_role.LineRole.TheVariants.{Plain}
 use Rattle.ob0_layout.proofs.Walks.{walk_goes_on}
 use Rattle.ob0_layout.proofs.walk.names.Goals as goal
 

@@ -2,7 +2,7 @@ use Rattle.std.proofs.Common.{◌≡◌, suc, [], ◌∷◌, ◌++◌, map, leng
 use Rattle.std.proofs.lemmas.List.{map-append}
 use Rattle.std.proofs.lemmas.Slice.Zip.{zip_end, zip_turn}
 use Rattle.ob0_refs.proofs.Parameters.{Gathered, gathered_all, gathered_further}
-use Rattle.ob0_refs.specs.Declarations.{parameter_shown}
+use Rattle.ob0_refs.specs.Declarations.{parameter_hover}
 use Rattle.ob0_refs.specs.Parameters.{parameter_in}
 use Rattle.ob0_tree.specs.Places.{text_at}
 use Rattle.ob0_types_table.specs.KnownTables.{shapes_of}
@@ -13,10 +13,10 @@ pub loop-token-preserved : goal.loop-token-preserved
 loop-token-preserved c =
     let name = text_at c.args.tokens.now in
     let formal = formal_in (shapes_of c.args.known.now) in
-    let shown = parameter_shown (name c.in-Some.token.now) (formal c.in-Some.formal.now) in
+    let shown = parameter_hover (name c.in-Some.token.now) (formal c.in-Some.formal.now) in
     let turn = zip_turn c.args.behind.now c.args.formals.now c.loop-token.yielded c.into_iter-token-iterator.result c.loop-token.token-iterator c.next.new.self c.next.result (search rules) (search rules) c.loop-token.yielded_by (c.in-Some.token, c.in-Some.formal) c.in-Some.is c.next.ensures.steps in
     let step = gathered_further name formal c.args.behind.now c.args.formals.now (length c.loop-token.yielded) (map parameter_in c.loop-token.found.items) c.in-Some.token.now c.in-Some.formal.now c.loop-token.invariant turn.0 turn.1 turn.2 turn.3 in
-    let here : parameter_in c.in_ok-parameter_of.field-0 ≡ shown = c.in_ok-parameter_of.ensures ∙ ap (λ x. parameter_shown x (formal c.in-Some.formal.now)) c.text_at.ensures in
+    let here : parameter_in c.in_ok-parameter_of.field-0 ≡ shown = c.in_ok-parameter_of.ensures ∙ ap (λ x. parameter_hover x (formal c.in-Some.formal.now)) c.text_at.ensures in
     let grown : map parameter_in c.push.new.self.items ≡ map parameter_in c.loop-token.found.items ++ shown ∷ [] =
     ap (map parameter_in) c.in_ok-push.ensures.items ∙ map-append parameter_in c.loop-token.found.items (c.in_ok-parameter_of.field-0 ∷ []) ∙ ap (λ z. map parameter_in c.loop-token.found.items ++ z ∷ []) here in
     let size : length (c.loop-token.yielded ++ (c.in-Some.token, c.in-Some.formal) ∷ []) ≡ suc (length c.loop-token.yielded) = length-append c.loop-token.yielded ((c.in-Some.token, c.in-Some.formal) ∷ []) ∙ omega arith in

@@ -1,7 +1,7 @@
 use Rattle.std.proofs.Common.{◌≡◌, map, ap, ap₂, ◌∙◌}
 use Rattle.std.proofs.lemmas.Result.{IfOk-weaker}
 use Rattle.ob0_refs.specs.DeclarationParts.{signature_in}
-use Rattle.ob0_refs.specs.Declarations.{names_behind, parameters_shown}
+use Rattle.ob0_refs.specs.Declarations.{names_after, parameters_hover}
 use Rattle.ob0_refs.specs.Hovers.{procedure_text}
 use Rattle.ob0_refs.specs.Parameters.{parameter_in}
 use Rattle.ob0_tree.specs.Places.{text_at}
@@ -12,8 +12,8 @@ returns c =
     let m = c.args.names.now.module_read in
     let signature = signature_in c.args.known.now c.args.formals.now in
     let name : c.text_at.result.now ≡ text_at m.source c.args.name.token = c.text_at.ensures ∙ ap (λ s. text_at s c.args.name.token) c.tokens-2.ensures in
-    let behind : map (text_at c.tokens.result.now) c.declared_behind-behind.result.now ≡ names_behind m c.args.name.ordinal =
-    ap (λ s. map (text_at s) c.declared_behind-behind.result.now) c.tokens.ensures ∙ ap (map (text_at m.source)) c.declared_behind-behind.ensures in
-    let list : map parameter_in c.as_slice.result.now ≡ parameters_shown (names_behind m c.args.name.ordinal) signature =
-    ap (map parameter_in) c.as_slice.ensures.value ∙ c.in_ok-parameters.ensures ∙ ap (λ xs. parameters_shown xs signature) behind in
+    let behind : map (text_at c.tokens.result.now) c.declared_after-behind.result.now ≡ names_after m c.args.name.ordinal =
+    ap (λ s. map (text_at s) c.declared_after-behind.result.now) c.tokens.ensures ∙ ap (map (text_at m.source)) c.declared_after-behind.ensures in
+    let list : map parameter_in c.as_slice.result.now ≡ parameters_hover (names_after m c.args.name.ordinal) signature =
+    ap (map parameter_in) c.as_slice.ensures.value ∙ c.in_ok-parameters.ensures ∙ ap (λ xs. parameters_hover xs signature) behind in
     IfOk-weaker c.procedure_text.result _ _ (λ text h. h ∙ ap₂ procedure_text name list) c.procedure_text.ensures

@@ -12,7 +12,7 @@ use Rattle.ob0_edits.specs.Replaced.{AreNames}
 use Rattle.ob0_rename_laws.specs.Renaming.{FieldFree}
 use Rattle.ob0_types_fields.specs.Identifiers.{declaring_field}
 use Rattle.ob0_rename.specs.Answers.{AnswersForField, IsRefusedToField}
-use Rattle.ob0_rename.specs.Renaming.{field_tokens_renamed}
+use Rattle.ob0_rename.specs.Renaming.{field_tokens_to_rename}
 use Rattle.ob0_rename.proofs.Outcomes.{Edited}
 use Rattle.ob0_rename.proofs.FieldOutcomes.{asked_field, duplicated, field_answered, other_none, own_field_answered}
 use Rattle.ob0_rename.proofs.fields.rename_field.Goals as goal
@@ -50,7 +50,7 @@ returns-in_ok-tokens-in-None-clause-answers g c = λ place.
     let other : (if same_name new f then None else declaring_field names.module_read k new) ≡ None =
     (λ i. if same_name new (sym old i) then None else declaring_field (c.resolved-names.ensures.value i).module_read k new) ∙ (sym c.other_field.ensures ∙ c.in-None.is) in
     let free : FieldFree (named_tree_of names.module_read) k f new = c.duplicate_by_token.ensures names.module_read k f new ∙ other_none (same_name new f) (declaring_field names.module_read k new) other in
-    let value = c.in_ok-tokens-in-None.ensures.value ∙ (λ i. field_tokens_renamed (sym c.resolved-names.ensures.value i) k (old i) new) in
+    let value = c.in_ok-tokens-in-None.ensures.value ∙ (λ i. field_tokens_to_rename (sym c.resolved-names.ensures.value i) k (old i) new) in
     let places = c.deref.ensures.value ∙ value in
     let made : Edited unit text new c.tokens-in-None.result.now c.deref.result.now c.edits_for.result =
     record { edits = c.edits_for.ensures.edits; short = c.edits_for.ensures.short; leaves = c.edits_for.ensures.words; too_long = c.edits_for.ensures.too_long; refusals = c.edits_for.ensures.refusals } in
@@ -59,7 +59,7 @@ returns-in_ok-tokens-in-None-clause-answers g c = λ place.
     let found = subst (λ (x : Resolution). AreNames x.module_read.source.tokens 0 c.in_ok-tokens-in-None.tokens.items) (sym c.resolved-names.ensures.value) c.in_ok-tokens-in-None.ensures.names in
     let are = subst (AreNames names.module_read.source.tokens 0) value found in
     subst (λ (x : Resolution). AnswersForField (asked_field unit text place new k (text_at x.module_read.source c.args.field.0) x) k (text_at x.module_read.source c.args.field.0) c.edits_for.result) c.resolved-names.ensures.value
-    (field_answered unit text place new k f names well id free c.free_field_keeps_modules.ensures c.renamed_at_tokens.ensures c.renamed_words_spell.ensures c.names_stand_for_names.ensures are c.edits_for.result there)
+    (field_answered unit text place new k f names well id free c.free_field_keeps_modules.ensures c.renamed_at_tokens.ensures c.renamed_words_spell.ensures c.names_replace_names.ensures are c.edits_for.result there)
 
 pub returns-in_ok-tokens-in-None-clause-own_name : goal.returns-in_ok-tokens-in-None-clause-own_name
 returns-in_ok-tokens-in-None-clause-own_name g c = λ id own.
@@ -72,7 +72,7 @@ returns-in_ok-tokens-in-None-clause-own_name g c = λ id own.
     let same : new ≡ f = own ∙ ap (λ (x : Resolution). text_at x.module_read.source c.args.field.0) (sym c.resolved-names.ensures.value) in
     let scan = subst IsScan c.tokens.ensures c.text-text.ensures.scan in
     let old = c.text_at-old.ensures ∙ ap (λ (s : Scanned). text_at s c.args.field.0) c.tokens-2.ensures in
-    let value = c.in_ok-tokens-in-None.ensures.value ∙ (λ i. field_tokens_renamed (sym c.resolved-names.ensures.value i) k (old i) new) in
+    let value = c.in_ok-tokens-in-None.ensures.value ∙ (λ i. field_tokens_to_rename (sym c.resolved-names.ensures.value i) k (old i) new) in
     let places = c.deref.ensures.value ∙ value in
     let made : Edited unit text new c.tokens-in-None.result.now c.deref.result.now c.edits_for.result =
     record { edits = c.edits_for.ensures.edits; short = c.edits_for.ensures.short; leaves = c.edits_for.ensures.words; too_long = c.edits_for.ensures.too_long; refusals = c.edits_for.ensures.refusals } in

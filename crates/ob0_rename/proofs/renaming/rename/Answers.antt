@@ -1,7 +1,7 @@
 use Rattle.std.proofs.Common.{◌≡◌, ◌≤◌, ◌∙◌, ℕ, Some, sym, ap, arith}
 use Rattle.ob0_tree.specs.Places.{text_at}
 use Rattle.ob0_scope_rules.specs.Resolution.{Resolution}
-use Rattle.ob0_scope.specs.Standing.{name_on}
+use Rattle.ob0_scope.specs.NamesAtPlaces.{name_on}
 use Rattle.ob0_rename.specs.Renaming.{declaration, field_of, meant_at, nothing, predeclared}
 use Rattle.ob0_rename.proofs.FieldOutcomes.{field_answered_there}
 use Rattle.ob0_rename.proofs.Outcomes.{answered_there, asked, is_declaration, meant_named, meant_unnamed}

@@ -5,7 +5,7 @@ use Rattle.ob0_scope.specs.Renames.{other_of, place_of}
 use Rattle.ob0_scope_rules.specs.Resolution.{Resolution}
 use Rattle.ob0_analysis.specs.CheckedModules.{IsWellTyped}
 use Rattle.ob0_edits.specs.Replaced.{AreNames}
-use Rattle.ob0_rename.specs.Answers.{AnswersFor, IsRefusedTo}
+use Rattle.ob0_rename.specs.Answers.{AnswersDeclaration, IsRefusedTo}
 use Rattle.ob0_rename.specs.Renaming.{is_declared_as}
 use Rattle.ob0_rename.proofs.Outcomes.{Edited, answered, asked, captured, once_of, own_answered}
 use Rattle.ob0_rename.proofs.Owned.{own_free}
@@ -59,8 +59,8 @@ returns-in_ok-tokens-in-None-clause-answers g c = λ place.
     let there = subst (λ places. Edited unit text new names.module_read.source places c.edits_for.result) places
     (subst (λ (s : Scanned). Edited unit text new s c.deref.result.now c.edits_for.result) c.tokens-in-None.ensures made) in
     let are = subst (AreNames names.module_read.source.tokens 0) c.in_ok-tokens-in-None.ensures.value c.in_ok-tokens-in-None.ensures.names in
-    subst (λ (x : Resolution). AnswersFor (asked unit text place new d x) d c.edits_for.result) c.resolved-names.ensures.value
-    (answered unit text place new d names well id free c.free_keeps_modules.ensures c.renamed_words_spell.ensures c.names_stand_for_names.ensures are c.edits_for.result there)
+    subst (λ (x : Resolution). AnswersDeclaration (asked unit text place new d x) d c.edits_for.result) c.resolved-names.ensures.value
+    (answered unit text place new d names well id free c.free_keeps_modules.ensures c.renamed_words_spell.ensures c.names_replace_names.ensures are c.edits_for.result there)
 
 pub returns-in_ok-tokens-in-None-clause-own_name : goal.returns-in_ok-tokens-in-None-clause-own_name
 returns-in_ok-tokens-in-None-clause-own_name g c = λ own.

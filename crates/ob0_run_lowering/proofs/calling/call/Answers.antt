@@ -19,12 +19,12 @@ returns-in-None c =
 pub returns-in-Procedure : goal.returns-in-Procedure
 returns-in-Procedure c =
     let shapes = shapes_of c.args.scene.now.types.now in
-    MatchResult-weaker c.called.result c.called.ensures (λ made h. h (sym c.in-Some.ensures ∙ ap (object_in shapes) c.in-Procedure.is ∙ sym (ap (λ fs. Some (a_procedure (map (formal_in shapes) fs))) c.as_slice.ensures.value))) (λ y h. h)
+    MatchResult-weaker c.lower_call.result c.lower_call.ensures (λ made h. h (sym c.in-Some.ensures ∙ ap (object_in shapes) c.in-Procedure.is ∙ sym (ap (λ fs. Some (a_procedure (map (formal_in shapes) fs))) c.as_slice.ensures.value))) (λ y h. h)
 
 pub returns-in-Standard : goal.returns-in-Standard
 returns-in-Standard c =
     let scene = c.args.scene.now in
-    MatchResult-weaker c.standard_called.result c.standard_called.ensures (λ made h. h (label_in scene.resolved.now c.args.c.now.procedure) (sym c.in-Some.ensures ∙ ap (object_in (shapes_of scene.types.now)) c.in-Standard.is)) (λ y h. h)
+    MatchResult-weaker c.lower_standard_call.result c.lower_standard_call.ensures (λ made h. h (label_in scene.resolved.now c.args.c.now.procedure) (sym c.in-Some.ensures ∙ ap (object_in (shapes_of scene.types.now)) c.in-Standard.is)) (λ y h. h)
 
 pub returns-in-Named : goal.returns-in-Named
 returns-in-Named c =

@@ -9,17 +9,17 @@ use Rattle.ob0_run_machine.proofs.statements.+execution.Goals as goal
 pub branches-loop-branch-init : goal.branches-loop-branch-init
 branches-loop-branch-init g t c = branches_begin c.deref-branch-items.ensures.value
 
-pub branches-returns-in_err-holds : goal.branches-returns-in_err-holds
-branches-returns-in_err-holds g t c = leaving (err_from_is_err_and c.from_residual.result c.from_residual.ensures.1)
-    (branches_fail c.in_err-holds.field-0.0 c.branch-item.result c.loop-branch.invariant c.loop-branch-test.true c.branch-item.is c.in_err-holds.ensures)
+pub branches-returns-in_err-evaluate_condition : goal.branches-returns-in_err-evaluate_condition
+branches-returns-in_err-evaluate_condition g t c = leaving (err_from_is_err_and c.from_residual.result c.from_residual.ensures.1)
+    (branches_fail c.in_err-evaluate_condition.field-0.0 c.branch-item.result c.loop-branch.invariant c.loop-branch-test.true c.branch-item.is c.in_err-evaluate_condition.ensures)
 
 pub branches-returns-then-branch : goal.branches-returns-then-branch
 branches-returns-then-branch g t c =
-    branch_taken c.sequence.result _ c.branch-item.result c.loop-branch.invariant c.loop-branch-test.true c.branch-item.is (settled c.in_ok-holds.ensures c.if-branch.true) c.deref.ensures.value c.sequence.ensures
+    branch_taken c.sequence.result _ c.branch-item.result c.loop-branch.invariant c.loop-branch-test.true c.branch-item.is (settled c.in_ok-evaluate_condition.ensures c.if-branch.true) c.deref.ensures.value c.sequence.ensures
 
 pub branches-loop-branch-preserved : goal.branches-loop-branch-preserved
 branches-loop-branch-preserved g t c =
-    branches_on c.branch-item.result c.loop-branch.invariant c.loop-branch-test.true c.branch-item.is (settled c.in_ok-holds.ensures c.if-branch.false)
+    branches_on c.branch-item.result c.loop-branch.invariant c.loop-branch-test.true c.branch-item.is (settled c.in_ok-evaluate_condition.ensures c.if-branch.false)
 
 pub branches-returns : goal.branches-returns
 branches-returns g t c = branches_end c.sequence-2.result _ c.loop-branch.invariant c.loop-branch-test.false c.deref-2.ensures.value c.sequence-2.ensures
@@ -27,22 +27,22 @@ branches-returns g t c = branches_end c.sequence-2.result _ c.loop-branch.invari
 pub run_loop-loop-left-init : goal.run_loop-loop-left-init
 run_loop-loop-left-init g t c = while_begins
 
-pub run_loop-returns-in_err-holds : goal.run_loop-returns-in_err-holds
-run_loop-returns-in_err-holds g t c = leaving (err_from_is_err_and c.from_residual.result c.from_residual.ensures.1)
-    (while_fails c.in_err-holds.field-0.0 c.loop-left.invariant c.in_err-holds.ensures)
+pub run_loop-returns-in_err-evaluate_condition : goal.run_loop-returns-in_err-evaluate_condition
+run_loop-returns-in_err-evaluate_condition g t c = leaving (err_from_is_err_and c.from_residual.result c.from_residual.ensures.1)
+    (while_fails c.in_err-evaluate_condition.field-0.0 c.loop-left.invariant c.in_err-evaluate_condition.ensures)
 
 pub run_loop-returns-then-not-branch : goal.run_loop-returns-then-not-branch
-run_loop-returns-then-not-branch g t c = while_ends tt c.loop-left.invariant (settled c.in_ok-holds.ensures c.if-not-branch.true)
+run_loop-returns-then-not-branch g t c = while_ends tt c.loop-left.invariant (settled c.in_ok-evaluate_condition.ensures c.if-not-branch.true)
 
 pub run_loop-returns-then-left-eq0 : goal.run_loop-returns-then-left-eq0
-run_loop-returns-then-left-eq0 g t c = while_bound c.loop-left.invariant (settled c.in_ok-holds.ensures c.if-not-branch.false) c.if-left-eq0.true
+run_loop-returns-then-left-eq0 g t c = while_bound c.loop-left.invariant (settled c.in_ok-evaluate_condition.ensures c.if-not-branch.false) c.if-left-eq0.true
 
 pub run_loop-loop-left-preserved : goal.run_loop-loop-left-preserved
-run_loop-loop-left-preserved g t c = while_on c.in_ok-sequence.field-0 _ c.loop-left.invariant (settled c.in_ok-holds.ensures c.if-not-branch.false) c.if-left-eq0.false c.deref.ensures.value c.in_ok-sequence.ensures
+run_loop-loop-left-preserved g t c = while_on c.in_ok-sequence.field-0 _ c.loop-left.invariant (settled c.in_ok-evaluate_condition.ensures c.if-not-branch.false) c.if-left-eq0.false c.deref.ensures.value c.in_ok-sequence.ensures
 
 pub run_loop-returns-in_err-sequence : goal.run_loop-returns-in_err-sequence
 run_loop-returns-in_err-sequence g t c = leaving (err_from_is_err_and c.from_residual-in_err-sequence.result c.from_residual-in_err-sequence.ensures.1)
-    (while_body_fails c.in_err-sequence.field-0.0 _ c.loop-left.invariant (settled c.in_ok-holds.ensures c.if-not-branch.false) c.if-left-eq0.false c.deref.ensures.value c.in_err-sequence.ensures)
+    (while_body_fails c.in_err-sequence.field-0.0 _ c.loop-left.invariant (settled c.in_ok-evaluate_condition.ensures c.if-not-branch.false) c.if-left-eq0.false c.deref.ensures.value c.in_err-sequence.ensures)
 
 pub sequence-loop-s-init : goal.sequence-loop-s-init
 sequence-loop-s-init g t c = sequence_begins
@@ -73,18 +73,18 @@ pub until-returns-in_err-sequence : goal.until-returns-in_err-sequence
 until-returns-in_err-sequence g t c = leaving (err_from_is_err_and c.from_residual.result c.from_residual.ensures.1)
     (repeat_body_fails c.in_err-sequence.field-0.0 _ c.loop-machine.invariant c.deref.ensures.value c.in_err-sequence.ensures)
 
-pub until-returns-in_err-holds : goal.until-returns-in_err-holds
-until-returns-in_err-holds g t c = leaving (err_from_is_err_and c.from_residual-in_err-holds.result c.from_residual-in_err-holds.ensures.1)
-    (repeat_fails c.in_err-holds.field-0.0 (turn_made c.in_ok-sequence.field-0 _ c.loop-machine.invariant c.deref.ensures.value c.in_ok-sequence.ensures) c.in_err-holds.ensures)
+pub until-returns-in_err-evaluate_condition : goal.until-returns-in_err-evaluate_condition
+until-returns-in_err-evaluate_condition g t c = leaving (err_from_is_err_and c.from_residual-in_err-evaluate_condition.result c.from_residual-in_err-evaluate_condition.ensures.1)
+    (repeat_fails c.in_err-evaluate_condition.field-0.0 (turn_made c.in_ok-sequence.field-0 _ c.loop-machine.invariant c.deref.ensures.value c.in_ok-sequence.ensures) c.in_err-evaluate_condition.ensures)
 
 pub until-returns-then-branch : goal.until-returns-then-branch
 until-returns-then-branch g t c =
-    repeat_ends tt (turn_made c.in_ok-sequence.field-0 _ c.loop-machine.invariant c.deref.ensures.value c.in_ok-sequence.ensures) (settled c.in_ok-holds.ensures c.if-branch.true)
+    repeat_ends tt (turn_made c.in_ok-sequence.field-0 _ c.loop-machine.invariant c.deref.ensures.value c.in_ok-sequence.ensures) (settled c.in_ok-evaluate_condition.ensures c.if-branch.true)
 
 pub until-returns-then-further-eq0 : goal.until-returns-then-further-eq0
 until-returns-then-further-eq0 g t c =
-    repeat_bound (turn_made c.in_ok-sequence.field-0 _ c.loop-machine.invariant c.deref.ensures.value c.in_ok-sequence.ensures) (settled c.in_ok-holds.ensures c.if-branch.false) c.if-further-eq0.true
+    repeat_bound (turn_made c.in_ok-sequence.field-0 _ c.loop-machine.invariant c.deref.ensures.value c.in_ok-sequence.ensures) (settled c.in_ok-evaluate_condition.ensures c.if-branch.false) c.if-further-eq0.true
 
 pub until-loop-machine-preserved : goal.until-loop-machine-preserved
 until-loop-machine-preserved g t c =
-    repeat_on (turn_made c.in_ok-sequence.field-0 _ c.loop-machine.invariant c.deref.ensures.value c.in_ok-sequence.ensures) (settled c.in_ok-holds.ensures c.if-branch.false) c.if-further-eq0.false
+    repeat_on (turn_made c.in_ok-sequence.field-0 _ c.loop-machine.invariant c.deref.ensures.value c.in_ok-sequence.ensures) (settled c.in_ok-evaluate_condition.ensures c.if-branch.false) c.if-further-eq0.false

@@ -1,7 +1,7 @@
 use Rattle.std.proofs.Common.{Some, sym, ◌∙◌}
 use Rattle.std.proofs.lemmas.Result.{MatchResult-weaker}
 use Rattle.ob0_tree.specs.Parsed.{named_tree_of}
-use Rattle.ob0_scope.specs.declared.capturing.Capture.TheVariants as tells
+use Rattle.ob0_scope.specs.declared.capturing.FirstCapture.TheVariants as tells
 use Rattle.ob0_scope.proofs.Captured.{captured_later, captured_there, free_where_none}
 use Rattle.ob0_scope.proofs.capturing.captures.Goals as goal
 

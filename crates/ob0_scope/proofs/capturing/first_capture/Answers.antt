@@ -1,6 +1,6 @@
 use Rattle.std.proofs.Common.{ℕ, List, Option, not, option_map, sym, ap, ◌∙◌}
 use Rattle.std.specs.List.{position_from}
-use Rattle.ob0_scope.specs.declared.capturing.Capture.TheVariants.{Occurrence}
+use Rattle.ob0_scope.specs.declared.capturing.FirstCapture.TheVariants.{Occurrence}
 use Rattle.ob0_scope.specs.Renames.{is_bound_alike}
 use Rattle.ob0_scope_rules.specs.Resolution.{ordinal_in}
 use Rattle.ob0_scope.proofs.Renumbered.{first_changed_is}

@@ -1,7 +1,7 @@
 use Rattle.std.proofs.Common.{true, length, sym, subst}
 use Rattle.std.proofs.lemmas.Result.{MatchResult-weaker}
 use Rattle.ob0_tree.specs.Order.{AreIdentifiers, Ascending}
-use Rattle.ob0_scope.specs.Standing.{IsRenamedAt}
+use Rattle.ob0_scope.specs.NamesAtPlaces.{IsRenamedAt}
 use Rattle.ob0_scope.proofs.Written.{bound_ascend, bound_stand, renamed_there}
 use Rattle.ob0_scope.proofs.naming.renamed_tokens.Goals as goal
 

@@ -3,7 +3,7 @@ use Rattle.std.specs.Io.KnownBytes.{Appends}
 use Rattle.std.proofs.KnownBytes.{Appends-trans}
 use Rattle.ob0_frame.specs.Frames.{frame}
 use Rattle.ob0_session.specs.Noted.{device_of}
-use Rattle.ob0_session.specs.Sending.{AppendsFront}
+use Rattle.ob0_session.specs.Sending.{AppendsPrefix}
 use Rattle.ob0_session.proofs.Written.{frames_next, frames_split, front_after, head_text, whatever}
 use Rattle.ob0_session.proofs.serving.write_frames.Goals as goal
 
@@ -18,7 +18,7 @@ returns-in_err-write_frame-clause-front g c =
     let mid = contents (device_of c.loop-i.writer) in
     let new = contents (device_of c.write_frame.new.writer) in
     whatever c.from_residual.result (
-      front_after old mid new _ (frame c.index-messages-i.result.items) _ _ c.loop-i.invariant.sent (subst (AppendsFront mid new) is c.in_err-write_frame.ensures.front.0)
+      front_after old mid new _ (frame c.index-messages-i.result.items) _ _ c.loop-i.invariant.sent (subst (AppendsPrefix mid new) is c.in_err-write_frame.ensures.front.0)
           (frames_split (λ (v : Vec ℕ Global). v.items) messages i c.index-messages-i.result (omega arith) c.index-messages-i.is),
       c.in_err-write_frame.ensures.front.1,
     )

@@ -2,7 +2,7 @@ use Rattle.std.proofs.Common.{◌∙◌, ℕ, List, inl, inr, refl, subst, sym}
 use Rattle.std.proofs.lemmas.Result.{IfOk-weaker}
 use Rattle.ob0_session_edits.specs.Actions.{FindsInlinings, actions_asked, place_of}
 use Rattle.ob0_session_edits.specs.declared.actions.Inlinings.{Inlinings}
-use Rattle.ob0_analysis.specs.declared.analysis.Asked.{Asked}
+use Rattle.ob0_analysis.specs.declared.analysis.Finding.{Finding}
 use Rattle.ob0_session_edits.proofs.actions.code_actions.Goals as goal
 
 pub returns-then-not-wants_inlining : goal.returns-then-not-wants_inlining
@@ -14,12 +14,12 @@ returns-in-Answered g c =
     let text : List ℕ = g.T.TextStore.content c.args.store.now in
     let asked = actions_asked c.args.request.now in
     let offset = place_of unit text asked.range in
-    let found = subst (λ (a : Asked Inlinings). FindsInlinings unit text offset a) c.in-Answered.is c.in_ok-found.ensures in
-    IfOk-weaker c.listed.result _ _ (λ bytes sent. (
+    let found = subst (λ (a : Finding Inlinings). FindsInlinings unit text offset a) c.in-Answered.is c.in_ok-found.ensures in
+    IfOk-weaker c.list_actions.result _ _ (λ bytes sent. (
       _,
       (_, inl (c.in-Answered.found.here, c.in-Answered.found.everywhere, sym c.wants_inlining.ensures ∙ c.if-not-wants_inlining.false, found.0, found.1, refl), refl),
       sent,
-    )) c.listed.ensures
+    )) c.list_actions.ensures
 
 pub returns : goal.returns
 returns g c =
@@ -27,5 +27,5 @@ returns g c =
     let text : List ℕ = g.T.TextStore.content c.args.store.now in
     let asked = actions_asked c.args.request.now in
     let offset = place_of unit text asked.range in
-    let unfit = subst (λ (a : Asked Inlinings). FindsInlinings unit text offset a) c.in-IllTyped.is c.in_ok-found.ensures in
+    let unfit = subst (λ (a : Finding Inlinings). FindsInlinings unit text offset a) c.in-IllTyped.is c.in_ok-found.ensures in
     IfOk-weaker c.no_actions-in-IllTyped.result _ _ (λ bytes sent. (_, (_, inr (inr unfit, refl), refl), sent)) c.no_actions-in-IllTyped.ensures

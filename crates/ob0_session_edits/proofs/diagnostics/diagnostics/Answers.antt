@@ -1,6 +1,6 @@
 use Rattle.std.proofs.Common.{map, subst}
 use Rattle.std.proofs.lemmas.Result.{IfOk-weaker}
-use Rattle.ob0_analysis.specs.Diagnosed.{Keeps, complaint_in}
+use Rattle.ob0_analysis.specs.Diagnosed.{KeepsTokens, complaint_in}
 use Rattle.ob0_analysis.proofs.Scanning.{utf8_of}
 use Rattle.ob0_session_edits.proofs.Lists.{diagnostics_of_all}
 use Rattle.ob0_session_edits.proofs.Diagnosing.{diagnosed}
@@ -17,5 +17,5 @@ returns g c =
         diagnostics_of_all _ _ _ (rw c.as_slice.ensures.value at h),
       )) c.all_diagnostics.ensures;
       keeps = IfOk-weaker c.all_diagnostics.result _ _ (λ list h.
-          subst (λ t. Keeps t c.args.kept.now c.diagnose_again.new.kept) (utf8_of bytes text c.as_str.utf8 c.as_str.ensures) c.in_ok-told.ensures.keeps) c.all_diagnostics.ensures;
+          subst (λ t. KeepsTokens t c.args.kept.now c.diagnose_again.new.kept) (utf8_of bytes text c.as_str.utf8 c.as_str.ensures) c.in_ok-told.ensures.keeps) c.all_diagnostics.ensures;
     }

@@ -7,12 +7,12 @@ use Rattle.ob0_session_queries.specs.declared.questions.NameQuestion.{NameQuesti
 use Rattle.ob0_session_queries.proofs.Naming.{name_can_be_sent}
 use Rattle.ob0_session_queries.proofs.questions.answer_question.Goals as goal
 
-pub returns-in_ok-shown_value-in-Hover : goal.returns-in_ok-shown_value-in-Hover
-returns-in_ok-shown_value-in-Hover g c =
+pub returns-in_ok-name_hover_value-in-Hover : goal.returns-in_ok-name_hover_value-in-Hover
+returns-in_ok-name_hover_value-in-Hover g c =
     let unit = g.T.TextStore.unit_of c.args.store.now in
     let text = g.T.TextStore.content c.args.store.now in
     let at = at_seen c.args.place.now in
-    let answers = subst (λ (q : NameQuestion). AnswersName unit text at q (view c.in_ok-shown_value-in-Hover.field-0)) (sym c.in-Hover.is) c.in_ok-shown_value-in-Hover.ensures in
+    let answers = subst (λ (q : NameQuestion). AnswersName unit text at q (view c.in_ok-name_hover_value-in-Hover.field-0)) (sym c.in-Hover.is) c.in_ok-name_hover_value-in-Hover.ensures in
     IfOk-weaker c.result.result _ _ (λ bytes sent. (_, answers, sent (name_can_be_sent unit text at c.args.question _ answers))) c.result.ensures
 
 pub returns-in_ok-definition_value-in-Definition : goal.returns-in_ok-definition_value-in-Definition

@@ -10,7 +10,7 @@ use Rattle.ob0_scan.specs.declared.lexeme.Span.{Span}
 use Rattle.ob0_refs.specs.Questions.{AreReferencesAt}
 use Rattle.ob0_scope_rules.specs.Resolution.{Resolution}
 use Rattle.ob0_session_queries.specs.Questions.{location_at}
-use Rattle.ob0_analysis.specs.declared.analysis.Asked.{Asked}
+use Rattle.ob0_analysis.specs.declared.analysis.Finding.{Finding}
 use Rattle.ob0_session_json.proofs.Values.{view-Array}
 use Rattle.ob0_session_queries.proofs.Naming.{FoundOf, found_of}
 use Rattle.ob0_session_queries.proofs.questions.references_answer.Goals as goal
@@ -23,7 +23,7 @@ returns-in-Answered g c =
     let id = id_data c.args.id.now in
     let is = λ (r : Resolution) (found : Vec Span Global). AreReferencesAt r c.offset.result c.args.include_declaration found.items in
     let found = found_of c.as_str.result.now text is c.in_ok-found.field-0 c.as_str.utf8 c.as_str.ensures c.in_ok-found.ensures in
-    let there = subst (λ (a : Asked (Vec Span Global)). FoundOf text is a) c.in-Answered.is found in
+    let there = subst (λ (a : Finding (Vec Span Global)). FoundOf text is a) c.in-Answered.is found in
     let spans = c.in-Answered.found.items in
     let are = subst (λ (offset : ℕ). AreReferencesAt there.0 offset c.args.include_declaration spans) c.offset.ensures there.2 in
     let same : array (items_of (map (location_at unit c.as_str-in-Answered.result.now text) c.as_slice.result.now)) ≡ array (items_of (map (location_at unit at.uri text) spans)) = (λ i. array (items_of (map (location_at unit (c.as_str-in-Answered.ensures.value i) text) (c.as_slice.ensures.value i)))) in
@@ -43,6 +43,6 @@ returns g c =
     let can = subst CanBeSent (sym none) (record { whole = refl; shallow = omega arith }) in
     IfOk-weaker c.result.result _ _ (λ bytes sent. (
       _,
-      inr (subst (λ (a : Asked (Vec Span Global)). FoundOf text is a) c.in-IllTyped.is found, none),
+      inr (subst (λ (a : Finding (Vec Span Global)). FoundOf text is a) c.in-IllTyped.is found, none),
       sent can,
     )) c.result.ensures

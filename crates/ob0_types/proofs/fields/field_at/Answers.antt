@@ -1,7 +1,7 @@
 use Rattle.std.proofs.Common.{◌≡◌, ℕ, List, Option, ◌∙◌, ap, sym, subst}
 use Rattle.std.specs.Prelude.{IfSome}
 use Rattle.ob0_scan.specs.Scanned.{Scanned}
-use Rattle.ob0_tree.specs.Order.{IsIdentifier}
+use Rattle.ob0_tree.specs.Order.{IsIdentifierToken}
 use Rattle.ob0_tree.specs.Parsed.{IsParsed}
 use Rattle.ob0_scope_rules.specs.Resolution.{Resolution}
 use Rattle.ob0_types_fields.specs.Identifiers.{AreInTextOrder, field_at, field_identifiers, field_on}
@@ -27,5 +27,5 @@ returns-clause-stand c =
     let parsed = c.resolved-names.ensures.well_typed.resolved.parsed in
     let source = c.tokens.ensures ∙ ap (λ (r : Resolution). r.module_read.source) c.resolved-names.ensures.value in
     let same = found_at r _ _ c.args.offset _ parsed source c.fields.ensures.1 c.at.ensures in
-    subst (λ found. IfSome found (λ x. IsIdentifier r.module_read.source.tokens x.0)) (sym same)
+    subst (λ found. IfSome found (λ x. IsIdentifierToken r.module_read.source.tokens x.0)) (sym same)
     (field_stands r.module_read.source r.module_read.source.tokens c.args.offset (field_identifiers r) (fields_stand r parsed))

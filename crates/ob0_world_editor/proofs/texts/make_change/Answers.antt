@@ -1,6 +1,6 @@
 use Rattle.std.proofs.Common.{sym, ap, ◌∙◌, Some}
 use Rattle.std.specs.Str.{chars}
-use Rattle.ob0_text.specs.declared.positions.Unit.{Unit}
+use Rattle.ob0_text.specs.declared.position_types.Unit.{Unit}
 use Rattle.ob0_text.specs.Patches.{replaced}
 use Rattle.ob0_text.specs.Units.{width_of}
 use Rattle.ob0_text.specs.OpenDocuments.{changed_text}

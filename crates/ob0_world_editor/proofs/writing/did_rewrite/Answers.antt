@@ -2,7 +2,7 @@ use Rattle.std.proofs.Common.{◌≡◌, ◌≤◌, [], ◌∷◌, arith, subst,
 use Rattle.std.specs.Prelude.{codes}
 use Rattle.serde_json.specs.Data.{depth}
 use Rattle.serde_json.specs.View.{view}
-use Rattle.ob0_rpc.specs.Messages.{Reads}
+use Rattle.ob0_rpc.specs.Messages.{ReadsContent}
 use Rattle.ob0_rpc.specs.Shapes.{notification_message}
 use Rattle.ob0_world_editor.specs.Shapes.{change_by, change_params}
 use Rattle.ob0_world_editor.proofs.Hearing.{if_ok}
@@ -13,7 +13,7 @@ pub returns : goal.returns
 returns c =
     let is : view c.in_ok-params.params ≡ change_params c.args.uri.now c.args.version (change_by None c.args.text.now ∷ []) = c.in_ok-params.ensures in
     let small : depth (view c.in_ok-params.params) ≤ 126 = subst (λ d. depth d ≤ 126) (sym is) (omega arith) in
-    if_ok c.note.result
+    if_ok c.notification.result
     (λ content reads. rewriting_told content.items c.args.uri.now c.args.version c.args.text.now c.requires
-    (subst (λ d. Reads content.items (Some (notification_message (codes "textDocument/didChange") d))) is (reads small)))
-    c.note.ensures
+    (subst (λ d. ReadsContent content.items (Some (notification_message (codes "textDocument/didChange") d))) is (reads small)))
+    c.notification.ensures

@@ -1,7 +1,7 @@
 use Rattle.std.proofs.Common.{◌≡◌, ◌≤◌, ◌∙◌, subst, sym, Some}
 use Rattle.serde_json.specs.Data.{depth}
 use Rattle.serde_json.specs.View.{view}
-use Rattle.ob0_rpc.specs.Messages.{Reads}
+use Rattle.ob0_rpc.specs.Messages.{ReadsContent}
 use Rattle.ob0_world_editor.specs.Code.{ask_of}
 use Rattle.ob0_world_editor.specs.Shapes.{request_message, method_of, params_for}
 use Rattle.ob0_world_editor.proofs.Hearing.{if_ok}
@@ -14,5 +14,5 @@ returns c =
     c.in_ok-message.ensures ∙ (λ i. request_message c.args.number (c.method_of.ensures i) (c.in_ok-params.ensures i)) in
     let small : depth (view c.in_ok-message.message) ≤ 127 = subst (λ d. depth d ≤ 127) (sym is) (shallow_request c.args.number c.args.uri.now (ask_of c.args.ask.now)) in
     if_ok c.content_of.result
-    (λ content reads. ask_requested content.items c.args.number c.args.uri.now (ask_of c.args.ask.now) (subst (λ d. Reads content.items (Some d)) is (reads small)))
+    (λ content reads. ask_requested content.items c.args.number c.args.uri.now (ask_of c.args.ask.now) (subst (λ d. ReadsContent content.items (Some d)) is (reads small)))
     c.content_of.ensures

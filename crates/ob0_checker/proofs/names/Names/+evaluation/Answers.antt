@@ -33,7 +33,7 @@ evaluate-returns-in-Some t c =
     let relation = (out-Comparison c.deref-compared.result.now).relation in
     let left = in_labels r (simple_of (out-Expression c.args.e.now).left) in
     let right = in_labels r (simple_of (out-Comparison c.deref-compared.result.now).right) in
-    c.related.ensures
+    c.value_of_relation.ensures
     ∙ ap (λ x. both (λ x y. given_value (relate relation x y)) x (option_map scalar_value c.evaluate_simple-right.result)) c.evaluate_simple-left.ensures
     ∙ ap (both (λ x y. given_value (relate relation x y)) (given_value (evaluate_simple m [] left))) c.evaluate_simple-right.ensures
     ∙ sym (related_valued m relation left right)
@@ -64,7 +64,7 @@ evaluate_simple-loop-addend-preserved t c =
     let a = c.addend-item.result in
     let so_far = option_map scalar_value c.loop-addend.so_far in
     chain_goes_on a _ (added_values_chain m) c.loop-addend.invariant c.loop-addend-test.true c.addend-item.is
-    (c.added-so_far.ensures
+    (c.value_of_sum-so_far.ensures
     ∙ ap (λ right. option_and_then (sum_value (out-Addend a).operator right) so_far) c.evaluate_term-in-loop-addend.ensures
     ∙ ap (λ z. option_and_then (λ y. value_added m y (in_labels r z)) so_far) (sym (addend_parts a)))
 
@@ -87,7 +87,7 @@ evaluate_term-loop-multiplier-preserved t c =
     let a = c.multiplier-item.result in
     let so_far = option_map scalar_value c.loop-multiplier.so_far in
     chain_goes_on a _ (multiplied_values_chain m) c.loop-multiplier.invariant c.loop-multiplier-test.true c.multiplier-item.is
-    (c.multiplied-so_far.ensures
+    (c.value_of_product-so_far.ensures
     ∙ ap (λ right. option_and_then (product_value a.operator right) so_far) c.evaluate_factor.ensures)
 
 pub evaluate_term-returns : goal.evaluate_term-returns

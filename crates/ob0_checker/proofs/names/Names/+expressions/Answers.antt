@@ -32,7 +32,7 @@ type_of-returns-in-Some t c =
     let operation = relation_type (out-Comparison c.deref-compared.result.now).relation in
     let left = in_labels r (simple_of (out-Expression c.args.e.now).left) in
     let right = in_labels r (simple_of (out-Comparison c.deref-compared.result.now).right) in
-    c.related.ensures shapes
+    c.type_of_relation.ensures shapes
     ∙ ap (λ x. both operation x (option_map (type_shape shapes) c.type_of_simple-right.result)) c.type_of_simple-left.ensures
     ∙ ap (both operation (type_of_simple m left)) c.type_of_simple-right.ensures
     ∙ sym (related_typed m (out-Comparison c.deref-compared.result.now).relation left right)
@@ -69,7 +69,7 @@ type_of_simple-loop-addend-preserved t c =
     let a = c.addend-item.result in
     let so_far = option_map (type_shape shapes) c.loop-addend.so_far in
     chain_goes_on a _ (added_chain m) c.loop-addend.invariant c.loop-addend-test.true c.addend-item.is
-    (c.added-so_far.ensures shapes
+    (c.type_of_sum-so_far.ensures shapes
     ∙ ap (both (add_type (out-Addend a).operator) so_far) c.type_of_term-in-loop-addend.ensures
     ∙ added_step m (out-Addend a).operator (in_labels r (term_of (out-Addend a).term)) so_far
     ∙ ap (λ z. option_and_then (λ y. type_added m y (in_labels r z)) so_far) (sym (addend_parts a)))
@@ -95,7 +95,7 @@ type_of_term-loop-multiplier-preserved t c =
     let a = c.multiplier-item.result in
     let so_far = option_map (type_shape shapes) c.loop-multiplier.so_far in
     chain_goes_on a _ (multiplied_chain m) c.loop-multiplier.invariant c.loop-multiplier-test.true c.multiplier-item.is
-    (c.multiplied-so_far.ensures shapes
+    (c.type_of_product-so_far.ensures shapes
     ∙ ap (both (multiply_type a.operator) so_far) c.type_of_factor.ensures
     ∙ multiplied_step m a.operator (in_labels r (factor_of a.factor)) so_far)
 

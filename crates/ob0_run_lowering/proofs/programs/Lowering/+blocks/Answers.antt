@@ -5,8 +5,8 @@ use Rattle.ob0_types_rules.specs.InLabels.{in_labels}
 use Rattle.ob0_run_lowering.specs.declared.scene.Scene.{Scene}
 use Rattle.ob0_run_machine.specs.declared.code.Procedure.{Procedure}
 use Rattle.ob0_run_lowering.specs.Blocks.{LowersBlock}
-use Rattle.ob0_run_lowering.specs.Placed.{GoesBack}
-use Rattle.ob0_run_lowering.specs.declared.sight.Frame.{Frame}
+use Rattle.ob0_run_lowering.specs.Placed.{IsRestored}
+use Rattle.ob0_run_lowering.specs.declared.visible_sites.Frame.{Frame}
 use Rattle.ob0_run_lowering.proofs.LoweredBlocks.{block_means, goes_itself, goes_on, procedure_means}
 use Rattle.ob0_run_lowering.proofs.Sights.{follows_then}
 use Rattle.ob0_run_lowering.proofs.programs.Lowering.+blocks.Goals as goal
@@ -46,7 +46,7 @@ procedure-returns t c = λ rest.
       pushed = c.in_ok-index.ensures.pushed;
       first_is = ap (λ n. record { depth = n; cells = 0; lent = 0 }) deep;
       placed = (c.parameters.new.self, c.in_ok-frame.ensures, lowers);
-      back = subst (GoesBack c.announce.new.self.sight c.block.new.self.sight) (sym c.keep.ensures.sight)
+      back = subst (IsRestored c.announce.new.self.sight c.block.new.self.sight) (sym c.keep.ensures.sight)
           (c.back_to.ensures c.announce.new.self.sight (follows_then c.announce.new.self.sight c.parameters.new.self c.block.new.self.sight c.in_ok-frame.ensures.follows lowers.follows) c.mark-outside.ensures);
       kept = c.keep.ensures.procedures;
       most_announced = c.in_ok-index.ensures.most;

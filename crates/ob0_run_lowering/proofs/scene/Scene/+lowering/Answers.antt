@@ -20,12 +20,12 @@ factor-returns-in-Designator t c =
     let scene = c.args.self.now in
     subst (λ z. IfOk c.named.result (λ l. code_of l ≡ factor_code scene (in_labels scene.resolved.now z))) (sym (designator_made c.in-Designator.d) ∙ sym (ap factor_of c.in-Designator.is)) c.named.ensures
 
-pub located-loop-selector-preserved : goal.located-loop-selector-preserved
-located-loop-selector-preserved t c =
+pub locate-loop-selector-preserved : goal.locate-loop-selector-preserved
+locate-loop-selector-preserved t c =
     fold_goes_on c.selector-item.result _ (selected_fold c.args.self.now) c.loop-selector.invariant c.loop-selector-test.true c.selector-item.is c.in_ok-at.ensures
 
-pub located-returns : goal.located-returns
-located-returns t c =
+pub locate-returns : goal.locate-returns
+locate-returns t c =
     let scene = c.args.self.now in
     let r = scene.resolved.now in
     fold_ends (selected_fold scene) c.loop-selector.invariant c.loop-selector-test.false
@@ -43,12 +43,12 @@ lowered-returns-in_ok-right-in-Some t c =
     let r = scene.resolved.now in
     let compared = out-Comparison c.deref-compared.result.now in
     let left = simple_of (out-Expression c.args.e.now).left in
-    subst (λ z. IfOk c.related.result (λ l. code_of l ≡ z))
+    subst (λ z. IfOk c.lower_relation.result (λ l. code_of l ≡ z))
     (ap (λ a. related compared.relation a (code_of c.in_ok-right-in-Some.right)) c.in_ok-left.ensures
     ∙ ap (related compared.relation (simple_code scene (in_labels r left))) c.in_ok-right-in-Some.ensures
     ∙ ap (λ k. expression_code scene (in_labels r (compares left (one (relates (out-Comparison k).relation (simple_of (out-Comparison k).right)))))) c.deref-compared.ensures
     ∙ sym (ap (λ e. expression_code scene (in_labels r e)) (expression_related c.args.e.now c.in-Some.compared c.in-Some.is)))
-    c.related.ensures
+    c.lower_relation.ensures
 
 pub simple-loop-addend-preserved : goal.simple-loop-addend-preserved
 simple-loop-addend-preserved t c =

@@ -5,8 +5,8 @@ use Rattle.ob0_run_lowering.specs.Trees.{addends_code, code_of, found_of, multip
 use Rattle.ob0_run_lowering.proofs.CodeChains.{Folded}
 use Rattle.ob0_run_lowering.proofs.scene.Scene.+lowering.Given as goal
 
-abbrev pub invariant-located-loop-selector : goal.invariant-located-loop-selector
-invariant-located-loop-selector l =
+abbrev pub invariant-locate-loop-selector : goal.invariant-locate-loop-selector
+invariant-locate-loop-selector l =
     Folded (selected_place l.self) l.self.resolved.now selector_of (option_map (found_of (shapes_of l.self.types.now)) l.initial.at) l.selector-items l.selector-index (option_map (found_of (shapes_of l.self.types.now)) l.at)
 
 abbrev pub invariant-simple-loop-addend : goal.invariant-simple-loop-addend

@@ -1,5 +1,5 @@
 use Rattle.std.proofs.Common.{[], ◌∙◌, ◌++◌, ℕ, ap, append-nil, sym, subst}
-use Rattle.ob0_scan.specs.Progress.{Progress}
+use Rattle.ob0_scan.specs.Progress.{ScanProgress}
 use Rattle.ob0_scan.specs.Rescanning.{last_end}
 use Rattle.ob0_scan.proofs.Steps.{progress_same}
 use Rattle.ob0_scan.proofs.Reusing.{progress_behind}
@@ -14,6 +14,6 @@ returns-clause-under_way c =
     let ds = c.new-2.result.items in
     let gs = c.new-3.result.items in
     let end = last_end tokens comments in
-    subst (λ (n : ℕ). Progress text n (tokens ++ us) (comments ++ ds) gs) (sym c.end.ensures)
+    subst (λ (n : ℕ). ScanProgress text n (tokens ++ us) (comments ++ ds) gs) (sym c.end.ensures)
     (progress_same text end tokens (tokens ++ us) comments (comments ++ ds) [] gs (ap (λ x. tokens ++ x) c.new.ensures.items ∙ append-nil tokens) (ap (λ x. comments ++ x) c.new-2.ensures.items ∙ append-nil comments) c.new-3.ensures.items
     (progress_behind text end tokens comments c.utf8.text c.requires.inside c.requires.cut))

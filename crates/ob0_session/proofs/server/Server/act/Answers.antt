@@ -5,7 +5,7 @@ use Rattle.std.specs.Int.{w64}
 use Rattle.ob0_rpc.specs.Seen.{id_data, kinds_seen}
 use Rattle.ob0_rpc.specs.declared.clients.Client.{Client}
 use Rattle.ob0_text.specs.OpenDocuments.{OpenDocuments, InStep, OutOfStep}
-use Rattle.ob0_text.specs.declared.positions.Unit.{Unit}
+use Rattle.ob0_text.specs.declared.position_types.Unit.{Unit}
 use Rattle.ob0_session_edits.specs.Actions.{ActionsAsked, AnswersActions}
 use Rattle.ob0_session.specs.Answers.{State, offers_actions}
 use Rattle.ob0_session.proofs.Answering.{of_held}

@@ -1,7 +1,7 @@
 use Rattle.std.proofs.Common.{◌∙◌, Some, ap, refl, subst}
 use Rattle.ob0_rpc.specs.Seen.{id_data}
 use Rattle.ob0_text.specs.OpenDocuments.{OpenDocuments, InStep, OutOfStep}
-use Rattle.ob0_text.specs.declared.positions.Unit.{Unit}
+use Rattle.ob0_text.specs.declared.position_types.Unit.{Unit}
 use Rattle.ob0_session.specs.Answers.{State, lays_out}
 use Rattle.ob0_session_edits.specs.Formatted.{AnswersFormatting}
 use Rattle.ob0_session.proofs.Answering.{of_held}

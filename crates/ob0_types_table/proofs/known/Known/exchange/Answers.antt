@@ -1,6 +1,6 @@
 use Rattle.std.proofs.Common.{◌≡◌, ◌<◌, Some, length, sym, ap, ◌∙◌, subst}
 use Rattle.ob0_types_table.specs.declared.known.Entry.{Entry}
-use Rattle.ob0_types_table.specs.KnownTables.{declared_in, in_sight_of, object_seen, put_at, seen_object, shapes_of}
+use Rattle.ob0_types_table.specs.KnownTables.{declared_in, visible_objects, object_seen, put_at, seen_object, shapes_of}
 use Rattle.ob0_types_table.specs.Tables.{object_in}
 use Rattle.ob0_types_table.proofs.Sighted.{seen_at, set_seen}
 use Rattle.ob0_types_table.proofs.known.Known.exchange.Goals as goal
@@ -25,11 +25,11 @@ returns-clause-before c =
     let less : c.args.ordinal < length c.self.inside.entries.items = subst (λ t. c.args.ordinal < length t.entries) (sym c.self.view_is) c.requires.room in
     let given : object_seen c.replace-before.result ≡ c.match-sight.result =
     elim c.match-sight.branch [
-      | in-Nothing+in-Procedure-1 w ↦ ap (in_sight_of c.replace-before.result.object) w.in-Nothing.is ∙ sym w.result-is
-      | in-Nothing+in-Named-1 w ↦ ap (in_sight_of c.replace-before.result.object) w.in-Nothing.is ∙ sym w.result-is
-      | in-Last w ↦ ap (in_sight_of c.replace-before.result.object) w.in-Last.is ∙ sym w.result-is
-      | in-Earlier+in-Procedure-1 w ↦ ap (in_sight_of c.replace-before.result.object) w.in-Earlier.is ∙ sym w.result-is
-      | in-Earlier+in-Named-1 w ↦ ap (in_sight_of c.replace-before.result.object) w.in-Earlier.is ∙ sym w.result-is
+      | in-Nothing+in-Procedure-1 w ↦ ap (visible_objects c.replace-before.result.object) w.in-Nothing.is ∙ sym w.result-is
+      | in-Nothing+in-Named-1 w ↦ ap (visible_objects c.replace-before.result.object) w.in-Nothing.is ∙ sym w.result-is
+      | in-Last w ↦ ap (visible_objects c.replace-before.result.object) w.in-Last.is ∙ sym w.result-is
+      | in-Earlier+in-Procedure-1 w ↦ ap (visible_objects c.replace-before.result.object) w.in-Earlier.is ∙ sym w.result-is
+      | in-Earlier+in-Named-1 w ↦ ap (visible_objects c.replace-before.result.object) w.in-Earlier.is ∙ sym w.result-is
     ] in
     sym (
     ap (λ t. seen_object t c.args.ordinal) (sym c.self.view_is)

@@ -2,7 +2,7 @@ use Rattle.std.proofs.Common.{◌*◌, Some, sym, ap, ◌∙◌, subst, arith}
 use Rattle.ob0_types_table.specs.KnownTables.{shapes_of}
 use Rattle.ob0_types_table.specs.Tables.{IsMade, only_array, type_shape}
 use Rattle.ob0_values.specs.Values.{array_shape}
-use Rattle.ob0_types_table.specs.declared.known.Shape.TheVariants as made
+use Rattle.ob0_types_table.specs.declared.known.TypeEntry.TheVariants as made
 use Rattle.ob0_types_table.proofs.Pushed.{limits_kept, pushed_at, pushed_shapes}
 use Rattle.ob0_types_table.proofs.Tables.{length-table}
 use Rattle.ob0_types_table.proofs.known.Known.make_array.Goals as goal

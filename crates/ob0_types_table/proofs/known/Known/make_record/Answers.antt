@@ -3,7 +3,7 @@ use Rattle.ob0_types_table.specs.KnownTables.{shapes_of}
 use Rattle.ob0_types_table.specs.Tables.{IsMade, fields_shape, only_record}
 use Rattle.ob0_types_rules.specs.Typing.{within_limits}
 use Rattle.ob0_values.specs.Values.{record_shape}
-use Rattle.ob0_types_table.specs.declared.known.Shape.TheVariants as made
+use Rattle.ob0_types_table.specs.declared.known.TypeEntry.TheVariants as made
 use Rattle.ob0_types_table.proofs.Pushed.{limits_kept, pushed_at, pushed_shapes, record_depth, record_scalars}
 use Rattle.ob0_types_table.proofs.Tables.{length-table}
 use Rattle.ob0_types_table.proofs.known.Known.make_record.Goals as goal

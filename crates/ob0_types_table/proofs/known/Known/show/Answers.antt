@@ -1,6 +1,6 @@
 use Rattle.std.proofs.Common.{◌<◌, Some, length, refl, sym, ap, ◌∙◌, subst}
 use Rattle.ob0_types_table.specs.declared.known.Entry.{Entry}
-use Rattle.ob0_types_table.specs.declared.known.Sight.TheVariants as sight
+use Rattle.ob0_types_table.specs.declared.known.VisibleBinding.TheVariants as sight
 use Rattle.ob0_types_table.specs.KnownTables.{Tables, declared_in, object_seen, put_at, seen_object, shapes_of}
 use Rattle.ob0_types_table.specs.Tables.{object_in}
 use Rattle.ob0_types_table.proofs.Sighted.{set_same, set_seen}

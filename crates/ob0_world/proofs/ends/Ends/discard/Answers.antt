@@ -1,6 +1,6 @@
 use Rattle.std.proofs.Common.{◌≡◌, ◌∙◌, ap, sym, subst, cond}
 use Rattle.ob0_world_rules.specs.Ends.{Ends}
-use Rattle.ob0_world_rules.specs.Editing.{discards, held_answer}
+use Rattle.ob0_world_rules.specs.Editing.{discards, kept_answer}
 use Rattle.ob0_world_rules.specs.Events.{Is, comes_of, drops, nothing}
 use Rattle.ob0_world.specs.Code.{seen_of}
 use Rattle.ob0_world.specs.Queues.{ends_from}
@@ -19,5 +19,5 @@ returns-clause-ok g c =
       | else-discard w ↦ ap seen_of w.result-is ∙ sym (ap (λ b. cond b (drops k) nothing) w.if-discard.false)
     ] in
     let happens = discard_happens i.editor c.discard.new.self k i.to_server.items i.to_editor.items i.session i.applied.items i.made.items c.discard.result c.discard.ensures.held c.discard.ensures.after in
-    subst (λ (w : Ends). Is (comes_of w k (discards w.editor k (held_answer k w.editor.answers))) (seen_of c.if-discard.result) (ends_from c.discard.new.self i.to_server.items i.session i.to_editor.items i.applied.items i.made.items)) (ap (λ (w : Both). w.ends) c.self.view_is)
+    subst (λ (w : Ends). Is (comes_of w k (discards w.editor k (kept_answer k w.editor.answers))) (seen_of c.if-discard.result) (ends_from c.discard.new.self i.to_server.items i.session i.to_editor.items i.applied.items i.made.items)) (ap (λ (w : Both). w.ends) c.self.view_is)
     (shown ∙ happens.0, happens.1)

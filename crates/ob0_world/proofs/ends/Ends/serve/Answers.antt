@@ -3,9 +3,9 @@ use Rattle.std.specs.Prelude.{is_ok}
 use Rattle.std.specs.Option.{option_to_list}
 use Rattle.std.proofs.lemmas.List.{append-nil}
 use Rattle.ob0_world_rules.specs.Ends.{Ends}
-use Rattle.ob0_world_rules.specs.Happens.{Serves}
+use Rattle.ob0_world_rules.specs.Happens.{ServerTakes}
 use Rattle.ob0_world_rules.specs.Events as events
-use Rattle.ob0_world.specs.Queues.{Stands, bytes, both_from, ends_from, made_sent}
+use Rattle.ob0_world.specs.Queues.{IsRunningOrFailed, bytes, both_from, ends_from, made_sent}
 use Rattle.ob0_world.specs.Worlds.{Both, IsAnswered, TakesFirst}
 use Rattle.ob0_world.proofs.Serving.{turn, rest_sound, turn_stands, turn_sound, turn_happens, turn_taken}
 use Rattle.ob0_world.proofs.ends.Ends.serve.Goals as goal
@@ -13,7 +13,7 @@ use Rattle.ob0_world.proofs.ends.Ends.serve.Goals.{in-Some-made+in_ok-push, in_d
 
 pub invariant_of-self-in_err-sent : goal.invariant_of-self-in_err-sent
 invariant_of-self-in_err-sent g c =
-    rest_sound c.self.inside.editor.asked c.self.inside.to_server.items c.pop_front.new.self.items c.self.inside.to_editor.items c.self.inside.session c.answer.new.session c.in-Some.content c.in-Some.ensures.items c.self.invariant (subst Stands (sym c.in_err-sent.ensures.err) tt)
+    rest_sound c.self.inside.editor.asked c.self.inside.to_server.items c.pop_front.new.self.items c.self.inside.to_editor.items c.self.inside.session c.answer.new.session c.in-Some.content c.in-Some.ensures.items c.self.invariant (subst IsRunningOrFailed (sym c.in_err-sent.ensures.err) tt)
 
 pub invariant_of-self-in_err-made : goal.invariant_of-self-in_err-made
 invariant_of-self-in_err-made g c =
@@ -54,16 +54,16 @@ pub returns-clause-ok : goal.returns-clause-ok
 returns-clause-ok g c =
     elim c.match-made-2.branch [
       | in-Some-made+in_ok-push w ↦
-          subst (λ (x : Both). Serves c.args.self.now.ends c.args.self.now.ends.to_server (events.served c.len-count.result) x.ends) (sym w.self-is)
-          (subst (λ (x : Ends). Serves x x.to_server (events.served c.len-count.result) (ends_from c.self.inside.editor c.pop_front.new.self.items c.answer.new.session c.append.new.self.items c.self.inside.applied.items w.push.new.self.items)) (ap (λ (w : Both). w.ends) c.self.view_is)
+          subst (λ (x : Both). ServerTakes c.args.self.now.ends c.args.self.now.ends.to_server (events.served c.len-count.result) x.ends) (sym w.self-is)
+          (subst (λ (x : Ends). ServerTakes x x.to_server (events.served c.len-count.result) (ends_from c.self.inside.editor c.pop_front.new.self.items c.answer.new.session c.append.new.self.items c.self.inside.applied.items w.push.new.self.items)) (ap (λ (w : Both). w.ends) c.self.view_is)
           (turn_happens c.self.inside.editor c.self.inside.to_server.items c.pop_front.new.self.items c.self.inside.to_editor.items c.append.new.self.items c.self.inside.session c.answer.new.session c.self.inside.applied.items c.self.inside.made.items w.push.new.self.items c.in-Some.content c.in_ok-sent.sent.items c.documents.result.now c.in_ok-made.made c.len-count.result c.in-Some.ensures.items
           (turn c.self.inside.editor c.self.inside.to_server.items c.pop_front.new.self.items c.self.inside.to_editor.items c.self.inside.session c.answer.new.session c.in-Some.content c.in_ok-sent.sent.items c.in-Some.ensures.items c.self.invariant
           (subst (λ x. IsAnswered c.self.inside.session x (bytes c.in_ok-sent.sent.items) c.answer.new.session) c.as_slice.ensures.value c.in_ok-sent.ensures.ok))
           c.documents.ensures (c.in_ok-made.ensures ∙ ap (made_sent c.documents.result.now c.self.inside.editor.asked) c.as_slice-2.ensures.value) (c.in_ok-append.ensures.items ∙ ap (λ x. c.self.inside.to_editor.items ++ x) c.from_vec.ensures.items)
           (w.in_ok-push.ensures.items ∙ ap (λ o. c.self.inside.made.items ++ option_to_list o) (sym w.in-Some-made.is)) (c.len-count.ensures ∙ c.in_ok-sent.sent.ok.0)))
       | in_default-made w ↦
-          subst (λ (x : Both). Serves c.args.self.now.ends c.args.self.now.ends.to_server (events.served c.len-count.result) x.ends) (sym w.self-is)
-          (subst (λ (x : Ends). Serves x x.to_server (events.served c.len-count.result) (ends_from c.self.inside.editor c.pop_front.new.self.items c.answer.new.session c.append.new.self.items c.self.inside.applied.items c.self.inside.made.items)) (ap (λ (w : Both). w.ends) c.self.view_is)
+          subst (λ (x : Both). ServerTakes c.args.self.now.ends c.args.self.now.ends.to_server (events.served c.len-count.result) x.ends) (sym w.self-is)
+          (subst (λ (x : Ends). ServerTakes x x.to_server (events.served c.len-count.result) (ends_from c.self.inside.editor c.pop_front.new.self.items c.answer.new.session c.append.new.self.items c.self.inside.applied.items c.self.inside.made.items)) (ap (λ (w : Both). w.ends) c.self.view_is)
           (turn_happens c.self.inside.editor c.self.inside.to_server.items c.pop_front.new.self.items c.self.inside.to_editor.items c.append.new.self.items c.self.inside.session c.answer.new.session c.self.inside.applied.items c.self.inside.made.items c.self.inside.made.items c.in-Some.content c.in_ok-sent.sent.items c.documents.result.now c.in_ok-made.made c.len-count.result c.in-Some.ensures.items
           (turn c.self.inside.editor c.self.inside.to_server.items c.pop_front.new.self.items c.self.inside.to_editor.items c.self.inside.session c.answer.new.session c.in-Some.content c.in_ok-sent.sent.items c.in-Some.ensures.items c.self.invariant
           (subst (λ x. IsAnswered c.self.inside.session x (bytes c.in_ok-sent.sent.items) c.answer.new.session) c.as_slice.ensures.value c.in_ok-sent.ensures.ok))

@@ -1,0 +1,126 @@
+//! Where TRUE and FALSE are the predeclared ones.
+
+ghost use Rattle.std.specs.Prelude.{◌≡◌, IfOk, ◌==◌, ◌&&◌, not, length, option_and_then, slice_get};
+ghost use Rattle.std.specs.List.{list_any, range_with_len};
+ghost use Rattle.ob0_tree.specs.Parsed.{named_tree_of};
+ghost use Rattle.ob0_scope_rules.specs.Occurrences.{bindings, binds};
+ghost use Rattle.ob0_scope_rules.specs.Scopes.{same_ordinal};
+ghost use Rattle.ob0_scope_rules.specs.SeenNames.{sees};
+ghost use Rattle.ob0_inline.specs.Everywhere.{any_hidden};
+ghost use Rattle.ob0_inline.specs.Uses.{is_predeclared_truth};
+
+use crate::constants::NamedConstant;
+use ob0_scope::seen;
+use ob0_scope_rules::Resolved;
+use ob0_values::Scalar;
+use std::alloc::{AllocError, Global};
+
+/// The ordinals of the predeclared TRUE and FALSE.
+const TRUE: usize = 2;
+
+const FALSE: usize = 3;
+
+/// Whether the name that would be written for a value in place of an occurrence is the predeclared one. A number has
+/// none.
+pub(crate) fn is_predeclared_truth(
+    alloc: Global,
+    names: &Resolved,
+    occurrence: usize,
+    value: Scalar,
+) -> Result<bool, AllocError>
+    ensures { IfOk result (λ shown. shown ≡ is_predeclared_truth (named_tree_of names.now.module_read) occurrence value) }
+{
+    match value {
+        Scalar::Number(_) => Ok(true),
+        Scalar::Truth(true) => is_seen(alloc, names, occurrence, "TRUE", TRUE),
+        Scalar::Truth(false) => is_seen(alloc, names, occurrence, "FALSE", FALSE),
+    }
+}
+
+/// Whether a name would be bound to this declaration in place of an occurrence.
+fn is_seen(
+    alloc: Global,
+    names: &Resolved,
+    occurrence: usize,
+    name: &str,
+    ordinal: usize,
+) -> Result<bool, AllocError>
+    ensures { IfOk result (λ is. is ≡ same_ordinal (sees (named_tree_of names.now.module_read) occurrence name.now) ordinal) }
+{
+    let bound = seen(alloc, names, name)?;
+    Ok(is_bound(&bound, occurrence, ordinal))
+}
+
+fn is_bound(bound: &[Option<usize>], occurrence: usize, ordinal: usize) -> bool
+    ensures { result ≡ same_ordinal (option_and_then (λ found. found) (slice_get bound.now occurrence)) ordinal }
+{
+    match bound.get(occurrence) {
+        Some(found) => is_ordinal(*found, ordinal),
+        None => false,
+    }
+}
+
+pub(crate) fn is_ordinal(found: Option<usize>, ordinal: usize) -> bool
+    ensures { result ≡ same_ordinal found ordinal }
+{
+    match found {
+        Some(other) => other == ordinal,
+        None => false,
+    }
+}
+
+/// Whether the name that would be written for a constant isn't the predeclared one at one of its uses. A number has none.
+pub(crate) fn any_hidden(
+    alloc: Global,
+    names: &Resolved,
+    constant: NamedConstant,
+) -> Result<bool, AllocError>
+    ensures { IfOk result (λ hidden. hidden ≡ any_hidden (named_tree_of names.now.module_read) constant) }
+{
+    let value = constant.value;
+    match value {
+        Scalar::Number(_) => Ok(false),
+        Scalar::Truth(true) => is_hidden(alloc, names, constant.ordinal, "TRUE", TRUE),
+        Scalar::Truth(false) => is_hidden(alloc, names, constant.ordinal, "FALSE", FALSE),
+    }
+}
+
+/// Whether a name would be bound to another declaration than this in place of a use of a constant.
+fn is_hidden(
+    alloc: Global,
+    names: &Resolved,
+    constant: usize,
+    name: &str,
+    ordinal: usize,
+) -> Result<bool, AllocError>
+    ensures { IfOk result (λ hidden. hidden ≡ list_any (λ k. same_ordinal (binds (named_tree_of names.now.module_read) k) constant && not (same_ordinal (sees (named_tree_of names.now.module_read) k name.now) ordinal))
+        (range_with_len 0 (length (bindings (named_tree_of names.now.module_read))))) }
+{
+    // For the proof: what the contract of this call says.
+    let _module = names.module();
+    let bound = seen(alloc, names, name)?;
+    Ok(any_elsewhere(names, &bound, constant, ordinal))
+}
+
+fn any_elsewhere(names: &Resolved, bound: &[Option<usize>], constant: usize, ordinal: usize) -> bool
+    ensures { result ≡ list_any (λ k. same_ordinal (binds (named_tree_of names.now.module_read) k) constant && not (same_ordinal (option_and_then (λ found. found) (slice_get bound.now k)) ordinal)) (range_with_len 0 (length names.now.uses)) }
+{
+    for occurrence in 0..names.occurrences().len() {
+        if is_elsewhere(names, bound, occurrence, constant, ordinal) {
+            return true;
+        }
+    }
+    false
+}
+
+fn is_elsewhere(
+    names: &Resolved,
+    bound: &[Option<usize>],
+    occurrence: usize,
+    constant: usize,
+    ordinal: usize,
+) -> bool
+    ensures { result ≡ (same_ordinal (binds (named_tree_of names.now.module_read) occurrence) constant && not (same_ordinal (option_and_then (λ found. found) (slice_get bound.now occurrence)) ordinal)) }
+{
+    is_ordinal(names.declaration_of(occurrence), constant) && !is_bound(bound, occurrence, ordinal)
+}

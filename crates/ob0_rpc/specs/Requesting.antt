@@ -1,0 +1,175 @@
+-- What requests ask, by their method and params (LSP 3.17).
+-- Rule: docs/PROTOCOL.md, JSON shapes 4, Capabilities; LSP 3.17, requests.
+use Rattle.std.specs.Prelude.{ℕ, List, [], ◌∷◌, Bool, false, Option, Some, None, is_some, if◌then◌else◌, ◌||◌, max, min, option_map, option_and_then, unwrap_or, codes, Result, Ok, Err}
+use Rattle.std.specs.Str.{bytes_eq}
+use Rattle.serde_json.specs.Data.{Data, Items, no_items, item}
+use Rattle.serde_json.specs.Find.{get, as_str, as_bool, as_array, as_object}
+use Rattle.ob0_text.specs.declared.position_types.Position.{Position}
+use Rattle.ob0_text.specs.declared.position_types.Range.{Range}
+use Rattle.ob0_text.specs.declared.edits.Indent.{Indent}
+use Rattle.ob0_text.specs.declared.edits.Indent.TheVariants.{Tab, Spaces}
+use Rattle.ob0_rpc.specs.Members.{is_absent, text_in, truth_in, count_in, uri_of, position_in, range_in}
+use Rattle.ob0_rpc.specs.declared.clients.Client.{Client}
+use Rattle.ob0_rpc.specs.declared.incoming.RpcFault.{RpcFault}
+use Rattle.ob0_rpc.specs.declared.incoming.RpcFault.TheVariants.{UnknownMethod, BadParams}
+
+-- a document and a place in it
+pub record At : Type 0 where
+  pub uri : List ℕ
+  pub position : Position
+
+-- what is asked; texts are their bytes
+pub data ClientRequest : Type 0 where
+  initialize : Client → ClientRequest
+  shutdown : ClientRequest
+  hover : At → ClientRequest
+  definition : At → ClientRequest
+  -- whether the declaration is asked for too
+  references : At → Bool → ClientRequest
+  prepare_rename : At → ClientRequest
+  -- the new name
+  rename : At → List ℕ → ClientRequest
+  -- the document, the range, and the kinds of which the actions must be, where there are such
+  code_action : List ℕ → Range → Option (List (List ℕ)) → ClientRequest
+  formatting : List ℕ → Indent → ClientRequest
+
+-- ---- what a client can do
+
+-- the value that these members lead to, one inside the other
+abbrev pub within : List (List ℕ) → Data → Option Data
+within [] d = Some d
+within (name ∷ names) d = option_and_then (within names) (get name d)
+
+-- a value that is true; another value counts as absent
+abbrev pub is_true : Option Data → Bool
+is_true found = unwrap_or (option_and_then as_bool found) false
+
+-- a member is this text
+abbrev pub is_text : List ℕ → Option (List ℕ) → Bool
+is_text text None = false
+is_text text (Some other) = bytes_eq other text
+
+-- one of the items is this text
+abbrev pub has_text : List ℕ → Items → Bool
+has_text text no_items = false
+has_text text (item d ds) = is_text text (as_str d) || has_text text ds
+
+-- a list has this text
+abbrev pub lists_text : List ℕ → Option Items → Bool
+lists_text text None = false
+lists_text text (Some items) = has_text text items
+
+-- what the client of an `initialize` can do
+abbrev pub client_of : Data → Client
+client_of params = record {
+  counts_utf8 = lists_text (codes "utf-8") (option_and_then as_array (within (codes "capabilities" ∷ codes "general" ∷ codes "positionEncodings" ∷ []) params));
+  prepares_renames = is_true (within (codes "capabilities" ∷ codes "textDocument" ∷ codes "rename" ∷ codes "prepareSupport" ∷ []) params);
+  takes_literal_actions = is_some (option_and_then as_object (within (codes "capabilities" ∷ codes "textDocument" ∷ codes "codeAction" ∷ codes "codeActionLiteralSupport" ∷ []) params));
+  takes_document_changes = is_true (within (codes "capabilities" ∷ codes "workspace" ∷ codes "workspaceEdit" ∷ codes "documentChanges" ∷ []) params);
+}
+
+-- `initialize` asks only that its params are an object
+abbrev pub initialize_of : Data → Option ClientRequest
+initialize_of params = if is_some (as_object params) then Some (initialize (client_of params)) else None
+
+-- ---- what is asked of a document
+
+-- a document and a place, where both can be read
+abbrev pub at_by : Option (List ℕ) → Option Position → Option At
+at_by (Some uri) (Some position) = Some (record { uri = uri; position = position })
+at_by (Some uri) None = None
+at_by None position = None
+
+-- the document and the place in params
+abbrev pub at_of : Data → Option At
+at_of params = at_by (uri_of params) (position_in (codes "position") params)
+
+-- {"context":{"includeDeclaration":b}} beside the place
+abbrev pub references_by : Option At → Option Bool → Option ClientRequest
+references_by (Some at) (Some include) = Some (references at include)
+references_by (Some at) None = None
+references_by None include = None
+
+-- `textDocument/references`
+abbrev pub references_of : Data → Option ClientRequest
+references_of params = references_by (at_of params) (option_and_then (truth_in (codes "includeDeclaration")) (get (codes "context") params))
+
+-- a rename, where the place and the name can be read
+abbrev pub rename_by : Option At → Option (List ℕ) → Option ClientRequest
+rename_by (Some at) (Some name) = Some (rename at name)
+rename_by (Some at) None = None
+rename_by None name = None
+
+-- `textDocument/rename`
+abbrev pub rename_of : Data → Option ClientRequest
+rename_of params = rename_by (at_of params) (text_in (codes "newName") params)
+
+-- texts; none where an item is no text
+abbrev pub texts_of : Items → Option (List (List ℕ))
+texts_of no_items = Some []
+texts_of (item d ds) = option_and_then (λ text. option_map (λ texts. text ∷ texts) (texts_of ds)) (as_str d)
+
+-- a list of texts, which may be absent
+abbrev pub only_by : Option Data → Option (Option (List (List ℕ)))
+only_by found = if is_absent found then Some None else option_map Some (option_and_then texts_of (option_and_then as_array found))
+
+-- the kinds that a context allows; none where it isn't an object
+abbrev pub only_of : Data → Option (Option (List (List ℕ)))
+only_of context = if is_some (as_object context) then only_by (get (codes "only") context) else None
+
+-- a code action, where its parts can be read
+abbrev pub code_action_by : Option (List ℕ) → Option Range → Option (Option (List (List ℕ))) → Option ClientRequest
+code_action_by (Some uri) (Some range) (Some only) = Some (code_action uri range only)
+code_action_by (Some uri) (Some range) None = None
+code_action_by (Some uri) None only = None
+code_action_by None range only = None
+
+-- `textDocument/codeAction`
+abbrev pub code_action_of : Data → Option ClientRequest
+code_action_of params = code_action_by (uri_of params) (range_in (codes "range") params) (option_and_then only_of (get (codes "context") params))
+
+-- a level is one tab, or 1 to 16 spaces
+abbrev pub indent_by : Option ℕ → Option Bool → Option Indent
+indent_by (Some size) (Some spaces) = Some (if spaces then Spaces (max 1 (min size 16)) else Tab)
+indent_by (Some size) None = None
+indent_by None spaces = None
+
+-- the indent in formatting options: a tab, or 1 to 16 spaces
+abbrev pub indent_of : Data → Option Indent
+indent_of options = indent_by (count_in (codes "tabSize") options) (truth_in (codes "insertSpaces") options)
+
+-- a formatting, where the document and the options can be read
+abbrev pub formatting_by : Option (List ℕ) → Option Indent → Option ClientRequest
+formatting_by (Some uri) (Some indent) = Some (formatting uri indent)
+formatting_by (Some uri) None = None
+formatting_by None indent = None
+
+-- `textDocument/formatting`
+abbrev pub formatting_of : Data → Option ClientRequest
+formatting_of params = formatting_by (uri_of params) (option_and_then indent_of (get (codes "options") params))
+
+-- ---- requests
+
+-- the request, or `bad params`
+abbrev pub or_bad : Option ClientRequest → Result ClientRequest RpcFault
+or_bad (Some ask) = Ok ask
+or_bad None = Err BadParams
+
+-- a request of the language, by the name after `textDocument/`
+abbrev pub language_call_of : List ℕ → Data → Result ClientRequest RpcFault
+language_call_of method params =
+    if bytes_eq method (codes "textDocument/hover") then or_bad (option_map hover (at_of params))
+    else if bytes_eq method (codes "textDocument/definition") then or_bad (option_map definition (at_of params))
+    else if bytes_eq method (codes "textDocument/references") then or_bad (references_of params)
+    else if bytes_eq method (codes "textDocument/prepareRename") then or_bad (option_map prepare_rename (at_of params))
+    else if bytes_eq method (codes "textDocument/rename") then or_bad (rename_of params)
+    else if bytes_eq method (codes "textDocument/codeAction") then or_bad (code_action_of params)
+    else if bytes_eq method (codes "textDocument/formatting") then or_bad (formatting_of params)
+    else Err UnknownMethod
+
+-- a request by its method; `shutdown` takes whatever params come
+abbrev pub call_of : List ℕ → Data → Result ClientRequest RpcFault
+call_of method params =
+    if bytes_eq method (codes "initialize") then or_bad (initialize_of params)
+    else if bytes_eq method (codes "shutdown") then Ok shutdown
+    else language_call_of method params

@@ -1,0 +1,44 @@
+//! What is known of a module while its blocks are lowered.
+
+ghost use Rattle.std.specs.Prelude.{◌≡◌};
+
+use crate::Types;
+use ob0_scope_rules::Resolved;
+use ob0_types_table::TypeId;
+use std::alloc::Global;
+
+/// The module, its types, and where memory comes from.
+#[derive(Clone, Copy)]
+pub(crate) struct LoweringContext<'g, 'k, 't> {
+    pub(crate) alloc: Global,
+    pub(crate) resolved: &'g Resolved<'t>,
+    pub(crate) types: &'g Types<'k, 't>,
+}
+
+impl<'g, 'k, 't> LoweringContext<'g, 'k, 't> {
+    ghost use Rattle.std.specs.Prelude.{option_map};
+    ghost use Rattle.ob0_types_rules.specs.InLabels.{label_in};
+    ghost use Rattle.ob0_types_table.specs.KnownTables.{shapes_of};
+    ghost use Rattle.ob0_types_table.specs.Tables.{type_shape};
+    ghost use Rattle.ob0_types_rules.specs.Typing.{type_declared};
+    ghost use Rattle.ob0_run_lowering.specs.Scenes.{object_at};
+    ghost use Rattle.ob0_run_lowering.specs.Placed.{declared_size};
+
+    /// The type of what a name declares.
+    fn type_of(&self, name: usize) -> Option<TypeId>
+        ensures { option_map (type_shape (shapes_of self.now.types.now)) result ≡ type_declared (object_at self.now.types.now (label_in self.now.resolved.now name)) }
+    {
+        let ordinal = self.resolved.ordinal_at(name)?;
+        self.types.known().declared_type(ordinal)
+    }
+
+    /// How many cells the variable that a name declares has.
+    pub(crate) fn size(&self, name: usize) -> usize
+        ensures { result ≡ declared_size self.now.types.now (label_in self.now.resolved.now name) }
+    {
+        match self.type_of(name) {
+            None => 0,
+            Some(of) => self.types.size(of),
+        }
+    }
+}

@@ -1,0 +1,258 @@
+//! Where declarations in scope are, and how the names of a block or of a heading are placed.
+
+ghost use Rattle.std.specs.Prelude.{◌≡◌, ◌≤◌, ◌+◌, ◌^◌, ℕ, suc, IfOk, OnOk, MatchOption, length, slice_set};
+ghost use Rattle.ob0_run_lowering.specs.Scenes.{site_at};
+ghost use Rattle.ob0_run_lowering.specs.Placed.{IsNextSite};
+
+use crate::Site;
+use crate::contexts::LoweringContext;
+use ob0_tree::{Names as NameList, Section, Variables};
+use std::alloc::{AllocError, Global};
+
+/// Where something else with the same ordinal was, before a binding.
+#[derive(Drop, Clone, Copy)]
+pub(crate) struct Hidden {
+    pub(crate) ordinal: usize,
+    pub(crate) before: Site,
+}
+
+/// Where each declaration in scope is, by its ordinal, and what the bindings of this sight have hidden, oldest first.
+#[derive(Drop)]
+pub(crate) struct VisibleSites {
+    pub(crate) sites: Vec<Site>,
+    pub(crate) hidden: Vec<Hidden>,
+}
+
+/// An activation so far: how deep it is, 0 for the module's own, how many cells it has, and how many VAR parameters.
+#[derive(Clone, Copy)]
+pub(crate) struct Frame {
+    pub(crate) depth: usize,
+    pub(crate) cells: usize,
+    pub(crate) lent: usize,
+}
+
+/// Where the next variable of an activation is.
+fn next_site(frame: Frame) -> Site
+    ensures { IsNextSite frame result }
+{
+    if frame.depth == 0 {
+        Site::Module(frame.cells)
+    } else {
+        Site::Held(frame.depth, frame.cells)
+    }
+}
+
+impl Frame {
+    /// The frame with `size` cells more. None where these cells have no addresses: no allocation has room for them.
+    fn with(self, size: usize) -> Option<Frame>
+        ensures { MatchOption result (2 ^ 64 ≤ self.cells + size) (λ f. f ≡ record self { cells = self.cells + size }) }
+    {
+        let cells = self.cells.checked_add(size)?;
+        Some(Frame {
+            depth: self.depth,
+            cells,
+            lent: self.lent,
+        })
+    }
+}
+
+impl VisibleSites {
+    ghost use Rattle.std.specs.Prelude.{[], Some};
+    ghost use Rattle.ob0_tree.specs.View.{formals_of, items_of, further_section_of, names_of, variable_of, variables_of};
+    ghost use Rattle.ob0_scope_rules.specs.Parts.{formal_sections, names_listed, section_variables};
+    ghost use Rattle.ob0_types_rules.specs.InLabels.{in_labels, label_in};
+    ghost use Rattle.ob0_run_lowering.specs.Placed.{Follows, IsRestored, Places, declared_size, place_each, place_one, put_at, slots_at};
+    ghost use Rattle.ob0_run_lowering.specs.Placed as placed;
+    ghost use Rattle.ob0_types_table.specs.Tables.{mode_of};
+
+    /// Nothing is in scope.
+    pub(crate) fn new(alloc: Global) -> VisibleSites
+        ensures { result.sites.items ≡ [] }
+    {
+        VisibleSites {
+            sites: Vec::new(alloc),
+            hidden: Vec::new(alloc),
+        }
+    }
+
+    /// Makes room for an ordinal.
+    fn reach(&mut self, ordinal: usize) -> Result<(), AllocError>
+        ensures same { OnOk result ((k : ℕ) → site_at self.new.sites.items k ≡ site_at self.old.sites.items k) }
+        ensures hidden { OnOk result (self.new.hidden.items ≡ self.old.hidden.items) }
+        ensures longer { OnOk result (length self.old.sites.items ≤ length self.new.sites.items) }
+        ensures room { OnOk result (suc ordinal ≤ length self.new.sites.items) }
+    {
+        while self.sites.len() <= ordinal {
+            self.sites.push(Site::Nowhere)?;
+        }
+        Ok(())
+    }
+
+    /// Puts a site at an ordinal that there is.
+    fn put(&mut self, ordinal: usize, site: Site)
+        ensures sites { self.new.sites.items ≡ slice_set self.old.sites.items ordinal site }
+        ensures hidden { self.new.hidden.items ≡ self.old.hidden.items }
+    {
+        if ordinal < self.sites.len() {
+            self.sites[ordinal] = site;
+        }
+    }
+
+    /// Where the declaration of an ordinal is.
+    fn at(&self, ordinal: usize) -> Site
+        ensures { result ≡ site_at self.now.sites.items ordinal }
+    {
+        match self.sites.get(ordinal) {
+            None => Site::Nowhere,
+            Some(site) => *site,
+        }
+    }
+
+    /// Brings a declaration in scope.
+    fn bind_ordinal(&mut self, ordinal: usize, site: Site) -> Result<(), AllocError>
+        ensures sites { OnOk result ((k : ℕ) → site_at self.new.sites.items k ≡ put_at (Some ordinal) site (site_at self.old.sites.items) k) }
+        ensures follows { OnOk result (Follows self.old self.new) }
+    {
+        self.reach(ordinal)?;
+        let before = self.at(ordinal);
+        self.hidden.push(Hidden { ordinal, before })?;
+        self.put(ordinal, site);
+        Ok(())
+    }
+
+    /// Brings what a name declares in scope. A name without an ordinal declares nothing.
+    pub(crate) fn bind(&mut self, ordinal: Option<usize>, site: Site) -> Result<(), AllocError>
+        ensures sites { OnOk result ((k : ℕ) → site_at self.new.sites.items k ≡ put_at ordinal site (site_at self.old.sites.items) k) }
+        ensures follows { OnOk result (Follows self.old self.new) }
+    {
+        match ordinal {
+            None => Ok(()),
+            Some(ordinal) => self.bind_ordinal(ordinal, site),
+        }
+    }
+
+    /// How much is hidden.
+    pub(crate) fn mark(&self) -> usize
+        ensures { result ≡ length self.now.hidden.items }
+    {
+        self.hidden.len()
+    }
+
+    /// Goes back to what was in scope when so much was hidden.
+    pub(crate) fn back_to(&mut self, mark: usize)
+        ensures { (w : Sight) → Follows w self.old → mark ≡ length w.hidden.items → IsRestored w self.old self.new }
+    {
+        while self.hidden.len() > mark {
+            match self.hidden.pop() {
+                None => break,
+                Some(last) => self.put(last.ordinal, last.before),
+            }
+        }
+    }
+
+    /// Places what a name declares: a VAR parameter, or else a variable, in cells of its own.
+    fn place(
+        &mut self,
+        ground: &LoweringContext<'_, '_, '_>,
+        frame: Frame,
+        by_place: bool,
+        name: usize,
+    ) -> Result<Frame, AllocError>
+        ensures { IfOk result (Places self.old self.new frame (place_one (slots_at frame.depth) (declared_size ground.now.types.now) (mode_of by_place) (label_in ground.now.resolved.now name))) }
+    {
+        let ordinal = ground.resolved.ordinal_at(name);
+        if by_place {
+            let Some(lent) = frame.lent.checked_add(1) else {
+                return Err(AllocError);
+            };
+            self.bind(ordinal, Site::Lent(frame.depth, frame.lent))?;
+            return Ok(Frame {
+                depth: frame.depth,
+                cells: frame.cells,
+                lent,
+            });
+        }
+        let Some(next) = frame.with(ground.size(name)) else {
+            return Err(AllocError);
+        };
+        self.bind(ordinal, next_site(frame))?;
+        Ok(next)
+    }
+
+    /// Places names of one type.
+    fn place_names(
+        &mut self,
+        ground: &LoweringContext<'_, '_, '_>,
+        frame: Frame,
+        by_place: bool,
+        names: &NameList,
+    ) -> Result<Frame, AllocError>
+        ensures { IfOk result (Places self.old self.new frame (place_each (slots_at frame.depth) (declared_size ground.now.types.now) (mode_of by_place) (names_listed (in_labels ground.now.resolved.now (names_of names.now))))) }
+    {
+        let mut now = self.place(ground, frame, by_place, names.first)?;
+        for name in &names.more {
+            now = self.place(ground, now, by_place, *name)?;
+        }
+        Ok(now)
+    }
+
+    fn place_groups(
+        &mut self,
+        ground: &LoweringContext<'_, '_, '_>,
+        frame: Frame,
+        groups: &[Variables],
+    ) -> Result<Frame, AllocError>
+        ensures { IfOk result (Places self.old self.new frame (placed.place_groups (slots_at frame.depth) (declared_size ground.now.types.now) (in_labels ground.now.resolved.now (items_of variable_of groups.now)))) }
+    {
+        let mut now = frame;
+        for group in groups {
+            now = self.place_names(ground, now, false, &group.names)?;
+        }
+        Ok(now)
+    }
+
+    /// Places the variables of a block.
+    pub(crate) fn variables(
+        &mut self,
+        ground: &LoweringContext<'_, '_, '_>,
+        frame: Frame,
+        section: &Option<Vec<Variables>>,
+    ) -> Result<Frame, AllocError>
+        ensures { IfOk result (Places self.old self.new frame (placed.place_groups (slots_at frame.depth) (declared_size ground.now.types.now) (section_variables (in_labels ground.now.resolved.now (variables_of section.now))))) }
+    {
+        match section {
+            None => self.place_groups(ground, frame, &[]),
+            Some(groups) => self.place_groups(ground, frame, groups.as_slice()),
+        }
+    }
+
+    fn place_sections(
+        &mut self,
+        ground: &LoweringContext<'_, '_, '_>,
+        frame: Frame,
+        sections: &[Section],
+    ) -> Result<Frame, AllocError>
+        ensures { IfOk result (Places self.old self.new frame (placed.place_sections (slots_at frame.depth) (declared_size ground.now.types.now) (in_labels ground.now.resolved.now (items_of further_section_of sections.now)))) }
+    {
+        let mut now = frame;
+        for section in sections {
+            now = self.place_names(ground, now, section.by_reference, &section.names)?;
+        }
+        Ok(now)
+    }
+
+    /// Places the parameters of a procedure.
+    pub(crate) fn parameters(
+        &mut self,
+        ground: &LoweringContext<'_, '_, '_>,
+        frame: Frame,
+        formals: &Option<Vec<Section>>,
+    ) -> Result<Frame, AllocError>
+        ensures { IfOk result (Places self.old self.new frame (placed.place_sections (slots_at frame.depth) (declared_size ground.now.types.now) (formal_sections (in_labels ground.now.resolved.now (formals_of formals.now))))) }
+    {
+        match formals {
+            None => self.place_sections(ground, frame, &[]),
+            Some(sections) => self.place_sections(ground, frame, sections.as_slice()),
+        }
+    }
+}

@@ -1,6 +1,0 @@
-use Rattle.ob0_scan.specs.Reused.{moved}
-use Rattle.ob0_scan.proofs.Kept.{ChangedTo}
-use Rattle.ob0_scan.proofs.changed.move_comments.Given as goal
-
-abbrev pub invariant-loop-index : goal.invariant-loop-index
-invariant-loop-index l = ChangedTo (moved l.change.removed l.change.added) l.fn.comments.items l.fn.first l.index l.comments.items

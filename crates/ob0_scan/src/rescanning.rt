@@ -1,0 +1,409 @@
+//! Scans a text that was changed at one place, and takes over what an older scan found before the change and after it.
+
+ghost use Rattle.std.specs.Prelude.{◌≡◌, ◌+◌, ◌<◌, ◌≤◌, ◌^◌, ◌||◌, ◌++◌, IfOk, IfErr, OnOk, length, map, take, drop, nat_lt, option_copied};
+ghost use Rattle.std.specs.List.{All, prefix_len};
+ghost use Rattle.ob0_scan.specs.declared.lexeme.Span.{Span};
+ghost use Rattle.ob0_scan.specs.declared.lexeme.Token.{Token};
+ghost use Rattle.ob0_scan.specs.declared.rescanning.NotRescanned.TheVariants as rescanned;
+ghost use Rattle.ob0_scan.specs.Scanned.{IsScanOf};
+ghost use Rattle.ob0_scan.specs.Refused.{IsRightRefusal, IsRightRefusalOver};
+ghost use Rattle.ob0_scan.specs.UnderWay.{IsUnderWay};
+ghost use Rattle.ob0_scan.specs.Reused.{IsReplaced, Reuses, moved, moved_token, tokens_before_change, comments_before_change, back_tokens, back_comments};
+ghost use Rattle.ob0_scan.specs.Rescanning.{token_end, comment_end, last_end, token_begins, comment_begins, IsMovable, ReadsOn, IsMet, IsBetween};
+
+use crate::fault::{Fault, ScanRefusal};
+use crate::lexeme::{Span, Token};
+use crate::scanner::{MAX_TEXT, Scanner, too_long};
+use crate::tokens::{Rescan, Tokens};
+use std::alloc::{AllocError, Global};
+use thiserror::Error;
+
+/// The `removed` bytes of a text from byte `from` on gave way to `added` other bytes.
+#[derive(Clone, Copy)]
+pub(crate) struct ReplacedRange {
+    from: usize,
+    removed: usize,
+    added: usize,
+}
+
+impl ReplacedRange {
+    /// Where a byte after the change was before it.
+    fn old_place(self, place: usize) -> usize
+        requires behind { self.added ≤ place }
+        requires small { place + self.removed < 2 ^ 64 }
+        ensures { result + self.added ≡ place + self.removed }
+    {
+        place - self.added + self.removed
+    }
+
+    /// Where a span of the old text that lies after the change is now.
+    fn moved(self, span: Span) -> Span
+        requires { IsMovable self.removed self.added span }
+        ensures { result ≡ moved self.removed self.added span }
+    {
+        Span {
+            start: span.start + self.added - self.removed,
+            end: span.end + self.added - self.removed,
+        }
+    }
+}
+
+/// Some tokens and comments of a text, each in text order.
+#[derive(Clone, Copy)]
+pub(crate) struct Pieces<'t> {
+    pub(crate) tokens: &'t [Token],
+    pub(crate) comments: &'t [Span],
+}
+
+impl<'t> Pieces<'t> {
+    /// Those before it that end before a byte.
+    fn ending_before(self, place: usize) -> Pieces<'t>
+        ensures tokens { result.tokens.now ≡ tokens_before_change place self.entry.tokens.now }
+        ensures comments { result.comments.now ≡ comments_before_change place self.entry.comments.now }
+    {
+        let tokens = tokens_ending_before(self.tokens, place);
+        let comments = comments_ending_before(self.comments, place);
+        Pieces {
+            tokens: &self.tokens[..tokens],
+            comments: &self.comments[..comments],
+        }
+    }
+
+    /// Those from the first on that doesn't begin before a byte.
+    fn beginning_from(self, place: usize) -> Pieces<'t>
+        ensures tokens { result.tokens.now ≡ back_tokens place self.entry.tokens.now }
+        ensures comments { result.comments.now ≡ back_comments place self.entry.comments.now }
+    {
+        let tokens = tokens_beginning_before(self.tokens, place);
+        let comments = comments_beginning_before(self.comments, place);
+        Pieces {
+            tokens: &self.tokens[tokens..],
+            comments: &self.comments[comments..],
+        }
+    }
+
+    /// Whether the first token or the first comment begins at a byte.
+    fn begin_at(self, place: usize) -> bool
+        ensures { result ≡ token_begins place self.entry.tokens.now || comment_begins place self.entry.comments.now }
+    {
+        token_begins(self.tokens, place) || comment_begins(self.comments, place)
+    }
+
+    /// After which byte the last of them ends.
+    pub(crate) fn end(self) -> usize
+        ensures { result ≡ last_end self.entry.tokens.now self.entry.comments.now }
+    {
+        token_end(self.tokens.last()).max(comment_end(self.comments.last()))
+    }
+}
+
+/// Whether the first token begins at a byte.
+fn token_begins(tokens: &[Token], place: usize) -> bool
+    ensures { result ≡ token_begins place tokens.now }
+{
+    match tokens {
+        [token, ..] => token.span.start == place,
+        [] => false,
+    }
+}
+
+/// Whether the first comment begins at a byte.
+fn comment_begins(comments: &[Span], place: usize) -> bool
+    ensures { result ≡ comment_begins place comments.now }
+{
+    match comments {
+        [comment, ..] => comment.start == place,
+        [] => false,
+    }
+}
+
+fn token_end(token: Option<&Token>) -> usize
+    ensures { result ≡ token_end (option_copied token.entry) }
+{
+    match token {
+        Some(token) => token.span.end,
+        None => 0,
+    }
+}
+
+fn comment_end(comment: Option<&Span>) -> usize
+    ensures { result ≡ comment_end (option_copied comment.entry) }
+{
+    match comment {
+        Some(comment) => comment.end,
+        None => 0,
+    }
+}
+
+/// How many tokens before it end before a byte.
+fn tokens_ending_before(tokens: &[Token], place: usize) -> usize
+    ensures bound { result ≤ length tokens.now }
+    ensures count { result ≡ prefix_len (λ (t : Token). nat_lt t.span.end place) tokens.now }
+{
+    tokens
+        .iter()
+        .take_while(|token| token.span.end < place)
+        .count()
+}
+
+/// How many comments before it end before a byte.
+fn comments_ending_before(comments: &[Span], place: usize) -> usize
+    ensures bound { result ≤ length comments.now }
+    ensures count { result ≡ prefix_len (λ (c : Span). nat_lt c.end place) comments.now }
+{
+    comments
+        .iter()
+        .take_while(|comment| comment.end < place)
+        .count()
+}
+
+/// How many tokens before it begin before a byte.
+fn tokens_beginning_before(tokens: &[Token], place: usize) -> usize
+    ensures bound { result ≤ length tokens.now }
+    ensures count { result ≡ prefix_len (λ (t : Token). nat_lt t.span.start place) tokens.now }
+{
+    tokens
+        .iter()
+        .take_while(|token| token.span.start < place)
+        .count()
+}
+
+/// How many comments before it begin before a byte.
+fn comments_beginning_before(comments: &[Span], place: usize) -> usize
+    ensures bound { result ≤ length comments.now }
+    ensures count { result ≡ prefix_len (λ (c : Span). nat_lt c.start place) comments.now }
+{
+    comments
+        .iter()
+        .take_while(|comment| comment.start < place)
+        .count()
+}
+
+/// How many tokens and comments there are before a place.
+#[derive(Clone, Copy)]
+pub(crate) struct Counts {
+    pub(crate) tokens: usize,
+    pub(crate) comments: usize,
+}
+
+/// What comes between the old tokens and comments that a changed text goes on to have: those before it, of which there are so many, and
+/// those from `behind` on.
+#[derive(Drop)]
+pub(crate) struct Between {
+    pub(crate) front: Counts,
+    pub(crate) behind: Counts,
+    pub(crate) tokens: Vec<Token>,
+    pub(crate) comments: Vec<Span>,
+}
+
+/// Why a changed text has no tokens; with the old ones, where it has faults.
+#[derive(Debug, Drop, Error)]
+pub enum NotRescanned {
+    #[error("faults in the text")]
+    Faults(Vec<Fault>, Tokens),
+    #[error("out of memory")]
+    Memory,
+}
+
+impl From<AllocError> for NotRescanned {
+    ghost from_gives = { λ _ e. e ≡ rescanned.Memory };
+
+    fn from(_error: AllocError) -> NotRescanned {
+        NotRescanned::Memory
+    }
+}
+
+/// The tokens and comments of `new_text`, which is the text of `old` with the `removed` bytes from byte `from` on replaced by
+/// `added` others; or its faults. What `old` has before the change is kept, and the scan ends where a token or comment of `old` begins again.
+pub fn rescan(
+    alloc: Global,
+    old: &Tokens,
+    new_text: &str,
+    from: usize,
+    removed: usize,
+    added: usize,
+) -> Result<Rescan, ScanRefusal>
+    requires { IsReplaced old.now.text new_text.now from removed added }
+    ensures ok { IfOk result (λ r. IsScanOf new_text.now r.tokens) }
+    ensures err { IfErr result (IsRightRefusal new_text.now) }
+    ensures reused { IfOk result (λ r. Reuses old.now r.tokens from removed added r.read) }
+{
+    match rescan_in_place(alloc, old.copied(alloc)?, new_text, from, removed, added) {
+        Ok(found) => Ok(found),
+        Err(refusal) => match refusal {
+            NotRescanned::Faults(faults, _) => Err(ScanRefusal::Faults(faults)),
+            NotRescanned::Memory => Err(ScanRefusal::Memory),
+        },
+    }
+}
+
+/// The same, in place of the old tokens and comments: those before it stay where they are. A text with faults gives the old ones back.
+pub fn rescan_in_place(
+    alloc: Global,
+    old: Tokens,
+    new_text: &str,
+    from: usize,
+    removed: usize,
+    added: usize,
+) -> Result<Rescan, NotRescanned>
+    requires { IsReplaced old.text new_text.now from removed added }
+    ensures ok { IfOk result (λ r. IsScanOf new_text.now r.tokens) }
+    ensures err { IfErr result (IsRightRefusalOver old new_text.now) }
+    ensures reused { IfOk result (λ r. Reuses old r.tokens from removed added r.read) }
+{
+    let change = ReplacedRange {
+        from,
+        removed,
+        added,
+    };
+    match scan_again(alloc, &old, new_text, change) {
+        Ok(between) => {
+            let read = between.tokens.len() + between.comments.len();
+            let tokens = old.with(alloc, new_text, between, change)?;
+            Ok(Rescan { tokens, read })
+        }
+        Err(refusal) => match refusal {
+            ScanRefusal::Faults(faults) => Err(NotRescanned::Faults(faults, old)),
+            ScanRefusal::Memory => Err(NotRescanned::Memory),
+        },
+    }
+}
+
+/// What is read again of a changed text.
+fn scan_again(
+    alloc: Global,
+    old: &Tokens,
+    new_text: &str,
+    change: ReplacedRange,
+) -> Result<Between, ScanRefusal>
+    requires { IsReplaced old.now.text new_text.now change.from change.removed change.added }
+    ensures ok { IfOk result (IsBetween old.now new_text.now change.from change.removed change.added) }
+    ensures err { IfErr result (IsRightRefusal new_text.now) }
+{
+    if new_text.len() > MAX_TEXT {
+        return Err(ScanRefusal::Faults(too_long(alloc)?));
+    }
+    let all = old.pieces();
+    let front = all.ending_before(change.from);
+    let mut scanner = Scanner::behind(alloc, new_text, front);
+    let rest = scan_on(&mut scanner, old, change)?;
+    let Scanner {
+        text: _,
+        at: _,
+        front: _,
+        tokens,
+        comments,
+        faults,
+    } = scanner;
+    if !faults.is_empty() {
+        return Err(ScanRefusal::Faults(faults));
+    }
+    Ok(Between {
+        front: Counts {
+            tokens: front.tokens.len(),
+            comments: front.comments.len(),
+        },
+        behind: Counts {
+            tokens: all.tokens.len() - rest.tokens.len(),
+            comments: all.comments.len() - rest.comments.len(),
+        },
+        tokens,
+        comments,
+    })
+}
+
+/// Scans to the end of the text, or up to the first place after the change where an old token or comment begins again.
+/// Gives those that begin there or after.
+fn scan_on<'o>(
+    scanner: &mut Scanner,
+    old: &'o Tokens,
+    change: ReplacedRange,
+) -> Result<Pieces<'o>, AllocError>
+    requires replaced { IsReplaced old.now.text scanner.old.text.now change.from change.removed change.added }
+    requires short { length scanner.old.text.now ≤ 1048576 }
+    requires under_way { IsUnderWay scanner.old }
+    ensures under_way { OnOk result (IsUnderWay scanner.new) }
+    ensures text { scanner.new.text ≡ scanner.old.text }
+    ensures front { scanner.new.front ≡ scanner.old.front }
+    ensures reads { OnOk result (length scanner.new.faults.items ≡ 0 → ReadsOn old.now change.from change.removed change.added scanner.old scanner.new) }
+    ensures met { IfOk result (λ rest. length scanner.new.faults.items ≡ 0 → IsMet old.now (length scanner.new.text.now) change.from change.removed change.added scanner.new.at rest.tokens.now rest.comments.now) }
+    ensures end { OnOk result (0 < length scanner.new.faults.items → length scanner.new.text.now ≤ scanner.new.at) }
+{
+    let mut rest = old.pieces();
+    while scanner.at < scanner.text.len() {
+        if scanner.faults.is_empty() && scanner.at >= change.from + change.added {
+            let place = change.old_place(scanner.at);
+            rest = rest.beginning_from(place);
+            if rest.begin_at(place) {
+                return Ok(rest);
+            }
+        }
+        scanner.step()?;
+    }
+    Ok(Pieces {
+        tokens: &[],
+        comments: &[],
+    })
+}
+
+/// Puts tokens between those before it and those after, which are moved to where they are now.
+pub(crate) fn splice_tokens(
+    tokens: &mut Vec<Token>,
+    front: usize,
+    behind: usize,
+    between: Vec<Token>,
+    change: ReplacedRange,
+) -> Result<(), AllocError>
+    requires ordered { front ≤ behind }
+    requires inside { behind ≤ length tokens.old.items }
+    requires movable { All (λ (t : Token). IsMovable change.removed change.added t.span) (drop behind tokens.old.items) }
+    ensures { OnOk result (tokens.new.items ≡ take front tokens.old.items ++ (between.items ++ map (moved_token change.removed change.added) (drop behind tokens.old.items))) }
+{
+    move_tokens(tokens, behind, change);
+    tokens.splice(front..behind, between)?;
+    Ok(())
+}
+
+/// Puts comments between those before it and those after, which are moved to where they are now.
+pub(crate) fn splice_comments(
+    comments: &mut Vec<Span>,
+    front: usize,
+    behind: usize,
+    between: Vec<Span>,
+    change: ReplacedRange,
+) -> Result<(), AllocError>
+    requires ordered { front ≤ behind }
+    requires inside { behind ≤ length comments.old.items }
+    requires movable { All (λ (c : Span). IsMovable change.removed change.added c) (drop behind comments.old.items) }
+    ensures { OnOk result (comments.new.items ≡ take front comments.old.items ++ (between.items ++ map (moved change.removed change.added) (drop behind comments.old.items))) }
+{
+    move_comments(comments, behind, change);
+    comments.splice(front..behind, between)?;
+    Ok(())
+}
+
+/// Moves tokens of the old text, from one on, to where they are now.
+fn move_tokens(tokens: &mut Vec<Token>, first: usize, change: ReplacedRange)
+    requires inside { first ≤ length tokens.old.items }
+    requires movable { All (λ (t : Token). IsMovable change.removed change.added t.span) (drop first tokens.old.items) }
+    ensures { tokens.new.items ≡ take first tokens.old.items ++ map (moved_token change.removed change.added) (drop first tokens.old.items) }
+{
+    for index in first..tokens.len() {
+        let Token { kind, span } = tokens[index];
+        tokens[index] = Token {
+            kind,
+            span: change.moved(span),
+        };
+    }
+}
+
+/// Moves comments of the old text, from one on, to where they are now.
+fn move_comments(comments: &mut Vec<Span>, first: usize, change: ReplacedRange)
+    requires inside { first ≤ length comments.old.items }
+    requires movable { All (λ (c : Span). IsMovable change.removed change.added c) (drop first comments.old.items) }
+    ensures { comments.new.items ≡ take first comments.old.items ++ map (moved change.removed change.added) (drop first comments.old.items) }
+{
+    for index in first..comments.len() {
+        comments[index] = change.moved(comments[index]);
+    }
+}

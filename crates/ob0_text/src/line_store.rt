@@ -1,0 +1,110 @@
+//! The store of lines: one `String`, and the table of where its lines start.
+
+ghost use Rattle.std.specs.Prelude.{◌≡◌, slice_get};
+ghost use Rattle.std.specs.Option.{option_map};
+ghost use Rattle.std.specs.Str.{chars};
+ghost use Rattle.ob0_text.specs.Texts.{lines, offset_of};
+ghost use Rattle.ob0_text.specs.Units.{width_of};
+ghost use Rattle.ob0_text.specs.LineStarts.{with_ending};
+
+use crate::line_lookups::{bounds_in, line_in, mend, offset_in, position_in};
+use crate::line_tables::starts_of;
+use crate::passes::{offsets_of, positions_of};
+use crate::position_types::{Position, Range, Unit};
+use crate::stores::TextStore;
+use std::alloc::{AllocError, Global};
+use std::marker::Model;
+
+/// A text with the offsets where its lines start, in bytes. A look-up costs what its line does.
+#[derive(Debug, Drop)]
+pub struct Lines {
+    text: String,
+    starts: Vec<usize>,
+    unit: Unit,
+}
+
+impl Model for Lines {
+    ghost use Rattle.std.specs.Prelude.{◌≡◌, string_bytes};
+    ghost use Rattle.std.specs.Str.{chars};
+    ghost use Rattle.ob0_text.specs.LineStarts.{TextInUnit, text_code, line_starts};
+
+    ghost Value = { TextInUnit };
+
+    ghost coded = { text_code };
+
+    ghost view = { λ lines. record { text = chars (string_bytes lines.text); unit = lines.unit } };
+
+    ghost invariant = { λ lines. lines.starts.items ≡ line_starts (chars (string_bytes lines.text)) };
+}
+
+impl Lines {
+    /// Line `k`, counted from 0, with its ending. The last line alone has none.
+    pub fn line(&self, k: usize) -> Option<&str>
+        ensures { option_map (λ line. chars line.now) result ≡ option_map with_ending (slice_get (lines self.now.text) k) }
+    {
+        line_in(self.text.as_str(), &self.starts, k)
+    }
+
+    /// Where a range starts and ends, in bytes.
+    fn bounds(&self, range: Range) -> (usize, usize)
+        ensures start { result.0 ≡ offset_of (width_of self.now.unit) self.now.text range.start }
+        ensures end { result.1 ≡ offset_of (width_of self.now.unit) self.now.text range.end }
+    {
+        bounds_in(self.text.as_str(), &self.starts, self.unit, range)
+    }
+}
+
+impl TextStore for Lines {
+    ghost content = { λ lines. lines.text };
+
+    ghost unit_of = { λ lines. lines.unit };
+
+    fn from_str_in(alloc: Global, text: &str, unit: Unit) -> Result<Lines, AllocError> {
+        let starts = starts_of(alloc, text)?;
+        let text = String::from_str(alloc, text)?;
+        Ok(Lines { text, starts, unit })
+    }
+
+    fn unit(&self) -> Unit {
+        self.unit
+    }
+
+    fn len(&self) -> usize {
+        self.text.len()
+    }
+
+    fn offset(&self, position: Position) -> usize {
+        offset_in(self.text.as_str(), &self.starts, self.unit, position)
+    }
+
+    fn position(&self, offset: usize) -> Position {
+        position_in(self.text.as_str(), &self.starts, self.unit, offset)
+    }
+
+    fn positions(&self, alloc: Global, offsets: &[usize]) -> Result<Vec<Position>, AllocError> {
+        positions_of(alloc, self.text.as_str(), self.unit, offsets)
+    }
+
+    fn offsets(&self, alloc: Global, positions: &[Position]) -> Result<Vec<usize>, AllocError> {
+        offsets_of(alloc, self.text.as_str(), self.unit, positions)
+    }
+
+    fn replace(&mut self, range: Range, text: &str) -> Result<(), AllocError> {
+        let (start, end) = self.bounds(range);
+        let (from, to) = (start.min(end), start.max(end));
+        let alloc = *self.starts.allocator();
+        let mended = mend(alloc, self.text.as_str(), &self.starts, from, to, text)?;
+        self.starts.reserve(mended.later.len())?;
+        self.text.replace_range(from..to, text)?;
+        self.starts.truncate(mended.kept);
+        self.starts.extend_from_slice(&mended.later)
+    }
+
+    fn as_str(&self) -> &str {
+        self.text.as_str()
+    }
+
+    fn to_string(&self, alloc: Global) -> Result<String, AllocError> {
+        String::from_str(alloc, self.text.as_str())
+    }
+}

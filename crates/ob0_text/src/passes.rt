@@ -1,0 +1,287 @@
+//! Passes over a text that find positions of offsets and offsets of positions.
+
+ghost use Rattle.std.specs.Prelude.{◌≡◌, ◌==◌, ◌||◌, ◌+◌, ◌-◌, ◌<◌, ◌≤◌, true, IfOk, IfSome, None, map};
+ghost use Rattle.std.specs.Str.{IsCharBoundary, chars};
+ghost use Rattle.ob0_text.specs.Texts.{LF, CR, ends_line, offset_of, position_of};
+ghost use Rattle.ob0_text.specs.Units.{width_of};
+ghost use Rattle.ob0_text.specs.Stretches.{IsStretch};
+ghost use Rattle.ob0_text.specs.Places.{at, IsFrom, IsPlace, IsPlaceBefore};
+
+use crate::position_types::{Position, Unit};
+use crate::stretches::{Stretch, next_stretch};
+use std::alloc::{AllocError, Global};
+
+/// A place that a pass has reached: its offset, and the line and the units of that line that it counted.
+#[derive(Clone, Copy)]
+pub struct PassState {
+    pub offset: usize,
+    pub line: u64,
+    pub character: u64,
+}
+
+const START: PassState = PassState {
+    offset: 0,
+    line: 0,
+    character: 0,
+};
+
+/// The positions of offsets, found in one pass where the offsets ascend.
+pub fn positions_of(
+    alloc: Global,
+    text: &str,
+    unit: Unit,
+    offsets: &[usize],
+) -> Result<Vec<Position>, AllocError>
+    ensures { IfOk result (λ positions. positions.items ≡ map (position_of (width_of unit) (chars text.now)) offsets.now) }
+{
+    let mut positions = Vec::new(alloc);
+    let mut place = START;
+    for offset in offsets {
+        if *offset < place.offset {
+            place = START;
+        }
+        place = onward_to_offset(text, unit, place, *offset);
+        positions.push(position_at(place))?;
+    }
+    Ok(positions)
+}
+
+/// The offsets of positions, found in one pass where the positions ascend.
+pub fn offsets_of(
+    alloc: Global,
+    text: &str,
+    unit: Unit,
+    positions: &[Position],
+) -> Result<Vec<usize>, AllocError>
+    ensures { IfOk result (λ offsets. offsets.items ≡ map (offset_of (width_of unit) (chars text.now)) positions.now) }
+{
+    let mut offsets = Vec::new(alloc);
+    let mut place = START;
+    let mut last = position_at(START);
+    for position in positions {
+        if !is_from(last, *position) {
+            place = START;
+        }
+        place = onward_to_position(text, unit, place, *position);
+        last = *position;
+        offsets.push(place.offset)?;
+    }
+    Ok(offsets)
+}
+
+/// The position of a byte offset, in units of `unit`.
+pub fn position_of(text: &str, unit: Unit, offset: usize) -> Position
+    ensures { result ≡ position_of (width_of unit) (chars text.now) offset }
+{
+    position_at(onward_to_offset(text, unit, START, offset))
+}
+
+/// The byte offset of a position in units of `unit`.
+pub fn offset_of(text: &str, unit: Unit, position: Position) -> usize
+    ensures { result ≡ offset_of (width_of unit) (chars text.now) position }
+{
+    onward_to_position(text, unit, START, position).offset
+}
+
+/// The position of the place that a pass has come to.
+pub fn position_at(place: PassState) -> Position
+    ensures { result ≡ at place.line place.character }
+{
+    Position {
+        line: place.line,
+        character: place.character,
+    }
+}
+
+/// Whether a position is another or comes after it.
+pub fn is_from(from: Position, position: Position) -> bool
+    ensures yes { result ≡ true → IsFrom from position }
+{
+    from.line < position.line
+        || (from.line == position.line && from.character <= position.character)
+}
+
+fn is_line_break(c: char) -> bool
+    ensures { result ≡ (c == LF || c == CR) }
+{
+    c == '\n' || c == '\r'
+}
+
+/// Whether a character that `rest` follows ends a line. A CR before an LF doesn't: the LF does.
+fn ends_line(c: char, rest: &str) -> bool
+    ensures { result ≡ ends_line c (chars rest.now) }
+{
+    c == '\n' || (c == '\r' && !rest.starts_with('\n'))
+}
+
+fn width(c: char, unit: Unit) -> u64
+    ensures { result ≡ width_of unit c }
+{
+    match unit {
+        Unit::Utf16 => c.len_utf16() as u64,
+        Unit::Utf8 => c.len_utf8() as u64,
+    }
+}
+
+/// The last place at or before an offset that isn't inside a character.
+pub fn onward_to_offset(text: &str, unit: Unit, from: PassState, offset: usize) -> PassState
+    requires place { IsPlace (width_of unit) text.now from }
+    requires behind { from.offset ≤ offset }
+    ensures place { IsPlace (width_of unit) text.now result }
+    ensures within { result.offset ≤ offset }
+    ensures position { at result.line result.character ≡ position_of (width_of unit) (chars text.now) offset }
+{
+    let from = past_stretches_to(text, unit, from, offset);
+    let mut place = past_ascii(text, unit, from, offset);
+    while let Some(next) = past_char(text, unit, place, offset) {
+        place = past_ascii(text, unit, next, offset);
+    }
+    place
+}
+
+/// A place nearer to an offset, past stretches of a line.
+fn past_stretches_to(text: &str, unit: Unit, from: PassState, offset: usize) -> PassState
+    requires place { IsPlace (width_of unit) text.now from }
+    requires behind { from.offset ≤ offset }
+    ensures place { IsPlace (width_of unit) text.now result }
+    ensures within { result.offset ≤ offset }
+{
+    let mut place = from;
+    while let Some(stretch) = next_stretch(
+        text,
+        unit,
+        place.offset,
+        (offset - place.offset) as u64,
+    ) {
+        place = PassState {
+            offset: stretch.end,
+            line: place.line,
+            character: place.character + stretch.units,
+        };
+    }
+    place
+}
+
+/// A place nearer to an offset, past characters of ASCII other than CR, which are recognized by their bytes.
+fn past_ascii(text: &str, unit: Unit, from: PassState, offset: usize) -> PassState
+    requires place { IsPlace (width_of unit) text.now from }
+    requires behind { from.offset ≤ offset }
+    ensures place { IsPlace (width_of unit) text.now result }
+    ensures within { result.offset ≤ offset }
+    ensures onward { from.offset ≤ result.offset }
+{
+    let bytes = text.as_bytes();
+    let end = offset.min(bytes.len());
+    let (mut line, mut character, mut reached) = (from.line, from.character, from.offset);
+    while reached < end {
+        let byte = bytes[reached];
+        if 128 <= byte || byte == b'\r' {
+            break;
+        }
+        reached += 1;
+        if byte == b'\n' {
+            line += 1;
+            character = 0;
+        } else {
+            character += 1;
+        }
+    }
+    PassState {
+        offset: reached,
+        line,
+        character,
+    }
+}
+
+/// The place after the next character, where that ends at or before an offset.
+fn past_char(text: &str, unit: Unit, place: PassState, offset: usize) -> Option<PassState>
+    requires place { IsPlace (width_of unit) text.now place }
+    requires behind { place.offset ≤ offset }
+    ensures next { IfSome result (λ p. IsPlace (width_of unit) text.now p) }
+    ensures onward { IfSome result (λ p. (place.offset < p.offset) × (p.offset ≤ offset)) }
+    ensures last { result ≡ None → at place.line place.character ≡ position_of (width_of unit) (chars text.now) offset }
+{
+    if offset <= place.offset {
+        return None;
+    }
+    let mut chars = text[place.offset..].chars();
+    let Some(c) = chars.next() else {
+        return None;
+    };
+    if offset - place.offset < c.len_utf8() {
+        return None;
+    }
+    let reached = place.offset + c.len_utf8();
+    if ends_line(c, chars.as_str()) {
+        return Some(PassState {
+            offset: reached,
+            line: place.line + 1,
+            character: 0,
+        });
+    }
+    let units = if c == '\r' { 0 } else { width(c, unit) };
+    Some(PassState {
+        offset: reached,
+        line: place.line,
+        character: place.character + units,
+    })
+}
+
+/// The place of a position.
+pub fn onward_to_position(text: &str, unit: Unit, from: PassState, position: Position) -> PassState
+    requires place { IsPlaceBefore (width_of unit) text.now position from }
+    ensures place { IsPlaceBefore (width_of unit) text.now position result }
+    ensures offset { result.offset ≡ offset_of (width_of unit) (chars text.now) position }
+{
+    let from = past_stretches(text, unit, from, position);
+    let (mut line, mut character, mut reached) = (from.line, from.character, from.offset);
+    let mut chars = text[from.offset..].chars();
+    while let Some(c) = chars.next() {
+        if line < position.line {
+            if ends_line(c, chars.as_str()) {
+                line += 1;
+                character = 0;
+            }
+        } else if is_line_break(c) || position.character - character < width(c, unit) {
+            break;
+        } else {
+            character += width(c, unit);
+        }
+        reached += c.len_utf8();
+    }
+    PassState {
+        offset: reached,
+        line,
+        character,
+    }
+}
+
+/// A place nearer to a position, in the position's line, past stretches of it.
+fn past_stretches(text: &str, unit: Unit, from: PassState, position: Position) -> PassState
+    requires place { IsPlaceBefore (width_of unit) text.now position from }
+    ensures place { IsPlaceBefore (width_of unit) text.now position result }
+{
+    let mut place = from;
+    while let Some(stretch) = stretch_before(text, unit, place, position) {
+        place = PassState {
+            offset: stretch.end,
+            line: place.line,
+            character: place.character + stretch.units,
+        };
+    }
+    place
+}
+
+/// The stretch after a place, where a position of its line lies after it.
+fn stretch_before(text: &str, unit: Unit, place: PassState, position: Position) -> Option<Stretch>
+    requires { IsCharBoundary text.now place.offset }
+    ensures is { IfSome result (λ s. IsStretch (width_of unit) text.now place.offset s) }
+    ensures line { IfSome result (λ s. place.line ≡ position.line) }
+    ensures fits { IfSome result (λ s. place.character + (s.end - place.offset) ≤ position.character) }
+{
+    if place.line != position.line || position.character < place.character {
+        return None;
+    }
+    let room = position.character - place.character;
+    next_stretch(text, unit, place.offset, room)
+}

@@ -1,0 +1,605 @@
+//! Reports the faults of expressions, and finds their types and the values of constant ones on the same way.
+
+ghost use Rattle.std.specs.Prelude.{◌≡◌, ◌++◌, ◌∷◌, [], false, true, if◌then◌else◌, IfOk, OnOk, List, option_map};
+ghost use Rattle.ob0_values.specs.Scalars.{scalar_value};
+ghost use Rattle.ob0_types_table.specs.declared.types.TypeId.TheVariants as type;
+ghost use Rattle.ob0_tree.specs.View.{expression_of, factor_of, selector_of, simple_of, term_of};
+ghost use Rattle.ob0_types_rules.specs.Selected.{selectors_in};
+ghost use Rattle.ob0_types_check.specs.ExpressionFaults.{reported_expression, reported_factor, reported_selector, reported_selectors, reported_simple, reported_term};
+ghost use Rattle.ob0_types_check.specs.Known.{Types};
+ghost use Rattle.ob0_types_check.specs.Operations.{ReportsAfter, a_constant_name, a_number, add_operands, required, required_both, at_operand, after_sign, complement_operand, element_in, element_selected, enclosed, field_in, field_selected, fits, joined, multiply_operands, named, part_of, relate_operands, sign_operand, truth_of, required_by_add, required_by_equality, required_by_multiply, required_by_relation, value_type};
+ghost use Rattle.ob0_types_check.specs.TypeFaults.{evaluated, reported_constant};
+ghost use Rattle.ob0_types_check.specs.SoFar.{same_type};
+ghost use Rattle.ob0_types_check.specs.SupposedFacts.{facts_in, form_in, operand_of, types_in};
+
+use crate::reporting::supposed::{Meaning, Supposed};
+use ob0_scan::{Code, Fault};
+use ob0_tree::{
+    AddOperator, Comparison, Designator, Expression, Factor, MultiplyOperator, Relation, Selector,
+    Sign, Simple, Term,
+};
+use ob0_types_table::{TypeId, number_at, operators};
+use ob0_values::Scalar;
+use std::alloc::AllocError;
+
+/// An expression, as far as it is known.
+#[derive(Clone, Copy)]
+pub(crate) struct Operand {
+    pub(crate) of: TypeId,
+    /// The value of it. None where it has a fault, and where that is known only when it runs.
+    pub(crate) value: Option<Scalar>,
+    /// Whether it is a name with selectors alone, and the name no constant's.
+    pub(crate) is_place: bool,
+    /// The tokens where it begins and ends.
+    pub(crate) first: usize,
+    pub(crate) last: usize,
+}
+
+fn required_by_add(operator: AddOperator) -> TypeId
+    ensures { result ≡ required_by_add (types_in []) operator }
+{
+    match operator {
+        AddOperator::Add => TypeId::Integer,
+        AddOperator::Subtract => TypeId::Integer,
+        AddOperator::Or => TypeId::Boolean,
+    }
+}
+
+fn required_by_multiply(operator: MultiplyOperator) -> TypeId
+    ensures { result ≡ required_by_multiply (types_in []) operator }
+{
+    match operator {
+        MultiplyOperator::And => TypeId::Boolean,
+        MultiplyOperator::Multiply => TypeId::Integer,
+        MultiplyOperator::Divide => TypeId::Integer,
+        MultiplyOperator::Modulo => TypeId::Integer,
+    }
+}
+
+/// `=` and `#` take two numbers or two truths, and require nothing of the right side where the left one is unknown.
+fn required_by_relation(relation: Relation, left: TypeId) -> TypeId
+    ensures { result ≡ required_by_relation (types_in []) relation left }
+{
+    match relation {
+        Relation::Equal => required_by_equality(left),
+        Relation::NotEqual => required_by_equality(left),
+        Relation::Less => TypeId::Integer,
+        Relation::LessEqual => TypeId::Integer,
+        Relation::Greater => TypeId::Integer,
+        Relation::GreaterEqual => TypeId::Integer,
+    }
+}
+
+fn required_by_equality(left: TypeId) -> TypeId
+    ensures { result ≡ required_by_equality (types_in []) left }
+{
+    match left {
+        TypeId::Integer => TypeId::Integer,
+        TypeId::Boolean => TypeId::Boolean,
+        TypeId::Array(_) => TypeId::Boolean,
+        TypeId::Record(_) => TypeId::Boolean,
+        TypeId::Unknown => TypeId::Unknown,
+    }
+}
+
+/// A comparison is a truth where its operands are known.
+fn truth_of(operands: TypeId) -> TypeId
+    ensures { result ≡ truth_of (types_in []) operands }
+{
+    match operands {
+        TypeId::Integer => TypeId::Boolean,
+        TypeId::Boolean => TypeId::Boolean,
+        TypeId::Array(_) => TypeId::Boolean,
+        TypeId::Record(_) => TypeId::Boolean,
+        TypeId::Unknown => TypeId::Unknown,
+    }
+}
+
+pub(crate) fn same_type(a: TypeId, b: TypeId) -> bool
+    ensures { result ≡ same_type a b }
+{
+    a == b
+}
+
+/// An unknown type is required nothing, and requires nothing.
+fn fits(of: TypeId, wanted: TypeId) -> bool
+    ensures { result ≡ fits (types_in []) of wanted }
+{
+    same_type(of, wanted) || same_type(of, TypeId::Unknown) || same_type(wanted, TypeId::Unknown)
+}
+
+/// The type that was required, where it is there.
+fn given(of: TypeId, wanted: TypeId) -> TypeId
+    ensures { result ≡ (if same_type of wanted then wanted else type.Unknown) }
+{
+    if same_type(of, wanted) {
+        wanted
+    } else {
+        TypeId::Unknown
+    }
+}
+
+impl Operand {
+    /// The operation on this whose sign precedes it.
+    fn after_sign(self, of: TypeId, value: Option<Scalar>) -> Operand
+        ensures { operand_of result ≡ after_sign of (option_map scalar_value value) (operand_of self) }
+    {
+        Operand {
+            of,
+            value,
+            is_place: false,
+            first: self.first.saturating_sub(1),
+            last: self.last,
+        }
+    }
+
+    /// The operation on this and what is to the right.
+    fn with(self, right: Operand, of: TypeId, value: Option<Scalar>) -> Operand
+        ensures { operand_of result ≡ joined of (option_map scalar_value value) (operand_of self) (operand_of right) }
+    {
+        Operand {
+            of,
+            value,
+            is_place: false,
+            first: self.first,
+            last: right.last,
+        }
+    }
+
+    /// The part of this up to a token.
+    fn part(self, of: TypeId, last: usize) -> Operand
+        ensures { operand_of result ≡ part_of (operand_of self) of last }
+    {
+        Operand {
+            of,
+            value: None,
+            is_place: self.is_place,
+            first: self.first,
+            last,
+        }
+    }
+}
+
+impl<'t> Supposed<'t> {
+    /// Reports a fault at a whole expression.
+    pub(crate) fn report_operand(
+        &self,
+        faults: &mut Vec<Fault>,
+        code: Code,
+        operand: Operand,
+    ) -> Result<(), AllocError>
+        ensures { OnOk result (faults.new.items ≡ faults.old.items ++ at_operand (facts_in self.now false) code (operand_of operand)) }
+    {
+        self.report(faults, code, operand.first, operand.last)
+    }
+
+    /// Requires a type, and gives it where it is there; else it is unknown.
+    pub(crate) fn require(
+        &self,
+        faults: &mut Vec<Fault>,
+        wanted: TypeId,
+        operand: Operand,
+    ) -> Result<TypeId, AllocError>
+        ensures { IfOk result (λ t. ReportsAfter faults.old.items faults.new.items t (required (facts_in self.now false) wanted (operand_of operand))) }
+    {
+        if !fits(operand.of, wanted) {
+            self.report_operand(faults, Code::TypeMismatch, operand)?;
+        }
+        Ok(given(operand.of, wanted))
+    }
+
+    /// Requires the same type on both sides, and gives it where it is there. Only one wrong operand is reported, the left one
+    /// first.
+    fn require_both(
+        &self,
+        faults: &mut Vec<Fault>,
+        wanted: TypeId,
+        left: Operand,
+        right: Operand,
+    ) -> Result<TypeId, AllocError>
+        ensures { IfOk result (λ t. ReportsAfter faults.old.items faults.new.items t (required_both (facts_in self.now false) wanted (operand_of left) (operand_of right))) }
+    {
+        if !fits(left.of, wanted) {
+            self.report_operand(faults, Code::TypeMismatch, left)?;
+            return Ok(TypeId::Unknown);
+        }
+        let of = self.require(faults, wanted, right)?;
+        if same_type(left.of, wanted) {
+            Ok(of)
+        } else {
+            Ok(TypeId::Unknown)
+        }
+    }
+
+    /// Reports the faults of an expression. In a constant expression names mean constants alone.
+    #[cycle(expressions)]
+    pub(crate) fn expression(
+        &self,
+        faults: &mut Vec<Fault>,
+        e: &Expression,
+        only_constants: bool,
+    ) -> Result<Operand, AllocError>
+        ensures { IfOk result (λ o. ReportsAfter faults.old.items faults.new.items (operand_of o) (reported_expression (facts_in self.now only_constants) (expression_of e.now))) }
+    {
+        let left = self.simple(faults, &e.left, only_constants)?;
+        match &e.compared {
+            None => Ok(left),
+            Some(compared) => {
+                let compared: &Comparison = compared;
+                let right = self.simple(faults, &compared.right, only_constants)?;
+                self.relate(faults, compared.relation, left, right)
+            }
+        }
+    }
+
+    fn relate(
+        &self,
+        faults: &mut Vec<Fault>,
+        relation: Relation,
+        left: Operand,
+        right: Operand,
+    ) -> Result<Operand, AllocError>
+        ensures { IfOk result (λ o. ReportsAfter faults.old.items faults.new.items (operand_of o) (relate_operands (facts_in self.now false) relation (operand_of left) (operand_of right))) }
+    {
+        let wanted = required_by_relation(relation, left.of);
+        let of = self.require_both(faults, wanted, left, right)?;
+        let value = operators::value_of_relation(relation, left.value, right.value);
+        Ok(left.with(right, truth_of(of), value))
+    }
+
+    #[cycle(expressions)]
+    fn simple(
+        &self,
+        faults: &mut Vec<Fault>,
+        s: &Simple,
+        only_constants: bool,
+    ) -> Result<Operand, AllocError>
+        ensures { IfOk result (λ o. ReportsAfter faults.old.items faults.new.items (operand_of o) (reported_simple (facts_in self.now only_constants) (simple_of s.now))) }
+    {
+        let first = self.term(faults, &s.first, only_constants)?;
+        let mut so_far = self.sign(faults, s.sign, first)?;
+        for addend in &s.more {
+            let right = self.term(faults, &addend.term, only_constants)?;
+            so_far = self.add(faults, addend.operator, so_far, right)?;
+        }
+        Ok(so_far)
+    }
+
+    fn add(
+        &self,
+        faults: &mut Vec<Fault>,
+        operator: AddOperator,
+        left: Operand,
+        right: Operand,
+    ) -> Result<Operand, AllocError>
+        ensures { IfOk result (λ o. ReportsAfter faults.old.items faults.new.items (operand_of o) (add_operands (facts_in self.now false) operator (operand_of left) (operand_of right))) }
+    {
+        let of = self.require_both(faults, required_by_add(operator), left, right)?;
+        let value = operators::value_of_sum(operator, left.value, right.value);
+        Ok(left.with(right, of, value))
+    }
+
+    fn sign(
+        &self,
+        faults: &mut Vec<Fault>,
+        sign: Option<Sign>,
+        operand: Operand,
+    ) -> Result<Operand, AllocError>
+        ensures { IfOk result (λ o. ReportsAfter faults.old.items faults.new.items (operand_of o) (sign_operand (facts_in self.now false) sign (operand_of operand))) }
+    {
+        match sign {
+            None => Ok(operand),
+            Some(sign) => {
+                let of = self.require(faults, TypeId::Integer, operand)?;
+                let value = operators::with_sign(Some(sign), operand.value);
+                Ok(operand.after_sign(of, value))
+            }
+        }
+    }
+
+    #[cycle(expressions)]
+    fn term(
+        &self,
+        faults: &mut Vec<Fault>,
+        t: &Term,
+        only_constants: bool,
+    ) -> Result<Operand, AllocError>
+        ensures { IfOk result (λ o. ReportsAfter faults.old.items faults.new.items (operand_of o) (reported_term (facts_in self.now only_constants) (term_of t.now))) }
+    {
+        let mut so_far = self.factor(faults, &t.first, only_constants)?;
+        for multiplier in &t.more {
+            let right = self.factor(faults, &multiplier.factor, only_constants)?;
+            so_far = self.multiply(faults, multiplier.operator, so_far, right)?;
+        }
+        Ok(so_far)
+    }
+
+    fn multiply(
+        &self,
+        faults: &mut Vec<Fault>,
+        operator: MultiplyOperator,
+        left: Operand,
+        right: Operand,
+    ) -> Result<Operand, AllocError>
+        ensures { IfOk result (λ o. ReportsAfter faults.old.items faults.new.items (operand_of o) (multiply_operands (facts_in self.now false) operator (operand_of left) (operand_of right))) }
+    {
+        let of = self.require_both(faults, required_by_multiply(operator), left, right)?;
+        let value = operators::value_of_product(operator, left.value, right.value);
+        Ok(left.with(right, of, value))
+    }
+
+    #[cycle(expressions)]
+    fn factor(
+        &self,
+        faults: &mut Vec<Fault>,
+        f: &Factor,
+        only_constants: bool,
+    ) -> Result<Operand, AllocError>
+        ensures { IfOk result (λ o. ReportsAfter faults.old.items faults.new.items (operand_of o) (reported_factor (facts_in self.now only_constants) (factor_of f.now))) }
+    {
+        match f {
+            Factor::Designator(d) => {
+                let base = self.value_named(faults, d.name, only_constants)?;
+                self.selected(faults, base, d, only_constants)
+            }
+            Factor::Integer(token) => Ok(self.integer(*token)),
+            Factor::Parenthesised(e) => {
+                let inside = self.expression(faults, e, only_constants)?;
+                Ok(self.in_parentheses(inside))
+            }
+            Factor::Not(f) => {
+                let operand = self.factor(faults, f, only_constants)?;
+                self.complement(faults, operand)
+            }
+        }
+    }
+
+    fn integer(&self, token: usize) -> Operand
+        ensures { operand_of result ≡ a_number (facts_in self.now false) token }
+    {
+        let number = number_at(self.resolved.tokens(), token);
+        Operand {
+            of: TypeId::Integer,
+            value: Some(Scalar::Number(number)),
+            is_place: false,
+            first: token,
+            last: token,
+        }
+    }
+
+    fn in_parentheses(&self, inside: Operand) -> Operand
+        ensures { operand_of result ≡ enclosed (facts_in self.now false) (operand_of inside) }
+    {
+        Operand {
+            of: inside.of,
+            value: inside.value,
+            is_place: false,
+            first: inside.first.saturating_sub(1),
+            last: self.token_after(inside.last),
+        }
+    }
+
+    fn complement(&self, faults: &mut Vec<Fault>, operand: Operand) -> Result<Operand, AllocError>
+        ensures { IfOk result (λ o. ReportsAfter faults.old.items faults.new.items (operand_of o) (complement_operand (facts_in self.now false) (operand_of operand))) }
+    {
+        let of = self.require(faults, TypeId::Boolean, operand)?;
+        Ok(operand.after_sign(of, operators::complement(operand.value)))
+    }
+
+    /// A name where a value is required.
+    fn value_named(
+        &self,
+        faults: &mut Vec<Fault>,
+        token: usize,
+        only_constants: bool,
+    ) -> Result<Operand, AllocError>
+        ensures { IfOk result (λ o. ReportsAfter faults.old.items faults.new.items (operand_of o) (named (facts_in self.now only_constants) token)) }
+    {
+        let unknown = Operand {
+            of: TypeId::Unknown,
+            value: None,
+            is_place: true,
+            first: token,
+            last: token,
+        };
+        match self.meaning(token) {
+            None => Ok(unknown),
+            Some(meaning) => match meaning {
+                Meaning::Constant(value) => Ok(constant(*value, token)),
+                Meaning::Variable(of) => {
+                    if only_constants {
+                        self.report_at(faults, Code::NotConstant, token)?;
+                        return Ok(unknown);
+                    }
+                    Ok(unknown.part(*of, token))
+                }
+                Meaning::Named(_) => {
+                    self.report_at(faults, Code::WrongKind, token)?;
+                    Ok(unknown)
+                }
+                Meaning::Procedure(_) => {
+                    self.report_at(faults, Code::WrongKind, token)?;
+                    Ok(unknown)
+                }
+            },
+        }
+    }
+
+    /// A designator whose name is this operand, with its selectors.
+    #[cycle(expressions)]
+    pub(crate) fn selected(
+        &self,
+        faults: &mut Vec<Fault>,
+        base: Operand,
+        d: &Designator,
+        only_constants: bool,
+    ) -> Result<Operand, AllocError>
+        ensures { IfOk result (λ o. ReportsAfter faults.old.items faults.new.items (operand_of o) (reported_selectors (facts_in self.now only_constants) (operand_of base) (selectors_in d.now))) }
+    {
+        let mut so_far = base;
+        for selector in &d.selectors {
+            so_far = self.select(faults, so_far, selector, only_constants)?;
+        }
+        Ok(so_far)
+    }
+
+    #[cycle(expressions)]
+    fn select(
+        &self,
+        faults: &mut Vec<Fault>,
+        base: Operand,
+        selector: &Selector,
+        only_constants: bool,
+    ) -> Result<Operand, AllocError>
+        ensures { IfOk result (λ o. ReportsAfter faults.old.items faults.new.items (operand_of o) (reported_selector (facts_in self.now only_constants) (operand_of base) (selector_of selector.now))) }
+    {
+        match selector {
+            Selector::Field(name) => self.select_field(faults, base, *name),
+            Selector::Index(e) => {
+                let index = self.expression(faults, e, only_constants)?;
+                self.select_element(faults, base, index)
+            }
+        }
+    }
+
+    /// An index is required to be a number also where there is no array.
+    fn select_element(
+        &self,
+        faults: &mut Vec<Fault>,
+        base: Operand,
+        index: Operand,
+    ) -> Result<Operand, AllocError>
+        ensures { IfOk result (λ o. ReportsAfter faults.old.items faults.new.items (operand_of o) (element_selected (facts_in self.now false) (operand_of base) (operand_of index))) }
+    {
+        let index_type = self.require(faults, TypeId::Integer, index)?;
+        let of = self.element(faults, base.of, index, index_type)?;
+        Ok(base.part(of, self.token_after(index.last)))
+    }
+
+    fn element(
+        &self,
+        faults: &mut Vec<Fault>,
+        base: TypeId,
+        index: Operand,
+        index_type: TypeId,
+    ) -> Result<TypeId, AllocError>
+        ensures { IfOk result (λ t. ReportsAfter faults.old.items faults.new.items t (element_in (facts_in self.now false) (operand_of index) index_type (form_in self.now.composites.items base))) }
+    {
+        match base {
+            TypeId::Array(place) => {
+                if same_type(index_type, TypeId::Integer) {
+                    Ok(self.elements(place))
+                } else {
+                    Ok(TypeId::Unknown)
+                }
+            }
+            TypeId::Unknown => Ok(TypeId::Unknown),
+            TypeId::Integer => self.no_array(faults, index),
+            TypeId::Boolean => self.no_array(faults, index),
+            TypeId::Record(_) => self.no_array(faults, index),
+        }
+    }
+
+    fn no_array(&self, faults: &mut Vec<Fault>, index: Operand) -> Result<TypeId, AllocError>
+        ensures { IfOk result (λ t. ReportsAfter faults.old.items faults.new.items t (element_in (facts_in self.now false) (operand_of index) type.Integer (form_in [] type.Integer))) }
+    {
+        self.report_at(faults, Code::NotArray, index.first.saturating_sub(1))?;
+        Ok(TypeId::Unknown)
+    }
+
+    fn select_field(
+        &self,
+        faults: &mut Vec<Fault>,
+        base: Operand,
+        name: usize,
+    ) -> Result<Operand, AllocError>
+        ensures { IfOk result (λ o. ReportsAfter faults.old.items faults.new.items (operand_of o) (field_selected (facts_in self.now false) (operand_of base) name)) }
+    {
+        let of = self.field_type(faults, base.of, name)?;
+        Ok(base.part(of, name))
+    }
+
+    fn field_type(
+        &self,
+        faults: &mut Vec<Fault>,
+        base: TypeId,
+        name: usize,
+    ) -> Result<TypeId, AllocError>
+        ensures { IfOk result (λ t. ReportsAfter faults.old.items faults.new.items t (field_in (facts_in self.now false) name (form_in self.now.composites.items base))) }
+    {
+        match base {
+            TypeId::Record(place) => match self.field(place, self.text(name)) {
+                Some(of) => Ok(of),
+                None => {
+                    self.report_at(faults, Code::NoField, name)?;
+                    Ok(TypeId::Unknown)
+                }
+            },
+            TypeId::Unknown => Ok(TypeId::Unknown),
+            TypeId::Integer => self.no_record(faults, name),
+            TypeId::Boolean => self.no_record(faults, name),
+            TypeId::Array(_) => self.no_record(faults, name),
+        }
+    }
+
+    fn no_record(&self, faults: &mut Vec<Fault>, name: usize) -> Result<TypeId, AllocError>
+        ensures { IfOk result (λ t. ReportsAfter faults.old.items faults.new.items t (field_in (facts_in self.now false) name (form_in [] type.Integer))) }
+    {
+        self.report_at(faults, Code::NotRecord, name.saturating_sub(1))?;
+        Ok(TypeId::Unknown)
+    }
+
+    /// Reports the faults of the right side of a constant's declaration, and gives its value where it has none.
+    pub(crate) fn constant_value(
+        &self,
+        faults: &mut Vec<Fault>,
+        e: &Expression,
+    ) -> Result<Option<Scalar>, AllocError>
+        ensures { IfOk result (λ v. ReportsAfter faults.old.items faults.new.items (option_map scalar_value v) (reported_constant (facts_in self.now true) (expression_of e.now))) }
+    {
+        let constant = self.expression(faults, e, true)?;
+        self.evaluated(faults, constant)
+    }
+
+    /// The value of an operand of a constant expression. In one with a fault nothing is evaluated.
+    fn evaluated(
+        &self,
+        faults: &mut Vec<Fault>,
+        constant: Operand,
+    ) -> Result<Option<Scalar>, AllocError>
+        ensures { IfOk result (λ v. ReportsAfter faults.old.items faults.new.items (option_map scalar_value v) (evaluated (facts_in self.now false) (operand_of constant))) }
+    {
+        if same_type(constant.of, TypeId::Unknown) {
+            return Ok(None);
+        }
+        if constant.value.is_none() {
+            self.report_operand(faults, Code::ConstFault, constant)?;
+        }
+        Ok(constant.value)
+    }
+}
+
+/// A constant's name.
+fn constant(value: Option<Scalar>, token: usize) -> Operand
+    ensures { operand_of result ≡ a_constant_name (types_in []) (option_map scalar_value value) token }
+{
+    Operand {
+        of: constant_type(value),
+        value,
+        is_place: false,
+        first: token,
+        last: token,
+    }
+}
+
+fn constant_type(value: Option<Scalar>) -> TypeId
+    ensures { result ≡ value_type (types_in []) (option_map scalar_value value) }
+{
+    match value {
+        None => TypeId::Unknown,
+        Some(value) => match value {
+            Scalar::Number(_) => TypeId::Integer,
+            Scalar::Truth(_) => TypeId::Boolean,
+        },
+    }
+}

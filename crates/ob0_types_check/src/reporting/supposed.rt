@@ -1,0 +1,309 @@
+//! What is supposed of types and declarations while faults are reported; each may be unknown, as a whole or in parts.
+
+ghost use Rattle.std.specs.Prelude.{◌≡◌, ◌∷◌, [], ◌++◌, ◌+◌, ◌*◌, map, max, IfOk, OnOk, option_map, slice_get, slice_index_or, None, Some};
+ghost use Rattle.ob0_scope_rules.specs.Resolution.{span_at};
+ghost use Rattle.ob0_types_table.specs.declared.types.TypeId.TheVariants as type;
+ghost use Rattle.ob0_tree.specs.Places.{text_at};
+ghost use Rattle.ob0_types_check.specs.Known.{a_procedure};
+ghost use Rattle.ob0_types_check.specs.Operations.{ReportsAfter, fault_between, token_after};
+ghost use Rattle.ob0_types_check.specs.SoFar.{define, is_within, make, no_scalar, one_scalar, predeclared_meanings, size_at, type_with, with_declared};
+ghost use Rattle.ob0_types_check.specs.SupposedFacts.{counted, declared_at, elements_of, field_of, meaning_of, parts_of, size_of, so_far_in};
+ghost use Rattle.ob0_types_check.specs.WrittenTypeFaults.{array_size, beside, record_size};
+
+use ob0_scan::{Code, Fault, Span};
+use ob0_scope_rules::{Resolved, token_span};
+use ob0_types_table::{Formal, MOST_DEPTH, MOST_SCALARS, TypeId, text_at};
+use ob0_values::Scalar;
+use std::alloc::{AllocError, Global};
+use std::collections::BTreeMap;
+
+/// What a declaration is.
+#[derive(Drop)]
+pub(crate) enum Meaning {
+    /// A type, by its name.
+    Named(TypeId),
+    /// A constant; without a value where its right side has a fault.
+    Constant(Option<Scalar>),
+    Variable(TypeId),
+    Procedure(Vec<Formal>),
+}
+
+/// The predeclared names, in the order of their ordinals.
+pub(crate) fn predeclared(alloc: Global) -> Result<Vec<Option<Meaning>>, AllocError>
+    ensures { IfOk result (λ ms. map (option_map meaning_of) ms.items ≡ predeclared_meanings) }
+{
+    let mut meanings = Vec::new(alloc);
+    meanings.push(Some(Meaning::Named(TypeId::Integer)))?;
+    meanings.push(Some(Meaning::Named(TypeId::Boolean)))?;
+    meanings.push(Some(Meaning::Constant(Some(Scalar::Truth(true)))))?;
+    meanings.push(Some(Meaning::Constant(Some(Scalar::Truth(false)))))?;
+    meanings.push(Some(one_parameter(alloc, true)?))?;
+    meanings.push(Some(one_parameter(alloc, false)?))?;
+    meanings.push(Some(Meaning::Procedure(Vec::new(alloc))))?;
+    Ok(meanings)
+}
+
+/// A procedure with one parameter, a number.
+fn one_parameter(alloc: Global, by_place: bool) -> Result<Meaning, AllocError>
+    ensures { IfOk result (λ m. meaning_of m ≡ a_procedure (record { by_place = by_place; of = type.Integer } ∷ [])) }
+{
+    let mut formals = Vec::new(alloc);
+    formals.push(Formal {
+        by_place,
+        of: TypeId::Integer,
+    })?;
+    Ok(Meaning::Procedure(formals))
+}
+
+/// How many scalars a type has, and how deep it is.
+#[derive(Clone, Copy)]
+pub(crate) struct Size {
+    pub(crate) scalars: usize,
+    pub(crate) depth: usize,
+}
+
+/// What an unknown type counts.
+pub(crate) const NOTHING: Size = Size {
+    scalars: 0,
+    depth: 0,
+};
+
+/// What a number or a truth counts.
+const SCALAR: Size = Size {
+    scalars: 1,
+    depth: 0,
+};
+
+/// The parts of a type: an array's elements, or the first field of each name.
+#[derive(Drop)]
+pub(crate) enum Parts<'t> {
+    Elements(TypeId),
+    Fields(BTreeMap<&'t str, TypeId>),
+}
+
+/// An array or a record.
+#[derive(Drop)]
+pub(crate) struct Composite<'t> {
+    parts: Parts<'t>,
+    size: Size,
+}
+
+impl Size {
+    /// An array of so many of these.
+    pub(crate) fn array(self, count: usize) -> Size
+        ensures { size_of result ≡ counted (array_size count (size_of self)) }
+    {
+        Size {
+            scalars: self.scalars.saturating_mul(count),
+            depth: self.depth.saturating_add(1),
+        }
+    }
+
+    /// Both beside one another.
+    pub(crate) fn and(self, other: Size) -> Size
+        ensures { size_of result ≡ counted (beside (size_of self) (size_of other)) }
+    {
+        Size {
+            scalars: self.scalars.saturating_add(other.scalars),
+            depth: self.depth.max(other.depth),
+        }
+    }
+
+    /// A record of these, with at least one scalar.
+    pub(crate) fn record(self) -> Size
+        ensures { size_of result ≡ counted (record_size (size_of self)) }
+    {
+        Size {
+            scalars: self.scalars.max(1),
+            depth: self.depth.saturating_add(1),
+        }
+    }
+
+    fn is_within(self) -> bool
+        ensures { result ≡ is_within (size_of self) }
+    {
+        if self.scalars > MOST_SCALARS {
+            return false;
+        }
+        self.depth <= MOST_DEPTH
+    }
+}
+
+/// What is supposed of a module's names and types.
+#[derive(Drop)]
+pub(crate) struct Supposed<'t> {
+    pub(crate) resolved: &'t Resolved<'t>,
+    /// What the declarations so far are, by their ordinals. A name is bound only to what is declared before it.
+    pub(crate) meanings: Vec<Option<Meaning>>,
+    /// The arrays and records so far, by their places in a `TypeId`.
+    pub(crate) composites: Vec<Composite<'t>>,
+}
+
+impl<'t> Supposed<'t> {
+    /// How a token is written.
+    pub(crate) fn text(&self, token: usize) -> &'t str
+        ensures { result.now ≡ text_at self.now.resolved.now.module_read.source token }
+    {
+        text_at(self.resolved.tokens(), token)
+    }
+
+    /// The token after another. After the end of the text is none.
+    pub(crate) fn token_after(&self, token: usize) -> usize
+        ensures { result ≡ token_after self.now.resolved.now.module_read.source token }
+    {
+        if token < self.resolved.tokens().tokens().len() {
+            token + 1
+        } else {
+            token
+        }
+    }
+
+    /// Reports a fault from one token to another.
+    pub(crate) fn report(
+        &self,
+        faults: &mut Vec<Fault>,
+        code: Code,
+        first: usize,
+        last: usize,
+    ) -> Result<(), AllocError>
+        ensures { OnOk result (faults.new.items ≡ faults.old.items ++ fault_between self.now.resolved.now.module_read.source code first last ∷ []) }
+    {
+        let tokens = self.resolved.tokens();
+        let span = Span {
+            start: token_span(tokens, first).start,
+            end: token_span(tokens, last).end,
+        };
+        faults.push(Fault { code, span })?;
+        Ok(())
+    }
+
+    /// Reports a fault at one token.
+    pub(crate) fn report_at(
+        &self,
+        faults: &mut Vec<Fault>,
+        code: Code,
+        token: usize,
+    ) -> Result<(), AllocError>
+        ensures { OnOk result (faults.new.items ≡ faults.old.items ++ fault_between self.now.resolved.now.module_read.source code token token ∷ []) }
+    {
+        self.report(faults, code, token, token)
+    }
+
+    /// What a name means. None where nothing binds it.
+    pub(crate) fn meaning(&self, token: usize) -> Option<&Meaning>
+        ensures { option_map (λ m. m.now) result ≡ declared_at self.now token }
+    {
+        match self.resolved.ordinal_at(token) {
+            None => None,
+            Some(ordinal) => self.declared(ordinal),
+        }
+    }
+
+    /// What the declaration of an ordinal is.
+    fn declared(&self, ordinal: usize) -> Option<&Meaning>
+        ensures { option_map (λ m. m.now) result ≡ slice_index_or self.now.meanings.items ordinal None }
+    {
+        match self.meanings.get(ordinal) {
+            None => None,
+            Some(meaning) => match meaning {
+                None => None,
+                Some(meaning) => Some(meaning),
+            },
+        }
+    }
+
+    /// Says what the declaration at a token is.
+    pub(crate) fn define(&mut self, token: usize, meaning: Meaning)
+        ensures { so_far_in self.new ≡ define (so_far_in self.old) (meaning_of meaning) token }
+    {
+        match self.resolved.ordinal_at(token) {
+            None => {}
+            Some(ordinal) => self.declare(ordinal, meaning),
+        }
+    }
+
+    fn declare(&mut self, ordinal: usize, meaning: Meaning)
+        ensures { so_far_in self.new ≡ with_declared (so_far_in self.old) (meaning_of meaning) (Some ordinal) }
+    {
+        if ordinal < self.meanings.len() {
+            self.meanings[ordinal] = Some(meaning);
+        }
+    }
+
+    /// What is counted of a type.
+    pub(crate) fn size_of(&self, of: TypeId) -> Size
+        ensures { size_of result ≡ size_at (so_far_in self.now).made of }
+    {
+        match of {
+            TypeId::Array(place) => self.size_made(place),
+            TypeId::Record(place) => self.size_made(place),
+            TypeId::Integer => SCALAR,
+            TypeId::Boolean => SCALAR,
+            TypeId::Unknown => NOTHING,
+        }
+    }
+
+    fn size_made(&self, place: usize) -> Size
+        ensures { size_of result ≡ size_at (so_far_in self.now).made (type.Array place) }
+    {
+        match self.composites.get(place) {
+            None => SCALAR,
+            Some(composite) => composite.size,
+        }
+    }
+
+    /// The type of the elements of the array at a place.
+    pub(crate) fn elements(&self, place: usize) -> TypeId
+        ensures { result ≡ elements_of (slice_get self.now.composites.items place) }
+    {
+        match self.composites.get(place) {
+            None => TypeId::Unknown,
+            Some(composite) => match &composite.parts {
+                Parts::Elements(element) => *element,
+                Parts::Fields(_) => TypeId::Unknown,
+            },
+        }
+    }
+
+    /// The type of the first field of this name of the record at a place. None where it has no such field.
+    pub(crate) fn field(&self, place: usize, name: &str) -> Option<TypeId>
+        ensures { result ≡ field_of (slice_get self.now.composites.items place) name.now }
+    {
+        match self.composites.get(place) {
+            None => None,
+            Some(composite) => match &composite.parts {
+                Parts::Elements(_) => None,
+                Parts::Fields(fields) => fields.get(name).copied(),
+            },
+        }
+    }
+
+    /// Makes an array or record, whose word is this token. One that is too large is reported, and unknown.
+    pub(crate) fn make(
+        &mut self,
+        faults: &mut Vec<Fault>,
+        token: usize,
+        parts: Parts<'t>,
+        size: Size,
+    ) -> Result<TypeId, AllocError>
+        ensures { IfOk result (λ t. ReportsAfter faults.old.items faults.new.items (record { of = t; behind = so_far_in self.new }) (make (so_far_in self.old) token (parts_of parts.entry) (size_of size))) }
+    {
+        if !size.is_within() {
+            self.report_at(faults, Code::TypeTooLarge, token)?;
+            return Ok(TypeId::Unknown);
+        }
+        let of = type_with(&parts, self.composites.len());
+        self.composites.push(Composite { parts, size })?;
+        Ok(of)
+    }
+}
+
+/// The type of what is made of these parts and put at this place.
+fn type_with(parts: &Parts, place: usize) -> TypeId
+    ensures { result ≡ type_with (parts_of parts.now) place }
+{
+    match parts {
+        Parts::Elements(_) => TypeId::Array(place),
+        Parts::Fields(_) => TypeId::Record(place),
+    }
+}

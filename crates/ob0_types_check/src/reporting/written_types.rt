@@ -1,0 +1,242 @@
+//! Reports the faults of types as they are written, and finds what is known of them.
+
+ghost use Rattle.std.specs.Prelude.{◌≡◌, ◌∷◌, false, IfOk, OnOk, None, Some};
+ghost use Rattle.ob0_scope_rules.specs.Names.{Name};
+ghost use Rattle.ob0_types_table.specs.declared.types.TypeId.TheVariants as type;
+ghost use Rattle.ob0_tree.specs.Tree.{array_type, some_fields};
+ghost use Rattle.ob0_tree.specs.View.{expression_of, fields_of, further_fields_of_group, items_of, names_of, record_in, type_of};
+ghost use Rattle.ob0_types_rules.specs.Typing.{array_length};
+ghost use Rattle.ob0_values.specs.Scalars.{scalar_value};
+ghost use Rattle.ob0_types_check.specs.Known.{a_variable};
+ghost use Rattle.ob0_types_check.specs.Operations.{ReportsAfter};
+ghost use Rattle.ob0_types_check.specs.SoFar.{no_scalar};
+ghost use Rattle.ob0_types_check.specs.SupposedFacts.{Gathers, IsGathered, facts_in, fields_in, operand_of, size_of, so_far_in};
+ghost use Rattle.ob0_types_check.specs.TypeFaults.{length_of, type_meant, type_named};
+ghost use Rattle.ob0_types_check.specs.WrittenTypeFaults.{array_made, record_made, record_word, told_fields, reported_type, with_field, with_name, with_names};
+ghost use Rattle.ob0_types_check.specs.WrittenTypeFaults as spec;
+
+use crate::reporting::Reporter;
+use crate::reporting::expressions::{Operand, same_type};
+use crate::reporting::supposed::{Meaning, NOTHING, Parts, Size, Supposed};
+use ob0_scan::{Code, Fault};
+use ob0_tree::{ArrayType, FieldGroup, Fields, Names, RecordType, WrittenType};
+use ob0_types_table::{MOST_SCALARS, TypeId};
+use ob0_values::Scalar;
+use std::alloc::{AllocError, Global};
+use std::collections::BTreeMap;
+
+/// The length of an array, from 1 to 65,536.
+fn array_length(value: Scalar) -> Option<usize>
+    ensures { result ≡ array_length (scalar_value value) }
+{
+    match value {
+        Scalar::Number(n) => {
+            if n < 1 {
+                return None;
+            }
+            let length = n as usize;
+            if length <= MOST_SCALARS {
+                Some(length)
+            } else {
+                None
+            }
+        }
+        Scalar::Truth(_) => None,
+    }
+}
+
+/// The fields of a record so far: the first of each name, and the size of all.
+#[derive(Drop)]
+pub(crate) struct Gathered<'t> {
+    fields: BTreeMap<&'t str, TypeId>,
+    size: Size,
+}
+
+impl<'t> Gathered<'t> {
+    fn new(alloc: Global) -> Gathered<'t>
+        ensures fields { (x : Name) → fields_in result.fields x ≡ None }
+        ensures size { size_of result.size ≡ no_scalar }
+    {
+        Gathered {
+            fields: BTreeMap::new(alloc),
+            size: NOTHING,
+        }
+    }
+
+    fn add(&mut self, name: &'t str, of: TypeId) -> Result<(), AllocError>
+        ensures fields { OnOk result ((x : Name) → fields_in self.new.fields x ≡ with_field (fields_in self.old.fields) name.now of x) }
+        ensures size { OnOk result (self.new.size ≡ self.old.size) }
+    {
+        if self.fields.contains_key(name) {
+            return Ok(());
+        }
+        self.fields.insert(name, of)?;
+        Ok(())
+    }
+}
+
+/// The word RECORD: it precedes the first name and before a semicolon for each group without fields before it.
+fn record_word(groups: &[Fields]) -> usize
+    ensures { result ≡ record_word (items_of further_fields_of_group groups.now) }
+{
+    for (before, group) in groups.iter().enumerate() {
+        match group {
+            Fields::Empty => {}
+            Fields::Listed(list) => {
+                let first = list.names.first;
+                return first.saturating_sub(1).saturating_sub(before);
+            }
+        }
+    }
+    0
+}
+
+impl<'t> Supposed<'t> {
+    /// The type that a name means.
+    fn type_named(&self, faults: &mut Vec<Fault>, token: usize) -> Result<TypeId, AllocError>
+        ensures { IfOk result (λ t. ReportsAfter faults.old.items faults.new.items t (type_named (facts_in self.now false) token)) }
+    {
+        match self.meaning(token) {
+            None => Ok(TypeId::Unknown),
+            Some(meaning) => match meaning {
+                Meaning::Named(of) => Ok(*of),
+                Meaning::Constant(_) => self.no_type(faults, token),
+                Meaning::Variable(_) => self.no_type(faults, token),
+                Meaning::Procedure(_) => self.no_type(faults, token),
+            },
+        }
+    }
+
+    fn no_type(&self, faults: &mut Vec<Fault>, token: usize) -> Result<TypeId, AllocError>
+        ensures { IfOk result (λ t. ReportsAfter faults.old.items faults.new.items t (type_meant (facts_in self.now false) token (Some (a_variable type.Integer)))) }
+    {
+        self.report_at(faults, Code::WrongKind, token)?;
+        Ok(TypeId::Unknown)
+    }
+
+    /// The length of an array, by an operand. None where it has a fault.
+    fn length(&self, faults: &mut Vec<Fault>, operand: Operand) -> Result<Option<usize>, AllocError>
+        ensures { IfOk result (λ n. ReportsAfter faults.old.items faults.new.items n (length_of (facts_in self.now false) (operand_of operand))) }
+    {
+        let of = self.require(faults, TypeId::Integer, operand)?;
+        if !same_type(of, TypeId::Integer) {
+            return Ok(None);
+        }
+        let Some(value) = operand.value else {
+            self.report_operand(faults, Code::ConstFault, operand)?;
+            return Ok(None);
+        };
+        let length = array_length(value);
+        if length.is_none() {
+            self.report_operand(faults, Code::ArrayLength, operand)?;
+        }
+        Ok(length)
+    }
+}
+
+impl<'t> Reporter<'t> {
+    /// The type that is written, with unknown parts where these have faults.
+    #[cycle(types)]
+    pub(crate) fn written_type(&mut self, t: &WrittenType) -> Result<TypeId, AllocError>
+        ensures { IfOk result (λ of. ReportsAfter self.old.faults.items self.new.faults.items (record { of = of; behind = so_far_in self.new.supposed }) (reported_type (so_far_in self.old.supposed) (type_of t.now))) }
+    {
+        match t {
+            WrittenType::Named(name) => self.supposed.type_named(&mut self.faults, *name),
+            WrittenType::Array(a) => self.array(a),
+            WrittenType::Record(r) => self.record(r),
+        }
+    }
+
+    #[cycle(types)]
+    fn array(&mut self, a: &ArrayType) -> Result<TypeId, AllocError>
+        ensures { IfOk result (λ of. ReportsAfter self.old.faults.items self.new.faults.items (record { of = of; behind = so_far_in self.new.supposed }) (reported_type (so_far_in self.old.supposed) (array_type (expression_of a.now.size) (type_of a.now.element.value)))) }
+    {
+        let size = self.supposed.expression(&mut self.faults, &a.size, true)?;
+        let length = self.supposed.length(&mut self.faults, size)?;
+        let element = self.written_type(&a.element)?;
+        self.make_array(size, length, element)
+    }
+
+    /// An array of a faulty length is unknown as a whole; the type of its elements was looked at all the same. The word ARRAY
+    /// precedes the length.
+    fn make_array(
+        &mut self,
+        size: Operand,
+        length: Option<usize>,
+        element: TypeId,
+    ) -> Result<TypeId, AllocError>
+        ensures { IfOk result (λ of. ReportsAfter self.old.faults.items self.new.faults.items (record { of = of; behind = so_far_in self.new.supposed }) (array_made (operand_of size) length (record { of = element; behind = so_far_in self.old.supposed }))) }
+    {
+        match length {
+            None => Ok(TypeId::Unknown),
+            Some(length) => {
+                let word = size.first.saturating_sub(1);
+                let size = self.supposed.size_of(element).array(length);
+                self.supposed
+                    .make(&mut self.faults, word, Parts::Elements(element), size)
+            }
+        }
+    }
+
+    #[cycle(types)]
+    fn record(&mut self, r: &RecordType) -> Result<TypeId, AllocError>
+        ensures { IfOk result (λ of. ReportsAfter self.old.faults.items self.new.faults.items (record { of = of; behind = so_far_in self.new.supposed }) (reported_type (so_far_in self.old.supposed) (record_in r.now))) }
+    {
+        let mut gathered = Gathered::new(self.alloc);
+        for group in &r.groups {
+            self.group(group, &mut gathered)?;
+        }
+        self.make_record(record_word(&r.groups), gathered)
+    }
+
+    fn make_record(&mut self, word: usize, gathered: Gathered<'t>) -> Result<TypeId, AllocError>
+        ensures { (g : spec.Gathered) → IsGathered g self.old.supposed gathered.entry → IfOk result (λ of. ReportsAfter self.old.faults.items self.new.faults.items (record { of = of; behind = so_far_in self.new.supposed }) (record_made word g)) }
+    {
+        let Gathered { fields, size } = gathered;
+        self.supposed.make(&mut self.faults, word, Parts::Fields(fields), size.record())
+    }
+
+    #[cycle(types)]
+    fn group(&mut self, group: &Fields, gathered: &mut Gathered<'t>) -> Result<(), AllocError>
+        ensures { OnOk result ((g : spec.Gathered) → IsGathered g self.old.supposed gathered.old → Gathers self.old.faults.items self.new.faults.items self.new.supposed gathered.new (told_fields g (fields_of group.now))) }
+    {
+        match group {
+            Fields::Empty => Ok(()),
+            Fields::Listed(list) => self.listed(list, gathered),
+        }
+    }
+
+    #[cycle(types)]
+    fn listed(&mut self, list: &FieldGroup, gathered: &mut Gathered<'t>) -> Result<(), AllocError>
+        ensures { OnOk result ((g : spec.Gathered) → IsGathered g self.old.supposed gathered.old → Gathers self.old.faults.items self.new.faults.items self.new.supposed gathered.new (told_fields g (some_fields (names_of list.now.names) (type_of list.now.written)))) }
+    {
+        let of = self.written_type(&list.written)?;
+        self.supposed.gather_all(&list.names, of, gathered)
+    }
+}
+
+impl<'t> Supposed<'t> {
+    fn gather_all(
+        &self,
+        names: &Names,
+        of: TypeId,
+        gathered: &mut Gathered<'t>,
+    ) -> Result<(), AllocError>
+        ensures { OnOk result ((g : spec.Gathered) → IsGathered g self.now gathered.old → IsGathered (with_names of g (names.now.first ∷ names.now.more.items)) self.now gathered.new) }
+    {
+        self.gather(names.first, of, gathered)?;
+        for name in &names.more {
+            self.gather(*name, of, gathered)?;
+        }
+        Ok(())
+    }
+
+    /// One field more.
+    fn gather(&self, name: usize, of: TypeId, gathered: &mut Gathered<'t>) -> Result<(), AllocError>
+        ensures { OnOk result ((g : spec.Gathered) → IsGathered g self.now gathered.old → IsGathered (with_name of g name) self.now gathered.new) }
+    {
+        gathered.add(self.text(name), of)?;
+        gathered.size = gathered.size.and(self.size_of(of));
+        Ok(())
+    }
+}
