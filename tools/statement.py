@@ -17,7 +17,7 @@ PAGE = os.path.join(TOP, "docs", "STATEMENT.md")
 CRATES = os.path.join(TOP, "crates")
 ROOT = ("ob0_world", "world", ("play", "play_in"))
 # (where the second part begins)
-EDITS = [("ob0_world_rules", "Answers", name) for name in ("HandsOut", "Refuses")]
+EDITS = [("ob0_world_rules", "Answers", name) for name in ("GivesEdits", "Refuses")]
 WORD = re.compile(r"[^\W\d][\w'-]*(?:\.[^\W\d][\w'-]*)*")
 OPERATOR = re.compile(r"[^\w\s(){}\[\];,.\"◌]+")
 
