@@ -418,7 +418,7 @@ def page():
         "",
         "How to read them: `name : type` and then equations, by cases. `data` lists the cases of a type; a `record` is a value with",
         "named parts, or a list of facts that all hold. `(x : A) → B` is 'for all x', `A → B` 'if A then B', `A × B` 'A and B',",
-        "`(x : A) × B` 'some x with B', `A ⊎ B` 'A or B', `¬ A` 'not A', `A ↔ B` 'A exactly if B', `≡` is equality; `⊤` and `Unit`",
+        "`(x : A) × B` 'some x with B', `A ⊎ B` 'A or B', `¬ A` 'not A', `A ↔ B` 'A exactly if B', `≡` is equality; `⊤` and `Unit {0}`",
         "always hold, `⊥` never. `List`, `Option`, `Bool`, ℕ and ℤ are lists, optional values, truth values and numbers; `x ∷ xs` is a",
         "list with a first element, `xs ++ ys` joins two, `codes` gives the bytes of a text. In `reserved.Module` the word before the",
         "dot stands for the type whose case it is, of the same name. A text is the list of its bytes or of its characters, as the",

@@ -46,7 +46,7 @@ sites before level broken ss from at (l ∷ ls) = elim (l.kind) [
       ∷ sites (Some (record { kind = lexeme.Token k; standing = next_role ss })) (next_line level ss) false (drop 1 ss) (at + length l.text) (at + length l.text) ls
 ]
 
--- the gaps of a text with these standings of its tokens
+-- the gaps of a text whose tokens have these roles
 abbrev pub all_sites : List LineRole → List Lexeme → List GapSite
 all_sites ss lexemes = sites None 0 true ss 0 0 lexemes
 

@@ -48,7 +48,7 @@ pub data Meant : Type 0 where
   -- the field of this name of the record with this ordinal
   field_of : ℕ → Name → Meant
 
--- the predeclared names come first
+-- a name by its ordinal: predeclared below 7, else a declaration
 abbrev pub by_ordinal : ℕ → Meant
 by_ordinal ordinal = if nat_lt ordinal 7 then predeclared else declaration ordinal
 

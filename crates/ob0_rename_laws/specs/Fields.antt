@@ -75,7 +75,7 @@ abbrev mutual
   refield_groups l r k end = end
   refield_groups l r k (more (then_fields g) rest) = more (then_fields (refield_group l r k g)) (refield_groups l r (k + group_constructors g) rest)
 
--- the types of a block's declarations
+-- declarations of types with other names for fields
 abbrev pub refield_types : FieldNames → ℕ → Tree Name (items type_name) → Tree Name (items type_name)
 refield_types l k end = end
 refield_types l k (more (declares_type x u) ds) = more (declares_type x (refield_type l k u)) (refield_types l (k + constructors u) ds)
@@ -119,7 +119,7 @@ types_after_variables env k b = unwrap_or (option_and_then (declare_typed as_nam
 abbrev pub parameters_of : TypeEnvironment Name → ℕ → Tree Name (item procedure) → List (TypedParameter Name)
 parameters_of env k p = unwrap_or (typed_parameters as_names env k (procedure_formals p)) []
 
--- after a procedure's heading, and after those of a block's procedures
+-- what names mean after a procedure's heading
 abbrev pub types_after_heading : TypeEnvironment Name → ℕ → Tree Name (item procedure) → TypeEnvironment Name
 types_after_heading env k p = heading (procedure_name p) (parameters_of env k p) env
 

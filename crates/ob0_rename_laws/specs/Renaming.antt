@@ -40,7 +40,7 @@ abbrev mutual
   records_in_groups k end = []
   records_in_groups k (more (then_fields g) rest) = records_in_group k g ++ records_in_groups (k + group_constructors g) rest
 
--- the records in the declarations of a block
+-- the records in declarations of types, in text order
 abbrev pub records_in_types : ℕ → Tree Name (items type_name) → List RecordFields
 records_in_types k end = []
 records_in_types k (more (declares_type x u) ds) = records_in_type k u ++ records_in_types (k + constructors u) ds

@@ -25,7 +25,7 @@ pub enum Ending {
 #[derive(Clone, Copy, PartialEq, Eq, Debug)]
 pub enum Stop {
     Ended(Ending),
-    /// an allocation failed.
+    /// An allocation failed.
     Memory,
 }
 

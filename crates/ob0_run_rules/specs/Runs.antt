@@ -99,7 +99,8 @@ perform (Some (a_standard writes)) enter (value_argument (number n) ∷ []) s = 
 perform (Some (a_standard writes_line)) enter [] s = running (append_output s line_out)
 perform _ enter args s = stopped Stuck s.output
 
--- a loop evaluates its condition; where it is TRUE and t turns were made, it ends with TurnBound; else one more turn is made
+-- WHILE evaluates its condition; where it is TRUE and none of t turns is left, the run ends with TurnBound; else
+-- one more is made
 abbrev pub turns : ℕ → (State → Outcome Value) → (State → Progress) → State → Progress
 turns zero condition statements s =
     use_in s (condition s) (λ v. choose s v (λ s'. stopped TurnBound s'.output) running)
@@ -118,7 +119,7 @@ turns_until zero condition turn s =
 turns_until (suc t) condition turn s =
     continue_with (turn s) (λ s'. use_in s' (condition s') (λ v. choose s' v running (turns_until t condition turn)))
 
--- an assignment finds its place, then evaluates its right side, then stores a copy
+-- a statement. An assignment finds its place, then evaluates its right side, then stores a copy
 unfoldable mutual
   unfolding evaluate designate evaluate_arguments
 
@@ -167,7 +168,7 @@ pub record Frame (N : Type 0) : Type 0 where
   pub env : Activation N
   pub store : Store
 
--- a new variable for each name, at the end of the store, with nothing taken from it
+-- a new variable for each name, added at the end of the store
 abbrev pub allocate : {N : Type 0} → List N → Value → Frame N → Frame N
 allocate [] v f = f
 allocate (x ∷ xs) v f =
@@ -245,13 +246,13 @@ unfolding execute
 execute_body naming env enter t none s = running s
 execute_body naming env enter t (one (begins statements)) s = execute_all (statement_meanings naming env) enter t statements s
 
--- the statements of a block, in a frame
+-- a run goes on with the store of a frame; without a frame it is stuck
 abbrev pub in_frame : {N : Type 0} → State → Option (Frame N) → (Frame N → State → Progress) → Progress
 in_frame s None next = stopped Stuck s.output
 in_frame s (Some f) next = next f record s { store = f.store }
 
 -- the body of the procedure at the head of an environment runs with its own variables, in the bindings that were
--- visible at its declaration, in the activation in which that was
+-- visible at its declaration, those of the activation that declared it
 unfoldable pub activate : {N : Type 0} → Naming N → (Activation N → Calls N) → ℕ → Activation N → List Argument → State → Progress
 unfolding declare_block execute_body
 activate naming enter t ((x, a_procedure code) ∷ rest) args s =

@@ -5,7 +5,7 @@ use Rattle.ob0_tree.specs.Tree.{Tree, array_type, block, declares, declares_proc
 use Rattle.ob0_scope_rules.specs.Names.{Name, same_name}
 use Rattle.ob0_scope_rules.specs.Parts.{block_constants, block_procedures, block_types, block_variables, constant_names, formal_names, formal_sections, named_types, names_listed, procedure_name, section_type, section_types, section_variables, variable_names}
 
--- no name is twice in a list
+-- a name is in a list
 abbrev pub is_among : Name → List Name → Bool
 is_among x [] = false
 is_among x (y ∷ ys) = same_name x y || is_among x ys
@@ -15,16 +15,17 @@ abbrev pub are_distinct : List Name → Bool
 are_distinct [] = true
 are_distinct (x ∷ xs) = not (is_among x xs) && are_distinct xs
 
--- a record declares a field once
+-- the names of fields of one type
 abbrev pub group_fields : {N : Type 0} → Tree N fields → List N
 group_fields no_fields = []
 group_fields (some_fields ns t) = names_listed ns
 
--- the names of all fields of a record
+-- the names of the further fields of a record
 abbrev pub groups_fields : {N : Type 0} → Tree N (items further_fields) → List N
 groups_fields end = []
 groups_fields (more (then_fields g) rest) = group_fields g ++ groups_fields rest
 
+-- in the text of a type each record declares a field once
 abbrev mutual
   pub fields_once : Tree Name written_type → Bool
   fields_once (named_type x) = true
@@ -49,7 +50,7 @@ abbrev pub block_names : {N : Type 0} → Tree N block → List N
 block_names b =
     constant_names (block_constants b) ++ (named_types (block_types b) ++ (variable_names (block_variables b) ++ procedure_names (block_procedures b)))
 
--- the records in the types of a block's declarations
+-- in the types of a TYPE section each record declares a field once
 abbrev pub types_once : Tree Name (items type_name) → Bool
 types_once end = true
 types_once (more (declares_type x t) ds) = fields_once t && types_once ds

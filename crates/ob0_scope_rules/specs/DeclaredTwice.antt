@@ -34,7 +34,7 @@ again source before (x ∷ xs) = unless (not (is_among (text_at source x) before
 abbrev pub closing_other : Scanned → ℕ → ℕ → List Fault
 closing_other source x closing = unless (same_name (text_at source x) (text_at source closing)) (end_name_at source closing)
 
--- the fields of a record, and then those of the records in it
+-- the second fields of a record, and then those of the records in it
 abbrev mutual
   pub fields_twice : Scanned → Tree ℕ written_type → List Fault
   fields_twice source (named_type x) = []
@@ -49,7 +49,7 @@ abbrev mutual
   groups_twice source end = []
   groups_twice source (more (then_fields g) rest) = group_twice source g ++ groups_twice source rest
 
--- the records in the types of a block's declarations
+-- second fields in the types of a TYPE section
 abbrev pub types_twice : Scanned → Tree ℕ (items type_name) → List Fault
 types_twice source end = []
 types_twice source (more (declares_type x t) ds) = fields_twice source t ++ types_twice source ds

@@ -24,7 +24,7 @@ declare_names k (x ∷ xs) scope = declare_names (suc k) xs ((x, k) ∷ scope)
 abbrev pub predeclared_scope : {N : Type 0} → Naming N → Scope N
 predeclared_scope naming = declare_names 0 (map naming.predeclared (0 ∷ 1 ∷ 2 ∷ 3 ∷ 4 ∷ 5 ∷ 6 ∷ [])) []
 
--- the first ordinal after those of a list of declarations, of a block, of procedures, and of a procedure's parameters and block
+-- the first ordinal after those of a list of names
 abbrev pub after_names : {N : Type 0} → ℕ → List N → ℕ
 after_names k [] = k
 after_names k (x ∷ xs) = after_names (suc k) xs
@@ -106,7 +106,7 @@ relabel_formals naming label scope k (one (some_formals s fs)) =
     one (some_formals (relabel_section naming label scope k s)
     (relabel_sections naming label (declare_names k (section_names s) scope) (after_names k (section_names s)) fs))
 
--- the sections of a block
+-- a CONST section with labels
 abbrev pub relabel_constant_section : {N M : Type 0} → Naming N → Labels N M → Scope N → ℕ → Tree N (maybe constants) → Tree M (maybe constants)
 relabel_constant_section naming label scope k none = none
 relabel_constant_section naming label scope k (one (declares_constants cs)) = one (declares_constants (relabel_constants naming label scope k cs))
@@ -127,7 +127,7 @@ declare_procedure_names k end scope = scope
 declare_procedure_names k (more p rest) scope =
     declare_procedure_names (after_procedure (suc k) p) rest ((procedure_name p, k) ∷ scope)
 
--- the first ordinal of each part of a block, from that of its constants on
+-- the ordinal of a block's first type, where that of its first constant is k
 abbrev pub first_type : {N : Type 0} → ℕ → Tree N block → ℕ
 first_type k b = after_names k (constant_names (block_constants b))
 
@@ -139,7 +139,7 @@ first_variable k b = after_names (first_type k b) (named_types (block_types b))
 abbrev pub first_procedure : {N : Type 0} → ℕ → Tree N block → ℕ
 first_procedure k b = after_names (first_variable k b) (variable_names (block_variables b))
 
--- the scope in which each part of a block begins
+-- the scope in which a block's types are declared
 abbrev pub types_scope : {N : Type 0} → ℕ → Tree N block → Scope N → Scope N
 types_scope k b scope = declare_names k (constant_names (block_constants b)) scope
 

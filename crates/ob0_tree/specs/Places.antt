@@ -38,7 +38,7 @@ abbrev pub value_in : Option Token → ℕ
 value_in None = 0
 value_in (Some t) = value_of t.kind
 
--- the same of the token at an index
+-- how the token with this index is written
 abbrev pub text_at : Scanned → ℕ → List ℕ
 text_at s i = text_in s.text (slice_get s.tokens i)
 

@@ -13,7 +13,7 @@ use Rattle.ob0_tree.specs.declared.tree.Role.{Role}
 use Rattle.ob0_tree.specs.declared.tree.Role.TheVariants as role
 use Rattle.ob0_tree.specs.Lexeme.{Terminal, Name, Number, Mark, relation_mark, sign_marks, add_mark, multiply_mark}
 
--- What may be again and again, or once or not at all, after something else.
+-- the parts of productions that may be repeated or left out
 pub data Item : Type 0 where
   selector : Item
   multiplier : Item
@@ -37,7 +37,8 @@ pub data Item : Type 0 where
   procedure : Item
   body : Item
 
--- the nonterminals, by which trees are indexed
+-- the nonterminals, by which trees are indexed: a part, any number of a part, at most one of it, and the others of
+-- the grammar
 pub data Sort : Type 0 where
   item : Item → Sort
   items : Item → Sort
@@ -112,7 +113,7 @@ pub data Tree (N : Type 0) : Sort → Type 0 where
   has_body : Tree N declarations → Tree N (maybe body) → Tree N block
   is_module : N → Tree N block → N → Tree N module_text
 
--- what is in place of a name, or a kind of token, alone
+-- one token of a kind, alone
 abbrev pub mark : {N : Type 0} → TokenKind → List (Terminal N)
 mark k = Mark k ∷ []
 
@@ -175,7 +176,7 @@ spell (has_body ds b) = spell ds ++ spell b
 spell (is_module name b closing) =
     Mark (kind.Reserved reserved.Module) ∷ Name name ∷ Mark (kind.Symbol symbol.Semicolon) ∷ (spell b ++ (Mark (kind.Reserved reserved.End) ∷ Name closing ∷ mark (kind.Symbol symbol.Dot)))
 
--- How deeply constructs are nested: those of these productions count.
+-- how deeply constructs are nested: those count whose case adds 1
 abbrev pub nesting : {N : Type 0} {s : Sort} → Tree N s → ℕ
 nesting none = 0
 nesting (one t) = nesting t

@@ -86,7 +86,7 @@ abbrev mutual
   owned_groups r k end = []
   owned_groups r k (more (then_fields g) rest) = owned_group r k g ++ owned_groups r (k + group_constructors g) rest
 
--- the identifiers of declarations
+-- the identifiers of declarations of types
 abbrev pub owned_types : ℕ → Tree ℕ (items type_name) → List (ℕ × Option ℕ)
 owned_types k end = []
 owned_types k (more (declares_type x u) ds) = (x, None) ∷ (owned_type k u ++ owned_types (k + constructors u) ds)
@@ -237,7 +237,7 @@ abbrev mutual
   marked_groups r k end = []
   marked_groups r k (more (then_fields g) rest) = marked_group r k g ++ marked_groups r (k + group_constructors g) rest
 
--- those of declarations
+-- the fields that are declared in declarations of types
 abbrev pub marked_types : ℕ → Tree ℕ (items type_name) → List (ℕ × ℕ)
 marked_types k end = []
 marked_types k (more (declares_type x u) ds) = marked_type k u ++ marked_types (k + constructors u) ds

@@ -31,21 +31,22 @@ declare_first naming env k b = do
   with_constants ← declare_constants naming env (block_constants b)
   declare_types naming with_constants k (block_types b)
 
--- how many ARRAY and RECORD are in the parts of a block
+-- how many ARRAY and RECORD are in a TYPE section
 abbrev pub types_constructors : {N : Type 0} → Tree N (items type_name) → ℕ
 types_constructors end = 0
 types_constructors (more (declares_type x u) ds) = constructors u + types_constructors ds
 
--- how many ARRAY and RECORD are written with variables
+-- how many ARRAY and RECORD are in a VAR section
 abbrev pub variables_constructors : {N : Type 0} → Tree N (items variable) → ℕ
 variables_constructors end = 0
 variables_constructors (more (declares_variable ns u) gs) = constructors u + variables_constructors gs
 
--- how many ARRAY and RECORD are written with parameters
+-- how many ARRAY and RECORD are in formal parameters
 abbrev pub formals_constructors : {N : Type 0} → Tree N (items further_section) → ℕ
 formals_constructors end = 0
 formals_constructors (more (then_section f) fs) = constructors (section_type f) + formals_constructors fs
 
+-- how many ARRAY and RECORD are in a block, those of its procedures too
 abbrev mutual
   pub block_constructors : {N : Type 0} → Tree N block → ℕ
   block_constructors (has_body (declares cs ts vs ps) statements) =
@@ -58,14 +59,14 @@ abbrev mutual
   pub procedure_constructors : {N : Type 0} → Tree N (item procedure) → ℕ
   procedure_constructors (declares_procedure x fs b closing) = formals_constructors (formal_sections fs) + block_constructors b
 
--- the ordinal of the first ARRAY or RECORD of a block's variables, and that of its procedures
+-- the ordinal of the first ARRAY or RECORD after a block's types
 abbrev pub after_types : {N : Type 0} → ℕ → Tree N block → ℕ
 after_types k b = k + types_constructors (block_types b)
 
--- the number of the first ARRAY or RECORD after a block's variables
+-- the ordinal of the first ARRAY or RECORD after a block's variables
 abbrev pub after_variables : {N : Type 0} → ℕ → Tree N block → ℕ
 after_variables k b = after_types k b + variables_constructors (block_variables b)
 
--- the first ordinal after a procedure's formal parameters
+-- the ordinal of the first ARRAY or RECORD after a procedure's formal parameters
 abbrev pub after_formals : {N : Type 0} → ℕ → Tree N (item procedure) → ℕ
 after_formals k p = k + formals_constructors (procedure_formals p)

@@ -22,7 +22,7 @@ pub record Meanings (N V P : Type 0) : Type 0 where
   pub stands_for : N → Option (Object V P)
   pub written : N → Name
 
--- an index below 0 or not below the length ends with Index
+-- the step to an element; an index below 0 or not below the length ends with Index
 abbrev pub element_step : Value → Value → Outcome Step
 element_step (elements vs) (number (pos i)) = if nat_lt i (count_values vs) then gives (at_index i) else ends Index
 element_step (elements vs) (number (negsuc i)) = ends Index
@@ -33,7 +33,7 @@ abbrev pub place_of : {P : Type 0} → Option (Object Place P) → Outcome Place
 place_of (Some (a_variable p)) = gives p
 place_of _ = ends Stuck
 
--- a constant has the value its value, a variable what its place holds
+-- the value of a constant, or of what is at the place of a variable
 abbrev pub value_of : {P : Type 0} → Store → Option (Object Place P) → Outcome Value
 value_of store (Some (a_constant v)) = gives v
 value_of store (Some (a_variable p)) = or_stuck (read_place store p)

@@ -17,6 +17,7 @@ use Rattle.ob0_values.specs.Values.{FieldShapes, Outcome, Shape, Value, array_sh
 
 -- one step after another, where both give something
 infixl 20 ◌>>=◌
+-- one after another: where the first is missing, so is what is made of it
 abbrev pub ◌>>=◌ : {A B : Type 0} → Option A → (A → Option B) → Option B
 ◌>>=◌ o next = option_and_then next o
 
@@ -134,7 +135,7 @@ unfoldable mutual
     t ← element_type s i
     type_at meaning t rest
 
--- in a constant expression names mean constants alone
+-- the value of a name that means a constant; other names have none in a constant expression
 abbrev pub constant_of : {V P : Type 0} → Option (Object V P) → Option Value
 constant_of (Some (a_constant v)) = Some v
 constant_of _ = None

@@ -48,7 +48,7 @@ Signature = List Formal
 abbrev pub Typed : Type 0 → Type 0
 Typed N = Meanings N Shape Signature
 
--- what names mean to the checker
+-- the bindings of a checked module
 abbrev pub TypeEnvironment : Type 0 → Type 0
 TypeEnvironment N = Environment N Shape Signature
 
@@ -96,6 +96,8 @@ unfoldable pub condition_fits : {N P : Type 0} → Meanings N Shape P → Tree N
 unfolding type_of
 condition_fits meaning e = agree (Some boolean_shape) (type_of meaning e)
 
+-- a statement is well-typed: both sides of an assignment have one type, the arguments of a call fit, and
+-- conditions are BOOLEAN
 unfoldable mutual
   unfolding condition_fits call_fits
 

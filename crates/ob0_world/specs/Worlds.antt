@@ -89,7 +89,7 @@ StepsFrom true old event seen new = ⊥
 abbrev pub WorldSteps : World → Event → Seen → World → Type 0
 WorldSteps old event seen new = StepsFrom old.ended old event seen new
 
--- an allocation failed: what has come of the events before stays
+-- An allocation failed: what has come of the events before remains
 pub record SameHistory (old new : Ends) : Type 0 where
   pub applied : new.applied ≡ old.applied
   pub made : new.made ≡ old.made

@@ -12,7 +12,7 @@ pub enum WorldFault {
     Ended,
 }
 
-/// an allocation failed; what came of the events before remains.
+/// An allocation failed. `steps` events were made before that, and `played` is what came of them.
 #[derive(Debug, Drop, Error)]
 #[error("out of memory")]
 pub struct PlayFault {

@@ -1,4 +1,4 @@
--- What an editor may ask for.
+-- What an editor may request.
 -- Rule: docs/PROTOCOL.md, Requests on documents 6 to 8.
 use Rattle.std.specs.Prelude.{ℕ, List, max, min}
 use Rattle.ob0_text.specs.declared.position_types.Position.{Position}

@@ -14,7 +14,7 @@ pub record Replacement : Type 0 where
   pub range : Range
   pub text : List ℕ
 
--- the edits of the code, by the characters of their texts
+-- an edit of the code, by the characters of its text
 abbrev pub replacement_of : Edit → Replacement
 replacement_of e = record { range = e.range; text = chars (string_bytes e.text) }
 

@@ -29,7 +29,7 @@ rewritten d text = record { version = d.version + 1; text = text; opening = d.op
 abbrev pub rewrites : Editor → List ℕ → Open → List ℕ → Editor
 rewrites e uri d text = record e { documents = map_of.insert e.documents uri (rewritten d text) }
 
--- a change that makes this text is sent
+-- the change that makes this text is sent (one change alone overlaps no other, so there is always a text)
 abbrev pub changes_text : Editor → List ℕ → Open → List TextChange → Option (List ℕ) → Move
 changes_text e uri d how (Some text) = sends (rewrites e uri d text) (tells (Changed uri (pos (d.version + 1)) how))
 changes_text e uri d how None = idle
@@ -97,7 +97,7 @@ abbrev pub if_same : SentAsk → Option Open → Option Open
 if_same asked (Some d) = if d.opening == asked.opening && d.version == asked.version then Some d else None
 if_same asked None = None
 
--- an open document gets the text that edits make
+-- an open document gets the text that edits make; edits that overlap make none, and are dropped
 abbrev pub applies_text : Editor → List ℕ → Open → Option (List ℕ) → ApplyOutcome
 applies_text e uri d (Some text) =
     makes (rewrites e uri d text) (record { uri = uri; before = d.text; after = text })

@@ -17,11 +17,11 @@ pub record Open : Type 0 where
   pub text : List ℕ
   pub opening : ℕ
 
--- by the bytes of their uris
+-- open documents by the bytes of their uris
 abbrev pub Documents : Type 0
 Documents = map_of.FinMap (slice_cmp nat_cmp) Open
 
--- an ask, by what it asks, the document that it is about and the state in which that was then
+-- a request that was sent: what is requested, the document, and its opening and version at that time
 pub record SentAsk : Type 0 where
   pub ask : Ask
   pub uri : List ℕ

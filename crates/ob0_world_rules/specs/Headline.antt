@@ -1,5 +1,5 @@
 -- What holds of every list of events: the headline.
--- Rule: docs/PROMISES.md, the two ends.
+-- Rule: docs/PROMISES.md, Client and server.
 use Rattle.std.specs.Prelude.{◌≡◌, ℕ, ℤ, pos, List, [], ◌∷◌, ◌++◌, All, Option, Some, None, if◌then◌else◌}
 use Rattle.std.specs.Str.{bytes_eq}
 use Rattle.ob0_text.specs.declared.position_types.Unit.{Unit}
