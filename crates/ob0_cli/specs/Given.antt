@@ -20,20 +20,32 @@ FoundCommand = Option (Text × List Row)
 
 -- the number of an argument, given or by default
 abbrev pub IsNumber : Text → List Row → ℕ → Type 0
-IsNumber id rows n = (digits : Text) × (one_of id rows ≡ Some digits) × (n ≡ digits_value 10 (without_leading_plus digits))
+IsNumber id rows n =
+    (digits : Text)
+    × (one_of id rows ≡ Some digits)
+    × (n ≡ digits_value 10 (without_leading_plus digits))
 
 -- the line is that of the subcommand of this name, with the values that were found
 abbrev pub HoldsValues : Text → List Row → CommandLine → Type 0
 HoldsValues name rows Serve = name ≡ codes "serve"
-HoldsValues name rows (Check file) = (name ≡ codes "check") × (first_of (codes "file") rows ≡ Some file.now)
-HoldsValues name rows (Run file calls turns) = (name ≡ codes "run") × (first_of (codes "file") rows ≡ Some file.now)
-    × IsNumber (codes "calls") rows calls × (calls ≤ 64) × IsNumber (codes "turns") rows turns × (turns ≤ 100000)
-HoldsValues name rows (Rename file position new) = (name ≡ codes "rename") × (first_of (codes "file") rows ≡ Some file.now)
-    × IsNumber (codes "line") rows position.line × IsNumber (codes "column") rows position.character × (first_of (codes "name") rows ≡ Some new.now)
+HoldsValues name rows (Check file) =
+    (name ≡ codes "check") × (first_of (codes "file") rows ≡ Some file.now)
+HoldsValues name rows (Run file calls turns) =
+    (name ≡ codes "run") × (first_of (codes "file") rows ≡ Some file.now)
+    × IsNumber (codes "calls") rows calls
+    × (calls ≤ 64)
+    × IsNumber (codes "turns") rows turns
+    × (turns ≤ 100000)
+HoldsValues name rows (Rename file position new) =
+    (name ≡ codes "rename") × (first_of (codes "file") rows ≡ Some file.now)
+    × IsNumber (codes "line") rows position.line
+    × IsNumber (codes "column") rows position.character
+    × (first_of (codes "name") rows ≡ Some new.now)
 
 -- the command that was found, with its values, is this command line
 abbrev pub IsReadFrom : FoundCommand → CommandLine → Type 0
-IsReadFrom found line = (name : Text) × (rows : List Row) × (found ≡ Some (name, rows)) × HoldsValues name rows line
+IsReadFrom found line =
+    (name : Text) × (rows : List Row) × (found ≡ Some (name, rows)) × HoldsValues name rows line
 
 -- the words have no fault, and the line is the one that they name
 pub record Gives (words : List Text) (line : CommandLine) : Type 0 where
@@ -42,7 +54,8 @@ pub record Gives (words : List Text) (line : CommandLine) : Type 0 where
 
 -- a refusal is of the kind of the first fault that the words have, and never of the kind 'out of memory'
 abbrev pub RefusesWords : List Text → CommandFault → Type 0
-RefusesWords words (Refused error) = IsAmong (kind_of error) (fault_of ob0_app words) × ¬ (kind_of error ≡ OutOfMemory)
+RefusesWords words (Refused error) =
+    IsAmong (kind_of error) (fault_of ob0_app words) × ¬ (kind_of error ≡ OutOfMemory)
 RefusesWords words Memory = Unit {0}
 
 -- ---- what the matches are known to have
@@ -57,18 +70,30 @@ most_of id = if bytes_eq id (codes "calls") then 64 else 100000
 
 -- an option has a number within its bounds
 abbrev pub HasBounded : Text → List Row → Type 0
-HasBounded id rows = (text : Text) × (one_of id rows ≡ Some (without_minus text)) × IsSignedIn (pos 0) (pos (most_of id)) text
+HasBounded id rows =
+    (text : Text)
+    × (one_of id rows ≡ Some (without_minus text))
+    × IsSignedIn (pos 0) (pos (most_of id)) text
 
 -- an argument has a number of 64 bits
 abbrev pub HasPlace : Text → List Row → Type 0
-HasPlace id rows = (text : Text) × (one_of id rows ≡ Some text) × IsUnsignedIn 0 18446744073709551615 text
+HasPlace id rows =
+    (text : Text) × (one_of id rows ≡ Some text) × IsUnsignedIn 0 18446744073709551615 text
 
 -- what the subcommand of this name needs has values
 abbrev pub NeedsAt : Text → List Row → Type 0
 NeedsAt name rows = (name ≡ codes "serve") ⊎ ((name ≡ codes "check") × HasText (codes "file") rows)
-    ⊎ ((name ≡ codes "run") × HasText (codes "file") rows × HasBounded (codes "calls") rows × HasBounded (codes "turns") rows)
-    ⊎ ((name ≡ codes "rename") × HasText (codes "file") rows × HasPlace (codes "line") rows × HasPlace (codes "column") rows × HasText (codes "name") rows)
+    ⊎ ((name ≡ codes "run")
+    × HasText (codes "file") rows
+    × HasBounded (codes "calls") rows
+    × HasBounded (codes "turns") rows)
+    ⊎ ((name ≡ codes "rename")
+    × HasText (codes "file") rows
+    × HasPlace (codes "line") rows
+    × HasPlace (codes "column") rows
+    × HasText (codes "name") rows)
 
 -- each argument that a command needs is there
 abbrev pub HasNeeded : FoundCommand → Type 0
-HasNeeded found = (name : Text) × (rows : List Row) × (found ≡ Some (name, rows)) × NeedsAt name rows
+HasNeeded found =
+    (name : Text) × (rows : List Row) × (found ≡ Some (name, rows)) × NeedsAt name rows

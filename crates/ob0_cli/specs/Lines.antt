@@ -33,15 +33,19 @@ turns_rule = record (new_rule (codes "turns")) {
 
 -- LSP 3.17, implementation considerations: the transport, which is standard input and output in any case
 abbrev pub stdio_rule : Rule
-stdio_rule = record (new_rule (codes "stdio")) { long = Some (codes "stdio"); action = Some SetTrue }
+stdio_rule =
+    record (new_rule (codes "stdio")) { long = Some (codes "stdio"); action = Some SetTrue }
 
 -- the same section: the process of the client. Any word is taken, and nothing depends on it
 abbrev pub client_rule : Rule
-client_rule = record (new_rule (codes "client")) { long = Some (codes "clientProcessId"); value_names = 1 }
+client_rule =
+    record (new_rule (codes "client")) { long = Some (codes "clientProcessId"); value_names = 1 }
 
 -- each option of `serve` may be given several times, since clients add them to what their users wrote
 abbrev pub serve_alone : App
-serve_alone = record (new_app (codes "serve")) { top = record (new_app (codes "serve")).top { args_override_self = true } }
+serve_alone =
+    record (new_app (codes "serve"))
+    { top = record (new_app (codes "serve")).top { args_override_self = true } }
 
 -- `serve` takes no words but these options
 abbrev pub serve : App
@@ -53,7 +57,9 @@ check = with_rule (new_app (codes "check")) (word_rule (codes "file"))
 
 -- `ob0 run FILE [--calls N] [--turns N]`
 abbrev pub run : App
-run = with_rule (with_rule (with_rule (new_app (codes "run")) (word_rule (codes "file"))) calls_rule) turns_rule
+run =
+    with_rule (with_rule (with_rule (new_app (codes "run")) (word_rule (codes "file"))) calls_rule)
+    turns_rule
 
 -- `ob0 rename FILE LINE COLUMN NAME`
 abbrev pub rename : App
@@ -62,8 +68,13 @@ rename = with_rule (with_rule (with_rule (with_rule (new_app (codes "rename")) (
 
 -- it has a version, and one subcommand is required
 abbrev pub ob0_alone : App
-ob0_alone = record (new_app (codes "ob0")) { top = record (new_app (codes "ob0")).top { subcommand_required = true; has_version = true } }
+ob0_alone =
+    record (new_app (codes "ob0"))
+    { top = record (new_app (codes "ob0")).top { subcommand_required = true; has_version = true } }
 
 -- these four subcommands, and `help`, which clap adds
 abbrev pub ob0_app : App
-ob0_app = with_subcommand (with_subcommand (with_subcommand (with_subcommand ob0_alone serve.top) check.top) run.top) rename.top
+ob0_app =
+    with_subcommand
+    (with_subcommand (with_subcommand (with_subcommand ob0_alone serve.top) check.top) run.top)
+    rename.top

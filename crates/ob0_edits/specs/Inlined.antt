@@ -11,7 +11,12 @@ or_name name None = designator name end
 or_name name (Some v) = v
 
 -- The tree with other names and numbers, and with a factor in place of each name that is as a whole factor and for which there is one.
-abbrev pub inlined : {N M : Type 0} {s : Sort} → (N → Option (Tree M factor)) → (N → M) → (ℕ → ℕ) → Tree N s → Tree M s
+abbrev pub inlined : {N M : Type 0} {s : Sort}
+    → (N → Option (Tree M factor))
+    → (N → M)
+    → (ℕ → ℕ)
+    → Tree N s
+    → Tree M s
 inlined c f g none = none
 inlined c f g (one a0) = one (inlined c f g a0)
 inlined c f g end = end
@@ -23,7 +28,8 @@ inlined c f g (adds a0 a1) = adds a0 (inlined c f g a1)
 inlined c f g (product a0 a1) = product (inlined c f g a0) (inlined c f g a1)
 inlined c f g (multiplies a0 a1) = multiplies a0 (inlined c f g a1)
 inlined c f g (designator name end) = or_name (f name) (c name)
-inlined c f g (designator name (more a0 a1)) = designator (f name) (more (inlined c f g a0) (inlined c f g a1))
+inlined c f g (designator name (more a0 a1)) =
+    designator (f name) (more (inlined c f g a0) (inlined c f g a1))
 inlined c f g (integer a0) = integer (g a0)
 inlined c f g (parenthesised a0) = parenthesised (inlined c f g a0)
 inlined c f g (negation a0) = negation (inlined c f g a0)
@@ -32,7 +38,8 @@ inlined c f g (index a0) = index (inlined c f g a0)
 inlined c f g empty = empty
 inlined c f g (assigns a0 a1 a2) = assigns (f a0) (inlined c f g a1) (inlined c f g a2)
 inlined c f g (calls a0 a1) = calls (f a0) (inlined c f g a1)
-inlined c f g (branches a0 a1 a2 a3) = branches (inlined c f g a0) (inlined c f g a1) (inlined c f g a2) (inlined c f g a3)
+inlined c f g (branches a0 a1 a2 a3) =
+    branches (inlined c f g a0) (inlined c f g a1) (inlined c f g a2) (inlined c f g a3)
 inlined c f g (while_loop a0 a1) = while_loop (inlined c f g a0) (inlined c f g a1)
 inlined c f g (repeat_loop a0 a1) = repeat_loop (inlined c f g a0) (inlined c f g a1)
 inlined c f g no_arguments = no_arguments
@@ -61,14 +68,19 @@ inlined c f g (declares_type a0 a1) = declares_type (f a0) (inlined c f g a1)
 inlined c f g (declares_types a0) = declares_types (inlined c f g a0)
 inlined c f g (declares_variable a0 a1) = declares_variable (inlined c f g a0) (inlined c f g a1)
 inlined c f g (declares_variables a0) = declares_variables (inlined c f g a0)
-inlined c f g (declares_procedure a0 a1 a2 a3) = declares_procedure (f a0) (inlined c f g a1) (inlined c f g a2) (f a3)
-inlined c f g (declares a0 a1 a2 a3) = declares (inlined c f g a0) (inlined c f g a1) (inlined c f g a2) (inlined c f g a3)
+inlined c f g (declares_procedure a0 a1 a2 a3) =
+    declares_procedure (f a0) (inlined c f g a1) (inlined c f g a2) (f a3)
+inlined c f g (declares a0 a1 a2 a3) =
+    declares (inlined c f g a0) (inlined c f g a1) (inlined c f g a2) (inlined c f g a3)
 inlined c f g (begins a0) = begins (inlined c f g a0)
 inlined c f g (has_body a0 a1) = has_body (inlined c f g a0) (inlined c f g a1)
 inlined c f g (is_module a0 a1 a2) = is_module (f a0) (inlined c f g a1) (f a2)
 
 -- There is a factor only for names that are as whole factors.
-abbrev pub ReplacesFactors : {N M : Type 0} {s : Sort} → (N → Option (Tree M factor)) → Tree N s → Type 0
+abbrev pub ReplacesFactors : {N M : Type 0} {s : Sort}
+    → (N → Option (Tree M factor))
+    → Tree N s
+    → Type 0
 ReplacesFactors c none = Unit {0}
 ReplacesFactors c (one a0) = ReplacesFactors c a0
 ReplacesFactors c end = Unit {0}
@@ -80,7 +92,8 @@ ReplacesFactors c (adds a0 a1) = ReplacesFactors c a1
 ReplacesFactors c (product a0 a1) = ReplacesFactors c a0 × ReplacesFactors c a1
 ReplacesFactors c (multiplies a0 a1) = ReplacesFactors c a1
 ReplacesFactors c (designator name end) = Unit {0}
-ReplacesFactors c (designator name (more a0 a1)) = (c name ≡ None) × ReplacesFactors c a0 × ReplacesFactors c a1
+ReplacesFactors c (designator name (more a0 a1)) =
+    (c name ≡ None) × ReplacesFactors c a0 × ReplacesFactors c a1
 ReplacesFactors c (integer a0) = Unit {0}
 ReplacesFactors c (parenthesised a0) = ReplacesFactors c a0
 ReplacesFactors c (negation a0) = ReplacesFactors c a0
@@ -89,7 +102,8 @@ ReplacesFactors c (index a0) = ReplacesFactors c a0
 ReplacesFactors c empty = Unit {0}
 ReplacesFactors c (assigns a0 a1 a2) = (c a0 ≡ None) × ReplacesFactors c a1 × ReplacesFactors c a2
 ReplacesFactors c (calls a0 a1) = (c a0 ≡ None) × ReplacesFactors c a1
-ReplacesFactors c (branches a0 a1 a2 a3) = ReplacesFactors c a0 × ReplacesFactors c a1 × ReplacesFactors c a2 × ReplacesFactors c a3
+ReplacesFactors c (branches a0 a1 a2 a3) =
+    ReplacesFactors c a0 × ReplacesFactors c a1 × ReplacesFactors c a2 × ReplacesFactors c a3
 ReplacesFactors c (while_loop a0 a1) = ReplacesFactors c a0 × ReplacesFactors c a1
 ReplacesFactors c (repeat_loop a0 a1) = ReplacesFactors c a0 × ReplacesFactors c a1
 ReplacesFactors c no_arguments = Unit {0}
@@ -118,8 +132,10 @@ ReplacesFactors c (declares_type a0 a1) = (c a0 ≡ None) × ReplacesFactors c a
 ReplacesFactors c (declares_types a0) = ReplacesFactors c a0
 ReplacesFactors c (declares_variable a0 a1) = ReplacesFactors c a0 × ReplacesFactors c a1
 ReplacesFactors c (declares_variables a0) = ReplacesFactors c a0
-ReplacesFactors c (declares_procedure a0 a1 a2 a3) = (c a0 ≡ None) × ReplacesFactors c a1 × ReplacesFactors c a2 × (c a3 ≡ None)
-ReplacesFactors c (declares a0 a1 a2 a3) = ReplacesFactors c a0 × ReplacesFactors c a1 × ReplacesFactors c a2 × ReplacesFactors c a3
+ReplacesFactors c (declares_procedure a0 a1 a2 a3) =
+    (c a0 ≡ None) × ReplacesFactors c a1 × ReplacesFactors c a2 × (c a3 ≡ None)
+ReplacesFactors c (declares a0 a1 a2 a3) =
+    ReplacesFactors c a0 × ReplacesFactors c a1 × ReplacesFactors c a2 × ReplacesFactors c a3
 ReplacesFactors c (begins a0) = ReplacesFactors c a0
 ReplacesFactors c (has_body a0 a1) = ReplacesFactors c a0 × ReplacesFactors c a1
 ReplacesFactors c (is_module a0 a1 a2) = (c a0 ≡ None) × ReplacesFactors c a1 × (c a2 ≡ None)
@@ -130,14 +146,24 @@ or_named name None = Name name ∷ []
 or_named name (Some others) = others
 
 -- a token with its name replaced, or renamed
-abbrev pub token_with : {N M : Type 0} → (N → Option (List (Terminal M))) → (N → M) → (ℕ → ℕ) → Terminal N → List (Terminal M)
+abbrev pub token_with : {N M : Type 0}
+    → (N → Option (List (Terminal M)))
+    → (N → M)
+    → (ℕ → ℕ)
+    → Terminal N
+    → List (Terminal M)
 token_with c f g (Name n) = or_named (f n) (c n)
 token_with c f g (Number n) = Number (g n) ∷ []
 token_with c f g (Mark k) = Mark k ∷ []
 token_with c f g EndOfText = EndOfText ∷ []
 
 -- tokens with some names replaced by other tokens, and the others renamed
-abbrev pub tokens_with : {N M : Type 0} → (N → Option (List (Terminal M))) → (N → M) → (ℕ → ℕ) → List (Terminal N) → List (Terminal M)
+abbrev pub tokens_with : {N M : Type 0}
+    → (N → Option (List (Terminal M)))
+    → (N → M)
+    → (ℕ → ℕ)
+    → List (Terminal N)
+    → List (Terminal M)
 tokens_with c f g xs = flat_map (token_with c f g) xs
 
 -- the tokens of the factor for a name

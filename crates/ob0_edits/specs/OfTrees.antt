@@ -39,12 +39,20 @@ factor_at places v k = if is_among k places then Some v else None
 -- Where a tree has the words' numbers for its names, the words with a name at some places are spelled by the tree with that name there.
 abbrev pub RenamedWordsSpell : Type 0
 RenamedWordsSpell =
-    (s : Scanned) (sort : Sort) (t : Tree ℕ sort) (places new : List ℕ) → AreNames s.tokens 0 places → spell t ≡ placed 0 (words_of s)
-    → map word_lexeme (changed (at_each places (name_word new ∷ [])) 0 (words_of s)) ≡ spell (mapped (renamed_at (words_of s) places new) (number_at (words_of s)) t)
+    (s : Scanned) (sort : Sort) (t : Tree ℕ sort) (places new : List ℕ)
+    → AreNames s.tokens 0 places
+    → spell t ≡ placed 0 (words_of s)
+    → map word_lexeme (changed (at_each places (name_word new ∷ [])) 0 (words_of s))
+    ≡ spell (mapped (renamed_at (words_of s) places new) (number_at (words_of s)) t)
 
 -- The same for the words of a factor at places that are whole factors.
 abbrev pub InlinedWordsSpell : Type 0
 InlinedWordsSpell =
-    (s : Scanned) (sort : Sort) (t : Tree ℕ sort) (places : List ℕ) (v : Tree (List ℕ) factor) (vs : List Word) → AreNames s.tokens 0 places
-    → spell t ≡ placed 0 (words_of s) → ReplacesFactors (factor_at places v) t → map word_lexeme vs ≡ spell v
-    → map word_lexeme (changed (at_each places vs) 0 (words_of s)) ≡ spell (inlined (factor_at places v) (text_at (words_of s)) (number_at (words_of s)) t)
+    (s : Scanned) (sort : Sort) (t : Tree ℕ sort) (places : List ℕ) (v : Tree (List ℕ) factor)
+    (vs : List Word)
+    → AreNames s.tokens 0 places
+    → spell t ≡ placed 0 (words_of s)
+    → ReplacesFactors (factor_at places v) t
+    → map word_lexeme vs ≡ spell v
+    → map word_lexeme (changed (at_each places vs) 0 (words_of s))
+    ≡ spell (inlined (factor_at places v) (text_at (words_of s)) (number_at (words_of s)) t)

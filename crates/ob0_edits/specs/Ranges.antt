@@ -7,4 +7,5 @@ use Rattle.ob0_text.specs.Texts.{position_of}
 
 -- a span of bytes as a range of positions in units of this width
 abbrev pub range_of : (ℕ → ℕ) → List ℕ → Span → Range
-range_of width text span = record { start = position_of width text span.start; end = position_of width text span.end }
+range_of width text span =
+    record { start = position_of width text span.start; end = position_of width text span.end }

@@ -20,7 +20,9 @@ use Rattle.ob0_edits.specs.Ranges.{range_of}
 
 -- the token with a number, and its span
 abbrev pub token_at : List Token → ℕ → Token
-token_at tokens p = slice_index_or tokens p (record { kind = token.Identifier; span = record { start = 0; end = 0 } })
+token_at tokens p =
+    slice_index_or tokens p
+    (record { kind = token.Identifier; span = record { start = 0; end = 0 } })
 
 -- where the token with this index is
 abbrev pub span_at : List Token → ℕ → Span
@@ -29,11 +31,16 @@ span_at tokens p = (token_at tokens p).span
 -- The places are numbers of identifiers among the tokens, each greater than the one before and none below the least.
 abbrev pub AreNames : List Token → ℕ → List ℕ → Type 0
 AreNames tokens least [] = Unit {0}
-AreNames tokens least (p ∷ ps) = (least ≤ p) × (p < length tokens) × ((token_at tokens p).kind ≡ token.Identifier) × AreNames tokens (suc p) ps
+AreNames tokens least (p ∷ ps) =
+    (least ≤ p)
+    × (p < length tokens)
+    × ((token_at tokens p).kind ≡ token.Identifier)
+    × AreNames tokens (suc p) ps
 
 -- a token is taken out, and the new text put there; here places in the text are counted in bytes
 abbrev pub cut_of : List Token → List ℕ → ℕ → Cut
-cut_of tokens new p = record { from = (span_at tokens p).start; to = (span_at tokens p).end; new = new }
+cut_of tokens new p =
+    record { from = (span_at tokens p).start; to = (span_at tokens p).end; new = new }
 
 -- the text with the new one at each place
 abbrev pub with_text_at : Scanned → List ℕ → List ℕ → List ℕ
@@ -47,7 +54,8 @@ AreInOrder at (c ∷ cs) = (at ≤ c.from) × (c.from < c.to) × AreInOrder c.to
 -- the lexemes end before one another and before that byte
 abbrev pub AreApartBefore : List Lexeme → ℕ → Type 0
 AreApartBefore [] byte = Unit {0}
-AreApartBefore (l ∷ lexemes) byte = EndsBefore l (slice_index (joined lexemes ++ (byte ∷ [])) 0) × AreApartBefore lexemes byte
+AreApartBefore (l ∷ lexemes) byte =
+    EndsBefore l (slice_index (joined lexemes ++ (byte ∷ [])) 0) × AreApartBefore lexemes byte
 
 -- The text, which is read as these words, may be wherever an identifier is: what ends before a letter ends before
 -- its first byte, and its lexemes end before one another and before whatever an identifier ends before.
@@ -56,7 +64,10 @@ pub record ReplacesName (new : List ℕ) (ws : List Word) : Type 0 where
   pub whole : joined lexemes ≡ new
   pub read : words lexemes ≡ ws
   pub some : 0 < length new
-  pub front : (kind : LexemeKind) (letter : ℕ) → IsTrue (is_ascii_alphabetic letter) → continues kind letter ≡ false → continues kind (slice_index new 0) ≡ false
+  pub front : (kind : LexemeKind) (letter : ℕ)
+      → IsTrue (is_ascii_alphabetic letter)
+      → continues kind letter ≡ false
+      → continues kind (slice_index new 0) ≡ false
   pub apart : (byte : ℕ) → is_ascii_alphanumeric byte ≡ false → AreApartBefore lexemes byte
 
 -- an edit as its range and the bytes of its text

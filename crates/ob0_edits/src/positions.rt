@@ -15,7 +15,8 @@ pub fn ranges<T: TextStore>(
     store: &T,
     spans: &[Span],
 ) -> Result<Vec<Range>, AllocError>
-    ensures { IfOk result (λ ranges. ranges.items ≡ map (range_of (width_of (T.unit_of store.now)) (T.content store.now)) spans.now) }
+    ensures { IfOk result (λ ranges. ranges.items
+        ≡ map (range_of (width_of (T.unit_of store.now)) (T.content store.now)) spans.now) }
 {
     let starts = starts(alloc, spans)?;
     let ends = ends(alloc, spans)?;

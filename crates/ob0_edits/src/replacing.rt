@@ -26,11 +26,15 @@ pub fn edits_for<T: TextStore>(
 ) -> Result<Vec<Edit>, EditRefusal>
     requires content { T.content store.now ≡ chars tokens.now.text }
     requires names { AreNames tokens.now.tokens 0 places.now }
-    ensures edits { IfOk result (λ edits. map parts edits.items ≡ map (edit_at (T.unit_of store.now) (T.content store.now) tokens.now.tokens new.now) places.now) }
-    ensures short { IfOk result (λ edits. length (with_text_at tokens.now places.now new.now) ≤ max_text) }
+    ensures edits { IfOk result (λ edits. map parts edits.items
+        ≡ map (edit_at (T.unit_of store.now) (T.content store.now) tokens.now.tokens new.now)
+        places.now) }
+    ensures short { IfOk result
+        (λ edits. length (with_text_at tokens.now places.now new.now) ≤ max_text) }
     ensures words { (ws : List Word) → ReplacesName new.now ws
         → IfOk result (λ edits. LeavesWords (T.unit_of store.now) (T.content store.now) edits.items (changed (at_each places.now ws) 0 (words_of tokens.now))) }
-    ensures too_long { IsErrOf result TooLong → max_text < length (with_text_at tokens.now places.now new.now) }
+    ensures too_long { IsErrOf result TooLong
+        → max_text < length (with_text_at tokens.now places.now new.now) }
     ensures refusals { IfErr result (λ refusal. (refusal ≡ TooLong) ⊎ (refusal ≡ Memory)) }
 {
     // For the proof: what the contract of this call says.
@@ -58,10 +62,12 @@ pub fn edits_without<T: TextStore>(
     requires names { AreNames tokens.now.tokens (suc last) places.now }
     ensures edits { IfOk result (λ edits. map parts edits.items
         ≡ (range_of (width_of (T.unit_of store.now)) (T.content store.now) (span_over tokens.now.tokens first last), []) ∷ map (edit_at (T.unit_of store.now) (T.content store.now) tokens.now.tokens new.now) places.now) }
-    ensures short { IfOk result (λ edits. length (without_text tokens.now first last places.now new.now) ≤ max_text) }
+    ensures short { IfOk result
+        (λ edits. length (without_text tokens.now first last places.now new.now) ≤ max_text) }
     ensures words { (ws : List Word) → ReplacesName new.now ws
         → IfOk result (λ edits. LeavesWords (T.unit_of store.now) (T.content store.now) edits.items (changed (without first last (at_each places.now ws)) 0 (words_of tokens.now))) }
-    ensures too_long { IsErrOf result TooLong → max_text < length (without_text tokens.now first last places.now new.now) }
+    ensures too_long { IsErrOf result TooLong
+        → max_text < length (without_text tokens.now first last places.now new.now) }
     ensures refusals { IfErr result (λ refusal. (refusal ≡ TooLong) ⊎ (refusal ≡ Memory)) }
 {
     // For the proof: what the contract of this call says.
@@ -90,7 +96,10 @@ fn add_edits<T: TextStore>(
     new: &str,
     edits: &mut Vec<Edit>,
 ) -> Result<(), EditRefusal>
-    ensures added { OnOk result (map parts edits.new.items ≡ map parts edits.old.items ++ map (edit_at (T.unit_of store.now) (T.content store.now) tokens.now.tokens new.now) places.now) }
+    ensures added { OnOk result (map parts edits.new.items
+        ≡ map parts edits.old.items
+        ++ map (edit_at (T.unit_of store.now) (T.content store.now) tokens.now.tokens new.now)
+        places.now) }
     ensures memory { IfErr result (λ refusal. refusal ≡ Memory) }
 {
     let spans = spans_of(alloc, tokens.tokens(), places)?;
@@ -121,7 +130,9 @@ fn is_too_long(tokens: &Tokens, counted: usize, end: usize, places: &[usize], ne
     requires order { AreInOrder end (map (cut_of tokens.now.tokens new.now) places.now) }
     requires front { counted ≤ end }
     requires inside { end ≤ length tokens.now.text }
-    ensures { result ≡ nat_lt max_text (counted + length (pieced tokens.now.text end (map (cut_of tokens.now.tokens new.now) places.now))) }
+    ensures { result
+        ≡ nat_lt max_text (counted
+        + length (pieced tokens.now.text end (map (cut_of tokens.now.tokens new.now) places.now))) }
 {
     let text = tokens.text();
     let mut length = counted;

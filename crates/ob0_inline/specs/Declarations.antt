@@ -12,4 +12,5 @@ is_inside part span = nat_le part.start span.start && nat_le span.end part.end
 
 -- a token is a `;`
 abbrev pub is_semicolon : TokenKind → Bool
-is_semicolon k = elim k [ kind.Symbol s ↦ elim s [ symbol.Semicolon ↦ true | _ ↦ false ] | _ ↦ false ]
+is_semicolon k =
+    elim k [ kind.Symbol s ↦ elim s [ symbol.Semicolon ↦ true | _ ↦ false ] | _ ↦ false ]

@@ -36,8 +36,10 @@ use Rattle.ob0_inline.specs.Values.{value_factor, value_text}
 -- A constant of a CONST section: its ordinal and value, the token that declares it, and the first `;` after that.
 pub record IsConstant (m : Parsed) (c : NamedConstant) : Type 0 where
   pub worth : value_of_constant (named_tree_of m) c.ordinal ≡ Some (scalar_value c.value)
-  pub begins : token_declaring (declaring_only (identifiers role.Declaring (tree_of m))) c.ordinal ≡ Some c.first
-  pub ends : position_from (λ t. is_semicolon t.kind) c.first (drop c.first m.source.tokens) ≡ Some c.last
+  pub begins : token_declaring (declaring_only (identifiers role.Declaring (tree_of m))) c.ordinal
+      ≡ Some c.first
+  pub ends : position_from (λ t. is_semicolon t.kind) c.first (drop c.first m.source.tokens)
+      ≡ Some c.last
 
 -- the place is on a name of this constant: the one that declares it, or a use
 pub record IsConstantAt (m : Parsed) (offset : ℕ) (c : NamedConstant) : Type 0 where
@@ -47,11 +49,16 @@ pub record IsConstantAt (m : Parsed) (offset : ℕ) (c : NamedConstant) : Type 0
 
 -- the place is on no name of a constant
 abbrev pub NoConstantAt : Parsed → ℕ → Type 0
-NoConstantAt m offset = (n : named.Named) → name_on m offset ≡ Some n → value_of_constant (named_tree_of m) n.ordinal ≡ None
+NoConstantAt m offset =
+    (n : named.Named)
+    → name_on m offset ≡ Some n
+    → value_of_constant (named_tree_of m) n.ordinal ≡ None
 
 -- the tokens of the occurrences that are bound to d, in text order
 abbrev pub uses_of : Parsed → ℕ → List ℕ
-uses_of m d = map (λ u. u.0) (filter (λ u. same_label u.1 (declared d)) (zip (occurrences (tree_of m)) (bindings (named_tree_of m))))
+uses_of m d =
+    map (λ u. u.0) (filter (λ u. same_label u.1 (declared d))
+    (zip (occurrences (tree_of m)) (bindings (named_tree_of m))))
 
 -- none of the names of d is elsewhere than alone as a factor
 abbrev pub IsAlone : Parsed → ℕ → Type 0
@@ -89,17 +96,32 @@ refusal_everywhere m c =
 -- These edits take the declaration out, from its name to its `;`, write the value in place of each use, and touch no
 -- other character. They leave the text of the inlined module, which is well-typed and has the same runs.
 pub record InlinesEverywhere (unit : counting.Unit) (text : List ℕ) (m : Parsed) (c : NamedConstant) (edits : List Edit) : Type 0 where
-  pub everywhere : map parts edits ≡ (range_of (width_of unit) text (span_over m.source.tokens c.first c.last), []) ∷ map (edit_at unit text m.source.tokens (value_text c.value)) (uses_of m c.ordinal)
+  pub everywhere : map parts edits
+      ≡ (range_of (width_of unit) text (span_over m.source.tokens c.first c.last), [])
+      ∷ map (edit_at unit text m.source.tokens (value_text c.value)) (uses_of m c.ordinal)
   pub leaves : LeavesModule unit text edits (inlined_all m c)
   pub well_typed : WellTyped (inlined_all m c)
   pub same_runs : SameRuns (inlined_all m c) (named_tree_of m)
 
 -- The edits where nothing refuses a constant, else the first refusal; out of memory may be answered in place of either.
-abbrev pub AnswersConstant : counting.Unit → List ℕ → Parsed → NamedConstant → Result (Vec Edit Global) EditRefusal → Type 0
-AnswersConstant unit text m c (Ok edits) = (refusal_everywhere m c ≡ None) × InlinesEverywhere unit text m c edits.items
-AnswersConstant unit text m c (Err refusal) = (refusal_everywhere m c ≡ Some refusal) ⊎ (refusal ≡ Memory)
+abbrev pub AnswersConstant : counting.Unit
+    → List ℕ
+    → Parsed
+    → NamedConstant
+    → Result (Vec Edit Global) EditRefusal
+    → Type 0
+AnswersConstant unit text m c (Ok edits) =
+    (refusal_everywhere m c ≡ None) × InlinesEverywhere unit text m c edits.items
+AnswersConstant unit text m c (Err refusal) =
+    (refusal_everywhere m c ≡ Some refusal) ⊎ (refusal ≡ Memory)
 
 -- The answer at a place: that of the constant that it names, and NoName where it names none.
-abbrev pub AnswersEverywhere : counting.Unit → List ℕ → Parsed → ℕ → Result (Vec Edit Global) EditRefusal → Type 0
+abbrev pub AnswersEverywhere : counting.Unit
+    → List ℕ
+    → Parsed
+    → ℕ
+    → Result (Vec Edit Global) EditRefusal
+    → Type 0
 AnswersEverywhere unit text m offset answer =
-    ((c : NamedConstant) × IsConstantAt m offset c × AnswersConstant unit text m c answer) ⊎ ((answer ≡ Err NoName) × NoConstantAt m offset)
+    ((c : NamedConstant) × IsConstantAt m offset c × AnswersConstant unit text m c answer)
+    ⊎ ((answer ≡ Err NoName) × NoConstantAt m offset)

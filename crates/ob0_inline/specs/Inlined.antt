@@ -22,7 +22,9 @@ AreAlone m places value = ReplacesFactors (factor_at places (value_factor value)
 
 -- the module with the value in their place
 abbrev pub inlined_at : Parsed → List ℕ → Scalar → Tree (List ℕ) module_text
-inlined_at m places value = inlined (factor_at places (value_factor value)) (text_at (words_of m.source)) (number_at (words_of m.source)) (tree_of m)
+inlined_at m places value =
+    inlined (factor_at places (value_factor value)) (text_at (words_of m.source))
+    (number_at (words_of m.source)) (tree_of m)
 
 -- The edits make of the text another one, which is the text of this module.
 pub record LeavesModule (unit : counting.Unit) (text : List ℕ) (edits : List Edit) (t : Tree (List ℕ) module_text) : Type 0 where

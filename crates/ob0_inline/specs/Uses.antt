@@ -47,7 +47,8 @@ truth_ordinal false = 3
 -- where TRUE or FALSE would be written in place of an occurrence, it is the predeclared one
 abbrev pub is_predeclared_truth : Tree Name module_text → ℕ → Scalar → Bool
 is_predeclared_truth m occurrence (scalar.Number n) = true
-is_predeclared_truth m occurrence (scalar.Truth b) = same_ordinal (sees m occurrence (truth_text b)) (truth_ordinal b)
+is_predeclared_truth m occurrence (scalar.Truth b) =
+    same_ordinal (sees m occurrence (truth_text b)) (truth_ordinal b)
 
 -- the module with the value in place of the use
 abbrev pub inlined_here : Parsed → Use → Tree Name module_text
@@ -56,7 +57,8 @@ inlined_here m u = inlined (named_tree_of m) (only u.occurrence) (value_factor u
 -- the first of the refusals that apply to a use; None where none applies
 abbrev pub refusal_here : Parsed → Use → Option EditRefusal
 refusal_here m u =
-    if nat_lt max_text (length (with_text_at m.source (u.token ∷ []) (value_text u.value))) then Some TooLong
+    if nat_lt max_text (length (with_text_at m.source (u.token ∷ []) (value_text u.value)))
+    then Some TooLong
     else if nat_lt 100 (nesting (inlined_here m u)) then Some TooDeep
     else if is_predeclared_truth (named_tree_of m) u.occurrence u.value then None
     else Some Shadowed
@@ -70,11 +72,23 @@ pub record InlinesHere (unit : counting.Unit) (text : List ℕ) (m : Parsed) (u 
   pub same_runs : SameRuns (inlined_here m u) (named_tree_of m)
 
 -- The edits where nothing refuses a use, else the first refusal; out of memory may be for either.
-abbrev pub AnswersUse : counting.Unit → List ℕ → Parsed → Use → Result (Vec Edit Global) EditRefusal → Type 0
-AnswersUse unit text m u (Ok edits) = (refusal_here m u ≡ None) × InlinesHere unit text m u edits.items
+abbrev pub AnswersUse : counting.Unit
+    → List ℕ
+    → Parsed
+    → Use
+    → Result (Vec Edit Global) EditRefusal
+    → Type 0
+AnswersUse unit text m u (Ok edits) =
+    (refusal_here m u ≡ None) × InlinesHere unit text m u edits.items
 AnswersUse unit text m u (Err refusal) = (refusal_here m u ≡ Some refusal) ⊎ (refusal ≡ Memory)
 
 -- the answer at a place: that of the use that it is on, and NoName where it is on none
-abbrev pub AnswersHere : counting.Unit → List ℕ → Parsed → ℕ → Result (Vec Edit Global) EditRefusal → Type 0
+abbrev pub AnswersHere : counting.Unit
+    → List ℕ
+    → Parsed
+    → ℕ
+    → Result (Vec Edit Global) EditRefusal
+    → Type 0
 AnswersHere unit text m offset answer =
-    ((u : Use) × IsUseAt m offset u × AnswersUse unit text m u answer) ⊎ ((answer ≡ Err NoName) × ((u : Use) → IsUseAt m offset u → ⊥))
+    ((u : Use) × IsUseAt m offset u × AnswersUse unit text m u answer)
+    ⊎ ((answer ≡ Err NoName) × ((u : Use) → IsUseAt m offset u → ⊥))

@@ -25,7 +25,8 @@ pub struct NamedConstant {
 
 /// The constant that a place names, at its declaration or at a use.
 pub(crate) fn constant_at(module: &WellTyped, offset: usize) -> Option<NamedConstant>
-    ensures { MatchOption result (NoConstantAt «module».now.module_read offset) (λ c. IsConstantAt «module».now.module_read offset c) }
+    ensures { MatchOption result (NoConstantAt «module».now.module_read offset)
+        (λ c. IsConstantAt «module».now.module_read offset c) }
 {
     let names = module.resolved();
     match name_at(names, offset) {
@@ -39,7 +40,8 @@ pub(crate) fn constant_at(module: &WellTyped, offset: usize) -> Option<NamedCons
 
 /// A constant of which the ordinal and the value are known.
 fn declared(names: &Resolved, ordinal: usize, value: Scalar) -> Option<NamedConstant>
-    requires worth { value_of_constant (named_tree_of names.now.module_read) ordinal ≡ Some (scalar_value value) }
+    requires worth { value_of_constant (named_tree_of names.now.module_read) ordinal
+        ≡ Some (scalar_value value) }
     ensures { IsSomeAnd result (λ c. (c.ordinal ≡ ordinal) × IsConstant names.now.module_read c) }
 {
     // For the proof: what the contract of this call says.

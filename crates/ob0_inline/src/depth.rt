@@ -75,7 +75,9 @@ fn is_module(alloc: Global, text: &str) -> Result<bool, EditRefusal>
 
 /// The same of its tokens.
 fn is_parsed(alloc: Global, tokens: &Tokens) -> Result<bool, EditRefusal>
-    ensures shallow { (t : Tree (List ℕ) module_text) → text_lexemes tokens.now ≡ spell t → IfOk result (λ shallow. shallow ≡ nat_le (nesting t) 100) }
+    ensures shallow { (t : Tree (List ℕ) module_text)
+        → text_lexemes tokens.now ≡ spell t
+        → IfOk result (λ shallow. shallow ≡ nat_le (nesting t) 100) }
     ensures memory { IfErr result (λ refusal. refusal ≡ Memory) }
 {
     match parse(alloc, tokens) {

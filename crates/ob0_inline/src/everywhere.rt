@@ -38,7 +38,8 @@ pub fn inline_all<T: TextStore>(
     place: Position,
 ) -> Result<Vec<Edit>, EditRefusal>
     requires content { T.content store.now ≡ chars «module».now.module_read.source.text }
-    ensures { AnswersEverywhere (T.unit_of store.now) (T.content store.now) «module».now.module_read (offset_of (width_of (T.unit_of store.now)) (T.content store.now) place) result }
+    ensures { AnswersEverywhere (T.unit_of store.now) (T.content store.now) «module».now.module_read
+        (offset_of (width_of (T.unit_of store.now)) (T.content store.now) place) result }
 {
     match constant_at(module, store.offset(place)) {
         Some(found) => inline_constant(alloc, store, module, found),
@@ -55,7 +56,8 @@ fn inline_constant<T: TextStore>(
 ) -> Result<Vec<Edit>, EditRefusal>
     requires content { T.content store.now ≡ chars «module».now.module_read.source.text }
     requires is_constant { IsConstant «module».now.module_read constant }
-    ensures { AnswersConstant (T.unit_of store.now) (T.content store.now) «module».now.module_read constant result }
+    ensures { AnswersConstant (T.unit_of store.now) (T.content store.now) «module».now.module_read
+        constant result }
 {
     constants_are_alone();
     inlining_everywhere_keeps_modules();
@@ -87,12 +89,20 @@ fn edits_everywhere<T: TextStore>(
     ensures edits { IfOk result (λ edits. map parts edits.items
         ≡ (range_of (width_of (T.unit_of store.now)) (T.content store.now) (span_over names.now.module_read.source.tokens constant.first constant.last), [])
         ∷ map (edit_at (T.unit_of store.now) (T.content store.now) names.now.module_read.source.tokens (value_text constant.value)) (uses_of names.now.module_read constant.ordinal)) }
-    ensures inlined { IsAlone names.now.module_read constant.ordinal → IfOk result (λ edits. LeavesModule (T.unit_of store.now) (T.content store.now) edits.items (inlined_all names.now.module_read constant)) }
-    ensures too_long { IsErrOf result TooLong → max_text < length (text_without names.now.module_read constant) }
-    ensures too_deep { IsAlone names.now.module_read constant.ordinal → IsErrOf result TooDeep → 100 < nesting (inlined_all names.now.module_read constant) }
-    ensures short { IfOk result (λ edits. length (text_without names.now.module_read constant) ≤ max_text) }
-    ensures deep_and_short { IsErrOf result TooDeep → length (text_without names.now.module_read constant) ≤ max_text }
-    ensures refusals { IfErr result (λ refusal. (refusal ≡ TooLong) ⊎ ((refusal ≡ TooDeep) ⊎ (refusal ≡ Memory))) }
+    ensures inlined { IsAlone names.now.module_read constant.ordinal
+        → IfOk result (λ edits. LeavesModule (T.unit_of store.now) (T.content store.now) edits.items
+        (inlined_all names.now.module_read constant)) }
+    ensures too_long { IsErrOf result TooLong
+        → max_text < length (text_without names.now.module_read constant) }
+    ensures too_deep { IsAlone names.now.module_read constant.ordinal
+        → IsErrOf result TooDeep
+        → 100 < nesting (inlined_all names.now.module_read constant) }
+    ensures short { IfOk result
+        (λ edits. length (text_without names.now.module_read constant) ≤ max_text) }
+    ensures deep_and_short { IsErrOf result TooDeep
+        → length (text_without names.now.module_read constant) ≤ max_text }
+    ensures refusals { IfErr result
+        (λ refusal. (refusal ≡ TooLong) ⊎ ((refusal ≡ TooDeep) ⊎ (refusal ≡ Memory))) }
 {
     let read = names.module();
     let text = value_text(alloc, constant.value)?;
@@ -124,7 +134,9 @@ fn uses_of(alloc: Global, names: &Resolved, constant: usize) -> Result<Vec<usize
 fn has_comment(tokens: &Tokens, constant: NamedConstant) -> bool
     requires inside { constant.last < length tokens.now.tokens }
     requires order { constant.first < constant.last }
-    ensures { result ≡ list_any (is_inside (span_over tokens.now.tokens constant.first constant.last)) tokens.now.comments }
+    ensures { result
+        ≡ list_any (is_inside (span_over tokens.now.tokens constant.first constant.last))
+        tokens.now.comments }
 {
     let part = Span {
         start: tokens.tokens()[constant.first].span.start,

@@ -24,7 +24,8 @@ pub fn inline_here<T: TextStore>(
     place: Position,
 ) -> Result<Vec<Edit>, EditRefusal>
     requires content { T.content store.now ≡ chars «module».now.module_read.source.text }
-    ensures { AnswersHere (T.unit_of store.now) (T.content store.now) «module».now.module_read (offset_of (width_of (T.unit_of store.now)) (T.content store.now) place) result }
+    ensures { AnswersHere (T.unit_of store.now) (T.content store.now) «module».now.module_read
+        (offset_of (width_of (T.unit_of store.now)) (T.content store.now) place) result }
 {
     match use_at(module, store.offset(place)) {
         Some(found) => inline_use(alloc, store, module, found),
@@ -41,7 +42,8 @@ fn inline_use<T: TextStore>(
 ) -> Result<Vec<Edit>, EditRefusal>
     requires content { T.content store.now ≡ chars «module».now.module_read.source.text }
     requires is_use { IsUse «module».now.module_read found }
-    ensures { AnswersUse (T.unit_of store.now) (T.content store.now) «module».now.module_read found result }
+    ensures { AnswersUse (T.unit_of store.now) (T.content store.now) «module».now.module_read found
+        result }
 {
     constants_are_alone();
     inlining_keeps_modules();

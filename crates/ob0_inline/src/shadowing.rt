@@ -28,7 +28,8 @@ pub(crate) fn is_predeclared_truth(
     occurrence: usize,
     value: Scalar,
 ) -> Result<bool, AllocError>
-    ensures { IfOk result (λ shown. shown ≡ is_predeclared_truth (named_tree_of names.now.module_read) occurrence value) }
+    ensures { IfOk result (λ shown. shown
+        ≡ is_predeclared_truth (named_tree_of names.now.module_read) occurrence value) }
 {
     match value {
         Scalar::Number(_) => Ok(true),
@@ -45,14 +46,16 @@ fn is_seen(
     name: &str,
     ordinal: usize,
 ) -> Result<bool, AllocError>
-    ensures { IfOk result (λ is. is ≡ same_ordinal (sees (named_tree_of names.now.module_read) occurrence name.now) ordinal) }
+    ensures { IfOk result (λ is. is
+        ≡ same_ordinal (sees (named_tree_of names.now.module_read) occurrence name.now) ordinal) }
 {
     let bound = seen(alloc, names, name)?;
     Ok(is_bound(&bound, occurrence, ordinal))
 }
 
 fn is_bound(bound: &[Option<usize>], occurrence: usize, ordinal: usize) -> bool
-    ensures { result ≡ same_ordinal (option_and_then (λ found. found) (slice_get bound.now occurrence)) ordinal }
+    ensures { result
+        ≡ same_ordinal (option_and_then (λ found. found) (slice_get bound.now occurrence)) ordinal }
 {
     match bound.get(occurrence) {
         Some(found) => is_ordinal(*found, ordinal),
@@ -75,7 +78,8 @@ pub(crate) fn any_hidden(
     names: &Resolved,
     constant: NamedConstant,
 ) -> Result<bool, AllocError>
-    ensures { IfOk result (λ hidden. hidden ≡ any_hidden (named_tree_of names.now.module_read) constant) }
+    ensures { IfOk result
+        (λ hidden. hidden ≡ any_hidden (named_tree_of names.now.module_read) constant) }
 {
     let value = constant.value;
     match value {
@@ -103,7 +107,10 @@ fn is_hidden(
 }
 
 fn any_elsewhere(names: &Resolved, bound: &[Option<usize>], constant: usize, ordinal: usize) -> bool
-    ensures { result ≡ list_any (λ k. same_ordinal (binds (named_tree_of names.now.module_read) k) constant && not (same_ordinal (option_and_then (λ found. found) (slice_get bound.now k)) ordinal)) (range_with_len 0 (length names.now.uses)) }
+    ensures { result
+        ≡ list_any (λ k. same_ordinal (binds (named_tree_of names.now.module_read) k) constant
+        && not (same_ordinal (option_and_then (λ found. found) (slice_get bound.now k)) ordinal))
+        (range_with_len 0 (length names.now.uses)) }
 {
     for occurrence in 0..names.occurrences().len() {
         if is_elsewhere(names, bound, occurrence, constant, ordinal) {
@@ -120,7 +127,10 @@ fn is_elsewhere(
     constant: usize,
     ordinal: usize,
 ) -> bool
-    ensures { result ≡ (same_ordinal (binds (named_tree_of names.now.module_read) occurrence) constant && not (same_ordinal (option_and_then (λ found. found) (slice_get bound.now occurrence)) ordinal)) }
+    ensures { result
+        ≡ (same_ordinal (binds (named_tree_of names.now.module_read) occurrence) constant
+        && not (same_ordinal (option_and_then (λ found. found) (slice_get bound.now occurrence))
+        ordinal)) }
 {
     is_ordinal(names.declaration_of(occurrence), constant) && !is_bound(bound, occurrence, ordinal)
 }

@@ -20,7 +20,8 @@ pub struct Use {
 
 /// The use that a place is on.
 pub(crate) fn use_at(module: &WellTyped, offset: usize) -> Option<Use>
-    ensures at { MatchOption result ((u : Use) → IsUseAt «module».now.module_read offset u → ⊥) (λ u. IsUseAt «module».now.module_read offset u) }
+    ensures at { MatchOption result ((u : Use) → IsUseAt «module».now.module_read offset u → ⊥)
+        (λ u. IsUseAt «module».now.module_read offset u) }
     ensures is_use { (u : Use) → result ≡ Some u → IsUse «module».now.module_read u }
 {
     let names = module.resolved();

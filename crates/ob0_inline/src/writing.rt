@@ -27,13 +27,26 @@ pub(crate) fn edits_at<T: TextStore>(
 ) -> Result<Vec<Edit>, EditRefusal>
     requires content { T.content store.now ≡ chars names.now.module_read.source.text }
     requires names { AreNames names.now.module_read.source.tokens 0 places.now }
-    ensures edits { IfOk result (λ edits. map parts edits.items ≡ map (edit_at (T.unit_of store.now) (T.content store.now) names.now.module_read.source.tokens (value_text value)) places.now) }
-    ensures inlined { AreAlone names.now.module_read places.now value → IfOk result (λ edits. LeavesModule (T.unit_of store.now) (T.content store.now) edits.items (inlined_at names.now.module_read places.now value)) }
-    ensures too_long { IsErrOf result TooLong → max_text < length (with_text_at names.now.module_read.source places.now (value_text value)) }
-    ensures too_deep { AreAlone names.now.module_read places.now value → IsErrOf result TooDeep → 100 < nesting (inlined_at names.now.module_read places.now value) }
-    ensures short { IfOk result (λ edits. length (with_text_at names.now.module_read.source places.now (value_text value)) ≤ max_text) }
-    ensures deep_and_short { IsErrOf result TooDeep → length (with_text_at names.now.module_read.source places.now (value_text value)) ≤ max_text }
-    ensures refusals { IfErr result (λ refusal. (refusal ≡ TooLong) ⊎ ((refusal ≡ TooDeep) ⊎ (refusal ≡ Memory))) }
+    ensures edits { IfOk result (λ edits. map parts edits.items
+        ≡ map (edit_at (T.unit_of store.now) (T.content store.now)
+        names.now.module_read.source.tokens (value_text value)) places.now) }
+    ensures inlined { AreAlone names.now.module_read places.now value
+        → IfOk result (λ edits. LeavesModule (T.unit_of store.now) (T.content store.now) edits.items
+        (inlined_at names.now.module_read places.now value)) }
+    ensures too_long { IsErrOf result TooLong
+        → max_text
+        < length (with_text_at names.now.module_read.source places.now (value_text value)) }
+    ensures too_deep { AreAlone names.now.module_read places.now value
+        → IsErrOf result TooDeep
+        → 100 < nesting (inlined_at names.now.module_read places.now value) }
+    ensures short { IfOk result (λ edits. length
+        (with_text_at names.now.module_read.source places.now (value_text value))
+        ≤ max_text) }
+    ensures deep_and_short { IsErrOf result TooDeep
+        → length (with_text_at names.now.module_read.source places.now (value_text value))
+        ≤ max_text }
+    ensures refusals { IfErr result
+        (λ refusal. (refusal ≡ TooLong) ⊎ ((refusal ≡ TooDeep) ⊎ (refusal ≡ Memory))) }
 {
     let read = names.module();
     let text = value_text(alloc, value)?;

@@ -47,41 +47,58 @@ line_roles k (negation f) = Plain ∷ line_roles k f
 line_roles k (field name) = Joining ∷ Plain ∷ []
 line_roles k (index e) = Plain ∷ (line_roles k e ++ (Plain ∷ []))
 line_roles k empty = []
-line_roles k (assigns name selectors e) = Begins k ∷ (line_roles 0 selectors ++ (Plain ∷ line_roles 0 e))
+line_roles k (assigns name selectors e) =
+    Begins k ∷ (line_roles 0 selectors ++ (Plain ∷ line_roles 0 e))
 line_roles k (calls name args) = Begins k ∷ line_roles 0 args
 line_roles k (branches condition s elsifs rest) =
-    Begins k ∷ (line_roles 0 condition ++ (Plain ∷ (line_roles (deeper k) s ++ (line_roles k elsifs ++ (line_roles k rest ++ (Begins k ∷ []))))))
-line_roles k (while_loop condition s) = Begins k ∷ (line_roles 0 condition ++ (Plain ∷ (line_roles (deeper k) s ++ (Begins k ∷ []))))
-line_roles k (repeat_loop s condition) = Begins k ∷ (line_roles (deeper k) s ++ (Begins k ∷ line_roles 0 condition))
+    Begins k
+    ∷ (line_roles 0 condition
+    ++ (Plain
+    ∷ (line_roles (deeper k) s
+    ++ (line_roles k elsifs ++ (line_roles k rest ++ (Begins k ∷ []))))))
+line_roles k (while_loop condition s) =
+    Begins k ∷ (line_roles 0 condition ++ (Plain ∷ (line_roles (deeper k) s ++ (Begins k ∷ []))))
+line_roles k (repeat_loop s condition) =
+    Begins k ∷ (line_roles (deeper k) s ++ (Begins k ∷ line_roles 0 condition))
 line_roles k no_arguments = Opening ∷ Plain ∷ []
 line_roles k (some_arguments e es) = Opening ∷ (line_roles k e ++ (line_roles k es ++ (Plain ∷ [])))
 line_roles k (then_argument e) = Plain ∷ line_roles k e
 line_roles k (runs first statements) = line_roles k first ++ line_roles k statements
 line_roles k (then_statement s) = Plain ∷ line_roles k s
-line_roles k (elsif_branch condition s) = Begins k ∷ (line_roles 0 condition ++ (Plain ∷ line_roles (deeper k) s))
+line_roles k (elsif_branch condition s) =
+    Begins k ∷ (line_roles 0 condition ++ (Plain ∷ line_roles (deeper k) s))
 line_roles k (else_branch s) = Begins k ∷ line_roles (deeper k) s
 line_roles k (listed name others) = Plain ∷ line_roles k others
 line_roles k (then_name name) = Plain ∷ Plain ∷ []
 line_roles k (named_type name) = Plain ∷ []
 line_roles k (array_type size t) = Plain ∷ (line_roles k size ++ (Plain ∷ line_roles k t))
-line_roles k (record_type first others) = Plain ∷ (line_roles k first ++ (line_roles k others ++ (Plain ∷ [])))
+line_roles k (record_type first others) =
+    Plain ∷ (line_roles k first ++ (line_roles k others ++ (Plain ∷ [])))
 line_roles k no_fields = []
 line_roles k (some_fields ns t) = line_roles k ns ++ (Plain ∷ line_roles k t)
 line_roles k (then_fields f) = Plain ∷ line_roles k f
 line_roles k no_formals = Opening ∷ Plain ∷ []
-line_roles k (some_formals first others) = Opening ∷ (line_roles k first ++ (line_roles k others ++ (Plain ∷ [])))
+line_roles k (some_formals first others) =
+    Opening ∷ (line_roles k first ++ (line_roles k others ++ (Plain ∷ [])))
 line_roles k (value_section ns t) = line_roles k ns ++ (Plain ∷ line_roles k t)
 line_roles k (variable_section ns t) = Plain ∷ (line_roles k ns ++ (Plain ∷ line_roles k t))
 line_roles k (then_section s) = Plain ∷ line_roles k s
-line_roles k (declares_constant name e) = Begins (deeper k) ∷ Plain ∷ (line_roles 0 e ++ (Plain ∷ []))
+line_roles k (declares_constant name e) =
+    Begins (deeper k) ∷ Plain ∷ (line_roles 0 e ++ (Plain ∷ []))
 line_roles k (declares_constants cs) = Begins k ∷ line_roles k cs
 line_roles k (declares_type name t) = Begins (deeper k) ∷ Plain ∷ (line_roles 0 t ++ (Plain ∷ []))
 line_roles k (declares_types ts) = Begins k ∷ line_roles k ts
-line_roles k (declares_variable ns t) = in_line (deeper k) (line_roles 0 ns) ++ (Plain ∷ (line_roles 0 t ++ (Plain ∷ [])))
+line_roles k (declares_variable ns t) =
+    in_line (deeper k) (line_roles 0 ns) ++ (Plain ∷ (line_roles 0 t ++ (Plain ∷ [])))
 line_roles k (declares_variables vs) = Begins k ∷ line_roles k vs
 line_roles k (declares_procedure name fs b closing) =
-    Begins (deeper k) ∷ Plain ∷ (line_roles 0 fs ++ (Plain ∷ (line_roles (deeper k) b ++ (Begins (deeper k) ∷ Plain ∷ Plain ∷ []))))
-line_roles k (declares cs ts vs ps) = line_roles k cs ++ (line_roles k ts ++ (line_roles k vs ++ line_roles k ps))
+    Begins (deeper k)
+    ∷ Plain
+    ∷ (line_roles 0 fs
+    ++ (Plain ∷ (line_roles (deeper k) b ++ (Begins (deeper k) ∷ Plain ∷ Plain ∷ []))))
+line_roles k (declares cs ts vs ps) =
+    line_roles k cs ++ (line_roles k ts ++ (line_roles k vs ++ line_roles k ps))
 line_roles k (begins s) = Begins k ∷ line_roles (deeper k) s
 line_roles k (has_body ds b) = line_roles k ds ++ line_roles k b
-line_roles k (is_module name b closing) = Begins k ∷ Plain ∷ Plain ∷ (line_roles k b ++ (Begins k ∷ Plain ∷ Plain ∷ []))
+line_roles k (is_module name b closing) =
+    Begins k ∷ Plain ∷ Plain ∷ (line_roles k b ++ (Begins k ∷ Plain ∷ Plain ∷ []))

@@ -34,16 +34,19 @@ last_gap (Some b) = Line 0
 -- The gaps of a text that goes on with these lexemes at a place, each with what is to be there. The first of them began at `from`, after
 -- a token or comment or at the text's start; `level`, `broken` and `ss` are those of `placed`.
 abbrev pub sites : Option Solid → ℕ → Bool → List LineRole → ℕ → ℕ → List Lexeme → List GapSite
-sites before level broken ss from at [] = record { start = from; end = at; gap = last_gap before } ∷ []
+sites before level broken ss from at [] =
+    record { start = from; end = at; gap = last_gap before } ∷ []
 sites before level broken ss from at (l ∷ ls) = elim (l.kind) [
   | lexeme.Space ↦ sites before level (broken || has_break l.text) ss from (at + length l.text) ls
   | lexeme.Comment ↦
       let standing = comment_role broken (next_line level ss) in
       record { start = from; end = at; gap = gap_before before lexeme.Comment standing }
-      ∷ sites (Some (record { kind = lexeme.Comment; standing = standing })) level false ss (at + length l.text) (at + length l.text) ls
+      ∷ sites (Some (record { kind = lexeme.Comment; standing = standing })) level false ss
+      (at + length l.text) (at + length l.text) ls
   | lexeme.Token k ↦
       record { start = from; end = at; gap = gap_before before (lexeme.Token k) (next_role ss) }
-      ∷ sites (Some (record { kind = lexeme.Token k; standing = next_role ss })) (next_line level ss) false (drop 1 ss) (at + length l.text) (at + length l.text) ls
+      ∷ sites (Some (record { kind = lexeme.Token k; standing = next_role ss }))
+      (next_line level ss) false (drop 1 ss) (at + length l.text) (at + length l.text) ls
 ]
 
 -- the gaps of a text whose tokens have these roles
@@ -55,7 +58,8 @@ abbrev pub next_of : List Token → List Span → Option NextLexeme
 next_of [] [] = None
 next_of [] (c ∷ cs) = Some (next.Comment c)
 next_of (t ∷ ts) [] = Some (next.Token t)
-next_of (t ∷ ts) (c ∷ cs) = if nat_lt c.start t.span.start then Some (next.Comment c) else Some (next.Token t)
+next_of (t ∷ ts) (c ∷ cs) =
+    if nat_lt c.start t.span.start then Some (next.Comment c) else Some (next.Token t)
 
 -- whether what is in a gap isn't what is to be there
 abbrev pub is_changed : Indent → List ℕ → GapSite → Bool
@@ -73,7 +77,8 @@ pub record EditText : Type 0 where
 -- the edit of a gap replaces the whole gap by what is to be there
 abbrev pub edit_of : Indent → (ℕ → ℕ) → List ℕ → GapSite → EditText
 edit_of indent width content g = record {
-  range = record { start = position_of width content g.start; end = position_of width content g.end };
+  range =
+      record { start = position_of width content g.start; end = position_of width content g.end };
   text = gap_text indent g.gap;
 }
 
@@ -89,7 +94,8 @@ pub record LiesIn (len : ℕ) (g : GapSite) : Type 0 where
 -- the length of a text of which these gaps are laid out, counted from a place on
 abbrev pub laid_len : Indent → ℕ → ℕ → List GapSite → ℕ
 laid_len indent len at [] = len - at
-laid_len indent len at (g ∷ gs) = (g.start - at) + (length (gap_text indent g.gap) + laid_len indent len g.end gs)
+laid_len indent len at (g ∷ gs) =
+    (g.start - at) + (length (gap_text indent g.gap) + laid_len indent len g.end gs)
 
 -- white space alone is in a gap of a text
 abbrev pub IsWhite : List ℕ → GapSite → Type 0

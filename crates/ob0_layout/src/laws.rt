@@ -17,8 +17,14 @@ ghost use Rattle.ob0_layout.specs.LineRoles.{line_roles};
 
 /// The layout of a module's text is cut into the lexemes that are laid out, and its tokens and comments are those of the text.
 pub fn lexemes_stay()
-    ensures lexed { (indent : Indent) (s : Scanned) (scan : IsScan s) (tree : Tree (List ℕ) module_text) → ModuleOf s tree → Lexed (layout indent tree scan.lexemes) (laid_out indent tree scan.lexemes) }
-    ensures solid { (indent : Indent) (s : Scanned) (scan : IsScan s) (tree : Tree (List ℕ) module_text) → ModuleOf s tree → solid (laid_out indent tree scan.lexemes) ≡ solid scan.lexemes }
+    ensures lexed { (indent : Indent) (s : Scanned) (scan : IsScan s)
+        (tree : Tree (List ℕ) module_text)
+        → ModuleOf s tree
+        → Lexed (layout indent tree scan.lexemes) (laid_out indent tree scan.lexemes) }
+    ensures solid { (indent : Indent) (s : Scanned) (scan : IsScan s)
+        (tree : Tree (List ℕ) module_text)
+        → ModuleOf s tree
+        → solid (laid_out indent tree scan.lexemes) ≡ solid scan.lexemes }
 {}
 
 /// So it is a text of the same module, where it is scanned.
@@ -35,7 +41,9 @@ pub fn laid_out_once()
 
 /// What is to be in the gaps that change makes of the text its layout, which is UTF-8, and the length that is counted is the layout's.
 pub fn gaps_make_the_layout()
-    ensures utf8 { (indent : Indent) (s : Scanned) (scan : IsScan s) (tree : Tree (List ℕ) module_text) → IsUtf8 (layout indent tree scan.lexemes) }
+    ensures utf8 { (indent : Indent) (s : Scanned) (scan : IsScan s)
+        (tree : Tree (List ℕ) module_text)
+        → IsUtf8 (layout indent tree scan.lexemes) }
     ensures made { (indent : Indent) (s : Scanned) (scan : IsScan s) (tree : Tree (List ℕ) module_text)
         → made_of indent s.text (changed_sites indent s.text (all_sites (line_roles 0 tree) scan.lexemes)) ≡ layout indent tree scan.lexemes }
     ensures length { (indent : Indent) (s : Scanned) (scan : IsScan s) (tree : Tree (List ℕ) module_text)
@@ -44,6 +52,7 @@ pub fn gaps_make_the_layout()
 
 /// The edits of a layout touch white space alone: nothing else is in the gaps of a text, and nothing else is put there.
 pub fn gaps_are_white_space()
-    ensures before { (s : Scanned) (scan : IsScan s) (tree : Tree (List ℕ) module_text) → All (IsWhite s.text) (all_sites (line_roles 0 tree) scan.lexemes) }
+    ensures before { (s : Scanned) (scan : IsScan s) (tree : Tree (List ℕ) module_text)
+        → All (IsWhite s.text) (all_sites (line_roles 0 tree) scan.lexemes) }
     ensures after { (indent : Indent) (gap : Gap) → AllPass is_space (gap_text indent gap) }
 {}

@@ -38,7 +38,8 @@ pub fn all_sites(
     tokens: &Tokens,
     standings: &[LineRole],
 ) -> Result<Vec<GapSite>, AllocError>
-    ensures { (scan : IsScan tokens.now) → IfOk result (λ sites. sites.items ≡ all_sites standings.now scan.lexemes) }
+    ensures { (scan : IsScan tokens.now)
+        → IfOk result (λ sites. sites.items ≡ all_sites standings.now scan.lexemes) }
 {
     let text = tokens.text().as_bytes();
     let mut left = tokens.tokens();

@@ -47,7 +47,8 @@ fn plain(out: &mut Vec<LineRole>) -> Result<(), AllocError>
 
 #[cycle(expressions)]
 fn expression(out: &mut Vec<LineRole>, e: &Expression) -> Result<(), AllocError>
-    ensures { IfOk result (λ _. out.new.items ≡ out.old.items ++ line_roles 0 (expression_of e.now)) }
+    ensures { IfOk result
+        (λ _. out.new.items ≡ out.old.items ++ line_roles 0 (expression_of e.now)) }
 {
     simple(out, &e.left)?;
     if let Some(compared) = &e.compared {
@@ -112,7 +113,8 @@ fn factor(out: &mut Vec<LineRole>, f: &Factor) -> Result<(), AllocError>
 
 #[cycle(expressions)]
 fn designator(out: &mut Vec<LineRole>, d: &Designator) -> Result<(), AllocError>
-    ensures { IfOk result (λ _. out.new.items ≡ out.old.items ++ line_roles 0 (designator_of d.now)) }
+    ensures { IfOk result
+        (λ _. out.new.items ≡ out.old.items ++ line_roles 0 (designator_of d.now)) }
 {
     plain(out)?;
     for s in &d.selectors {
@@ -155,7 +157,8 @@ fn sequence(
     level: u32,
     statements: &Vec<Statement>,
 ) -> Result<(), AllocError>
-    ensures { IfOk result (λ _. out.new.items ≡ out.old.items ++ line_roles level (sequence_in statements.now)) }
+    ensures { IfOk result
+        (λ _. out.new.items ≡ out.old.items ++ line_roles level (sequence_in statements.now)) }
 {
     let mut first = true;
     for s in statements {
@@ -168,7 +171,8 @@ fn sequence(
 
 #[cycle(statements)]
 fn statement(out: &mut Vec<LineRole>, level: u32, s: &Statement) -> Result<(), AllocError>
-    ensures { IfOk result (λ _. out.new.items ≡ out.old.items ++ line_roles level (statement_of s.now)) }
+    ensures { IfOk result
+        (λ _. out.new.items ≡ out.old.items ++ line_roles level (statement_of s.now)) }
 {
     match s {
         Statement::Empty => Ok(()),
@@ -200,7 +204,8 @@ fn begin(out: &mut Vec<LineRole>, level: u32) -> Result<(), AllocError>
 }
 
 fn assignment(out: &mut Vec<LineRole>, level: u32, a: &Assignment) -> Result<(), AllocError>
-    ensures { IfOk result (λ _. out.new.items ≡ out.old.items ++ line_roles level (assignment_of a.now)) }
+    ensures { IfOk result
+        (λ _. out.new.items ≡ out.old.items ++ line_roles level (assignment_of a.now)) }
 {
     begin(out, level)?;
     for s in &a.target.selectors {
@@ -221,7 +226,8 @@ fn call(out: &mut Vec<LineRole>, level: u32, c: &Call) -> Result<(), AllocError>
 }
 
 fn arguments(out: &mut Vec<LineRole>, given: &Vec<Expression>) -> Result<(), AllocError>
-    ensures { IfOk result (λ _. out.new.items ≡ out.old.items ++ line_roles 0 (arguments_in given.now)) }
+    ensures { IfOk result
+        (λ _. out.new.items ≡ out.old.items ++ line_roles 0 (arguments_in given.now)) }
 {
     out.push(LineRole::Opening)?;
     let mut first = true;
@@ -254,7 +260,8 @@ fn branches(out: &mut Vec<LineRole>, level: u32, i: &If) -> Result<(), AllocErro
 
 #[cycle(statements)]
 fn elsifs(out: &mut Vec<LineRole>, level: u32, parts: &Vec<Elsif>) -> Result<(), AllocError>
-    ensures { IfOk result (λ _. out.new.items ≡ out.old.items ++ line_roles level (elsifs_in parts.now)) }
+    ensures { IfOk result
+        (λ _. out.new.items ≡ out.old.items ++ line_roles level (elsifs_in parts.now)) }
 {
     for e in parts {
         begin(out, level)?;
@@ -267,7 +274,8 @@ fn elsifs(out: &mut Vec<LineRole>, level: u32, parts: &Vec<Elsif>) -> Result<(),
 
 /// Names of which the first is so.
 fn names(out: &mut Vec<LineRole>, first: LineRole, ns: &Names) -> Result<(), AllocError>
-    ensures { IfOk result (λ _. out.new.items ≡ out.old.items ++ (first ∷ line_roles 0 (items_of then_name ns.now.more.items))) }
+    ensures { IfOk result (λ _. out.new.items
+        ≡ out.old.items ++ (first ∷ line_roles 0 (items_of then_name ns.now.more.items))) }
 {
     out.push(first)?;
     for _name in &ns.more {
@@ -322,7 +330,8 @@ fn fields(out: &mut Vec<LineRole>, f: &Fields) -> Result<(), AllocError>
 }
 
 fn formals(out: &mut Vec<LineRole>, sections: &Option<Vec<Section>>) -> Result<(), AllocError>
-    ensures { IfOk result (λ _. out.new.items ≡ out.old.items ++ line_roles 0 (formals_of sections.now)) }
+    ensures { IfOk result
+        (λ _. out.new.items ≡ out.old.items ++ line_roles 0 (formals_of sections.now)) }
 {
     let Some(sections) = sections else {
         return Ok(());
@@ -354,7 +363,8 @@ fn constants(
     level: u32,
     declared: &Option<Vec<Constant>>,
 ) -> Result<(), AllocError>
-    ensures { IfOk result (λ _. out.new.items ≡ out.old.items ++ line_roles level (constants_of declared.now)) }
+    ensures { IfOk result
+        (λ _. out.new.items ≡ out.old.items ++ line_roles level (constants_of declared.now)) }
 {
     let Some(declared) = declared else {
         return Ok(());
@@ -374,7 +384,8 @@ fn types(
     level: u32,
     declared: &Option<Vec<TypeDeclaration>>,
 ) -> Result<(), AllocError>
-    ensures { IfOk result (λ _. out.new.items ≡ out.old.items ++ line_roles level (types_of declared.now)) }
+    ensures { IfOk result
+        (λ _. out.new.items ≡ out.old.items ++ line_roles level (types_of declared.now)) }
 {
     let Some(declared) = declared else {
         return Ok(());
@@ -394,7 +405,8 @@ fn variables(
     level: u32,
     declared: &Option<Vec<Variables>>,
 ) -> Result<(), AllocError>
-    ensures { IfOk result (λ _. out.new.items ≡ out.old.items ++ line_roles level (variables_of declared.now)) }
+    ensures { IfOk result
+        (λ _. out.new.items ≡ out.old.items ++ line_roles level (variables_of declared.now)) }
 {
     let Some(declared) = declared else {
         return Ok(());
@@ -414,7 +426,8 @@ fn body(
     level: u32,
     statements: &Option<Vec<Statement>>,
 ) -> Result<(), AllocError>
-    ensures { IfOk result (λ _. out.new.items ≡ out.old.items ++ line_roles level (body_of statements.now)) }
+    ensures { IfOk result
+        (λ _. out.new.items ≡ out.old.items ++ line_roles level (body_of statements.now)) }
 {
     match statements {
         Some(statements) => {
@@ -428,7 +441,8 @@ fn body(
 /// A block of this level.
 #[cycle(blocks)]
 fn block(out: &mut Vec<LineRole>, level: u32, b: &Block) -> Result<(), AllocError>
-    ensures { IfOk result (λ _. out.new.items ≡ out.old.items ++ line_roles level (block_of b.now)) }
+    ensures { IfOk result
+        (λ _. out.new.items ≡ out.old.items ++ line_roles level (block_of b.now)) }
 {
     constants(out, level, &b.constants)?;
     types(out, level, &b.types)?;
@@ -442,7 +456,8 @@ fn block(out: &mut Vec<LineRole>, level: u32, b: &Block) -> Result<(), AllocErro
 /// A procedure that a block of this level declares.
 #[cycle(blocks)]
 fn procedure(out: &mut Vec<LineRole>, level: u32, p: &Procedure) -> Result<(), AllocError>
-    ensures { IfOk result (λ _. out.new.items ≡ out.old.items ++ line_roles level (procedure_of p.now)) }
+    ensures { IfOk result
+        (λ _. out.new.items ≡ out.old.items ++ line_roles level (procedure_of p.now)) }
 {
     let inner = deeper(level);
     begin(out, inner)?;

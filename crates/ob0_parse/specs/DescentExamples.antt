@@ -54,27 +54,57 @@ times (suc n) ks = ks ++ times n ks
 pub record ExpectedRows : Type 0 where
   pub empty : StopsIn [] (Expects 0 (expected.Token (w reserved.Module)))
   -- MODULE M; BEGIN x = 1 END M.
-  pub equals : StopsIn (module_begins ++ (w reserved.Begin ∷ ident ∷ s symbol.Equal ∷ one ∷ module_ends)) (Expects 5 (expected.Token (w reserved.End)))
+  pub equals : StopsIn
+      (module_begins ++ (w reserved.Begin ∷ ident ∷ s symbol.Equal ∷ one ∷ module_ends))
+      (Expects 5 (expected.Token (w reserved.End)))
   -- MODULE M; BEGIN x[0] END M.
-  pub selected : StopsIn (module_begins ++ (w reserved.Begin ∷ ident ∷ s symbol.LeftBracket ∷ one ∷ s symbol.RightBracket ∷ module_ends)) (Expects 8 (expected.Token (s symbol.Becomes)))
+  pub selected : StopsIn (module_begins
+      ++ (w reserved.Begin
+      ∷ ident
+      ∷ s symbol.LeftBracket
+      ∷ one
+      ∷ s symbol.RightBracket
+      ∷ module_ends)) (Expects 8 (expected.Token (s symbol.Becomes)))
   -- MODULE M; VAR x INTEGER; END M.
-  pub no_colon : StopsIn (module_begins ++ (w reserved.Var ∷ ident ∷ ident ∷ s symbol.Semicolon ∷ module_ends)) (Expects 5 (expected.Token (s symbol.Colon)))
+  pub no_colon : StopsIn
+      (module_begins ++ (w reserved.Var ∷ ident ∷ ident ∷ s symbol.Semicolon ∷ module_ends))
+      (Expects 5 (expected.Token (s symbol.Colon)))
   -- MODULE M; VAR x: ; END M.
-  pub no_type : StopsIn (module_begins ++ (w reserved.Var ∷ ident ∷ s symbol.Colon ∷ s symbol.Semicolon ∷ module_ends)) (Expects 6 expected.Type)
+  pub no_type : StopsIn (module_begins
+      ++ (w reserved.Var ∷ ident ∷ s symbol.Colon ∷ s symbol.Semicolon ∷ module_ends))
+      (Expects 6 expected.Type)
   -- MODULE M; END M. x
-  pub behind_end : StopsIn (module_begins ++ (module_ends ++ (ident ∷ []))) (Expects 6 expected.EndOfText)
+  pub behind_end : StopsIn (module_begins ++ (module_ends ++ (ident ∷ [])))
+      (Expects 6 expected.EndOfText)
   -- MODULE M; BEGIN WriteLn END M
-  pub no_dot : StopsIn (module_begins ++ (w reserved.Begin ∷ ident ∷ w reserved.End ∷ ident ∷ [])) (Expects 7 (expected.Token (s symbol.Dot)))
+  pub no_dot : StopsIn (module_begins ++ (w reserved.Begin ∷ ident ∷ w reserved.End ∷ ident ∷ []))
+      (Expects 7 (expected.Token (s symbol.Dot)))
   -- MODULE M; VAR UNTIL: INTEGER; END M.
-  pub reserved_name : StopsIn (module_begins ++ (w reserved.Var ∷ w reserved.Until ∷ s symbol.Colon ∷ ident ∷ s symbol.Semicolon ∷ module_ends)) (Expects 4 (expected.Token (w reserved.End)))
+  pub reserved_name : StopsIn (module_begins
+      ++ (w reserved.Var
+      ∷ w reserved.Until
+      ∷ s symbol.Colon
+      ∷ ident
+      ∷ s symbol.Semicolon
+      ∷ module_ends)) (Expects 4 (expected.Token (w reserved.End)))
   -- MODULE M; BEGIN WriteLn END M.
   pub whole : StopsIn (module_begins ++ (w reserved.Begin ∷ ident ∷ module_ends)) Done
 
 -- 100 of a construct inside one another are read, the 101st is too deep
 pub record DeepRows : Type 0 where
   -- MODULE M; BEGIN, 101 times IF TRUE THEN, 101 times END, END M.
-  pub ifs : StopsIn (module_begins ++ (w reserved.Begin ∷ (times 101 (w reserved.If ∷ ident ∷ w reserved.Then ∷ []) ++ (times 101 (w reserved.End ∷ []) ++ module_ends)))) (Deep 304)
+  pub ifs : StopsIn (module_begins
+      ++ (w reserved.Begin
+      ∷ (times 101 (w reserved.If ∷ ident ∷ w reserved.Then ∷ [])
+      ++ (times 101 (w reserved.End ∷ []) ++ module_ends)))) (Deep 304)
   -- MODULE M; 101 times PROCEDURE P; 101 times END P; END M.
-  pub procedures : StopsIn (module_begins ++ (times 101 (w reserved.Procedure ∷ ident ∷ s symbol.Semicolon ∷ []) ++ (times 101 (w reserved.End ∷ ident ∷ s symbol.Semicolon ∷ []) ++ module_ends))) (Deep 303)
+  pub procedures : StopsIn (module_begins
+      ++ (times 101 (w reserved.Procedure ∷ ident ∷ s symbol.Semicolon ∷ [])
+      ++ (times 101 (w reserved.End ∷ ident ∷ s symbol.Semicolon ∷ []) ++ module_ends))) (Deep 303)
   -- MODULE M; VAR x: 101 times ARRAY 1 OF, INTEGER; END M.
-  pub arrays : StopsIn (module_begins ++ (w reserved.Var ∷ ident ∷ s symbol.Colon ∷ (times 101 (w reserved.Array ∷ one ∷ w reserved.Of ∷ []) ++ (ident ∷ s symbol.Semicolon ∷ module_ends)))) (Deep 306)
+  pub arrays : StopsIn (module_begins
+      ++ (w reserved.Var
+      ∷ ident
+      ∷ s symbol.Colon
+      ∷ (times 101 (w reserved.Array ∷ one ∷ w reserved.Of ∷ [])
+      ++ (ident ∷ s symbol.Semicolon ∷ module_ends)))) (Deep 306)

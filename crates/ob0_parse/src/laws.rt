@@ -15,7 +15,9 @@ pub fn one_stop()
 
 /// The descent reads each module to its end, so a text in which it stops before that is none.
 pub fn modules_are_read()
-    ensures { (text : Scanned) (tree : Tree (List ℕ) module_text) → ModuleOf text tree → DescendsText (lexemes text.tokens) Done }
+    ensures { (text : Scanned) (tree : Tree (List ℕ) module_text)
+        → ModuleOf text tree
+        → DescendsText (lexemes text.tokens) Done }
 {}
 
 /// Where the descent stops in some texts.

@@ -14,13 +14,23 @@ KeepsApart l = (k : ℕ) (x y : Name) → same_name (l (Some k) x) (l (Some k) y
 
 -- fields under other names, those of a record kept apart, keep a module's declarations and statements fitting
 abbrev pub RefieldingKeepsFitting : Type 0
-RefieldingKeepsFitting = (l : FieldNames) (m : Tree Name module_text) → KeepsApart l → fits_over as_names (refielded l m) ≡ fits_over as_names m
+RefieldingKeepsFitting =
+    (l : FieldNames) (m : Tree Name module_text)
+    → KeepsApart l
+    → fits_over as_names (refielded l m) ≡ fits_over as_names m
 
 -- and so a module stays well-typed and has the same run for every input and all bounds
 abbrev pub RefieldingKeepsModules : Type 0
-RefieldingKeepsModules = (l : FieldNames) (m : Tree Name module_text) → KeepsApart l → WellTyped m → WellTyped (refielded l m) × SameRuns (refielded l m) m
+RefieldingKeepsModules =
+    (l : FieldNames) (m : Tree Name module_text)
+    → KeepsApart l
+    → WellTyped m
+    → WellTyped (refielded l m) × SameRuns (refielded l m) m
 
 -- where a new name for a field is free, the module with the field renamed is well-typed where the module was, and has its runs
 abbrev pub FreeFieldKeepsModules : Type 0
 FreeFieldKeepsModules =
-    (m : Tree Name module_text) (r : ℕ) (f new : Name) → FieldFree m r f new → WellTyped m → WellTyped (field_renamed m r f new) × SameRuns (field_renamed m r f new) m
+    (m : Tree Name module_text) (r : ℕ) (f new : Name)
+    → FieldFree m r f new
+    → WellTyped m
+    → WellTyped (field_renamed m r f new) × SameRuns (field_renamed m r f new) m

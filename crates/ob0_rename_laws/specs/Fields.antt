@@ -31,30 +31,43 @@ type_after s _ = s
 
 -- a part of a statement, each field selector by the type before it; s is the type before the selectors
 abbrev pub refield : {s : Sort} → FieldNames → Typed Name → Option Shape → Tree Name s → Tree Name s
-refield l meaning s (more t ts) = more (refield l meaning s t) (refield l meaning (type_after s t) ts)
+refield l meaning s (more t ts) =
+    more (refield l meaning s t) (refield l meaning (type_after s t) ts)
 refield l meaning s (field x) = field (l (record_of s) x)
 refield l meaning s (index e) = index (refield l meaning None e)
-refield l meaning s (designator x path) = designator x (refield l meaning (object_type (meaning.stands_for x)) path)
-refield l meaning s (assigns x path e) = assigns x (refield l meaning (object_type (meaning.stands_for x)) path) (refield l meaning None e)
+refield l meaning s (designator x path) =
+    designator x (refield l meaning (object_type (meaning.stands_for x)) path)
+refield l meaning s (assigns x path e) =
+    assigns x (refield l meaning (object_type (meaning.stands_for x)) path)
+    (refield l meaning None e)
 refield l meaning s (one t) = one (refield l meaning None t)
-refield l meaning s (compares left compared) = compares (refield l meaning None left) (refield l meaning None compared)
+refield l meaning s (compares left compared) =
+    compares (refield l meaning None left) (refield l meaning None compared)
 refield l meaning s (relates relation right) = relates relation (refield l meaning None right)
-refield l meaning s (sum sign first terms) = sum sign (refield l meaning None first) (refield l meaning None terms)
+refield l meaning s (sum sign first terms) =
+    sum sign (refield l meaning None first) (refield l meaning None terms)
 refield l meaning s (adds operator t) = adds operator (refield l meaning None t)
-refield l meaning s (product first factors) = product (refield l meaning None first) (refield l meaning None factors)
+refield l meaning s (product first factors) =
+    product (refield l meaning None first) (refield l meaning None factors)
 refield l meaning s (multiplies operator t) = multiplies operator (refield l meaning None t)
 refield l meaning s (parenthesised e) = parenthesised (refield l meaning None e)
 refield l meaning s (negation t) = negation (refield l meaning None t)
 refield l meaning s (calls x args) = calls x (refield l meaning None args)
 refield l meaning s (branches condition a elsifs rest) =
-    branches (refield l meaning None condition) (refield l meaning None a) (refield l meaning None elsifs) (refield l meaning None rest)
-refield l meaning s (while_loop condition a) = while_loop (refield l meaning None condition) (refield l meaning None a)
-refield l meaning s (repeat_loop a condition) = repeat_loop (refield l meaning None a) (refield l meaning None condition)
-refield l meaning s (some_arguments e es) = some_arguments (refield l meaning None e) (refield l meaning None es)
+    branches (refield l meaning None condition) (refield l meaning None a)
+    (refield l meaning None elsifs) (refield l meaning None rest)
+refield l meaning s (while_loop condition a) =
+    while_loop (refield l meaning None condition) (refield l meaning None a)
+refield l meaning s (repeat_loop a condition) =
+    repeat_loop (refield l meaning None a) (refield l meaning None condition)
+refield l meaning s (some_arguments e es) =
+    some_arguments (refield l meaning None e) (refield l meaning None es)
 refield l meaning s (then_argument e) = then_argument (refield l meaning None e)
-refield l meaning s (runs first statements) = runs (refield l meaning None first) (refield l meaning None statements)
+refield l meaning s (runs first statements) =
+    runs (refield l meaning None first) (refield l meaning None statements)
 refield l meaning s (then_statement a) = then_statement (refield l meaning None a)
-refield l meaning s (elsif_branch condition a) = elsif_branch (refield l meaning None condition) (refield l meaning None a)
+refield l meaning s (elsif_branch condition a) =
+    elsif_branch (refield l meaning None condition) (refield l meaning None a)
 refield l meaning s (else_branch a) = else_branch (refield l meaning None a)
 refield l meaning s (begins a) = begins (refield l meaning None a)
 refield l meaning s t = t
@@ -65,35 +78,59 @@ abbrev mutual
   pub refield_type : FieldNames → ℕ → Tree Name written_type → Tree Name written_type
   refield_type l k (named_type x) = named_type x
   refield_type l k (array_type e t) = array_type e (refield_type l (suc k) t)
-  refield_type l k (record_type g rest) = record_type (refield_group l k (suc k) g) (refield_groups l k (suc k + group_constructors g) rest)
+  refield_type l k (record_type g rest) =
+      record_type (refield_group l k (suc k) g)
+      (refield_groups l k (suc k + group_constructors g) rest)
 
   pub refield_group : FieldNames → ℕ → ℕ → Tree Name fields → Tree Name fields
   refield_group l r k no_fields = no_fields
-  refield_group l r k (some_fields ns t) = some_fields (with_names (λ x. x) (l (Some r)) ns) (refield_type l k t)
+  refield_group l r k (some_fields ns t) =
+      some_fields (with_names (λ x. x) (l (Some r)) ns) (refield_type l k t)
 
-  pub refield_groups : FieldNames → ℕ → ℕ → Tree Name (items further_fields) → Tree Name (items further_fields)
+  pub refield_groups : FieldNames
+      → ℕ
+      → ℕ
+      → Tree Name (items further_fields)
+      → Tree Name (items further_fields)
   refield_groups l r k end = end
-  refield_groups l r k (more (then_fields g) rest) = more (then_fields (refield_group l r k g)) (refield_groups l r (k + group_constructors g) rest)
+  refield_groups l r k (more (then_fields g) rest) =
+      more (then_fields (refield_group l r k g))
+      (refield_groups l r (k + group_constructors g) rest)
 
 -- declarations of types with other names for fields
-abbrev pub refield_types : FieldNames → ℕ → Tree Name (items type_name) → Tree Name (items type_name)
+abbrev pub refield_types : FieldNames
+    → ℕ
+    → Tree Name (items type_name)
+    → Tree Name (items type_name)
 refield_types l k end = end
-refield_types l k (more (declares_type x u) ds) = more (declares_type x (refield_type l k u)) (refield_types l (k + constructors u) ds)
+refield_types l k (more (declares_type x u) ds) =
+    more (declares_type x (refield_type l k u)) (refield_types l (k + constructors u) ds)
 
 -- the types of a TYPE section with other names for fields
-abbrev pub refield_type_section : FieldNames → ℕ → Tree Name (maybe type_names) → Tree Name (maybe type_names)
+abbrev pub refield_type_section : FieldNames
+    → ℕ
+    → Tree Name (maybe type_names)
+    → Tree Name (maybe type_names)
 refield_type_section l k none = none
 refield_type_section l k (one (declares_types ts)) = one (declares_types (refield_types l k ts))
 
 -- variables with other names for fields
-abbrev pub refield_variables : FieldNames → ℕ → Tree Name (items variable) → Tree Name (items variable)
+abbrev pub refield_variables : FieldNames
+    → ℕ
+    → Tree Name (items variable)
+    → Tree Name (items variable)
 refield_variables l k end = end
-refield_variables l k (more (declares_variable ns u) gs) = more (declares_variable ns (refield_type l k u)) (refield_variables l (k + constructors u) gs)
+refield_variables l k (more (declares_variable ns u) gs) =
+    more (declares_variable ns (refield_type l k u)) (refield_variables l (k + constructors u) gs)
 
 -- a VAR section with other names for fields
-abbrev pub refield_variable_section : FieldNames → ℕ → Tree Name (maybe variables) → Tree Name (maybe variables)
+abbrev pub refield_variable_section : FieldNames
+    → ℕ
+    → Tree Name (maybe variables)
+    → Tree Name (maybe variables)
 refield_variable_section l k none = none
-refield_variable_section l k (one (declares_variables vs)) = one (declares_variables (refield_variables l k vs))
+refield_variable_section l k (one (declares_variables vs)) =
+    one (declares_variables (refield_variables l k vs))
 
 -- a section of parameters with other names for fields
 abbrev pub refield_section : FieldNames → ℕ → Tree Name section → Tree Name section
@@ -101,32 +138,51 @@ refield_section l k (value_section ns u) = value_section ns (refield_type l k u)
 refield_section l k (variable_section ns u) = variable_section ns (refield_type l k u)
 
 -- further sections with other names for fields
-abbrev pub refield_sections : FieldNames → ℕ → Tree Name (items further_section) → Tree Name (items further_section)
+abbrev pub refield_sections : FieldNames
+    → ℕ
+    → Tree Name (items further_section)
+    → Tree Name (items further_section)
 refield_sections l k end = end
-refield_sections l k (more (then_section f) fs) = more (then_section (refield_section l k f)) (refield_sections l (k + constructors (section_type f)) fs)
+refield_sections l k (more (then_section f) fs) =
+    more (then_section (refield_section l k f))
+    (refield_sections l (k + constructors (section_type f)) fs)
 
 -- formal parameters with other names for fields
 abbrev pub refield_formals : FieldNames → ℕ → Tree Name (maybe formals) → Tree Name (maybe formals)
 refield_formals l k none = none
 refield_formals l k (one no_formals) = one no_formals
-refield_formals l k (one (some_formals f fs)) = one (some_formals (refield_section l k f) (refield_sections l (k + constructors (section_type f)) fs))
+refield_formals l k (one (some_formals f fs)) =
+    one (some_formals (refield_section l k f)
+    (refield_sections l (k + constructors (section_type f)) fs))
 
 -- what names mean after the constants, types and variables of a block; where these don't fit, the module isn't well-typed
 abbrev pub types_after_variables : TypeEnvironment Name → ℕ → Tree Name block → TypeEnvironment Name
-types_after_variables env k b = unwrap_or (option_and_then (declare_typed as_names (after_types k b) (block_variables b)) (declare_first as_names env k b)) env
+types_after_variables env k b =
+    unwrap_or (option_and_then (declare_typed as_names (after_types k b) (block_variables b))
+    (declare_first as_names env k b)) env
 
 -- the parameters of a procedure; none where they denote nothing
-abbrev pub parameters_of : TypeEnvironment Name → ℕ → Tree Name (item procedure) → List (TypedParameter Name)
+abbrev pub parameters_of : TypeEnvironment Name
+    → ℕ
+    → Tree Name (item procedure)
+    → List (TypedParameter Name)
 parameters_of env k p = unwrap_or (typed_parameters as_names env k (procedure_formals p)) []
 
 -- what names mean after a procedure's heading
-abbrev pub types_after_heading : TypeEnvironment Name → ℕ → Tree Name (item procedure) → TypeEnvironment Name
+abbrev pub types_after_heading : TypeEnvironment Name
+    → ℕ
+    → Tree Name (item procedure)
+    → TypeEnvironment Name
 types_after_heading env k p = heading (procedure_name p) (parameters_of env k p) env
 
 -- what names mean after some procedures
-abbrev pub types_after_procedures : TypeEnvironment Name → ℕ → Tree Name (items procedure) → TypeEnvironment Name
+abbrev pub types_after_procedures : TypeEnvironment Name
+    → ℕ
+    → Tree Name (items procedure)
+    → TypeEnvironment Name
 types_after_procedures env k end = env
-types_after_procedures env k (more p rest) = types_after_procedures (types_after_heading env k p) (k + procedure_constructors p) rest
+types_after_procedures env k (more p rest) =
+    types_after_procedures (types_after_heading env k p) (k + procedure_constructors p) rest
 
 -- a block in an environment, the first ARRAY or RECORD in it of ordinal k; constants have no fields
 abbrev mutual
@@ -135,18 +191,30 @@ abbrev mutual
       has_body
       (declares cs (refield_type_section l k ts) (refield_variable_section l (after_types k (has_body (declares cs ts vs ps) statements)) vs)
       (refield_procedures l (types_after_variables env k (has_body (declares cs ts vs ps) statements)) (after_variables k (has_body (declares cs ts vs ps) statements)) ps))
-      (refield l (meanings as_names (types_after_procedures (types_after_variables env k (has_body (declares cs ts vs ps) statements)) (after_variables k (has_body (declares cs ts vs ps) statements)) ps)) None statements)
+      (refield l (meanings as_names (types_after_procedures
+      (types_after_variables env k (has_body (declares cs ts vs ps) statements))
+      (after_variables k (has_body (declares cs ts vs ps) statements)) ps)) None statements)
 
-  pub refield_procedures : FieldNames → TypeEnvironment Name → ℕ → Tree Name (items procedure) → Tree Name (items procedure)
+  pub refield_procedures : FieldNames
+      → TypeEnvironment Name
+      → ℕ
+      → Tree Name (items procedure)
+      → Tree Name (items procedure)
   refield_procedures l env k end = end
   refield_procedures l env k (more p rest) =
-      more (refield_procedure l (bind_typed (parameters_of env k p) (types_after_heading env k p)) k p)
+      more (refield_procedure l (bind_typed (parameters_of env k p) (types_after_heading env k p)) k
+      p)
       (refield_procedures l (types_after_heading env k p) (k + procedure_constructors p) rest)
 
   -- a procedure, in the environment of its block
-  pub refield_procedure : FieldNames → TypeEnvironment Name → ℕ → Tree Name (item procedure) → Tree Name (item procedure)
+  pub refield_procedure : FieldNames
+      → TypeEnvironment Name
+      → ℕ
+      → Tree Name (item procedure)
+      → Tree Name (item procedure)
   refield_procedure l env k (declares_procedure x fs b closing) =
-      declares_procedure x (refield_formals l k fs) (refield_block l env (after_formals k (declares_procedure x fs b closing)) b) closing
+      declares_procedure x (refield_formals l k fs)
+      (refield_block l env (after_formals k (declares_procedure x fs b closing)) b) closing
 
 -- a module with its fields under other names
 abbrev pub refielded : FieldNames → Tree Name module_text → Tree Name module_text

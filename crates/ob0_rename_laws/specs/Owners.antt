@@ -20,14 +20,20 @@ of_records l (Some k) x = l k x
 -- rewritten, the module so written is the tree with each token written by the table.
 abbrev pub AreOwners : Parsed → List (Option ℕ) → Type 0
 AreOwners m owners =
-    (l : ℕ → Name → Name) → refielded (of_records l) (named_tree_of m) ≡ mapped (λ i. of_records l (ordinal_in owners i) (text_at m.source i)) (value_at m.source) (tree_of m)
+    (l : ℕ → Name → Name)
+    → refielded (of_records l) (named_tree_of m)
+    ≡ mapped (λ i. of_records l (ordinal_in owners i) (text_at m.source i)) (value_at m.source)
+    (tree_of m)
 
 -- the token is the field f of the record r, where it is declared or selected
 abbrev pub is_of_field : Scanned → List (Option ℕ) → ℕ → Name → ℕ → Bool
-is_of_field source owners r f i = same_ordinal (ordinal_in owners i) r && same_name (text_at source i) f
+is_of_field source owners r f i =
+    same_ordinal (ordinal_in owners i) r && same_name (text_at source i) f
 
 -- the module with a field renamed is the tree with the new name at the tokens of that field
 abbrev pub RenamedByToken : Type 0
 RenamedByToken =
     (m : Parsed) (owners : List (Option ℕ)) (r : ℕ) (f new : Name) → AreOwners m owners
-    → field_renamed (named_tree_of m) r f new ≡ mapped (λ i. if is_of_field m.source owners r f i then new else text_at m.source i) (value_at m.source) (tree_of m)
+    → field_renamed (named_tree_of m) r f new
+    ≡ mapped (λ i. if is_of_field m.source owners r f i then new else text_at m.source i)
+    (value_at m.source) (tree_of m)

@@ -30,7 +30,8 @@ abbrev mutual
   records_in_type k (named_type x) = []
   records_in_type k (array_type e t) = records_in_type (suc k) t
   records_in_type k (record_type g rest) =
-      record { ordinal = k; declared = group_fields g ++ groups_fields rest } ∷ (records_in_group (suc k) g ++ records_in_groups (suc k + group_constructors g) rest)
+      record { ordinal = k; declared = group_fields g ++ groups_fields rest }
+      ∷ (records_in_group (suc k) g ++ records_in_groups (suc k + group_constructors g) rest)
 
   pub records_in_group : ℕ → Tree Name fields → List RecordFields
   records_in_group k no_fields = []
@@ -38,22 +39,26 @@ abbrev mutual
 
   pub records_in_groups : ℕ → Tree Name (items further_fields) → List RecordFields
   records_in_groups k end = []
-  records_in_groups k (more (then_fields g) rest) = records_in_group k g ++ records_in_groups (k + group_constructors g) rest
+  records_in_groups k (more (then_fields g) rest) =
+      records_in_group k g ++ records_in_groups (k + group_constructors g) rest
 
 -- the records in declarations of types, in text order
 abbrev pub records_in_types : ℕ → Tree Name (items type_name) → List RecordFields
 records_in_types k end = []
-records_in_types k (more (declares_type x u) ds) = records_in_type k u ++ records_in_types (k + constructors u) ds
+records_in_types k (more (declares_type x u) ds) =
+    records_in_type k u ++ records_in_types (k + constructors u) ds
 
 -- the records that are written with variables, in text order
 abbrev pub records_in_variables : ℕ → Tree Name (items variable) → List RecordFields
 records_in_variables k end = []
-records_in_variables k (more (declares_variable ns u) gs) = records_in_type k u ++ records_in_variables (k + constructors u) gs
+records_in_variables k (more (declares_variable ns u) gs) =
+    records_in_type k u ++ records_in_variables (k + constructors u) gs
 
 -- the records that are written with parameters
 abbrev pub records_in_sections : ℕ → Tree Name (items further_section) → List RecordFields
 records_in_sections k end = []
-records_in_sections k (more (then_section f) fs) = records_in_type k (section_type f) ++ records_in_sections (k + constructors (section_type f)) fs
+records_in_sections k (more (then_section f) fs) =
+    records_in_type k (section_type f) ++ records_in_sections (k + constructors (section_type f)) fs
 
 abbrev mutual
   pub records_in_block : ℕ → Tree Name block → List RecordFields
@@ -64,11 +69,13 @@ abbrev mutual
 
   pub records_in_procedures : ℕ → Tree Name (items procedure) → List RecordFields
   records_in_procedures k end = []
-  records_in_procedures k (more p rest) = records_in_procedure k p ++ records_in_procedures (k + procedure_constructors p) rest
+  records_in_procedures k (more p rest) =
+      records_in_procedure k p ++ records_in_procedures (k + procedure_constructors p) rest
 
   pub records_in_procedure : ℕ → Tree Name (item procedure) → List RecordFields
   records_in_procedure k (declares_procedure x fs b closing) =
-      records_in_sections k (formal_sections fs) ++ records_in_block (after_formals k (declares_procedure x fs b closing)) b
+      records_in_sections k (formal_sections fs)
+      ++ records_in_block (after_formals k (declares_procedure x fs b closing)) b
 
 -- the records of a module, in text order
 abbrev pub records : Tree Name module_text → List RecordFields
@@ -80,7 +87,8 @@ names_another_field xs f new = list_any (λ x. same_name x new && not (same_name
 
 -- another field of the record r than f has the name
 abbrev pub is_duplicate_field : Tree Name module_text → ℕ → Name → Name → Bool
-is_duplicate_field m r f new = list_any (λ t. (t.ordinal == r) && names_another_field t.declared f new) (records m)
+is_duplicate_field m r f new =
+    list_any (λ t. (t.ordinal == r) && names_another_field t.declared f new) (records m)
 
 -- a new name for the field f of the record r is free: no other field of that record has it
 abbrev pub FieldFree : Tree Name module_text → ℕ → Name → Name → Type 0

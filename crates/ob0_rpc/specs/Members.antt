@@ -39,7 +39,8 @@ uri_of params = option_and_then as_str (of_document (codes "uri") params)
 
 -- a whole number of 64 bits with a sign
 abbrev pub version_of : Data → Option ℤ
-version_of params = option_and_then as_i64 (option_and_then as_number (of_document (codes "version") params))
+version_of params =
+    option_and_then as_i64 (option_and_then as_number (of_document (codes "version") params))
 
 -- the text of the document in params
 abbrev pub text_of : Data → Option (List ℕ)

@@ -22,7 +22,8 @@ pub data Notification : Type 0 where
 
 -- the range that a change has, or that it has none; none where it can't be read
 abbrev pub range_by : Option Data → Option (Option Range)
-range_by found = if is_absent found then Some None else option_map Some (option_and_then range_of found)
+range_by found =
+    if is_absent found then Some None else option_map Some (option_and_then range_of found)
 
 -- a change, where its range and its text can be read
 abbrev pub change_by : Option (Option Range) → Option (List ℕ) → Option TextChange
@@ -37,11 +38,14 @@ change_in entry = change_by (range_by (get (codes "range") entry)) (text_in (cod
 -- all changes; none where one of them can't be read
 abbrev pub all_changes : Items → Option (List TextChange)
 all_changes no_items = Some []
-all_changes (item entry later) = option_and_then (λ change. option_map (λ changes. change ∷ changes) (all_changes later)) (change_in entry)
+all_changes (item entry later) =
+    option_and_then (λ change. option_map (λ changes. change ∷ changes) (all_changes later))
+    (change_in entry)
 
 -- the changes in params, where all of them can be read
 abbrev pub changes_of : Data → Option (List TextChange)
-changes_of params = option_and_then all_changes (option_and_then as_array (get (codes "contentChanges") params))
+changes_of params =
+    option_and_then all_changes (option_and_then as_array (get (codes "contentChanges") params))
 
 -- `textDocument/didOpen`, with the uri alone where the rest can't be read
 abbrev pub open_of : Option (List ℕ) → Option ℤ → Option (List ℕ) → Notification
@@ -66,7 +70,9 @@ close_of (Some uri) = closes uri
 abbrev pub note_of : List ℕ → Data → Notification
 note_of method params =
     if bytes_eq method (codes "exit") then exits
-    else if bytes_eq method (codes "textDocument/didOpen") then open_of (uri_of params) (version_of params) (text_of params)
-    else if bytes_eq method (codes "textDocument/didChange") then change_of (uri_of params) (version_of params) (changes_of params)
+    else if bytes_eq method (codes "textDocument/didOpen")
+    then open_of (uri_of params) (version_of params) (text_of params)
+    else if bytes_eq method (codes "textDocument/didChange")
+    then change_of (uri_of params) (version_of params) (changes_of params)
     else if bytes_eq method (codes "textDocument/didClose") then close_of (uri_of params)
     else other

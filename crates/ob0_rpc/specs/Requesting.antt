@@ -62,15 +62,31 @@ lists_text text (Some items) = has_text text items
 -- what the client of an `initialize` can do
 abbrev pub client_of : Data → Client
 client_of params = record {
-  counts_utf8 = lists_text (codes "utf-8") (option_and_then as_array (within (codes "capabilities" ∷ codes "general" ∷ codes "positionEncodings" ∷ []) params));
-  prepares_renames = is_true (within (codes "capabilities" ∷ codes "textDocument" ∷ codes "rename" ∷ codes "prepareSupport" ∷ []) params);
-  takes_literal_actions = is_some (option_and_then as_object (within (codes "capabilities" ∷ codes "textDocument" ∷ codes "codeAction" ∷ codes "codeActionLiteralSupport" ∷ []) params));
-  takes_document_changes = is_true (within (codes "capabilities" ∷ codes "workspace" ∷ codes "workspaceEdit" ∷ codes "documentChanges" ∷ []) params);
+  counts_utf8 =
+      lists_text (codes "utf-8") (option_and_then as_array
+      (within (codes "capabilities" ∷ codes "general" ∷ codes "positionEncodings" ∷ []) params));
+  prepares_renames =
+      is_true (within
+      (codes "capabilities" ∷ codes "textDocument" ∷ codes "rename" ∷ codes "prepareSupport" ∷ [])
+      params);
+  takes_literal_actions =
+      is_some (option_and_then as_object (within (codes "capabilities"
+      ∷ codes "textDocument"
+      ∷ codes "codeAction"
+      ∷ codes "codeActionLiteralSupport"
+      ∷ []) params));
+  takes_document_changes =
+      is_true (within (codes "capabilities"
+      ∷ codes "workspace"
+      ∷ codes "workspaceEdit"
+      ∷ codes "documentChanges"
+      ∷ []) params);
 }
 
 -- `initialize` asks only that its params are an object
 abbrev pub initialize_of : Data → Option ClientRequest
-initialize_of params = if is_some (as_object params) then Some (initialize (client_of params)) else None
+initialize_of params =
+    if is_some (as_object params) then Some (initialize (client_of params)) else None
 
 -- ---- what is asked of a document
 
@@ -92,7 +108,9 @@ references_by None include = None
 
 -- `textDocument/references`
 abbrev pub references_of : Data → Option ClientRequest
-references_of params = references_by (at_of params) (option_and_then (truth_in (codes "includeDeclaration")) (get (codes "context") params))
+references_of params =
+    references_by (at_of params)
+    (option_and_then (truth_in (codes "includeDeclaration")) (get (codes "context") params))
 
 -- a rename, where the place and the name can be read
 abbrev pub rename_by : Option At → Option (List ℕ) → Option ClientRequest
@@ -107,18 +125,25 @@ rename_of params = rename_by (at_of params) (text_in (codes "newName") params)
 -- texts; none where an item is no text
 abbrev pub texts_of : Items → Option (List (List ℕ))
 texts_of no_items = Some []
-texts_of (item d ds) = option_and_then (λ text. option_map (λ texts. text ∷ texts) (texts_of ds)) (as_str d)
+texts_of (item d ds) =
+    option_and_then (λ text. option_map (λ texts. text ∷ texts) (texts_of ds)) (as_str d)
 
 -- a list of texts, which may be absent
 abbrev pub only_by : Option Data → Option (Option (List (List ℕ)))
-only_by found = if is_absent found then Some None else option_map Some (option_and_then texts_of (option_and_then as_array found))
+only_by found =
+    if is_absent found
+    then Some None
+    else option_map Some (option_and_then texts_of (option_and_then as_array found))
 
 -- the kinds that a context allows; none where it isn't an object
 abbrev pub only_of : Data → Option (Option (List (List ℕ)))
 only_of context = if is_some (as_object context) then only_by (get (codes "only") context) else None
 
 -- a code action, where its parts can be read
-abbrev pub code_action_by : Option (List ℕ) → Option Range → Option (Option (List (List ℕ))) → Option ClientRequest
+abbrev pub code_action_by : Option (List ℕ)
+    → Option Range
+    → Option (Option (List (List ℕ)))
+    → Option ClientRequest
 code_action_by (Some uri) (Some range) (Some only) = Some (code_action uri range only)
 code_action_by (Some uri) (Some range) None = None
 code_action_by (Some uri) None only = None
@@ -126,7 +151,9 @@ code_action_by None range only = None
 
 -- `textDocument/codeAction`
 abbrev pub code_action_of : Data → Option ClientRequest
-code_action_of params = code_action_by (uri_of params) (range_in (codes "range") params) (option_and_then only_of (get (codes "context") params))
+code_action_of params =
+    code_action_by (uri_of params) (range_in (codes "range") params)
+    (option_and_then only_of (get (codes "context") params))
 
 -- a level is one tab, or 1 to 16 spaces
 abbrev pub indent_by : Option ℕ → Option Bool → Option Indent
@@ -136,7 +163,8 @@ indent_by None spaces = None
 
 -- the indent in formatting options: a tab, or 1 to 16 spaces
 abbrev pub indent_of : Data → Option Indent
-indent_of options = indent_by (count_in (codes "tabSize") options) (truth_in (codes "insertSpaces") options)
+indent_of options =
+    indent_by (count_in (codes "tabSize") options) (truth_in (codes "insertSpaces") options)
 
 -- a formatting, where the document and the options can be read
 abbrev pub formatting_by : Option (List ℕ) → Option Indent → Option ClientRequest
@@ -146,7 +174,8 @@ formatting_by None indent = None
 
 -- `textDocument/formatting`
 abbrev pub formatting_of : Data → Option ClientRequest
-formatting_of params = formatting_by (uri_of params) (option_and_then indent_of (get (codes "options") params))
+formatting_of params =
+    formatting_by (uri_of params) (option_and_then indent_of (get (codes "options") params))
 
 -- ---- requests
 
@@ -159,9 +188,11 @@ or_bad None = Err BadParams
 abbrev pub language_call_of : List ℕ → Data → Result ClientRequest RpcFault
 language_call_of method params =
     if bytes_eq method (codes "textDocument/hover") then or_bad (option_map hover (at_of params))
-    else if bytes_eq method (codes "textDocument/definition") then or_bad (option_map definition (at_of params))
+    else if bytes_eq method (codes "textDocument/definition")
+    then or_bad (option_map definition (at_of params))
     else if bytes_eq method (codes "textDocument/references") then or_bad (references_of params)
-    else if bytes_eq method (codes "textDocument/prepareRename") then or_bad (option_map prepare_rename (at_of params))
+    else if bytes_eq method (codes "textDocument/prepareRename")
+    then or_bad (option_map prepare_rename (at_of params))
     else if bytes_eq method (codes "textDocument/rename") then or_bad (rename_of params)
     else if bytes_eq method (codes "textDocument/codeAction") then or_bad (code_action_of params)
     else if bytes_eq method (codes "textDocument/formatting") then or_bad (formatting_of params)

@@ -69,7 +69,8 @@ seen_call (called.TheVariants.Definition place) = definition (at_seen place)
 seen_call (called.TheVariants.References place include) = references (at_seen place) include
 seen_call (called.TheVariants.PrepareRename place) = prepare_rename (at_seen place)
 seen_call (called.TheVariants.Rename place name) = rename (at_seen place) (string_bytes name)
-seen_call (called.TheVariants.CodeAction uri range only) = code_action (string_bytes uri) range (kinds_seen only)
+seen_call (called.TheVariants.CodeAction uri range only) =
+    code_action (string_bytes uri) range (kinds_seen only)
 seen_call (called.TheVariants.Formatting uri indent) = formatting (string_bytes uri) indent
 
 -- what the code makes of a request that asks this
@@ -84,8 +85,10 @@ Requests asked (Err NotAMessage) = ⊥
 -- a notification of the code
 abbrev pub seen_note : noted.Note → Notification
 seen_note noted.TheVariants.Exit = exits
-seen_note (noted.TheVariants.Open uri version text) = opens (string_bytes uri) version (chars (string_bytes text))
-seen_note (noted.TheVariants.Change uri version cs) = changes (string_bytes uri) version (map reported_change cs.items)
+seen_note (noted.TheVariants.Open uri version text) =
+    opens (string_bytes uri) version (chars (string_bytes text))
+seen_note (noted.TheVariants.Change uri version cs) =
+    changes (string_bytes uri) version (map reported_change cs.items)
 seen_note (noted.TheVariants.Close uri) = closes (string_bytes uri)
 seen_note (noted.TheVariants.Unreadable uri) = unreadable (option_map string_bytes uri)
 seen_note noted.TheVariants.Other = other

@@ -19,24 +19,36 @@ json_rpc = text (codes "2.0")
 
 -- {"id":I,"jsonrpc":"2.0","result":X}
 abbrev pub result_message : Data → Data → Data
-result_message id value = object (member (codes "id") id (member (codes "jsonrpc") json_rpc (member (codes "result") value no_members)))
+result_message id value =
+    object (member (codes "id") id
+    (member (codes "jsonrpc") json_rpc (member (codes "result") value no_members)))
 
 -- {"code":c,"message":m}
 abbrev pub error_value : ℤ → List ℕ → Data
-error_value code said = object (member (codes "code") (whole_number code) (member (codes "message") (text said) no_members))
+error_value code said =
+    object
+    (member (codes "code") (whole_number code) (member (codes "message") (text said) no_members))
 
 -- {"error":{..},"id":I,"jsonrpc":"2.0"}
 abbrev pub error_message : Data → ℤ → List ℕ → Data
-error_message id code said = object (member (codes "error") (error_value code said) (member (codes "id") id (member (codes "jsonrpc") json_rpc no_members)))
+error_message id code said =
+    object (member (codes "error") (error_value code said)
+    (member (codes "id") id (member (codes "jsonrpc") json_rpc no_members)))
 
 -- {"jsonrpc":"2.0","method":M,"params":P}
 abbrev pub notification_message : List ℕ → Data → Data
-notification_message method params = object (member (codes "jsonrpc") json_rpc (member (codes "method") (text method) (member (codes "params") params no_members)))
+notification_message method params =
+    object (member (codes "jsonrpc") json_rpc
+    (member (codes "method") (text method) (member (codes "params") params no_members)))
 
 -- {"character":c,"line":l}
 abbrev pub position_value : Position → Data
-position_value p = object (member (codes "character") (number (unsigned p.character)) (member (codes "line") (number (unsigned p.line)) no_members))
+position_value p =
+    object (member (codes "character") (number (unsigned p.character))
+    (member (codes "line") (number (unsigned p.line)) no_members))
 
 -- {"end":P,"start":P}
 abbrev pub range_value : Position → Position → Data
-range_value start end = object (member (codes "end") (position_value end) (member (codes "start") (position_value start) no_members))
+range_value start end =
+    object (member (codes "end") (position_value end)
+    (member (codes "start") (position_value start) no_members))

@@ -192,7 +192,9 @@ fn place_of(alloc: Global, params: &Value) -> Result<Option<DocumentPosition>, A
 }
 
 fn includes_declaration(params: &Value) -> Option<bool>
-    ensures { result ≡ option_and_then (truth_told (codes "includeDeclaration")) (get (codes "context") (view params.now)) }
+    ensures { result
+        ≡ option_and_then (truth_told (codes "includeDeclaration"))
+        (get (codes "context") (view params.now)) }
 {
     truth_in(params.get("context")?, "includeDeclaration")
 }
@@ -222,7 +224,8 @@ fn kinds_of(
     alloc: Global,
     context: Option<&Value>,
 ) -> Result<Option<Option<Vec<String>>>, AllocError>
-    ensures { IfOk result (λ found. option_map kinds_seen found ≡ option_and_then only_of (option_map (λ v. view v.now) context.entry)) }
+    ensures { IfOk result (λ found. option_map kinds_seen found
+        ≡ option_and_then only_of (option_map (λ v. view v.now) context.entry)) }
 {
     let Some(context) = context else {
         return Ok(None);
@@ -234,7 +237,8 @@ fn kinds_of(
 }
 
 fn only_in(alloc: Global, only: Option<&Value>) -> Result<Option<Option<Vec<String>>>, AllocError>
-    ensures { IfOk result (λ found. option_map kinds_seen found ≡ only_by (option_map (λ v. view v.now) only.entry)) }
+    ensures { IfOk result
+        (λ found. option_map kinds_seen found ≡ only_by (option_map (λ v. view v.now) only.entry)) }
 {
     let Some(only) = only else {
         return Ok(Some(None));
@@ -253,7 +257,8 @@ fn only_in(alloc: Global, only: Option<&Value>) -> Result<Option<Option<Vec<Stri
 
 /// The texts of a list; None where an item is no text.
 fn texts_of(alloc: Global, items: &[Value]) -> Result<Option<Vec<String>>, AllocError>
-    ensures { IfOk result (λ found. option_map (λ texts. map string_bytes texts.items) found ≡ texts_in (items_view items.now)) }
+    ensures { IfOk result (λ found. option_map (λ texts. map string_bytes texts.items) found
+        ≡ texts_in (items_view items.now)) }
 {
     let mut texts = Vec::new(alloc);
     for item in items {

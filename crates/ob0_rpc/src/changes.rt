@@ -12,7 +12,8 @@ use std::alloc::{AllocError, Global};
 
 /// The changes, none where an entry can't be read.
 pub fn read_changes(alloc: Global, params: Value) -> Result<Option<Vec<Change>>, AllocError>
-    ensures { IfOk result (λ found. option_map (λ cs. map reported_change cs.items) found ≡ changes_in (view params)) }
+    ensures { IfOk result (λ found. option_map (λ cs. map reported_change cs.items) found
+        ≡ changes_in (view params)) }
 {
     let Some(entries) = entries_of(params) else {
         return Ok(None);

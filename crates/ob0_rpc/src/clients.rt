@@ -32,28 +32,43 @@ pub fn client_of(params: &Value) -> Client
 }
 
 fn prepare_support(params: &Value) -> Option<&Value>
-    ensures { option_map (λ v. view v.now) result ≡ within (codes "capabilities" ∷ codes "textDocument" ∷ codes "rename" ∷ codes "prepareSupport" ∷ []) (view params.now) }
+    ensures { option_map (λ v. view v.now) result
+        ≡ within
+        (codes "capabilities" ∷ codes "textDocument" ∷ codes "rename" ∷ codes "prepareSupport" ∷ [])
+        (view params.now) }
 {
     let document = params.get("capabilities")?.get("textDocument")?;
     document.get("rename")?.get("prepareSupport")
 }
 
 fn literal_support(params: &Value) -> Option<&Value>
-    ensures { option_map (λ v. view v.now) result ≡ within (codes "capabilities" ∷ codes "textDocument" ∷ codes "codeAction" ∷ codes "codeActionLiteralSupport" ∷ []) (view params.now) }
+    ensures { option_map (λ v. view v.now) result
+        ≡ within (codes "capabilities"
+        ∷ codes "textDocument"
+        ∷ codes "codeAction"
+        ∷ codes "codeActionLiteralSupport"
+        ∷ []) (view params.now) }
 {
     let document = params.get("capabilities")?.get("textDocument")?;
     document.get("codeAction")?.get("codeActionLiteralSupport")
 }
 
 fn document_changes(params: &Value) -> Option<&Value>
-    ensures { option_map (λ v. view v.now) result ≡ within (codes "capabilities" ∷ codes "workspace" ∷ codes "workspaceEdit" ∷ codes "documentChanges" ∷ []) (view params.now) }
+    ensures { option_map (λ v. view v.now) result
+        ≡ within (codes "capabilities"
+        ∷ codes "workspace"
+        ∷ codes "workspaceEdit"
+        ∷ codes "documentChanges"
+        ∷ []) (view params.now) }
 {
     let workspace = params.get("capabilities")?.get("workspace")?;
     workspace.get("workspaceEdit")?.get("documentChanges")
 }
 
 fn position_encodings(params: &Value) -> Option<&Value>
-    ensures { option_map (λ v. view v.now) result ≡ within (codes "capabilities" ∷ codes "general" ∷ codes "positionEncodings" ∷ []) (view params.now) }
+    ensures { option_map (λ v. view v.now) result
+        ≡ within (codes "capabilities" ∷ codes "general" ∷ codes "positionEncodings" ∷ [])
+        (view params.now) }
 {
     params
         .get("capabilities")?
@@ -71,7 +86,8 @@ fn is_true(member: Option<&Value>) -> bool
 }
 
 fn is_object(member: Option<&Value>) -> bool
-    ensures { result ≡ is_some (option_and_then as_object (option_map (λ v. view v.now) member.entry)) }
+    ensures { result
+        ≡ is_some (option_and_then as_object (option_map (λ v. view v.now) member.entry)) }
 {
     match member {
         Some(value) => value.is_object(),

@@ -54,7 +54,8 @@ pub fn notice(alloc: Global, method: &str, params: Value) -> Result<Note, RpcFau
 }
 
 fn read_open(alloc: Global, params: Value) -> Result<Note, AllocError>
-    ensures { IfOk result (λ note. seen_note note ≡ open_of (uri_in (view params)) (version_in (view params)) (text_in (view params))) }
+    ensures { IfOk result (λ note. seen_note note
+        ≡ open_of (uri_in (view params)) (version_in (view params)) (text_in (view params))) }
 {
     let Some(uri) = uri_of(&params) else {
         return Ok(Note::Unreadable { uri: None });
@@ -67,7 +68,8 @@ fn read_open(alloc: Global, params: Value) -> Result<Note, AllocError>
 }
 
 fn read_change(alloc: Global, params: Value) -> Result<Note, AllocError>
-    ensures { IfOk result (λ note. seen_note note ≡ change_of (uri_in (view params)) (version_in (view params)) (changes_in (view params))) }
+    ensures { IfOk result (λ note. seen_note note
+        ≡ change_of (uri_in (view params)) (version_in (view params)) (changes_in (view params))) }
 {
     let Some(uri) = uri_of(&params) else {
         return Ok(Note::Unreadable { uri: None });

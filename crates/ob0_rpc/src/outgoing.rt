@@ -13,7 +13,8 @@ use std::alloc::{AllocError, Global};
 
 /// The answer to a request.
 pub fn result(alloc: Global, id: &Id, value: Value) -> Result<Vec<u8>, AllocError>
-    ensures { IfOk result (λ bytes. CanBeSent (view value) → Writes (result_message (id_data id.now) (view value)) bytes.items) }
+    ensures { IfOk result (λ bytes. CanBeSent (view value)
+        → Writes (result_message (id_data id.now) (view value)) bytes.items) }
 {
     let message = result_value(alloc, id, value)?;
     text_of(alloc, &message)
@@ -21,7 +22,8 @@ pub fn result(alloc: Global, id: &Id, value: Value) -> Result<Vec<u8>, AllocErro
 
 /// The refusal of a request, or of a content that is none.
 pub fn error(alloc: Global, id: Option<&Id>, code: i32, said: &str) -> Result<Vec<u8>, AllocError>
-    ensures { IfOk result (λ bytes. Writes (error_message (id_or_null (option_map (λ i. i.now) id.entry)) code said.now) bytes.items) }
+    ensures { IfOk result (λ bytes. Writes
+        (error_message (id_or_null (option_map (λ i. i.now) id.entry)) code said.now) bytes.items) }
 {
     let message = error_value(alloc, id, code, said)?;
     text_of(alloc, &message)
@@ -29,7 +31,8 @@ pub fn error(alloc: Global, id: Option<&Id>, code: i32, said: &str) -> Result<Ve
 
 /// A notification.
 pub fn notification(alloc: Global, method: &str, params: Value) -> Result<Vec<u8>, AllocError>
-    ensures { IfOk result (λ bytes. CanBeSent (view params) → Writes (notification_message method.now (view params)) bytes.items) }
+    ensures { IfOk result (λ bytes. CanBeSent (view params)
+        → Writes (notification_message method.now (view params)) bytes.items) }
 {
     let message = notification_value(alloc, method, params)?;
     text_of(alloc, &message)
@@ -43,7 +46,8 @@ fn result_value(alloc: Global, id: &Id, value: Value) -> Result<Value, AllocErro
 }
 
 fn error_value(alloc: Global, id: Option<&Id>, code: i32, said: &str) -> Result<Value, AllocError>
-    ensures { IfOk result (λ v. view v ≡ error_message (id_or_null (option_map (λ i. i.now) id.entry)) code said.now) }
+    ensures { IfOk result (λ v. view v
+        ≡ error_message (id_or_null (option_map (λ i. i.now) id.entry)) code said.now) }
 {
     let id = id_or_null_value(alloc, id)?;
     let error = error_part(alloc, code, said)?;
@@ -82,7 +86,9 @@ fn id_value(alloc: Global, id: &Id) -> Result<Value, AllocError>
 }
 
 fn text_of(alloc: Global, message: &Value) -> Result<Vec<u8>, AllocError>
-    ensures { IfOk result (λ bytes. has_float (view message.now) ≡ false → depth (view message.now) ≤ 127 → Writes (view message.now) bytes.items) }
+    ensures { IfOk result (λ bytes. has_float (view message.now) ≡ false
+        → depth (view message.now) ≤ 127
+        → Writes (view message.now) bytes.items) }
 {
     let text = message.to_string(alloc)?;
     Ok(text.into_bytes())

@@ -30,7 +30,8 @@ pub fn write_range(out: &mut Vec<u8>, start: Position, end: Position) -> Result<
 fn position_before(room: &mut [u8], at: usize, position: Position) -> usize
     requires { (62 ≤ at) × (at ≤ length room.old) }
     ensures within { (at ≤ result + 62) × (result ≤ at) }
-    ensures text { drop result room.new ≡ compact_text (position_value position) ++ drop at room.old }
+    ensures text { drop result room.new
+        ≡ compact_text (position_value position) ++ drop at room.old }
     ensures reads { IsReadBack (position_value position) }
 {
     let behind_line = piece_before(room, at, b"}");

@@ -33,7 +33,8 @@ pub fn result_of<W: Written>(alloc: Global, id: &Id, value: &W) -> Result<Vec<u8
 }
 
 fn write_result<W: Written>(out: &mut Vec<u8>, id: &Id, value: &W) -> Result<(), AllocError>
-    ensures { OnOk result (Appends (result_message (id_data id.now) (W.value value.now)) out.old.items out.new.items) }
+    ensures { OnOk result (Appends (result_message (id_data id.now) (W.value value.now))
+        out.old.items out.new.items) }
 {
     write_piece(out, b"{\"id\":")?;
     write_id(out, id)?;

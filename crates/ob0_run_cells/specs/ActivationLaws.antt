@@ -21,9 +21,18 @@ use Rattle.ob0_run_cells.specs.Lowering.{end_of}
 -- as one of the module's that drops its variables
 abbrev pub CallsLowered : Type 0
 CallsLowered =
-    (table : List lowered.Procedure) (most c t : ℕ) (typing : StoreTyping) (ls : Levels) (checked : TypeEnvironment Label) (placing : Placing Label) (active : Activation Label)
-    → EnvironmentsFit as_labels typing checked active → PlacingFits table most as_labels typing ls checked placing active → sizes typing + c * most < 2 ^ 64
-    → CallsRepresent (meanings as_labels checked) (targets_in as_labels placing) record { typing = typing; active = statement_meanings as_labels active; levels = ls; enters = call_giving_up as_labels c t active; lowered_enters = execution.call table c t }
+    (table : List lowered.Procedure) (most c t : ℕ) (typing : StoreTyping) (ls : Levels)
+    (checked : TypeEnvironment Label) (placing : Placing Label) (active : Activation Label)
+    → EnvironmentsFit as_labels typing checked active
+    → PlacingFits table most as_labels typing ls checked placing active
+    → sizes typing + c * most < 2 ^ 64
+    → CallsRepresent (meanings as_labels checked) (targets_in as_labels placing) record {
+      typing = typing;
+      active = statement_meanings as_labels active;
+      levels = ls;
+      enters = call_giving_up as_labels c t active;
+      lowered_enters = execution.call table c t;
+    }
 
 -- a run of lowered code as one of the module
 abbrev pub run_of : execution.Run → Run
@@ -33,5 +42,9 @@ run_of r = record { output = map written_of r.output; ending = end_of r.ending }
 -- bounds under which the cells of the module and of all calls that are open have addresses
 abbrev pub RunsLowered : Type 0
 RunsLowered =
-    (m : Tree Name module_text) (program : lowered.Program) (most c t : ℕ) (input : List ℤ) → WellTyped m → ProgramMeans most as_labels (numbered m) program → suc c * most < 2 ^ 64 → HaveNumbers input
+    (m : Tree Name module_text) (program : lowered.Program) (most c t : ℕ) (input : List ℤ)
+    → WellTyped m
+    → ProgramMeans most as_labels (numbered m) program
+    → suc c * most < 2 ^ 64
+    → HaveNumbers input
     → run_of (execution.run program input c t) ≡ run m input c t

@@ -10,7 +10,9 @@ use Rattle.ob0_run_cells.specs.Cells.{address, all_cells, cells_at, cells_of, ce
 abbrev pub TypesGiveSizes : Type 0
 TypesGiveSizes =
     ((v : Value) (s : Shape) → HasShape v s → length (cells_of v) ≡ size s)
-    × ((typing : StoreTyping) (store : Store) → StoreFits typing store → length (all_cells store) ≡ sizes typing)
+    × ((typing : StoreTyping) (store : Store)
+    → StoreFits typing store
+    → length (all_cells store) ≡ sizes typing)
 
 -- no type has more cells than scalars, which a checked type has few of
 abbrev pub SizesAreLimited : Type 0
@@ -20,45 +22,87 @@ SizesAreLimited = (s : Shape) → size s ≤ scalars s
 abbrev pub PartsAreSlices : Type 0
 PartsAreSlices =
     (path : List Step) (v : Value) (s t : Shape) → HasShape v s → shape_at_path path s ≡ Some t
-    → (offset path s + size t ≤ size s) × ((w : Value) × (at_path path v ≡ Some w) × HasShape w t × (cells_of w ≡ cells_at (offset path s) (size t) (cells_of v)))
+    → (offset path s + size t ≤ size s)
+    × ((w : Value)
+    × (at_path path v ≡ Some w)
+    × HasShape w t
+    × (cells_of w ≡ cells_at (offset path s) (size t) (cells_of v)))
 
 -- a part written is its cells written, and no others
 abbrev pub WritingPartsWritesSlices : Type 0
 WritingPartsWritesSlices =
-    (path : List Step) (v new : Value) (s t : Shape) → HasShape v s → shape_at_path path s ≡ Some t → HasShape new t
-    → (w : Value) × (with_at_path path new v ≡ Some w) × HasShape w s × (cells_of w ≡ cells_with (offset path s) (cells_of new) (cells_of v))
+    (path : List Step) (v new : Value) (s t : Shape)
+    → HasShape v s
+    → shape_at_path path s ≡ Some t
+    → HasShape new t
+    → (w : Value)
+    × (with_at_path path new v ≡ Some w)
+    × HasShape w s
+    × (cells_of w ≡ cells_with (offset path s) (cells_of new) (cells_of v))
 
 -- what a place holds lies in the store's cells from the place's address on
 abbrev pub PlacesAreSlices : Type 0
 PlacesAreSlices =
-    (typing : StoreTyping) (store : Store) (p : Place) (s : Shape) → StoreFits typing store → PlaceFits typing p s
-    → (address typing p + size s ≤ sizes typing) × ((v : Value) × (read_place store p ≡ Some v) × HasShape v s × (cells_of v ≡ cells_at (address typing p) (size s) (all_cells store)))
+    (typing : StoreTyping) (store : Store) (p : Place) (s : Shape)
+    → StoreFits typing store
+    → PlaceFits typing p s
+    → (address typing p + size s ≤ sizes typing)
+    × ((v : Value)
+    × (read_place store p ≡ Some v)
+    × HasShape v s
+    × (cells_of v ≡ cells_at (address typing p) (size s) (all_cells store)))
 
 -- a place written is its cells written, and no others; the store keeps its types
 abbrev pub WritingPlacesWritesSlices : Type 0
 WritingPlacesWritesSlices =
-    (typing : StoreTyping) (store : Store) (p : Place) (s : Shape) (new : Value) → StoreFits typing store → PlaceFits typing p s → HasShape new s
-    → (after : Store) × (write_place store p new ≡ Some after) × StoreFits typing after × (all_cells after ≡ cells_with (address typing p) (cells_of new) (all_cells store))
+    (typing : StoreTyping) (store : Store) (p : Place) (s : Shape) (new : Value)
+    → StoreFits typing store
+    → PlaceFits typing p s
+    → HasShape new s
+    → (after : Store)
+    × (write_place store p new ≡ Some after)
+    × StoreFits typing after
+    × (all_cells after ≡ cells_with (address typing p) (cells_of new) (all_cells store))
 
 -- a number or a truth is one cell, read and written
 abbrev pub NumbersAreCells : Type 0
 NumbersAreCells =
-    (typing : StoreTyping) (store : Store) (p : Place) → StoreFits typing store → PlaceFits typing p integer_shape
-    → ((n : ℤ) × (read_place store p ≡ Some (number n)) × (slice_get (all_cells store) (address typing p) ≡ Some n))
-    × ((n : ℤ) → (after : Store) × (write_place store p (number n) ≡ Some after) × StoreFits typing after × (all_cells after ≡ slice_set (all_cells store) (address typing p) n))
+    (typing : StoreTyping) (store : Store) (p : Place)
+    → StoreFits typing store
+    → PlaceFits typing p integer_shape
+    → ((n : ℤ)
+    × (read_place store p ≡ Some (number n))
+    × (slice_get (all_cells store) (address typing p) ≡ Some n))
+    × ((n : ℤ)
+    → (after : Store)
+    × (write_place store p (number n) ≡ Some after)
+    × StoreFits typing after
+    × (all_cells after ≡ slice_set (all_cells store) (address typing p) n))
 
 -- a truth value is one cell
 abbrev pub TruthsAreCells : Type 0
 TruthsAreCells =
-    (typing : StoreTyping) (store : Store) (p : Place) → StoreFits typing store → PlaceFits typing p boolean_shape
-    → ((b : Bool) × (read_place store p ≡ Some (truth b)) × (slice_get (all_cells store) (address typing p) ≡ Some (truth_cell b)))
-    × ((b : Bool) → (after : Store) × (write_place store p (truth b) ≡ Some after) × StoreFits typing after × (all_cells after ≡ slice_set (all_cells store) (address typing p) (truth_cell b)))
+    (typing : StoreTyping) (store : Store) (p : Place)
+    → StoreFits typing store
+    → PlaceFits typing p boolean_shape
+    → ((b : Bool)
+    × (read_place store p ≡ Some (truth b))
+    × (slice_get (all_cells store) (address typing p) ≡ Some (truth_cell b)))
+    × ((b : Bool)
+    → (after : Store)
+    × (write_place store p (truth b) ≡ Some after)
+    × StoreFits typing after
+    × (all_cells after ≡ slice_set (all_cells store) (address typing p) (truth_cell b)))
 
 -- a part of what a place holds has its offset after the place's address, and the type at the end of its path
 abbrev pub PartsHaveAddresses : Type 0
 PartsHaveAddresses =
-    (typing : StoreTyping) (p : Place) (path : List Step) (s t : Shape) → PlaceFits typing p s → shape_at_path path s ≡ Some t
-    → PlaceFits typing record { variable = p.variable; path = p.path ++ path } t × (address typing record { variable = p.variable; path = p.path ++ path } ≡ address typing p + offset path s)
+    (typing : StoreTyping) (p : Place) (path : List Step) (s t : Shape)
+    → PlaceFits typing p s
+    → shape_at_path path s ≡ Some t
+    → PlaceFits typing record { variable = p.variable; path = p.path ++ path } t
+    × (address typing record { variable = p.variable; path = p.path ++ path }
+    ≡ address typing p + offset path s)
 
 -- an address stays where later variables are added
 abbrev pub AddressesStay : Type 0
@@ -70,22 +114,33 @@ AddressesStay =
 abbrev pub CellsDetermineValues : Type 0
 CellsDetermineValues =
     ((v w : Value) (s : Shape) → HasShape v s → HasShape w s → cells_of v ≡ cells_of w → v ≡ w)
-    × ((typing : StoreTyping) (a b : Store) → StoreFits typing a → StoreFits typing b → all_cells a ≡ all_cells b → a ≡ b)
+    × ((typing : StoreTyping) (a b : Store)
+    → StoreFits typing a
+    → StoreFits typing b
+    → all_cells a ≡ all_cells b
+    → a ≡ b)
 
 -- variables begin with cells that are all 0
 abbrev pub InitialCellsAreZero : Type 0
-InitialCellsAreZero = (s : Shape) → HasShape (initial s) s × (cells_of (initial s) ≡ replicate (size s) (pos 0))
+InitialCellsAreZero =
+    (s : Shape) → HasShape (initial s) s × (cells_of (initial s) ≡ replicate (size s) (pos 0))
 
 -- a new variable's cells come after those of all others, from the size of their types on
 abbrev pub VariablesAreAdded : Type 0
 VariablesAreAdded =
-    (typing : StoreTyping) (store : Store) (s : Shape) (v : Value) → StoreFits typing store → HasShape v s
-    → StoreFits (typing ++ s ∷ []) (store ++ v ∷ []) × (all_cells (store ++ v ∷ []) ≡ all_cells store ++ cells_of v)
+    (typing : StoreTyping) (store : Store) (s : Shape) (v : Value)
+    → StoreFits typing store
+    → HasShape v s
+    → StoreFits (typing ++ s ∷ []) (store ++ v ∷ [])
+    × (all_cells (store ++ v ∷ []) ≡ all_cells store ++ cells_of v)
     × PlaceFits (typing ++ s ∷ []) record { variable = length store; path = [] } s
     × (address (typing ++ s ∷ []) record { variable = length store; path = [] } ≡ sizes typing)
 
 -- variables given up are cells given up: a store cut back to the variables of an older one has as many cells as that
 abbrev pub VariablesAreDropped : Type 0
 VariablesAreDropped =
-    (typing others : StoreTyping) (old new : Store) → StoreFits typing old → StoreFits (typing ++ others) new
-    → StoreFits typing (take (length old) new) × (all_cells (take (length old) new) ≡ take (length (all_cells old)) (all_cells new))
+    (typing others : StoreTyping) (old new : Store)
+    → StoreFits typing old
+    → StoreFits (typing ++ others) new
+    → StoreFits typing (take (length old) new)
+    × (all_cells (take (length old) new) ≡ take (length (all_cells old)) (all_cells new))

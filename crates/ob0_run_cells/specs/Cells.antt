@@ -51,7 +51,8 @@ sizes (s ∷ typing) = size s + sizes typing
 -- a field lies after those before it, an element after those of a lower index
 abbrev pub field_offset : FieldShapes → Name → ℕ
 field_offset no_field_shape x = 0
-field_offset (next_field_shape y s rest) x = if same_name x y then 0 else size s + field_offset rest x
+field_offset (next_field_shape y s rest) x =
+    if same_name x y then 0 else size s + field_offset rest x
 
 -- where the part that a step selects begins in its whole
 abbrev pub step_offset : Shape → Step → ℕ
@@ -62,11 +63,14 @@ step_offset _ _ = 0
 -- where the part at the end of a path begins, in the cells of a value of a type
 abbrev pub offset : List Step → Shape → ℕ
 offset [] s = 0
-offset (step ∷ path) s = step_offset s step + unwrap_or (option_map (offset path) (part_shape s step)) 0
+offset (step ∷ path) s =
+    step_offset s step + unwrap_or (option_map (offset path) (part_shape s step)) 0
 
 -- where what a place holds begins, in the cells of a store
 abbrev pub address : StoreTyping → Place → ℕ
-address typing p = sizes (take p.variable typing) + unwrap_or (option_map (offset p.path) (slice_get typing p.variable)) 0
+address typing p =
+    sizes (take p.variable typing)
+    + unwrap_or (option_map (offset p.path) (slice_get typing p.variable)) 0
 
 -- so many cells from an address on
 abbrev pub cells_at : ℕ → ℕ → List ℤ → List ℤ

@@ -36,7 +36,8 @@ pub record Represents (typing : StoreTyping) (low : execution.State) (s : State)
 -- both go on, or both have ended alike
 abbrev pub ProgressRepresents : StoreTyping → execution.Progress → Progress → Type 0
 ProgressRepresents typing (execution.running low) (running s) = Represents typing low s
-ProgressRepresents typing (execution.stopped e out) (stopped f written) = (end_of e ≡ f) × (map written_of out ≡ written)
+ProgressRepresents typing (execution.stopped e out) (stopped f written) =
+    (end_of e ≡ f) × (map written_of out ≡ written)
 ProgressRepresents typing _ _ = ⊥
 
 -- the cells and the addresses that arguments are passed as
@@ -48,7 +49,8 @@ argument_cells (value_argument v ∷ args) = cells_of v ++ argument_cells args
 -- the addresses of arguments for VAR parameters
 abbrev pub argument_addresses : StoreTyping → List Argument → List ℕ
 argument_addresses typing [] = []
-argument_addresses typing (place_argument p ∷ args) = address typing p ∷ argument_addresses typing args
+argument_addresses typing (place_argument p ∷ args) =
+    address typing p ∷ argument_addresses typing args
 argument_addresses typing (value_argument v ∷ args) = argument_addresses typing args
 
 -- a procedure's index, and how many levels out the activation is in which it is declared
@@ -68,57 +70,153 @@ pub record Body (N : Type 0) : Type 0 where
 -- calls with the same arguments come to the same
 abbrev pub CallsRepresent : {N : Type 0} → Typed N → (N → Target) → Body N → Type 0
 CallsRepresent {N} checked targets b =
-    (x : N) (signature : Signature) → checked.stands_for x ≡ Some (a_procedure signature) → (args : List Argument) (low : execution.State) (s : State) (p : execution.Passed)
-    → Represents b.typing low s → ArgumentsFit b.typing signature args → p.cells ≡ low.cells ++ argument_cells args → p.addresses ≡ argument_addresses b.typing args → HaveNumbers p.cells
-    → ProgressRepresents b.typing (b.lowered_enters (targets x).procedure (execution.entered b.levels (length low.cells) (targets x).up p) record low { cells = p.cells }) (b.enters x args s)
+    (x : N) (signature : Signature)
+    → checked.stands_for x ≡ Some (a_procedure signature)
+    → (args : List Argument) (low : execution.State) (s : State) (p : execution.Passed)
+    → Represents b.typing low s
+    → ArgumentsFit b.typing signature args
+    → p.cells ≡ low.cells ++ argument_cells args
+    → p.addresses ≡ argument_addresses b.typing args
+    → HaveNumbers p.cells
+    → ProgressRepresents b.typing (b.lowered_enters (targets x).procedure
+    (execution.entered b.levels (length low.cells) (targets x).up p) record low
+    { cells = p.cells }) (b.enters x args s)
 
 -- a body of a module that is checked, whose variables are in their slots and whose procedures have their targets
 pub record ShowsBody {N : Type 0} (checked : Typed N) (slots : N → Slot) (targets : N → Target) (b : Body N) : Type 0 where
   pub names_fit : MeaningsFit b.typing checked b.active
-  pub variables_in_slots : (x : N) (p : Place) → b.active.stands_for x ≡ Some (a_variable p) → slot_address b.levels (slots x) ≡ address b.typing p
+  pub variables_in_slots : (x : N) (p : Place)
+      → b.active.stands_for x ≡ Some (a_variable p)
+      → slot_address b.levels (slots x) ≡ address b.typing p
   pub has_addresses : sizes b.typing < 2 ^ 64
   pub calls_represent : CallsRepresent checked targets b
 
 -- what lowered code does in a body, with so many turns of a loop, and what the module's does
-abbrev pub Does : {N : Type 0} → Typed N → (N → Slot) → (N → Target) → (Body N → ℕ → execution.State → execution.Progress) → (Body N → ℕ → State → Progress) → Type 0
+abbrev pub Does : {N : Type 0}
+    → Typed N
+    → (N → Slot)
+    → (N → Target)
+    → (Body N → ℕ → execution.State → execution.Progress)
+    → (Body N → ℕ → State → Progress)
+    → Type 0
 Does {N} checked slots targets low_step step =
-    (b : Body N) → ShowsBody checked slots targets b → (t : ℕ) (low : execution.State) (s : State) → Represents b.typing low s → ProgressRepresents b.typing (low_step b t low) (step b t s)
+    (b : Body N)
+    → ShowsBody checked slots targets b
+    → (t : ℕ) (low : execution.State) (s : State)
+    → Represents b.typing low s
+    → ProgressRepresents b.typing (low_step b t low) (step b t s)
 
 -- lowered code does what the statement does
-abbrev pub StatementMeans : {N : Type 0} → Typed N → (N → Slot) → (N → Target) → lowered.Statement → Tree N statement → Type 0
-StatementMeans checked slots targets c a = Does checked slots targets (λ b t. execution.execute b.lowered_enters t b.levels c) (λ b t. execute b.active b.enters t a)
+abbrev pub StatementMeans : {N : Type 0}
+    → Typed N
+    → (N → Slot)
+    → (N → Target)
+    → lowered.Statement
+    → Tree N statement
+    → Type 0
+StatementMeans checked slots targets c a =
+    Does checked slots targets (λ b t. execution.execute b.lowered_enters t b.levels c)
+    (λ b t. execute b.active b.enters t a)
 
 -- lowered code does what the statements do
-abbrev pub SequenceMeans : {N : Type 0} → Typed N → (N → Slot) → (N → Target) → lowered.Statements → Tree N sequence → Type 0
-SequenceMeans checked slots targets cs a = Does checked slots targets (λ b t. execution.execute_all b.lowered_enters t b.levels cs) (λ b t. execute_all b.active b.enters t a)
+abbrev pub SequenceMeans : {N : Type 0}
+    → Typed N
+    → (N → Slot)
+    → (N → Target)
+    → lowered.Statements
+    → Tree N sequence
+    → Type 0
+SequenceMeans checked slots targets cs a =
+    Does checked slots targets (λ b t. execution.execute_all b.lowered_enters t b.levels cs)
+    (λ b t. execute_all b.active b.enters t a)
 
 -- the statements after the first
-abbrev pub FurtherMean : {N : Type 0} → Typed N → (N → Slot) → (N → Target) → lowered.Statements → Tree N (items further_statement) → Type 0
-FurtherMean checked slots targets cs rest = Does checked slots targets (λ b t. execution.execute_all b.lowered_enters t b.levels cs) (λ b t. execute_further b.active b.enters t rest)
+abbrev pub FurtherMean : {N : Type 0}
+    → Typed N
+    → (N → Slot)
+    → (N → Target)
+    → lowered.Statements
+    → Tree N (items further_statement)
+    → Type 0
+FurtherMean checked slots targets cs rest =
+    Does checked slots targets (λ b t. execution.execute_all b.lowered_enters t b.levels cs)
+    (λ b t. execute_further b.active b.enters t rest)
 
 -- lowered code does what the ELSE part does
-abbrev pub ElseMeans : {N : Type 0} → Typed N → (N → Slot) → (N → Target) → lowered.Statements → Tree N (maybe else_part) → Type 0
-ElseMeans checked slots targets cs last = Does checked slots targets (λ b t. execution.execute_all b.lowered_enters t b.levels cs) (λ b t. execute_else b.active b.enters t last)
+abbrev pub ElseMeans : {N : Type 0}
+    → Typed N
+    → (N → Slot)
+    → (N → Target)
+    → lowered.Statements
+    → Tree N (maybe else_part)
+    → Type 0
+ElseMeans checked slots targets cs last =
+    Does checked slots targets (λ b t. execution.execute_all b.lowered_enters t b.levels cs)
+    (λ b t. execute_else b.active b.enters t last)
 
 -- the ELSIF parts, and the ELSE part after them
-abbrev pub ElsifsMean : {N : Type 0} → Typed N → (N → Slot) → (N → Target) → lowered.Branches → lowered.Statements → Tree N (items elsif_part) → Tree N (maybe else_part) → Type 0
+abbrev pub ElsifsMean : {N : Type 0}
+    → Typed N
+    → (N → Slot)
+    → (N → Target)
+    → lowered.Branches
+    → lowered.Statements
+    → Tree N (items elsif_part)
+    → Tree N (maybe else_part)
+    → Type 0
 ElsifsMean checked slots targets bs cs rest last =
-    Does checked slots targets (λ b t. execution.execute_branches b.lowered_enters t b.levels bs (execution.execute_all b.lowered_enters t b.levels cs)) (λ b t. execute_elsifs b.active b.enters t rest (execute_else b.active b.enters t last))
+    Does checked slots targets (λ b t. execution.execute_branches b.lowered_enters t b.levels bs
+    (execution.execute_all b.lowered_enters t b.levels cs))
+    (λ b t. execute_elsifs b.active b.enters t rest (execute_else b.active b.enters t last))
 
 -- an expression that is a designator alone, of a variable, which is at a place
-abbrev pub IsAt : {N : Type 0} → Typed N → (N → Slot) → lowered.Place → Shape → Tree N expression → Type 0
+abbrev pub IsAt : {N : Type 0}
+    → Typed N
+    → (N → Slot)
+    → lowered.Place
+    → Shape
+    → Tree N expression
+    → Type 0
 IsAt {N} checked slots q s e =
-    (x : N) × (path : Tree N (items selector)) × (v : Shape) × (designated e ≡ Some (x, path)) × (checked.stands_for x ≡ Some (a_variable v)) × PlaceMeans checked slots q s (place_of_designator x path)
+    (x : N)
+    × (path : Tree N (items selector))
+    × (v : Shape)
+    × (designated e ≡ Some (x, path))
+    × (checked.stands_for x ≡ Some (a_variable v))
+    × PlaceMeans checked slots q s (place_of_designator x path)
 
 -- an argument by how its parameter is passed: a place, or a number, a truth or the cells of an array or a record
-abbrev pub ArgumentMeans : {N : Type 0} → Typed N → (N → Slot) → Formal → lowered.Argument → Tree N expression → Type 0
-ArgumentMeans checked slots f (lowered.by_place q) e = (f.mode ≡ by_place) × IsAt checked slots q f.shape e
-ArgumentMeans checked slots f (lowered.by_number n) e = (f.mode ≡ by_value) × (f.shape ≡ integer_shape) × NumberMeans checked slots n (value_of_expression e)
-ArgumentMeans checked slots f (lowered.by_truth t) e = (f.mode ≡ by_value) × (f.shape ≡ boolean_shape) × TruthMeans checked slots t (value_of_expression e)
-ArgumentMeans checked slots f (lowered.by_block q n) e = (f.mode ≡ by_value) × (n ≡ size f.shape) × ValueAt checked slots q f.shape (value_of_expression e)
+abbrev pub ArgumentMeans : {N : Type 0}
+    → Typed N
+    → (N → Slot)
+    → Formal
+    → lowered.Argument
+    → Tree N expression
+    → Type 0
+ArgumentMeans checked slots f (lowered.by_place q) e =
+    (f.mode ≡ by_place) × IsAt checked slots q f.shape e
+ArgumentMeans checked slots f (lowered.by_number n) e =
+    (f.mode ≡ by_value)
+    × (f.shape ≡ integer_shape)
+    × NumberMeans checked slots n (value_of_expression e)
+ArgumentMeans checked slots f (lowered.by_truth t) e =
+    (f.mode ≡ by_value)
+    × (f.shape ≡ boolean_shape)
+    × TruthMeans checked slots t (value_of_expression e)
+ArgumentMeans checked slots f (lowered.by_block q n) e =
+    (f.mode ≡ by_value)
+    × (n ≡ size f.shape)
+    × ValueAt checked slots q f.shape (value_of_expression e)
 
 -- lowered arguments mean the arguments of a call
-abbrev pub ArgumentsMean : {N : Type 0} → Typed N → (N → Slot) → Signature → List lowered.Argument → List (Tree N expression) → Type 0
+abbrev pub ArgumentsMean : {N : Type 0}
+    → Typed N
+    → (N → Slot)
+    → Signature
+    → List lowered.Argument
+    → List (Tree N expression)
+    → Type 0
 ArgumentsMean checked slots [] [] [] = Unit {0}
-ArgumentsMean checked slots (f ∷ fs) (c ∷ cs) (e ∷ es) = ArgumentMeans checked slots f c e × ArgumentsMean checked slots fs cs es
+ArgumentsMean checked slots (f ∷ fs) (c ∷ cs) (e ∷ es) =
+    ArgumentMeans checked slots f c e × ArgumentsMean checked slots fs cs es
 ArgumentsMean checked slots _ _ _ = ⊥

@@ -50,7 +50,9 @@ cells_in m = all_cells m.store ++ m.passed
 pub record Shows {N : Type 0} (checked : Typed N) (slots : N → Slot) (m : Moment N) : Type 0 where
   pub store_fits : StoreFits m.typing m.store
   pub names_fit : MeaningsFit m.typing checked m.active
-  pub variables_in_slots : (x : N) (p : Place) → m.active.stands_for x ≡ Some (a_variable p) → slot_address m.levels (slots x) ≡ address m.typing p
+  pub variables_in_slots : (x : N) (p : Place)
+      → m.active.stands_for x ≡ Some (a_variable p)
+      → slot_address m.levels (slots x) ≡ address m.typing p
   pub has_addresses : sizes m.typing < 2 ^ 64
   pub has_numbers : (a : ℕ) → machine.fits (machine.cell_at (cells_in m) a) ≡ true
 
@@ -79,14 +81,29 @@ Has32Bits (machine.gives n) = machine.fits n ≡ true
 Has32Bits (machine.ends e) = Unit {0}
 
 -- a number of lowered code that evaluates to what is evaluated, and one of 32 bits
-abbrev pub NumberMeans : {N : Type 0} → Typed N → (N → Slot) → lowered.Number → Evaluated N Value → Type 0
+abbrev pub NumberMeans : {N : Type 0}
+    → Typed N
+    → (N → Slot)
+    → lowered.Number
+    → Evaluated N Value
+    → Type 0
 NumberMeans {N} checked slots n worth =
-    (m : Moment N) → Shows checked slots m → (outcome_of number (machine.number m.levels (cells_in m) n) ≡ worth m) × Has32Bits (machine.number m.levels (cells_in m) n)
+    (m : Moment N)
+    → Shows checked slots m
+    → (outcome_of number (machine.number m.levels (cells_in m) n) ≡ worth m)
+    × Has32Bits (machine.number m.levels (cells_in m) n)
 
 -- a lowered truth value is what is evaluated, at every moment
-abbrev pub TruthMeans : {N : Type 0} → Typed N → (N → Slot) → lowered.Truth → Evaluated N Value → Type 0
+abbrev pub TruthMeans : {N : Type 0}
+    → Typed N
+    → (N → Slot)
+    → lowered.Truth
+    → Evaluated N Value
+    → Type 0
 TruthMeans {N} checked slots t worth =
-    (m : Moment N) → Shows checked slots m → outcome_of truth (machine.truth m.levels (cells_in m) t) ≡ worth m
+    (m : Moment N)
+    → Shows checked slots m
+    → outcome_of truth (machine.truth m.levels (cells_in m) t) ≡ worth m
 
 -- what is given is a place for values of a type
 abbrev pub GivesPlace : StoreTyping → Shape → Outcome Place → Type 0
@@ -94,15 +111,33 @@ GivesPlace typing s (gives p) = PlaceFits typing p s
 GivesPlace typing s (ends e) = Unit {0}
 
 -- a place of lowered code that is the address of the place that is evaluated, which is one for values of a type
-abbrev pub PlaceMeans : {N : Type 0} → Typed N → (N → Slot) → lowered.Place → Shape → Evaluated N Place → Type 0
+abbrev pub PlaceMeans : {N : Type 0}
+    → Typed N
+    → (N → Slot)
+    → lowered.Place
+    → Shape
+    → Evaluated N Place
+    → Type 0
 PlaceMeans {N} checked slots q s worth =
     (m : Moment N) → Shows checked slots m
-    → (outcome_of (λ a. a) (machine.address m.levels (cells_in m) q) ≡ (worth m >>= (λ p. gives (address m.typing p)))) × GivesPlace m.typing s (worth m)
+    → (outcome_of (λ a. a) (machine.address m.levels (cells_in m) q)
+    ≡ (worth m >>= (λ p. gives (address m.typing p))))
+    × GivesPlace m.typing s (worth m)
 
 -- the cells at a place of lowered code are those of what is evaluated, a value of a type
-abbrev pub ValueAt : {N : Type 0} → Typed N → (N → Slot) → lowered.Place → Shape → Evaluated N Value → Type 0
+abbrev pub ValueAt : {N : Type 0}
+    → Typed N
+    → (N → Slot)
+    → lowered.Place
+    → Shape
+    → Evaluated N Value
+    → Type 0
 ValueAt {N} checked slots q s value =
-    (place : Evaluated N Place) × PlaceMeans checked slots q s place × ((m : Moment N) → Shows checked slots m → value m ≡ (place m >>= (λ p. or_stuck (read_place m.store p))))
+    (place : Evaluated N Place)
+    × PlaceMeans checked slots q s place
+    × ((m : Moment N)
+    → Shows checked slots m
+    → value m ≡ (place m >>= (λ p. or_stuck (read_place m.store p))))
 
 -- the values of the parts of an expression, and the place of a designator
 abbrev pub value_of_expression : {N : Type 0} → Tree N expression → Evaluated N Value
@@ -142,23 +177,53 @@ further p steps = record { variable = p.variable; path = p.path ++ steps }
 
 -- what the selectors that are left make of a place
 abbrev pub selectors_left : {N : Type 0} → Tree N (items selector) → RestOfChain N Place
-selectors_left rest m p = or_stuck (read_place m.store p) >>= (λ v. follow m.active m.store v rest >>= (λ steps. gives (further p steps)))
+selectors_left rest m p =
+    or_stuck (read_place m.store p) >>=
+    (λ v. follow m.active m.store v rest >>= (λ steps. gives (further p steps)))
 
 -- a place, a number or a truth so far, and what is left: together they come to what is evaluated as a whole
-abbrev pub Leads : {N A : Type 0} → Typed N → (N → Slot) → (Evaluated N A → Type 0) → RestOfChain N A → Evaluated N A → Type 0
+abbrev pub Leads : {N A : Type 0}
+    → Typed N
+    → (N → Slot)
+    → (Evaluated N A → Type 0)
+    → RestOfChain N A
+    → Evaluated N A
+    → Type 0
 Leads {N} {A} checked slots Means rest whole =
-    (so_far : Evaluated N A) × Means so_far × ((m : Moment N) → Shows checked slots m → (so_far m >>= rest m) ≡ whole m)
+    (so_far : Evaluated N A)
+    × Means so_far
+    × ((m : Moment N) → Shows checked slots m → (so_far m >>= rest m) ≡ whole m)
 
 -- the place so far and the selectors left come to the whole
-abbrev pub PlaceLeads : {N : Type 0} → Typed N → (N → Slot) → lowered.Place → Shape → Tree N (items selector) → Evaluated N Place → Type 0
-PlaceLeads checked slots q s rest = Leads checked slots (PlaceMeans checked slots q s) (selectors_left rest)
+abbrev pub PlaceLeads : {N : Type 0}
+    → Typed N
+    → (N → Slot)
+    → lowered.Place
+    → Shape
+    → Tree N (items selector)
+    → Evaluated N Place
+    → Type 0
+PlaceLeads checked slots q s rest =
+    Leads checked slots (PlaceMeans checked slots q s) (selectors_left rest)
 
 -- the number so far and what is left of the chain come to the whole
-abbrev pub NumberLeads : {N : Type 0} → Typed N → (N → Slot) → lowered.Number → RestOfChain N Value → Evaluated N Value → Type 0
+abbrev pub NumberLeads : {N : Type 0}
+    → Typed N
+    → (N → Slot)
+    → lowered.Number
+    → RestOfChain N Value
+    → Evaluated N Value
+    → Type 0
 NumberLeads checked slots n = Leads checked slots (NumberMeans checked slots n)
 
 -- the truth value so far and what is left of the chain come to the whole
-abbrev pub TruthLeads : {N : Type 0} → Typed N → (N → Slot) → lowered.Truth → RestOfChain N Value → Evaluated N Value → Type 0
+abbrev pub TruthLeads : {N : Type 0}
+    → Typed N
+    → (N → Slot)
+    → lowered.Truth
+    → RestOfChain N Value
+    → Evaluated N Value
+    → Type 0
 TruthLeads checked slots t = Leads checked slots (TruthMeans checked slots t)
 
 -- relations of numbers

@@ -15,55 +15,95 @@ use Rattle.ob0_run_cells.specs.Lowering.{NumberMeans, PlaceMeans, Slot, TruthMea
 -- an assignment stores a number, a truth, or the cells of an array or a record
 abbrev pub AssignmentsLower : Type 0
 AssignmentsLower =
-    (checked : Typed Label) (slots : Label → Slot) (targets : Label → Target) (x : Label) (path : Tree Label (items selector)) (e : Tree Label expression) (q : lowered.Place)
-    → ((n : lowered.Number) → PlaceMeans checked slots q integer_shape (place_of_designator x path) → NumberMeans checked slots n (value_of_expression e) → StatementMeans checked slots targets (lowered.stores_number q n) (assigns x path e))
-    × ((t : lowered.Truth) → PlaceMeans checked slots q boolean_shape (place_of_designator x path) → TruthMeans checked slots t (value_of_expression e) → StatementMeans checked slots targets (lowered.stores_truth q t) (assigns x path e))
-    × ((r : lowered.Place) (s : Shape) → PlaceMeans checked slots q s (place_of_designator x path) → ValueAt checked slots r s (value_of_expression e) → StatementMeans checked slots targets (lowered.copies q r (size s)) (assigns x path e))
+    (checked : Typed Label) (slots : Label → Slot) (targets : Label → Target) (x : Label)
+    (path : Tree Label (items selector)) (e : Tree Label expression) (q : lowered.Place)
+    → ((n : lowered.Number)
+    → PlaceMeans checked slots q integer_shape (place_of_designator x path)
+    → NumberMeans checked slots n (value_of_expression e)
+    → StatementMeans checked slots targets (lowered.stores_number q n) (assigns x path e))
+    × ((t : lowered.Truth)
+    → PlaceMeans checked slots q boolean_shape (place_of_designator x path)
+    → TruthMeans checked slots t (value_of_expression e)
+    → StatementMeans checked slots targets (lowered.stores_truth q t) (assigns x path e))
+    × ((r : lowered.Place) (s : Shape)
+    → PlaceMeans checked slots q s (place_of_designator x path)
+    → ValueAt checked slots r s (value_of_expression e)
+    → StatementMeans checked slots targets (lowered.copies q r (size s)) (assigns x path e))
 
 -- the standard procedures
 abbrev pub StandardCallsLower : Type 0
 StandardCallsLower =
-    (checked : Typed Label) (slots : Label → Slot) (targets : Label → Target) (x : Label) (es : Tree Label (maybe arguments)) (e : Tree Label expression)
-    → ((q : lowered.Place) → checked.stands_for x ≡ Some (a_standard reads) → arguments_listed es ≡ e ∷ [] → IsAt checked slots q integer_shape e → StatementMeans checked slots targets (lowered.reads q) (calls x es))
-    × ((n : lowered.Number) → checked.stands_for x ≡ Some (a_standard writes) → arguments_listed es ≡ e ∷ [] → NumberMeans checked slots n (value_of_expression e) → StatementMeans checked slots targets (lowered.writes n) (calls x es))
-    × (checked.stands_for x ≡ Some (a_standard writes_line) → arguments_listed es ≡ [] → StatementMeans checked slots targets lowered.writes_line (calls x es))
+    (checked : Typed Label) (slots : Label → Slot) (targets : Label → Target) (x : Label)
+    (es : Tree Label (maybe arguments)) (e : Tree Label expression)
+    → ((q : lowered.Place)
+    → checked.stands_for x ≡ Some (a_standard reads)
+    → arguments_listed es ≡ e ∷ []
+    → IsAt checked slots q integer_shape e
+    → StatementMeans checked slots targets (lowered.reads q) (calls x es))
+    × ((n : lowered.Number)
+    → checked.stands_for x ≡ Some (a_standard writes)
+    → arguments_listed es ≡ e ∷ []
+    → NumberMeans checked slots n (value_of_expression e)
+    → StatementMeans checked slots targets (lowered.writes n) (calls x es))
+    × (checked.stands_for x ≡ Some (a_standard writes_line)
+    → arguments_listed es ≡ []
+    → StatementMeans checked slots targets lowered.writes_line (calls x es))
 
 -- a call passes its arguments to its procedure
 abbrev pub CallsLower : Type 0
 CallsLower =
-    (checked : Typed Label) (slots : Label → Slot) (targets : Label → Target) (x : Label) (es : Tree Label (maybe arguments)) (signature : Signature) (cs : List lowered.Argument)
-    → checked.stands_for x ≡ Some (a_procedure signature) → ArgumentsMean checked slots signature cs (arguments_listed es)
-    → StatementMeans checked slots targets (lowered.calls (targets x).procedure (targets x).up cs) (calls x es)
+    (checked : Typed Label) (slots : Label → Slot) (targets : Label → Target) (x : Label)
+    (es : Tree Label (maybe arguments)) (signature : Signature) (cs : List lowered.Argument)
+    → checked.stands_for x ≡ Some (a_procedure signature)
+    → ArgumentsMean checked slots signature cs (arguments_listed es)
+    → StatementMeans checked slots targets (lowered.calls (targets x).procedure (targets x).up cs)
+    (calls x es)
 
 -- IF is its branches, and what is executed where no condition is TRUE
 abbrev pub BranchesLower : Type 0
 BranchesLower =
-    (checked : Typed Label) (slots : Label → Slot) (targets : Label → Target) (e : Tree Label expression) (a : Tree Label sequence) (rest : Tree Label (items elsif_part)) (last : Tree Label (maybe else_part))
-    (t : lowered.Truth) (body : lowered.Statements) (bs : lowered.Branches) (otherwise : lowered.Statements)
-    → TruthMeans checked slots t (value_of_expression e) → SequenceMeans checked slots targets body a → ElsifsMean checked slots targets bs otherwise rest last
-    → StatementMeans checked slots targets (lowered.chooses (lowered.branch t body bs) otherwise) (branches e a rest last)
-    × ElsifsMean checked slots targets (lowered.branch t body bs) otherwise (more (elsif_branch e a) rest) last
+    (checked : Typed Label) (slots : Label → Slot) (targets : Label → Target)
+    (e : Tree Label expression) (a : Tree Label sequence) (rest : Tree Label (items elsif_part))
+    (last : Tree Label (maybe else_part))
+    (t : lowered.Truth) (body : lowered.Statements) (bs : lowered.Branches)
+    (otherwise : lowered.Statements)
+    → TruthMeans checked slots t (value_of_expression e)
+    → SequenceMeans checked slots targets body a
+    → ElsifsMean checked slots targets bs otherwise rest last
+    → StatementMeans checked slots targets (lowered.chooses (lowered.branch t body bs) otherwise)
+    (branches e a rest last)
+    × ElsifsMean checked slots targets (lowered.branch t body bs) otherwise
+    (more (elsif_branch e a) rest) last
 
 -- an ELSE part does what its statements do
 abbrev pub ElsesLower : Type 0
 ElsesLower =
     (checked : Typed Label) (slots : Label → Slot) (targets : Label → Target)
-    → ((last : Tree Label (maybe else_part)) (cs : lowered.Statements) → ElseMeans checked slots targets cs last → ElsifsMean checked slots targets lowered.no_branch cs end last)
-    × ((a : Tree Label sequence) (cs : lowered.Statements) → SequenceMeans checked slots targets cs a → ElseMeans checked slots targets cs (one (else_branch a)))
+    → ((last : Tree Label (maybe else_part)) (cs : lowered.Statements)
+    → ElseMeans checked slots targets cs last
+    → ElsifsMean checked slots targets lowered.no_branch cs end last)
+    × ((a : Tree Label sequence) (cs : lowered.Statements)
+    → SequenceMeans checked slots targets cs a
+    → ElseMeans checked slots targets cs (one (else_branch a)))
     × ElseMeans checked slots targets lowered.no_statement none
 
 -- WHILE and REPEAT, by their conditions and statements
 abbrev pub LoopsLower : Type 0
 LoopsLower =
-    (checked : Typed Label) (slots : Label → Slot) (targets : Label → Target) (e : Tree Label expression) (a : Tree Label sequence) (t : lowered.Truth) (body : lowered.Statements)
-    → TruthMeans checked slots t (value_of_expression e) → SequenceMeans checked slots targets body a
+    (checked : Typed Label) (slots : Label → Slot) (targets : Label → Target)
+    (e : Tree Label expression) (a : Tree Label sequence) (t : lowered.Truth)
+    (body : lowered.Statements)
+    → TruthMeans checked slots t (value_of_expression e)
+    → SequenceMeans checked slots targets body a
     → StatementMeans checked slots targets (lowered.while_loop t body) (while_loop e a)
     × StatementMeans checked slots targets (lowered.repeat_loop body t) (repeat_loop a e)
 
 -- statements one after the other; an empty one is none
 abbrev pub SequencesLower : Type 0
 SequencesLower =
-    (checked : Typed Label) (slots : Label → Slot) (targets : Label → Target) (rest : Tree Label (items further_statement)) (cs : lowered.Statements) → FurtherMean checked slots targets cs rest
+    (checked : Typed Label) (slots : Label → Slot) (targets : Label → Target)
+    (rest : Tree Label (items further_statement)) (cs : lowered.Statements)
+    → FurtherMean checked slots targets cs rest
     → ((a : Tree Label statement) (c : lowered.Statement) → StatementMeans checked slots targets c a
     → SequenceMeans checked slots targets (lowered.before c cs) (runs a rest) × FurtherMean checked slots targets (lowered.before c cs) (more (then_statement a) rest))
     × SequenceMeans checked slots targets cs (runs empty rest)
@@ -71,4 +111,6 @@ SequencesLower =
 
 -- no further statement has no code
 abbrev pub SequencesEnd : Type 0
-SequencesEnd = (checked : Typed Label) (slots : Label → Slot) (targets : Label → Target) → FurtherMean checked slots targets lowered.no_statement end
+SequencesEnd =
+    (checked : Typed Label) (slots : Label → Slot) (targets : Label → Target)
+    → FurtherMean checked slots targets lowered.no_statement end

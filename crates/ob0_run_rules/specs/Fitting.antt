@@ -24,7 +24,8 @@ abbrev mutual
 
   pub HaveShapes : Members → FieldShapes → Type 0
   HaveShapes no_member no_field_shape = Unit {0}
-  HaveShapes (next_member x v rest) (next_field_shape y s others) = (x ≡ y) × HasShape v s × HaveShapes rest others
+  HaveShapes (next_member x v rest) (next_field_shape y s others) =
+      (x ≡ y) × HasShape v s × HaveShapes rest others
   HaveShapes _ _ = ⊥
 
 -- the type of a part one step further, and at the end of a path; an index lies below the length
@@ -57,36 +58,66 @@ abbrev pub modes_in : Signature → List Mode
 modes_in = map (λ f. f.mode)
 
 -- what a name means in the checked module and in the run
-abbrev pub ObjectFits : StoreTyping → Option (Object Shape Signature) → Option (Object Place (List Mode)) → Type 0
+abbrev pub ObjectFits : StoreTyping
+    → Option (Object Shape Signature)
+    → Option (Object Place (List Mode))
+    → Type 0
 ObjectFits typing None None = Unit {0}
 ObjectFits typing (Some (a_type s)) (Some (a_type t)) = s ≡ t
 ObjectFits typing (Some (a_constant v)) (Some (a_constant w)) = v ≡ w
 ObjectFits typing (Some (a_variable s)) (Some (a_variable p)) = PlaceFits typing p s
-ObjectFits typing (Some (a_procedure signature)) (Some (a_procedure modes)) = modes ≡ modes_in signature
+ObjectFits typing (Some (a_procedure signature)) (Some (a_procedure modes)) =
+    modes ≡ modes_in signature
 ObjectFits typing (Some (a_standard p)) (Some (a_standard q)) = p ≡ q
 ObjectFits typing _ _ = ⊥
 
 -- what names mean in a run is as the check says
-abbrev pub MeaningsFit : {N : Type 0} → StoreTyping → Typed N → Meanings N Place (List Mode) → Type 0
+abbrev pub MeaningsFit : {N : Type 0}
+    → StoreTyping
+    → Typed N
+    → Meanings N Place (List Mode)
+    → Type 0
 MeaningsFit {N} typing checked active =
-    ((x : N) → ObjectFits typing (checked.stands_for x) (active.stands_for x)) × ((x : N) → checked.written x ≡ active.written x)
+    ((x : N) → ObjectFits typing (checked.stands_for x) (active.stands_for x))
+    × ((x : N) → checked.written x ≡ active.written x)
 
 -- the arguments of a call, by the signature of what is called
 abbrev pub ArgumentsFit : StoreTyping → Signature → List Argument → Type 0
 ArgumentsFit typing [] [] = Unit {0}
-ArgumentsFit typing (f ∷ fs) (place_argument p ∷ args) = (f.mode ≡ by_place) × PlaceFits typing p f.shape × ArgumentsFit typing fs args
-ArgumentsFit typing (f ∷ fs) (value_argument v ∷ args) = (f.mode ≡ by_value) × HasShape v f.shape × ArgumentsFit typing fs args
+ArgumentsFit typing (f ∷ fs) (place_argument p ∷ args) =
+    (f.mode ≡ by_place) × PlaceFits typing p f.shape × ArgumentsFit typing fs args
+ArgumentsFit typing (f ∷ fs) (value_argument v ∷ args) =
+    (f.mode ≡ by_value) × HasShape v f.shape × ArgumentsFit typing fs args
 ArgumentsFit typing _ _ = ⊥
 
 -- one binding of a checked environment and one of an activation, over the bindings below them
-abbrev pub BindingFits : {N : Type 0} → Naming N → StoreTyping → TypeEnvironment N → N → Object Shape Signature → Object Place (Code N) → Type 0
+abbrev pub BindingFits : {N : Type 0}
+    → Naming N
+    → StoreTyping
+    → TypeEnvironment N
+    → N
+    → Object Shape Signature
+    → Object Place (Code N)
+    → Type 0
 BindingFits {N} naming typing checked x (a_procedure signature) (a_procedure code) =
-    (ps : List (TypedParameter N)) × (typed_parameters naming checked code.first_constructor (procedure_formals code.text) ≡ Some ps) × (signature ≡ map (λ p. p.formal) ps)
-    × (procedure_fits naming (bind_typed ps (heading x ps checked)) code.first_constructor code.text ≡ true)
+    (ps : List (TypedParameter N))
+    × (typed_parameters naming checked code.first_constructor (procedure_formals code.text)
+    ≡ Some ps)
+    × (signature ≡ map (λ p. p.formal) ps)
+    × (procedure_fits naming (bind_typed ps (heading x ps checked)) code.first_constructor code.text
+    ≡ true)
 BindingFits naming typing checked x o r = ObjectFits typing (Some o) (passing (Some r))
 
 -- the environment of a run is as that of the check, binding by binding
-abbrev pub EnvironmentsFit : {N : Type 0} → Naming N → StoreTyping → TypeEnvironment N → Activation N → Type 0
+abbrev pub EnvironmentsFit : {N : Type 0}
+    → Naming N
+    → StoreTyping
+    → TypeEnvironment N
+    → Activation N
+    → Type 0
 EnvironmentsFit naming typing [] [] = Unit {0}
-EnvironmentsFit naming typing (b ∷ checked) (d ∷ active) = (b.0 ≡ d.0) × BindingFits naming typing checked b.0 b.1 d.1 × EnvironmentsFit naming typing checked active
+EnvironmentsFit naming typing (b ∷ checked) (d ∷ active) =
+    (b.0 ≡ d.0)
+    × BindingFits naming typing checked b.0 b.1 d.1
+    × EnvironmentsFit naming typing checked active
 EnvironmentsFit naming typing _ _ = ⊥

@@ -17,7 +17,8 @@ unfoldable pub call_giving_up : {N : Type 0} → Naming N → ℕ → ℕ → Ac
 unfolding activate
 call_giving_up naming zero t env x args s = stopped CallBound s.output
 call_giving_up naming (suc c) t env x args s =
-    drop_variables (length s.store) (activate naming (call_giving_up naming c t) t (from_binding naming env x) args s)
+    drop_variables (length s.store)
+    (activate naming (call_giving_up naming c t) t (from_binding naming env x) args s)
 
 -- the run in which calls that return drop their variables
 unfoldable pub run_giving_up : {N : Type 0} → Naming N → Tree N module_text → List ℤ → ℕ → ℕ → Run

@@ -55,7 +55,8 @@ append_output s i = record s { output = s.output ++ i ∷ [] }
 
 -- a value is stored at a place
 abbrev pub store_at : State → Place → Value → Progress
-store_at s p v = use_in s (or_stuck (write_place s.store p v)) (λ store. running record s { store = store })
+store_at s p v =
+    use_in s (or_stuck (write_place s.store p v)) (λ store. running record s { store = store })
 
 -- `Read` takes the next number of the input, or ends with InputEnd
 abbrev pub read_number : State → Place → List ℤ → Progress
@@ -71,7 +72,12 @@ modes_of (Some (a_standard writes_line)) = gives []
 modes_of _ = ends Stuck
 
 -- an argument: a copy of its value, or the place of a VAR argument (rule 6)
-unfoldable pub evaluate_argument : {N P : Type 0} → Meanings N Place P → Store → Mode → Tree N expression → Outcome Argument
+unfoldable pub evaluate_argument : {N P : Type 0}
+    → Meanings N Place P
+    → Store
+    → Mode
+    → Tree N expression
+    → Outcome Argument
 unfolding designate evaluate
 evaluate_argument meaning store by_value e = do
   v ← evaluate meaning store e
@@ -82,7 +88,12 @@ evaluate_argument meaning store by_place e = do
   gives (place_argument p)
 
 -- arguments are evaluated from left to right
-unfoldable pub evaluate_arguments : {N P : Type 0} → Meanings N Place P → Store → List Mode → List (Tree N expression) → Outcome (List Argument)
+unfoldable pub evaluate_arguments : {N P : Type 0}
+    → Meanings N Place P
+    → Store
+    → List Mode
+    → List (Tree N expression)
+    → Outcome (List Argument)
 unfolding evaluate_argument
 evaluate_arguments meaning store [] [] = gives []
 evaluate_arguments meaning store (m ∷ ms) (e ∷ es) = do
@@ -92,10 +103,15 @@ evaluate_arguments meaning store (m ∷ ms) (e ∷ es) = do
 evaluate_arguments meaning store _ _ = ends Stuck
 
 -- a call, its arguments evaluated; the standard procedures are no calls for the bound c
-abbrev pub perform : Option (Object Place (List Mode)) → (List Argument → State → Progress) → List Argument → State → Progress
+abbrev pub perform : Option (Object Place (List Mode))
+    → (List Argument → State → Progress)
+    → List Argument
+    → State
+    → Progress
 perform (Some (a_procedure modes)) enter args s = enter args s
 perform (Some (a_standard reads)) enter (place_argument p ∷ []) s = read_number s p s.input
-perform (Some (a_standard writes)) enter (value_argument (number n) ∷ []) s = running (append_output s (number_out n))
+perform (Some (a_standard writes)) enter (value_argument (number n) ∷ []) s =
+    running (append_output s (number_out n))
 perform (Some (a_standard writes_line)) enter [] s = running (append_output s line_out)
 perform _ enter args s = stopped Stuck s.output
 
@@ -105,7 +121,8 @@ abbrev pub turns : ℕ → (State → Outcome Value) → (State → Progress) �
 turns zero condition statements s =
     use_in s (condition s) (λ v. choose s v (λ s'. stopped TurnBound s'.output) running)
 turns (suc t) condition statements s =
-    use_in s (condition s) (λ v. choose s v (λ s'. continue_with (statements s') (turns t condition statements)) running)
+    use_in s (condition s) (λ v. choose s v
+    (λ s'. continue_with (statements s') (turns t condition statements)) running)
 
 -- what a name does where it is called, over its arguments
 abbrev pub Calls : Type 0 → Type 0
@@ -115,44 +132,86 @@ Calls N = N → List Argument → State → Progress
 -- turns may be made, t more after this one; else one more turn is made
 abbrev pub turns_until : ℕ → (State → Outcome Value) → (State → Progress) → State → Progress
 turns_until zero condition turn s =
-    continue_with (turn s) (λ s'. use_in s' (condition s') (λ v. choose s' v running (λ s''. stopped TurnBound s''.output)))
+    continue_with (turn s) (λ s'. use_in s' (condition s')
+    (λ v. choose s' v running (λ s''. stopped TurnBound s''.output)))
 turns_until (suc t) condition turn s =
-    continue_with (turn s) (λ s'. use_in s' (condition s') (λ v. choose s' v running (turns_until t condition turn)))
+    continue_with (turn s)
+    (λ s'. use_in s' (condition s') (λ v. choose s' v running (turns_until t condition turn)))
 
 -- a statement. An assignment finds its place, then evaluates its right side, then stores a copy
 unfoldable mutual
   unfolding evaluate designate evaluate_arguments
 
-  pub execute : {N : Type 0} → Meanings N Place (List Mode) → Calls N → ℕ → Tree N statement → State → Progress
+  pub execute : {N : Type 0}
+      → Meanings N Place (List Mode)
+      → Calls N
+      → ℕ
+      → Tree N statement
+      → State
+      → Progress
   execute meaning enter t empty s = running s
   execute meaning enter t (assigns x path e) s =
-      use_in s (designate meaning s.store x path) (λ p. use_in s (evaluate meaning s.store e) (store_at s p))
+      use_in s (designate meaning s.store x path)
+      (λ p. use_in s (evaluate meaning s.store e) (store_at s p))
   execute meaning enter t (calls x es) s =
-      use_in s (modes_of (meaning.stands_for x) >>= (λ modes. evaluate_arguments meaning s.store modes (arguments_listed es)))
+      use_in s (modes_of (meaning.stands_for x) >>=
+      (λ modes. evaluate_arguments meaning s.store modes (arguments_listed es)))
       (λ args. perform (meaning.stands_for x) (enter x) args s)
   execute meaning enter t (branches e statements rest last) s =
-      use_in s (evaluate meaning s.store e) (λ v. choose s v (execute_all meaning enter t statements) (execute_elsifs meaning enter t rest (execute_else meaning enter t last)))
+      use_in s (evaluate meaning s.store e) (λ v. choose s v
+      (execute_all meaning enter t statements)
+      (execute_elsifs meaning enter t rest (execute_else meaning enter t last)))
   execute meaning enter t (while_loop e statements) s =
       turns t (λ s'. evaluate meaning s'.store e) (execute_all meaning enter t statements) s
   execute meaning enter t (repeat_loop statements e) s =
-      turns_until (t - 1) (λ s'. evaluate meaning s'.store e) (execute_all meaning enter t statements) s
+      turns_until (t - 1) (λ s'. evaluate meaning s'.store e)
+      (execute_all meaning enter t statements) s
 
-  pub execute_all : {N : Type 0} → Meanings N Place (List Mode) → Calls N → ℕ → Tree N sequence → State → Progress
-  execute_all meaning enter t (runs a rest) s = continue_with (execute meaning enter t a s) (execute_further meaning enter t rest)
+  pub execute_all : {N : Type 0}
+      → Meanings N Place (List Mode)
+      → Calls N
+      → ℕ
+      → Tree N sequence
+      → State
+      → Progress
+  execute_all meaning enter t (runs a rest) s =
+      continue_with (execute meaning enter t a s) (execute_further meaning enter t rest)
 
-  pub execute_further : {N : Type 0} → Meanings N Place (List Mode) → Calls N → ℕ → Tree N (items further_statement) → State → Progress
+  pub execute_further : {N : Type 0}
+      → Meanings N Place (List Mode)
+      → Calls N
+      → ℕ
+      → Tree N (items further_statement)
+      → State
+      → Progress
   execute_further meaning enter t end s = running s
-  execute_further meaning enter t (more (then_statement a) rest) s = continue_with (execute meaning enter t a s) (execute_further meaning enter t rest)
+  execute_further meaning enter t (more (then_statement a) rest) s =
+      continue_with (execute meaning enter t a s) (execute_further meaning enter t rest)
 
   -- the ELSIF parts, and what follows them
-  pub execute_elsifs : {N : Type 0} → Meanings N Place (List Mode) → Calls N → ℕ → Tree N (items elsif_part) → (State → Progress) → State → Progress
+  pub execute_elsifs : {N : Type 0}
+      → Meanings N Place (List Mode)
+      → Calls N
+      → ℕ
+      → Tree N (items elsif_part)
+      → (State → Progress)
+      → State
+      → Progress
   execute_elsifs meaning enter t end otherwise s = otherwise s
   execute_elsifs meaning enter t (more (elsif_branch e statements) rest) otherwise s =
-      use_in s (evaluate meaning s.store e) (λ v. choose s v (execute_all meaning enter t statements) (execute_elsifs meaning enter t rest otherwise))
+      use_in s (evaluate meaning s.store e) (λ v. choose s v
+      (execute_all meaning enter t statements) (execute_elsifs meaning enter t rest otherwise))
 
-  pub execute_else : {N : Type 0} → Meanings N Place (List Mode) → Calls N → ℕ → Tree N (maybe else_part) → State → Progress
+  pub execute_else : {N : Type 0}
+      → Meanings N Place (List Mode)
+      → Calls N
+      → ℕ
+      → Tree N (maybe else_part)
+      → State
+      → Progress
   execute_else meaning enter t none s = running s
-  execute_else meaning enter t (one (else_branch statements)) s = execute_all meaning enter t statements s
+  execute_else meaning enter t (one (else_branch statements)) s =
+      execute_all meaning enter t statements s
 
 -- a procedure in a run: its text, and the ordinal of the first ARRAY or RECORD in it
 pub record Code (N : Type 0) : Type 0 where
@@ -172,28 +231,48 @@ pub record Frame (N : Type 0) : Type 0 where
 abbrev pub allocate : {N : Type 0} → List N → Value → Frame N → Frame N
 allocate [] v f = f
 allocate (x ∷ xs) v f =
-    allocate xs v record { env = (x, a_variable record { variable = length f.store; path = [] }) ∷ f.env; store = f.store ++ v ∷ [] }
+    allocate xs v record {
+      env
+          = (x, a_variable record { variable = length f.store; path = [] }) ∷ f.env;
+      store = f.store ++ v ∷ [];
+    }
 
 -- variables are new ones, and begin as 0 and FALSE (rule 1)
-unfoldable pub declare_variables : {N : Type 0} → Naming N → ℕ → Tree N (items variable) → Frame N → Option (Frame N)
+unfoldable pub declare_variables : {N : Type 0}
+    → Naming N
+    → ℕ
+    → Tree N (items variable)
+    → Frame N
+    → Option (Frame N)
 unfolding denoted
 declare_variables naming k end f = Some f
 declare_variables naming k (more (declares_variable ns u) gs) f =
-    option_and_then (λ s. declare_variables naming (k + constructors u) gs (allocate (names_listed ns) (initial s) f))
+    option_and_then (λ s. declare_variables naming (k + constructors u) gs
+    (allocate (names_listed ns) (initial s) f))
     (denoted (meanings naming f.env) k u)
 
 -- a procedure is bound after its heading
-abbrev pub declare_procedures : {N : Type 0} → ℕ → Tree N (items procedure) → Activation N → Activation N
+abbrev pub declare_procedures : {N : Type 0}
+    → ℕ
+    → Tree N (items procedure)
+    → Activation N
+    → Activation N
 declare_procedures k end env = env
 declare_procedures k (more p rest) env =
-    declare_procedures (k + procedure_constructors p) rest ((procedure_name p, a_procedure record { first_constructor = k; text = p }) ∷ env)
+    declare_procedures (k + procedure_constructors p) rest
+    ((procedure_name p, a_procedure record { first_constructor = k; text = p }) ∷ env)
 
 -- the procedures of a block become visible
 abbrev pub with_procedures : {N : Type 0} → ℕ → Tree N (items procedure) → Frame N → Frame N
 with_procedures k ps f = record { env = declare_procedures k ps f.env; store = f.store }
 
 -- constants and types, then variables, then procedures
-unfoldable pub declare_block : {N : Type 0} → Naming N → ℕ → Tree N block → Frame N → Option (Frame N)
+unfoldable pub declare_block : {N : Type 0}
+    → Naming N
+    → ℕ
+    → Tree N block
+    → Frame N
+    → Option (Frame N)
 unfolding declare_first declare_variables
 declare_block naming k b f =
     option_and_then (λ env. option_map (with_procedures (after_variables k b) (block_procedures b))
@@ -202,7 +281,8 @@ declare_block naming k b f =
 
 -- a parameter of a call: a VAR parameter is its argument's place, another a variable with the argument's value
 abbrev pub bind_parameter : {N : Type 0} → Mode → N → Argument → Frame N → Option (Frame N)
-bind_parameter by_place x (place_argument p) f = Some record { env = (x, a_variable p) ∷ f.env; store = f.store }
+bind_parameter by_place x (place_argument p) f =
+    Some record { env = (x, a_variable p) ∷ f.env; store = f.store }
 bind_parameter by_value x (value_argument v) f = Some (allocate (x ∷ []) v f)
 bind_parameter _ x _ f = None
 
@@ -214,21 +294,30 @@ pub record Parameter (N : Type 0) : Type 0 where
 -- the formal parameters of a heading
 abbrev pub parameters : {N : Type 0} → Tree N (items further_section) → List (Parameter N)
 parameters end = []
-parameters (more (then_section f) fs) = map (λ x. record { mode = section_mode f; name = x }) (section_names f) ++ parameters fs
+parameters (more (then_section f) fs) =
+    map (λ x. record { mode = section_mode f; name = x }) (section_names f) ++ parameters fs
 
 -- parameters are bound to arguments: a VAR parameter to its place, another to a new variable
-abbrev pub bind_parameters : {N : Type 0} → List (Parameter N) → List Argument → Frame N → Option (Frame N)
+abbrev pub bind_parameters : {N : Type 0}
+    → List (Parameter N)
+    → List Argument
+    → Frame N
+    → Option (Frame N)
 bind_parameters [] [] f = Some f
-bind_parameters (p ∷ ps) (a ∷ args) f = option_and_then (bind_parameters ps args) (bind_parameter p.mode p.name a f)
+bind_parameters (p ∷ ps) (a ∷ args) f =
+    option_and_then (bind_parameters ps args) (bind_parameter p.mode p.name a f)
 bind_parameters _ _ f = None
 
 -- how the arguments of a procedure are passed
 abbrev pub formal_modes : {N : Type 0} → Tree N (items further_section) → List Mode
 formal_modes end = []
-formal_modes (more (then_section f) fs) = map (λ x. section_mode f) (section_names f) ++ formal_modes fs
+formal_modes (more (then_section f) fs) =
+    map (λ x. section_mode f) (section_names f) ++ formal_modes fs
 
 -- of a procedure, statements need to know only how its arguments are passed
-abbrev pub passing : {N : Type 0} → Option (Object Place (Code N)) → Option (Object Place (List Mode))
+abbrev pub passing : {N : Type 0}
+    → Option (Object Place (Code N))
+    → Option (Object Place (List Mode))
 passing None = None
 passing (Some (a_type s)) = Some (a_type s)
 passing (Some (a_constant v)) = Some (a_constant v)
@@ -237,23 +326,47 @@ passing (Some (a_procedure code)) = Some (a_procedure (formal_modes (procedure_f
 passing (Some (a_standard p)) = Some (a_standard p)
 
 -- what names mean at a statement
-abbrev pub statement_meanings : {N : Type 0} → Naming N → Activation N → Meanings N Place (List Mode)
-statement_meanings naming env = record { stands_for = λ x. passing ((meanings naming env).stands_for x); written = naming.written }
+abbrev pub statement_meanings : {N : Type 0}
+    → Naming N
+    → Activation N
+    → Meanings N Place (List Mode)
+statement_meanings naming env =
+    record
+    { stands_for = λ x. passing ((meanings naming env).stands_for x); written = naming.written }
 
 -- the statements of a body; a body that isn't there does nothing
-unfoldable pub execute_body : {N : Type 0} → Naming N → Activation N → Calls N → ℕ → Tree N (maybe body) → State → Progress
+unfoldable pub execute_body : {N : Type 0}
+    → Naming N
+    → Activation N
+    → Calls N
+    → ℕ
+    → Tree N (maybe body)
+    → State
+    → Progress
 unfolding execute
 execute_body naming env enter t none s = running s
-execute_body naming env enter t (one (begins statements)) s = execute_all (statement_meanings naming env) enter t statements s
+execute_body naming env enter t (one (begins statements)) s =
+    execute_all (statement_meanings naming env) enter t statements s
 
 -- a run goes on with the store of a frame; without a frame it is stuck
-abbrev pub in_frame : {N : Type 0} → State → Option (Frame N) → (Frame N → State → Progress) → Progress
+abbrev pub in_frame : {N : Type 0}
+    → State
+    → Option (Frame N)
+    → (Frame N → State → Progress)
+    → Progress
 in_frame s None next = stopped Stuck s.output
 in_frame s (Some f) next = next f record s { store = f.store }
 
 -- the body of the procedure at the head of an environment runs with its own variables, in the bindings that were
 -- visible at its declaration, those of the activation that declared it
-unfoldable pub activate : {N : Type 0} → Naming N → (Activation N → Calls N) → ℕ → Activation N → List Argument → State → Progress
+unfoldable pub activate : {N : Type 0}
+    → Naming N
+    → (Activation N → Calls N)
+    → ℕ
+    → Activation N
+    → List Argument
+    → State
+    → Progress
 unfolding declare_block execute_body
 activate naming enter t ((x, a_procedure code) ∷ rest) args s =
     in_frame s (option_and_then (declare_block naming (after_formals code.first_constructor code.text) (procedure_block code.text))
@@ -265,7 +378,8 @@ activate naming enter t _ args s = stopped Stuck s.output
 unfoldable pub call : {N : Type 0} → Naming N → ℕ → ℕ → Activation N → Calls N
 unfolding activate
 call naming zero t env x args s = stopped CallBound s.output
-call naming (suc c) t env x args s = activate naming (call naming c t) t (from_binding naming env x) args s
+call naming (suc c) t env x args s =
+    activate naming (call naming c t) t (from_binding naming env x) args s
 
 -- the output and the end of a run
 pub record Run : Type 0 where
@@ -278,7 +392,13 @@ finished (running s) = record { output = s.output; ending = Done }
 finished (stopped e out) = record { output = out; ending = e }
 
 -- the run of a tree, by what calls do
-unfoldable pub run_by : {N : Type 0} → Naming N → (Activation N → Calls N) → ℕ → Tree N module_text → List ℤ → Run
+unfoldable pub run_by : {N : Type 0}
+    → Naming N
+    → (Activation N → Calls N)
+    → ℕ
+    → Tree N module_text
+    → List ℤ
+    → Run
 unfolding declare_block execute_body
 run_by naming enter t m input =
     let start : State = record { store = []; input = input; output = [] } in

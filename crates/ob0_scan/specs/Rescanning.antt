@@ -22,7 +22,9 @@ comment_end (Some c) = c.end
 
 -- after which byte the last of the tokens and comments ends
 abbrev pub last_end : List Token → List Span → ℕ
-last_end tokens comments = max (token_end (slice_get tokens (length tokens - 1))) (comment_end (slice_get comments (length comments - 1)))
+last_end tokens comments =
+    max (token_end (slice_get tokens (length tokens - 1)))
+    (comment_end (slice_get comments (length comments - 1)))
 
 -- whether the first token begins at a place, and the first comment
 abbrev pub token_begins : ℕ → List Token → Bool
@@ -62,14 +64,20 @@ pub record IsMet (old : Scanned) (end from removed added at : ℕ) (tokens : Lis
   pub behind : from + added ≤ at
   pub tokens_are : tokens ≡ back_tokens (at + removed - added) old.tokens
   pub comments_are : comments ≡ back_comments (at + removed - added) old.comments
-  pub border : (at ≡ end) ⊎ IsTrue (token_begins (at + removed - added) tokens || comment_begins (at + removed - added) comments)
+  pub border : (at ≡ end)
+      ⊎ IsTrue
+      (token_begins (at + removed - added) tokens || comment_begins (at + removed - added) comments)
 
 -- the new text with the old tokens and comments before it, those between, and the old ones after, moved
 abbrev pub with_between : Scanned → List ℕ → ℕ → ℕ → Between → Scanned
 with_between old new removed added b = record {
   text = new;
-  tokens = take b.front.tokens old.tokens ++ (b.tokens.items ++ map (moved_token removed added) (drop b.behind.tokens old.tokens));
-  comments = take b.front.comments old.comments ++ (b.comments.items ++ map (moved removed added) (drop b.behind.comments old.comments));
+  tokens =
+      take b.front.tokens old.tokens
+      ++ (b.tokens.items ++ map (moved_token removed added) (drop b.behind.tokens old.tokens));
+  comments =
+      take b.front.comments old.comments
+      ++ (b.comments.items ++ map (moved removed added) (drop b.behind.comments old.comments));
 }
 
 -- what lies between the old tokens and comments that a new text goes on to have
@@ -78,7 +86,10 @@ pub record IsBetween (old : Scanned) (new : List ℕ) (from removed added : ℕ)
   pub tokens_inside : b.behind.tokens ≤ length old.tokens
   pub comments_ordered : b.front.comments ≤ b.behind.comments
   pub comments_inside : b.behind.comments ≤ length old.comments
-  pub tokens_move : All (λ (t : Token). IsMovable removed added t.span) (drop b.behind.tokens old.tokens)
-  pub comments_move : All (λ (c : Span). IsMovable removed added c) (drop b.behind.comments old.comments)
+  pub tokens_move : All (λ (t : Token). IsMovable removed added t.span)
+      (drop b.behind.tokens old.tokens)
+  pub comments_move : All (λ (c : Span). IsMovable removed added c)
+      (drop b.behind.comments old.comments)
   pub scan : IsScan (with_between old new removed added b)
-  pub reuses : Reuses old (with_between old new removed added b) from removed added (length b.tokens.items + length b.comments.items)
+  pub reuses : Reuses old (with_between old new removed added b) from removed added
+      (length b.tokens.items + length b.comments.items)

@@ -15,11 +15,13 @@ pub record IsReplaced (old new : List ℕ) (from removed added : ℕ) : Type 0 w
 
 -- a span after the change is moved by what was added less what was removed
 abbrev pub moved : ℕ → ℕ → Span → Span
-moved removed added span = record { start = span.start + added - removed; end = span.end + added - removed }
+moved removed added span =
+    record { start = span.start + added - removed; end = span.end + added - removed }
 
 -- a token after the change, moved
 abbrev pub moved_token : ℕ → ℕ → Token → Token
-moved_token removed added token = record { kind = token.kind; span = moved removed added token.span }
+moved_token removed added token =
+    record { kind = token.kind; span = moved removed added token.span }
 
 -- the tokens before it that end before a place, and the comments
 abbrev pub tokens_before_change : ℕ → List Token → List Token
@@ -27,7 +29,8 @@ tokens_before_change place tokens = take (prefix_len (λ t. nat_lt t.span.end pl
 
 -- the comments that end before a place
 abbrev pub comments_before_change : ℕ → List Span → List Span
-comments_before_change place comments = take (prefix_len (λ c. nat_lt c.end place) comments) comments
+comments_before_change place comments =
+    take (prefix_len (λ c. nat_lt c.end place) comments) comments
 
 -- the tokens from the first on that doesn't begin before a place, and the comments
 abbrev pub back_tokens : ℕ → List Token → List Token
@@ -44,7 +47,8 @@ pub record NoOldBegins (s : Scanned) (place : ℕ) : Type 0 where
 
 -- After the change, no old token or comment began where this begins.
 abbrev pub IsNew : Scanned → ℕ → ℕ → ℕ → Span → Type 0
-IsNew old from removed added span = from + added ≤ span.start → NoOldBegins old (span.start + removed - added)
+IsNew old from removed added span =
+    from + added ≤ span.start → NoOldBegins old (span.start + removed - added)
 
 -- Of the tokens and comments of a changed text, the first are the old ones that end before the change, and the last are old ones after it,
 -- moved. As many as `read` says are between: of these, none after the change begins where an old one began. So the last begin
@@ -54,8 +58,12 @@ pub record Reuses (old new : Scanned) (from removed added read : ℕ) : Type 0 w
   pub behind : from + removed ≤ place
   pub tokens_between : List Token
   pub comments_between : List Span
-  pub tokens : new.tokens ≡ (tokens_before_change from old.tokens ++ tokens_between) ++ map (moved_token removed added) (back_tokens place old.tokens)
-  pub comments : new.comments ≡ (comments_before_change from old.comments ++ comments_between) ++ map (moved removed added) (back_comments place old.comments)
+  pub tokens : new.tokens
+      ≡ (tokens_before_change from old.tokens ++ tokens_between)
+      ++ map (moved_token removed added) (back_tokens place old.tokens)
+  pub comments : new.comments
+      ≡ (comments_before_change from old.comments ++ comments_between)
+      ++ map (moved removed added) (back_comments place old.comments)
   pub read_are : read ≡ length tokens_between + length comments_between
   pub tokens_new : All (λ (t : Token). IsNew old from removed added t.span) tokens_between
   pub comments_new : All (λ (c : Span). IsNew old from removed added c) comments_between

@@ -59,7 +59,8 @@ impl<'t> Pieces<'t> {
     /// Those before it that end before a byte.
     fn ending_before(self, place: usize) -> Pieces<'t>
         ensures tokens { result.tokens.now ≡ tokens_before_change place self.entry.tokens.now }
-        ensures comments { result.comments.now ≡ comments_before_change place self.entry.comments.now }
+        ensures comments { result.comments.now
+            ≡ comments_before_change place self.entry.comments.now }
     {
         let tokens = tokens_ending_before(self.tokens, place);
         let comments = comments_ending_before(self.comments, place);
@@ -84,7 +85,9 @@ impl<'t> Pieces<'t> {
 
     /// Whether the first token or the first comment begins at a byte.
     fn begin_at(self, place: usize) -> bool
-        ensures { result ≡ token_begins place self.entry.tokens.now || comment_begins place self.entry.comments.now }
+        ensures { result
+            ≡ token_begins place self.entry.tokens.now
+            || comment_begins place self.entry.comments.now }
     {
         token_begins(self.tokens, place) || comment_begins(self.comments, place)
     }
@@ -277,7 +280,8 @@ fn scan_again(
     change: ReplacedRange,
 ) -> Result<Between, ScanRefusal>
     requires { IsReplaced old.now.text new_text.now change.from change.removed change.added }
-    ensures ok { IfOk result (IsBetween old.now new_text.now change.from change.removed change.added) }
+    ensures ok { IfOk result
+        (IsBetween old.now new_text.now change.from change.removed change.added) }
     ensures err { IfErr result (IsRightRefusal new_text.now) }
 {
     if new_text.len() > MAX_TEXT {
@@ -319,15 +323,20 @@ fn scan_on<'o>(
     old: &'o Tokens,
     change: ReplacedRange,
 ) -> Result<Pieces<'o>, AllocError>
-    requires replaced { IsReplaced old.now.text scanner.old.text.now change.from change.removed change.added }
+    requires replaced { IsReplaced old.now.text scanner.old.text.now change.from change.removed
+        change.added }
     requires short { length scanner.old.text.now ≤ 1048576 }
     requires under_way { IsUnderWay scanner.old }
     ensures under_way { OnOk result (IsUnderWay scanner.new) }
     ensures text { scanner.new.text ≡ scanner.old.text }
     ensures front { scanner.new.front ≡ scanner.old.front }
-    ensures reads { OnOk result (length scanner.new.faults.items ≡ 0 → ReadsOn old.now change.from change.removed change.added scanner.old scanner.new) }
-    ensures met { IfOk result (λ rest. length scanner.new.faults.items ≡ 0 → IsMet old.now (length scanner.new.text.now) change.from change.removed change.added scanner.new.at rest.tokens.now rest.comments.now) }
-    ensures end { OnOk result (0 < length scanner.new.faults.items → length scanner.new.text.now ≤ scanner.new.at) }
+    ensures reads { OnOk result (length scanner.new.faults.items ≡ 0
+        → ReadsOn old.now change.from change.removed change.added scanner.old scanner.new) }
+    ensures met { IfOk result (λ rest. length scanner.new.faults.items ≡ 0
+        → IsMet old.now (length scanner.new.text.now) change.from change.removed change.added
+        scanner.new.at rest.tokens.now rest.comments.now) }
+    ensures end { OnOk result
+        (0 < length scanner.new.faults.items → length scanner.new.text.now ≤ scanner.new.at) }
 {
     let mut rest = old.pieces();
     while scanner.at < scanner.text.len() {
@@ -356,8 +365,12 @@ pub(crate) fn splice_tokens(
 ) -> Result<(), AllocError>
     requires ordered { front ≤ behind }
     requires inside { behind ≤ length tokens.old.items }
-    requires movable { All (λ (t : Token). IsMovable change.removed change.added t.span) (drop behind tokens.old.items) }
-    ensures { OnOk result (tokens.new.items ≡ take front tokens.old.items ++ (between.items ++ map (moved_token change.removed change.added) (drop behind tokens.old.items))) }
+    requires movable { All (λ (t : Token). IsMovable change.removed change.added t.span)
+        (drop behind tokens.old.items) }
+    ensures { OnOk result (tokens.new.items
+        ≡ take front tokens.old.items
+        ++ (between.items
+        ++ map (moved_token change.removed change.added) (drop behind tokens.old.items))) }
 {
     move_tokens(tokens, behind, change);
     tokens.splice(front..behind, between)?;
@@ -374,8 +387,12 @@ pub(crate) fn splice_comments(
 ) -> Result<(), AllocError>
     requires ordered { front ≤ behind }
     requires inside { behind ≤ length comments.old.items }
-    requires movable { All (λ (c : Span). IsMovable change.removed change.added c) (drop behind comments.old.items) }
-    ensures { OnOk result (comments.new.items ≡ take front comments.old.items ++ (between.items ++ map (moved change.removed change.added) (drop behind comments.old.items))) }
+    requires movable { All (λ (c : Span). IsMovable change.removed change.added c)
+        (drop behind comments.old.items) }
+    ensures { OnOk result (comments.new.items
+        ≡ take front comments.old.items
+        ++ (between.items
+        ++ map (moved change.removed change.added) (drop behind comments.old.items))) }
 {
     move_comments(comments, behind, change);
     comments.splice(front..behind, between)?;
@@ -385,8 +402,11 @@ pub(crate) fn splice_comments(
 /// Moves tokens of the old text, from one on, to where they are now.
 fn move_tokens(tokens: &mut Vec<Token>, first: usize, change: ReplacedRange)
     requires inside { first ≤ length tokens.old.items }
-    requires movable { All (λ (t : Token). IsMovable change.removed change.added t.span) (drop first tokens.old.items) }
-    ensures { tokens.new.items ≡ take first tokens.old.items ++ map (moved_token change.removed change.added) (drop first tokens.old.items) }
+    requires movable { All (λ (t : Token). IsMovable change.removed change.added t.span)
+        (drop first tokens.old.items) }
+    ensures { tokens.new.items
+        ≡ take first tokens.old.items
+        ++ map (moved_token change.removed change.added) (drop first tokens.old.items) }
 {
     for index in first..tokens.len() {
         let Token { kind, span } = tokens[index];
@@ -400,8 +420,11 @@ fn move_tokens(tokens: &mut Vec<Token>, first: usize, change: ReplacedRange)
 /// Moves comments of the old text, from one on, to where they are now.
 fn move_comments(comments: &mut Vec<Span>, first: usize, change: ReplacedRange)
     requires inside { first ≤ length comments.old.items }
-    requires movable { All (λ (c : Span). IsMovable change.removed change.added c) (drop first comments.old.items) }
-    ensures { comments.new.items ≡ take first comments.old.items ++ map (moved change.removed change.added) (drop first comments.old.items) }
+    requires movable { All (λ (c : Span). IsMovable change.removed change.added c)
+        (drop first comments.old.items) }
+    ensures { comments.new.items
+        ≡ take first comments.old.items
+        ++ map (moved change.removed change.added) (drop first comments.old.items) }
 {
     for index in first..comments.len() {
         comments[index] = change.moved(comments[index]);

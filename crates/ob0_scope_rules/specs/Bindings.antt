@@ -6,4 +6,11 @@ use Rattle.ob0_scope_rules.specs.declared.resolved.Bindings.{Bindings}
 
 -- what is known of a module's names, by its bindings
 abbrev pub resolution_by : Parsed → Bindings → Resolution
-resolution_by m b = record { module_read = m; ordinals = b.ordinals.items; declarations = b.declarations.items; uses = b.occurrences.items; faults = b.faults.items }
+resolution_by m b =
+    record {
+      module_read = m;
+      ordinals = b.ordinals.items;
+      declarations = b.declarations.items;
+      uses = b.occurrences.items;
+      faults = b.faults.items;
+    }

@@ -30,7 +30,8 @@ abbrev mutual
   pub fields_once : Tree Name written_type → Bool
   fields_once (named_type x) = true
   fields_once (array_type e t) = fields_once t
-  fields_once (record_type g rest) = are_distinct (group_fields g ++ groups_fields rest) && (group_once g && groups_once rest)
+  fields_once (record_type g rest) =
+      are_distinct (group_fields g ++ groups_fields rest) && (group_once g && groups_once rest)
 
   pub group_once : Tree Name fields → Bool
   group_once no_fields = true
@@ -48,7 +49,9 @@ procedure_names (more p rest) = procedure_name p ∷ procedure_names rest
 -- the names that a block declares
 abbrev pub block_names : {N : Type 0} → Tree N block → List N
 block_names b =
-    constant_names (block_constants b) ++ (named_types (block_types b) ++ (variable_names (block_variables b) ++ procedure_names (block_procedures b)))
+    constant_names (block_constants b)
+    ++ (named_types (block_types b)
+    ++ (variable_names (block_variables b) ++ procedure_names (block_procedures b)))
 
 -- in the types of a TYPE section each record declares a field once
 abbrev pub types_once : Tree Name (items type_name) → Bool
@@ -70,7 +73,8 @@ abbrev mutual
   pub block_once : List Name → Tree Name block → Bool
   block_once own (has_body (declares cs ts vs ps) statements) =
       are_distinct (own ++ block_names (has_body (declares cs ts vs ps) statements))
-      && (types_once (section_types ts) && (variables_once (section_variables vs) && procedures_once ps))
+      && (types_once (section_types ts)
+      && (variables_once (section_variables vs) && procedures_once ps))
 
   pub procedures_once : Tree Name (items procedure) → Bool
   procedures_once end = true
@@ -78,7 +82,8 @@ abbrev mutual
 
   pub procedure_once : Tree Name (item procedure) → Bool
   procedure_once (declares_procedure x fs b closing) =
-      same_name x closing && (formals_once (formal_sections fs) && block_once (formal_names (formal_sections fs)) b)
+      same_name x closing
+      && (formals_once (formal_sections fs) && block_once (formal_names (formal_sections fs)) b)
 
 -- no second declaration in a block, no wrong closing name
 abbrev pub declared_once : Tree Name module_text → Bool

@@ -28,18 +28,23 @@ end_name_at source token = record { code = code.EndName; span = span_at source t
 -- each of some names that precedes it in the list, or among those before the list, is reported where it is once more
 abbrev pub again : Scanned → List Name → List ℕ → List Fault
 again source before [] = []
-again source before (x ∷ xs) = unless (not (is_among (text_at source x) before)) (duplicate_at source x) ++ again source (text_at source x ∷ before) xs
+again source before (x ∷ xs) =
+    unless (not (is_among (text_at source x) before)) (duplicate_at source x)
+    ++ again source (text_at source x ∷ before) xs
 
 -- a closing name that differs from its opening name is reported where it closes
 abbrev pub closing_other : Scanned → ℕ → ℕ → List Fault
-closing_other source x closing = unless (same_name (text_at source x) (text_at source closing)) (end_name_at source closing)
+closing_other source x closing =
+    unless (same_name (text_at source x) (text_at source closing)) (end_name_at source closing)
 
 -- the second fields of a record, and then those of the records in it
 abbrev mutual
   pub fields_twice : Scanned → Tree ℕ written_type → List Fault
   fields_twice source (named_type x) = []
   fields_twice source (array_type e t) = fields_twice source t
-  fields_twice source (record_type g rest) = again source [] (group_fields g ++ groups_fields rest) ++ (group_twice source g ++ groups_twice source rest)
+  fields_twice source (record_type g rest) =
+      again source [] (group_fields g ++ groups_fields rest)
+      ++ (group_twice source g ++ groups_twice source rest)
 
   pub group_twice : Scanned → Tree ℕ fields → List Fault
   group_twice source no_fields = []
@@ -57,19 +62,22 @@ types_twice source (more (declares_type x t) ds) = fields_twice source t ++ type
 -- second fields in the types of variables
 abbrev pub variables_twice : Scanned → Tree ℕ (items variable) → List Fault
 variables_twice source end = []
-variables_twice source (more (declares_variable ns t) gs) = fields_twice source t ++ variables_twice source gs
+variables_twice source (more (declares_variable ns t) gs) =
+    fields_twice source t ++ variables_twice source gs
 
 -- second fields in the types of parameters
 abbrev pub formals_twice : Scanned → Tree ℕ (items further_section) → List Fault
 formals_twice source end = []
-formals_twice source (more (then_section s) fs) = fields_twice source (section_type s) ++ formals_twice source fs
+formals_twice source (more (then_section s) fs) =
+    fields_twice source (section_type s) ++ formals_twice source fs
 
 -- the names of a block, with those of its procedure's parameters before them; then its types, variables and procedures
 abbrev mutual
   pub block_twice : Scanned → List ℕ → Tree ℕ block → List Fault
   block_twice source own (has_body (declares cs ts vs ps) statements) =
       again source [] (own ++ block_names (has_body (declares cs ts vs ps) statements))
-      ++ (types_twice source (section_types ts) ++ (variables_twice source (section_variables vs) ++ procedures_twice source ps))
+      ++ (types_twice source (section_types ts)
+      ++ (variables_twice source (section_variables vs) ++ procedures_twice source ps))
 
   pub procedures_twice : Scanned → Tree ℕ (items procedure) → List Fault
   procedures_twice source end = []
@@ -77,11 +85,14 @@ abbrev mutual
 
   pub procedure_twice : Scanned → Tree ℕ (item procedure) → List Fault
   procedure_twice source (declares_procedure x fs b closing) =
-      closing_other source x closing ++ (formals_twice source (formal_sections fs) ++ block_twice source (formal_names (formal_sections fs)) b)
+      closing_other source x closing
+      ++ (formals_twice source (formal_sections fs)
+      ++ block_twice source (formal_names (formal_sections fs)) b)
 
 -- all such faults of a module
 abbrev pub module_twice : Scanned → Tree ℕ module_text → List Fault
-module_twice source (is_module x b closing) = closing_other source x closing ++ block_twice source [] b
+module_twice source (is_module x b closing) =
+    closing_other source x closing ++ block_twice source [] b
 
 -- all of a module
 abbrev pub twice_in : Parsed → List Fault

@@ -25,7 +25,9 @@ names_elsewhere (index e) = names_elsewhere e
 names_elsewhere empty = []
 names_elsewhere (assigns name selectors e) = name ∷ (names_elsewhere selectors ++ names_elsewhere e)
 names_elsewhere (calls name args) = name ∷ names_elsewhere args
-names_elsewhere (branches condition s elsifs rest) = names_elsewhere condition ++ (names_elsewhere s ++ (names_elsewhere elsifs ++ names_elsewhere rest))
+names_elsewhere (branches condition s elsifs rest) =
+    names_elsewhere condition
+    ++ (names_elsewhere s ++ (names_elsewhere elsifs ++ names_elsewhere rest))
 names_elsewhere (while_loop condition s) = names_elsewhere condition ++ names_elsewhere s
 names_elsewhere (repeat_loop s condition) = names_elsewhere s ++ names_elsewhere condition
 names_elsewhere no_arguments = []
@@ -55,7 +57,8 @@ names_elsewhere (declares_types ts) = names_elsewhere ts
 names_elsewhere (declares_variable ns t) = names_elsewhere t
 names_elsewhere (declares_variables vs) = names_elsewhere vs
 names_elsewhere (declares_procedure name fs b closing) = names_elsewhere fs ++ names_elsewhere b
-names_elsewhere (declares cs ts vs ps) = names_elsewhere cs ++ (names_elsewhere ts ++ (names_elsewhere vs ++ names_elsewhere ps))
+names_elsewhere (declares cs ts vs ps) =
+    names_elsewhere cs ++ (names_elsewhere ts ++ (names_elsewhere vs ++ names_elsewhere ps))
 names_elsewhere (begins s) = names_elsewhere s
 names_elsewhere (has_body ds b) = names_elsewhere ds ++ names_elsewhere b
 names_elsewhere (is_module name b closing) = names_elsewhere b

@@ -8,4 +8,7 @@ use Rattle.ob0_scope_rules.specs.Scopes.{numbered, renamed}
 
 -- where a new name is free, the renamed module has the numbered tree that the module had
 abbrev pub FreeKeepsNumbers : Type 0
-FreeKeepsNumbers = (m : Tree Name module_text) (d : ℕ) (new : Name) → Free m d new → numbered (renamed m d new) ≡ numbered m
+FreeKeepsNumbers =
+    (m : Tree Name module_text) (d : ℕ) (new : Name)
+    → Free m d new
+    → numbered (renamed m d new) ≡ numbered m

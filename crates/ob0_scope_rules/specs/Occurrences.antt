@@ -24,15 +24,18 @@ binds m occurrence = option_and_then label_ordinal (slice_get (bindings m) occur
 abbrev mutual
   pub blocks_in : {N : Type 0} → ℕ → Scope N → Tree N block → List (Scope N)
   blocks_in k own (has_body (declares cs ts vs ps) statements) =
-      body_scope k (has_body (declares cs ts vs ps) statements) own ∷ blocks_in_procedures (first_procedure k (has_body (declares cs ts vs ps) statements)) ps
+      body_scope k (has_body (declares cs ts vs ps) statements) own
+      ∷ blocks_in_procedures (first_procedure k (has_body (declares cs ts vs ps) statements)) ps
 
   pub blocks_in_procedures : {N : Type 0} → ℕ → Tree N (items procedure) → List (Scope N)
   blocks_in_procedures k end = []
-  blocks_in_procedures k (more p rest) = blocks_in_procedure (suc k) p ++ blocks_in_procedures (after_procedure (suc k) p) rest
+  blocks_in_procedures k (more p rest) =
+      blocks_in_procedure (suc k) p ++ blocks_in_procedures (after_procedure (suc k) p) rest
 
   pub blocks_in_procedure : {N : Type 0} → ℕ → Tree N (item procedure) → List (Scope N)
   blocks_in_procedure k (declares_procedure x fs b closing) =
-      blocks_in (after_names k (formal_names (formal_sections fs))) (declare_names k (formal_names (formal_sections fs)) []) b
+      blocks_in (after_names k (formal_names (formal_sections fs)))
+      (declare_names k (formal_names (formal_sections fs)) []) b
 
 -- a block declares this ordinal
 abbrev pub declares_ordinal : Scope Name → ℕ → Bool
@@ -44,7 +47,9 @@ names_another own d new = list_any (λ b. same_name b.0 new && not (b.1 == d)) o
 
 -- another declaration of d's block has the name
 abbrev pub is_duplicate : Tree Name module_text → ℕ → Name → Bool
-is_duplicate m d new = list_any (λ own. declares_ordinal own d && names_another own d new) (blocks_in 7 [] (module_block m))
+is_duplicate m d new =
+    list_any (λ own. declares_ordinal own d && names_another own d new)
+    (blocks_in 7 [] (module_block m))
 
 -- a new name is free: no other declaration of d's block has it, and each occurrence stays bound to its declaration
 abbrev pub Free : Tree Name module_text → ℕ → Name → Type 0
@@ -57,7 +62,8 @@ same_binding a b = same_label a b
 
 -- the first place at which two lists differ
 abbrev pub first_difference : List Label → List Label → Option ℕ
-first_difference (a ∷ as₁) (b ∷ bs) = if same_binding a b then option_map suc (first_difference as₁ bs) else Some 0
+first_difference (a ∷ as₁) (b ∷ bs) =
+    if same_binding a b then option_map suc (first_difference as₁ bs) else Some 0
 first_difference _ _ = None
 
 -- where a new name isn't free: another declaration of the block, or an occurrence
@@ -68,4 +74,6 @@ pub data Capture : Type 0 where
 -- the first place in text order where a new name isn't free; the declaring identifier where the block has the name already
 abbrev pub first_captured : Tree Name module_text → ℕ → Name → Option Capture
 first_captured m d new =
-    if is_duplicate m d new then Some at_declaration else option_map at_occurrence (first_difference (bindings (renamed m d new)) (bindings m))
+    if is_duplicate m d new
+    then Some at_declaration
+    else option_map at_occurrence (first_difference (bindings (renamed m d new)) (bindings m))

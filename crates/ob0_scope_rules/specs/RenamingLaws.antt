@@ -9,8 +9,13 @@ use Rattle.ob0_scope_rules.specs.DeclaredOnce.{declared_once}
 
 -- where a new name is free, the renamed module declares names once too, and its closing names are right
 abbrev pub FreeKeepsDeclarations : Type 0
-FreeKeepsDeclarations = (m : Tree Name module_text) (d : ℕ) (new : Name) → Free m d new → IsTrue (declared_once m) → IsTrue (declared_once (renamed m d new))
+FreeKeepsDeclarations =
+    (m : Tree Name module_text) (d : ℕ) (new : Name)
+    → Free m d new
+    → IsTrue (declared_once m)
+    → IsTrue (declared_once (renamed m d new))
 
 -- a first capture is named exactly where a new name isn't free
 abbrev pub CapturedWhereNotFree : Type 0
-CapturedWhereNotFree = (m : Tree Name module_text) (d : ℕ) (new : Name) → first_captured m d new ≡ None ↔ Free m d new
+CapturedWhereNotFree =
+    (m : Tree Name module_text) (d : ℕ) (new : Name) → first_captured m d new ≡ None ↔ Free m d new

@@ -25,7 +25,8 @@ ordinal_in ordinals token = slice_index_or ordinals token None
 
 -- the label of the identifier at a token, by a table of ordinals
 abbrev pub label_at : Scanned → List (Option ℕ) → ℕ → Label
-label_at source ordinals token = as_label as_names (ordinal_in ordinals token) (text_at source token)
+label_at source ordinals token =
+    as_label as_names (ordinal_in ordinals token) (text_at source token)
 
 -- the declaring names among identifiers, in text order
 abbrev pub declaring_only : {N : Type 0} → List (Role × N) → List N
@@ -38,7 +39,8 @@ declaring_only ((role.ModuleName, n) ∷ xs) = declaring_only xs
 
 -- the token that declares what has an ordinal: none for the predeclared names
 abbrev pub token_declaring : List ℕ → ℕ → Option ℕ
-token_declaring declarations ordinal = if nat_lt ordinal 7 then None else slice_get declarations (ordinal - 7)
+token_declaring declarations ordinal =
+    if nat_lt ordinal 7 then None else slice_get declarations (ordinal - 7)
 
 -- no declaration binds the name
 abbrev pub is_unbound : Label → Bool
@@ -47,7 +49,8 @@ is_unbound (as_written x) = true
 
 -- a name is declared twice, or closes what another name opened
 abbrev pub is_of_declarations : Fault → Bool
-is_of_declarations fault = elim (fault.code) [ code.Duplicate ↦ true | code.EndName ↦ true | _ ↦ false ]
+is_of_declarations fault =
+    elim (fault.code) [ code.Duplicate ↦ true | code.EndName ↦ true | _ ↦ false ]
 
 -- no declaration binds a name that is looked up
 abbrev pub is_of_occurrences : Fault → Bool
@@ -62,7 +65,8 @@ abbrev pub undeclared_at : Scanned → List (Option ℕ) → List ℕ → List F
 undeclared_at source ordinals [] = []
 undeclared_at source ordinals (token ∷ tokens) =
     if is_some (ordinal_in ordinals token) then undeclared_at source ordinals tokens
-    else record { code = code.Undeclared; span = span_at source token } ∷ undeclared_at source ordinals tokens
+    else record { code = code.Undeclared; span = span_at source token }
+    ∷ undeclared_at source ordinals tokens
 
 -- A module with the ordinals of its names by token, the tokens that declare in order of their ordinals, which begin at 7,
 -- the tokens of the occurrences in text order, and the faults.
@@ -75,7 +79,8 @@ pub record Resolution : Type 0 where
 
 -- The table of ordinals gives the numbered tree: each identifier of the tree has the ordinal of its declaration.
 abbrev pub IsNumbering : Parsed → List (Option ℕ) → Type 0
-IsNumbering m ordinals = numbered (named_tree_of m) ≡ mapped (label_at m.source ordinals) (value_at m.source) (tree_of m)
+IsNumbering m ordinals =
+    numbered (named_tree_of m) ≡ mapped (label_at m.source ordinals) (value_at m.source) (tree_of m)
 
 -- The same for any labels: each identifier with its declaration's ordinal and its name.
 abbrev pub with_ordinal : Labels Name (Option ℕ × Name)
@@ -87,14 +92,18 @@ bound_at source ordinals token = (ordinal_in ordinals token, text_at source toke
 
 -- the table of ordinals is what the scopes of the module bind
 abbrev pub IsBinding : Parsed → List (Option ℕ) → Type 0
-IsBinding m ordinals = relabelled as_names with_ordinal (named_tree_of m) ≡ mapped (bound_at m.source ordinals) (value_at m.source) (tree_of m)
+IsBinding m ordinals =
+    relabelled as_names with_ordinal (named_tree_of m)
+    ≡ mapped (bound_at m.source ordinals) (value_at m.source) (tree_of m)
 
 -- a fault at each of some occurrences that is bound to nothing
 abbrev pub unbound_at : Scanned → List ℕ → List Label → List Fault
 unbound_at source [] labels = []
 unbound_at source (token ∷ tokens) [] = []
 unbound_at source (token ∷ tokens) (label ∷ labels) =
-    if is_unbound label then record { code = code.Undeclared; span = span_at source token } ∷ unbound_at source tokens labels
+    if is_unbound label
+    then record { code = code.Undeclared; span = span_at source token }
+    ∷ unbound_at source tokens labels
     else unbound_at source tokens labels
 
 -- the occurrences that no declaration binds, in text order
@@ -115,7 +124,8 @@ is_identifier_of m token = list_any (λ i. i == token) (leaves (tree_of m))
 
 -- a table has no ordinal at a token that isn't an identifier of the module
 abbrev pub NamesAlone : Parsed → List (Option ℕ) → Type 0
-NamesAlone m ordinals = (token : ℕ) → is_identifier_of m token ≡ false → ordinal_in ordinals token ≡ None
+NamesAlone m ordinals =
+    (token : ℕ) → is_identifier_of m token ≡ false → ordinal_in ordinals token ≡ None
 
 -- what is known of a module's names is right
 pub record IsResolution (r : Resolution) : Type 0 where
@@ -123,6 +133,7 @@ pub record IsResolution (r : Resolution) : Type 0 where
   pub numbering : IsNumbering r.module_read r.ordinals
   pub binding : IsBinding r.module_read r.ordinals
   pub names_alone : NamesAlone r.module_read r.ordinals
-  pub declaring : r.declarations ≡ declaring_only (identifiers role.Declaring (tree_of r.module_read))
+  pub declaring : r.declarations
+      ≡ declaring_only (identifiers role.Declaring (tree_of r.module_read))
   pub occurring : r.uses ≡ occurrences (tree_of r.module_read)
   pub told : AreFaultsOf r.module_read r.faults

@@ -12,8 +12,11 @@ looking_for y = record { same = λ x. same_name y; written = λ x. x; predeclare
 
 -- the ordinal of the declaration to which y would be bound in place of an occurrence; None where nothing would bind it
 abbrev pub sees : Tree Name module_text → ℕ → Name → Option ℕ
-sees m occurrence y = option_and_then label_ordinal (slice_get (occurrences (relabelled (looking_for y) (as_label (looking_for y)) m)) occurrence)
+sees m occurrence y =
+    option_and_then label_ordinal
+    (slice_get (occurrences (relabelled (looking_for y) (as_label (looking_for y)) m)) occurrence)
 
 -- the same of each occurrence, in text order
 abbrev pub ordinals_seen : Tree Name module_text → Name → List (Option ℕ)
-ordinals_seen m y = map label_ordinal (occurrences (relabelled (looking_for y) (as_label (looking_for y)) m))
+ordinals_seen m y =
+    map label_ordinal (occurrences (relabelled (looking_for y) (as_label (looking_for y)) m))

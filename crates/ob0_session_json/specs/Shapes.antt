@@ -13,15 +13,22 @@ use Rattle.ob0_rpc.specs.declared.clients.Client.{Client}
 
 -- {"change":2,"openClose":true}
 abbrev pub synchronisation : Data
-synchronisation = object (member (codes "change") (number (unsigned 2)) (member (codes "openClose") (boolean true) no_members))
+synchronisation =
+    object (member (codes "change") (number (unsigned 2))
+    (member (codes "openClose") (boolean true) no_members))
 
 -- {"prepareProvider":true} for a client that asks where a rename would work before it asks for one
 abbrev pub rename_provider : Bool → Data
-rename_provider prepares = if prepares then object (member (codes "prepareProvider") (boolean true) no_members) else boolean true
+rename_provider prepares =
+    if prepares
+    then object (member (codes "prepareProvider") (boolean true) no_members)
+    else boolean true
 
 -- {"codeActionKinds":["refactor.inline"]}
 abbrev pub action_provider : Data
-action_provider = object (member (codes "codeActionKinds") (array (item (text (codes "refactor.inline")) no_items)) no_members)
+action_provider =
+    object (member (codes "codeActionKinds")
+    (array (item (text (codes "refactor.inline")) no_items)) no_members)
 
 -- "definitionProvider":true,"documentFormattingProvider":true,"hoverProvider":true,"referencesProvider":true,"renameProvider":R,"textDocumentSync":{..},
 -- and "positionEncoding":"utf-8" in its place for a client that offers that
@@ -37,11 +44,14 @@ providers client =
 -- these, and before them "codeActionProvider":{..} for a client that takes actions that aren't commands
 abbrev pub server_members : Client → Members
 server_members client =
-    if client.takes_literal_actions then member (codes "codeActionProvider") action_provider (providers client) else providers client
+    if client.takes_literal_actions
+    then member (codes "codeActionProvider") action_provider (providers client)
+    else providers client
 
 -- {"capabilities":{..}}
 abbrev pub capabilities : Client → Data
-capabilities client = object (member (codes "capabilities") (object (server_members client)) no_members)
+capabilities client =
+    object (member (codes "capabilities") (object (server_members client)) no_members)
 
 -- ---- diagnostics
 
@@ -54,7 +64,8 @@ pub record Diagnostic : Type 0 where
 
 -- {"range":R,"uri":u}
 abbrev pub location_value : List ℕ → Data → Data
-location_value uri range = object (member (codes "range") range (member (codes "uri") (text uri) no_members))
+location_value uri range =
+    object (member (codes "range") range (member (codes "uri") (text uri) no_members))
 
 -- a range of the document with this uri
 abbrev pub location_in : List ℕ → Range → Data
@@ -62,15 +73,20 @@ location_in uri range = location_value uri (range_value range.start range.end)
 
 -- {"kind":"plaintext","value":h}
 abbrev pub plain_text : List ℕ → Data
-plain_text said = object (member (codes "kind") (text (codes "plaintext")) (member (codes "value") (text said) no_members))
+plain_text said =
+    object (member (codes "kind") (text (codes "plaintext"))
+    (member (codes "value") (text said) no_members))
 
 -- {"contents":{..},"range":R}
 abbrev pub hover_value : List ℕ → Data → Data
-hover_value said range = object (member (codes "contents") (plain_text said) (member (codes "range") range no_members))
+hover_value said range =
+    object (member (codes "contents") (plain_text said) (member (codes "range") range no_members))
 
 -- {"newText":t,"range":R}
 abbrev pub edit_value : Edit → Data
-edit_value e = object (member (codes "newText") (text (string_bytes e.text)) (member (codes "range") (range_value e.range.start e.range.end) no_members))
+edit_value e =
+    object (member (codes "newText") (text (string_bytes e.text))
+    (member (codes "range") (range_value e.range.start e.range.end) no_members))
 
 -- `[E,..]`
 abbrev pub edits_value : List Edit → Data
@@ -78,24 +94,30 @@ edits_value es = array (items_of (map edit_value es))
 
 -- {"uri":u,"version":v}
 abbrev pub versioned_document : List ℕ → ℤ → Data
-versioned_document uri version = object (member (codes "uri") (text uri) (member (codes "version") (whole_number version) no_members))
+versioned_document uri version =
+    object
+    (member (codes "uri") (text uri) (member (codes "version") (whole_number version) no_members))
 
 -- {"edits":[E,..],"textDocument":{..}}
 abbrev pub document_edit : List ℕ → ℤ → List Edit → Data
 document_edit uri version es =
-    object (member (codes "edits") (edits_value es) (member (codes "textDocument") (versioned_document uri version) no_members))
+    object (member (codes "edits") (edits_value es)
+    (member (codes "textDocument") (versioned_document uri version) no_members))
 
 -- {"documentChanges":[..]} for a client that takes these, and else {"changes":{u:[E,..]}}
 abbrev pub workspace_edit : Client → List ℕ → ℤ → List Edit → Data
 workspace_edit client uri version es =
     if client.takes_document_changes
-    then object (member (codes "documentChanges") (array (item (document_edit uri version es) no_items)) no_members)
-    else object (member (codes "changes") (object (member uri (edits_value es) no_members)) no_members)
+    then object (member (codes "documentChanges")
+    (array (item (document_edit uri version es) no_items)) no_members)
+    else object
+    (member (codes "changes") (object (member uri (edits_value es) no_members)) no_members)
 
 -- {"edit":W,"kind":"refactor.inline","title":t}
 abbrev pub action_value : Data → List ℕ → Data
 action_value edit title =
-    object (member (codes "edit") edit (member (codes "kind") (text (codes "refactor.inline")) (member (codes "title") (text title) no_members)))
+    object (member (codes "edit") edit (member (codes "kind") (text (codes "refactor.inline"))
+    (member (codes "title") (text title) no_members)))
 
 -- a request for edits that is refused
 abbrev pub edit_refused : Data → List ℕ → Data
@@ -118,9 +140,14 @@ DiagnosticsAre ds values = items_view values ≡ items_of (map diagnostic_value 
 -- {"diagnostics":[D,..],"uri":u,"version":v}, without `version` after a close
 abbrev pub publication_params : List ℕ → Option ℤ → List Diagnostic → Data
 publication_params uri (Some version) ds =
-    object (member (codes "diagnostics") (diagnostics_value ds) (member (codes "uri") (text uri) (member (codes "version") (whole_number version) no_members)))
-publication_params uri None ds = object (member (codes "diagnostics") (diagnostics_value ds) (member (codes "uri") (text uri) no_members))
+    object (member (codes "diagnostics") (diagnostics_value ds) (member (codes "uri") (text uri)
+    (member (codes "version") (whole_number version) no_members)))
+publication_params uri None ds =
+    object (member (codes "diagnostics") (diagnostics_value ds)
+    (member (codes "uri") (text uri) no_members))
 
 -- `textDocument/publishDiagnostics`, with a version or without
 abbrev pub publication : List ℕ → Option ℤ → List Diagnostic → Data
-publication uri version ds = notification_message (codes "textDocument/publishDiagnostics") (publication_params uri version ds)
+publication uri version ds =
+    notification_message (codes "textDocument/publishDiagnostics")
+    (publication_params uri version ds)

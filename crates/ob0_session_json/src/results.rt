@@ -157,7 +157,8 @@ pub fn refused(alloc: Global, id: &Id, said: &str) -> Result<Vec<u8>, AllocError
 
 /// The refusal of such a request for a reason that is reported.
 pub fn refused_because(alloc: Global, id: &Id, refusal: EditRefusal) -> Result<Vec<u8>, AllocError>
-    ensures { IfOk result (λ bytes. Writes (edit_refused (id_data id.now) (refusal_text refusal)) bytes.items) }
+    ensures { IfOk result
+        (λ bytes. Writes (edit_refused (id_data id.now) (refusal_text refusal)) bytes.items) }
 {
     let text = refusal.text(alloc)?;
     refused(alloc, id, text.as_str())
@@ -165,7 +166,8 @@ pub fn refused_because(alloc: Global, id: &Id, refusal: EditRefusal) -> Result<V
 
 /// The refusal of such a request where the text isn't a well-typed module.
 pub fn refused_ill_typed(alloc: Global, id: &Id) -> Result<Vec<u8>, AllocError>
-    ensures { IfOk result (λ bytes. Writes (edit_refused (id_data id.now) (codes "ill-typed")) bytes.items) }
+    ensures { IfOk result
+        (λ bytes. Writes (edit_refused (id_data id.now) (codes "ill-typed")) bytes.items) }
 {
     refused(alloc, id, "ill-typed")
 }

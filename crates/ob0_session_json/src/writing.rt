@@ -68,7 +68,9 @@ pub fn write_action(
     edits: &DocumentEdits<'_>,
     title: &str,
 ) -> Result<(), AllocError>
-    ensures { OnOk result (Appends (action_value (workspace_edit edits.now.client edits.now.uri.now edits.now.version edits.now.edits.now) title.now) out.old.items out.new.items) }
+    ensures { OnOk result (Appends (action_value
+        (workspace_edit edits.now.client edits.now.uri.now edits.now.version edits.now.edits.now)
+        title.now) out.old.items out.new.items) }
 {
     write_piece(out, b"{\"edit\":")?;
     edits.write(out)?;
@@ -83,7 +85,9 @@ fn write_document_changes(
     version: i64,
     edits: &[Edit],
 ) -> Result<(), AllocError>
-    ensures { OnOk result (Appends (object (member (codes "documentChanges") (array (item (document_edit uri.now version edits.now) no_items)) no_members)) out.old.items out.new.items) }
+    ensures { OnOk result (Appends (object (member (codes "documentChanges")
+        (array (item (document_edit uri.now version edits.now) no_items)) no_members)) out.old.items
+        out.new.items) }
 {
     write_piece(out, b"{\"documentChanges\":")?;
     write_document_list(out, uri, version, edits)?;
@@ -96,7 +100,8 @@ fn write_document_list(
     version: i64,
     edits: &[Edit],
 ) -> Result<(), AllocError>
-    ensures { OnOk result (Appends (array (item (document_edit uri.now version edits.now) no_items)) out.old.items out.new.items) }
+    ensures { OnOk result (Appends (array (item (document_edit uri.now version edits.now) no_items))
+        out.old.items out.new.items) }
 {
     write_piece(out, b"[")?;
     write_document_edit(out, uri, version, edits)?;
@@ -109,7 +114,8 @@ fn write_document_edit(
     version: i64,
     edits: &[Edit],
 ) -> Result<(), AllocError>
-    ensures { OnOk result (Appends (document_edit uri.now version edits.now) out.old.items out.new.items) }
+    ensures { OnOk result
+        (Appends (document_edit uri.now version edits.now) out.old.items out.new.items) }
 {
     write_piece(out, b"{\"edits\":")?;
     write_edits(out, edits)?;
@@ -119,7 +125,8 @@ fn write_document_edit(
 }
 
 fn write_versioned(out: &mut Vec<u8>, uri: &str, version: i64) -> Result<(), AllocError>
-    ensures { OnOk result (Appends (versioned_document uri.now version) out.old.items out.new.items) }
+    ensures { OnOk result
+        (Appends (versioned_document uri.now version) out.old.items out.new.items) }
 {
     write_piece(out, b"{\"uri\":")?;
     write_text(out, uri)?;
@@ -129,7 +136,9 @@ fn write_versioned(out: &mut Vec<u8>, uri: &str, version: i64) -> Result<(), All
 }
 
 fn write_changes(out: &mut Vec<u8>, uri: &str, edits: &[Edit]) -> Result<(), AllocError>
-    ensures { OnOk result (Appends (object (member (codes "changes") (object (member uri.now (edits_value edits.now) no_members)) no_members)) out.old.items out.new.items) }
+    ensures { OnOk result (Appends (object (member (codes "changes")
+        (object (member uri.now (edits_value edits.now) no_members)) no_members)) out.old.items
+        out.new.items) }
 {
     write_piece(out, b"{\"changes\":")?;
     write_changes_of(out, uri, edits)?;
@@ -137,7 +146,8 @@ fn write_changes(out: &mut Vec<u8>, uri: &str, edits: &[Edit]) -> Result<(), All
 }
 
 fn write_changes_of(out: &mut Vec<u8>, uri: &str, edits: &[Edit]) -> Result<(), AllocError>
-    ensures { OnOk result (Appends (object (member uri.now (edits_value edits.now) no_members)) out.old.items out.new.items) }
+    ensures { OnOk result (Appends (object (member uri.now (edits_value edits.now) no_members))
+        out.old.items out.new.items) }
 {
     write_piece(out, b"{")?;
     write_text(out, uri)?;
@@ -155,7 +165,8 @@ fn write_edits(out: &mut Vec<u8>, edits: &[Edit]) -> Result<(), AllocError>
 }
 
 fn write_each_edit(out: &mut Vec<u8>, edits: &[Edit]) -> Result<(), AllocError>
-    ensures { OnOk result (AppendsEach false (map edit_value edits.now) out.old.items out.new.items) }
+    ensures { OnOk result
+        (AppendsEach false (map edit_value edits.now) out.old.items out.new.items) }
 {
     let mut later = false;
     for edit in edits {
@@ -177,7 +188,8 @@ fn write_edit(out: &mut Vec<u8>, edit: &Edit) -> Result<(), AllocError>
 }
 
 fn write_locations(out: &mut Vec<u8>, uri: &str, ranges: &[Range]) -> Result<(), AllocError>
-    ensures { OnOk result (AppendsEach false (map (location_in uri.now) ranges.now) out.old.items out.new.items) }
+    ensures { OnOk result
+        (AppendsEach false (map (location_in uri.now) ranges.now) out.old.items out.new.items) }
 {
     let mut later = false;
     for range in ranges {

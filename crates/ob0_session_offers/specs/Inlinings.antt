@@ -18,14 +18,23 @@ use Rattle.ob0_session_offers.specs.declared.inlining.Inlining.{Inlining}
 use Rattle.ob0_session_offers.specs.declared.inlining.Inlining.TheVariants.{Here, Everywhere}
 
 -- the answer of an inliner at a place in bytes of a module
-abbrev pub AnswersInlining : Inlining → Unit → List ℕ → Parsed → ℕ → Result (Vec Edit Global) EditRefusal → Type 0
+abbrev pub AnswersInlining : Inlining
+    → Unit
+    → List ℕ
+    → Parsed
+    → ℕ
+    → Result (Vec Edit Global) EditRefusal
+    → Type 0
 AnswersInlining Here unit text m offset answer = AnswersHere unit text m offset answer
 AnswersInlining Everywhere unit text m offset answer = AnswersEverywhere unit text m offset answer
 
 -- the edits that inline, or none where they are refused; running out of memory is no refusal
 abbrev pub Inlines : Inlining → Unit → List ℕ → Parsed → ℕ → Option (Vec Edit Global) → Type 0
 Inlines how unit text m offset (Some edits) = AnswersInlining how unit text m offset (Ok edits)
-Inlines how unit text m offset None = (refusal : EditRefusal) × ¬ (refusal ≡ Memory) × AnswersInlining how unit text m offset (Err refusal)
+Inlines how unit text m offset None =
+    (refusal : EditRefusal)
+    × ¬ (refusal ≡ Memory)
+    × AnswersInlining how unit text m offset (Err refusal)
 
 -- These edits inline. Made at once they leave a text whose module runs as before.
 pub record InlinesIn (how : Inlining) (unit : Unit) (text : List ℕ) (offset : ℕ) (edits : Vec Edit Global) : Type 0 where

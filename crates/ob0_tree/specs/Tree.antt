@@ -78,7 +78,11 @@ pub data Tree (N : Type 0) : Sort → Type 0 where
   empty : Tree N statement
   assigns : N → Tree N (items selector) → Tree N expression → Tree N statement
   calls : N → Tree N (maybe arguments) → Tree N statement
-  branches : Tree N expression → Tree N sequence → Tree N (items elsif_part) → Tree N (maybe else_part) → Tree N statement
+  branches : Tree N expression
+      → Tree N sequence
+      → Tree N (items elsif_part)
+      → Tree N (maybe else_part)
+      → Tree N statement
   while_loop : Tree N expression → Tree N sequence → Tree N statement
   repeat_loop : Tree N sequence → Tree N expression → Tree N statement
   no_arguments : Tree N (item arguments)
@@ -108,7 +112,11 @@ pub data Tree (N : Type 0) : Sort → Type 0 where
   declares_variable : Tree N names → Tree N written_type → Tree N (item variable)
   declares_variables : Tree N (items variable) → Tree N (item variables)
   declares_procedure : N → Tree N (maybe formals) → Tree N block → N → Tree N (item procedure)
-  declares : Tree N (maybe constants) → Tree N (maybe type_names) → Tree N (maybe variables) → Tree N (items procedure) → Tree N declarations
+  declares : Tree N (maybe constants)
+      → Tree N (maybe type_names)
+      → Tree N (maybe variables)
+      → Tree N (items procedure)
+      → Tree N declarations
   begins : Tree N sequence → Tree N (item body)
   has_body : Tree N declarations → Tree N (maybe body) → Tree N block
   is_module : N → Tree N block → N → Tree N module_text
@@ -131,50 +139,86 @@ spell (product first factors) = spell first ++ spell factors
 spell (multiplies operator f) = Mark (multiply_mark operator) ∷ spell f
 spell (designator name selectors) = Name name ∷ spell selectors
 spell (integer n) = Number n ∷ []
-spell (parenthesised e) = Mark (kind.Symbol symbol.LeftParen) ∷ (spell e ++ mark (kind.Symbol symbol.RightParen))
+spell (parenthesised e) =
+    Mark (kind.Symbol symbol.LeftParen) ∷ (spell e ++ mark (kind.Symbol symbol.RightParen))
 spell (negation f) = Mark (kind.Symbol symbol.Not) ∷ spell f
 spell (field name) = Mark (kind.Symbol symbol.Dot) ∷ Name name ∷ []
-spell (index e) = Mark (kind.Symbol symbol.LeftBracket) ∷ (spell e ++ mark (kind.Symbol symbol.RightBracket))
+spell (index e) =
+    Mark (kind.Symbol symbol.LeftBracket) ∷ (spell e ++ mark (kind.Symbol symbol.RightBracket))
 spell empty = []
-spell (assigns name selectors e) = Name name ∷ (spell selectors ++ (Mark (kind.Symbol symbol.Becomes) ∷ spell e))
+spell (assigns name selectors e) =
+    Name name ∷ (spell selectors ++ (Mark (kind.Symbol symbol.Becomes) ∷ spell e))
 spell (calls name args) = Name name ∷ spell args
 spell (branches condition s elsifs rest) =
-    Mark (kind.Reserved reserved.If) ∷ (spell condition ++ (Mark (kind.Reserved reserved.Then) ∷ (spell s ++ (spell elsifs ++ (spell rest ++ mark (kind.Reserved reserved.End))))))
-spell (while_loop condition s) = Mark (kind.Reserved reserved.While) ∷ (spell condition ++ (Mark (kind.Reserved reserved.Do) ∷ (spell s ++ mark (kind.Reserved reserved.End))))
-spell (repeat_loop s condition) = Mark (kind.Reserved reserved.Repeat) ∷ (spell s ++ (Mark (kind.Reserved reserved.Until) ∷ spell condition))
+    Mark (kind.Reserved reserved.If)
+    ∷ (spell condition
+    ++ (Mark (kind.Reserved reserved.Then)
+    ∷ (spell s ++ (spell elsifs ++ (spell rest ++ mark (kind.Reserved reserved.End))))))
+spell (while_loop condition s) =
+    Mark (kind.Reserved reserved.While)
+    ∷ (spell condition
+    ++ (Mark (kind.Reserved reserved.Do) ∷ (spell s ++ mark (kind.Reserved reserved.End))))
+spell (repeat_loop s condition) =
+    Mark (kind.Reserved reserved.Repeat)
+    ∷ (spell s ++ (Mark (kind.Reserved reserved.Until) ∷ spell condition))
 spell no_arguments = Mark (kind.Symbol symbol.LeftParen) ∷ mark (kind.Symbol symbol.RightParen)
-spell (some_arguments e es) = Mark (kind.Symbol symbol.LeftParen) ∷ (spell e ++ (spell es ++ mark (kind.Symbol symbol.RightParen)))
+spell (some_arguments e es) =
+    Mark (kind.Symbol symbol.LeftParen)
+    ∷ (spell e ++ (spell es ++ mark (kind.Symbol symbol.RightParen)))
 spell (then_argument e) = Mark (kind.Symbol symbol.Comma) ∷ spell e
 spell (runs first statements) = spell first ++ spell statements
 spell (then_statement s) = Mark (kind.Symbol symbol.Semicolon) ∷ spell s
-spell (elsif_branch condition s) = Mark (kind.Reserved reserved.Elsif) ∷ (spell condition ++ (Mark (kind.Reserved reserved.Then) ∷ spell s))
+spell (elsif_branch condition s) =
+    Mark (kind.Reserved reserved.Elsif)
+    ∷ (spell condition ++ (Mark (kind.Reserved reserved.Then) ∷ spell s))
 spell (else_branch s) = Mark (kind.Reserved reserved.Else) ∷ spell s
 spell (listed name others) = Name name ∷ spell others
 spell (then_name name) = Mark (kind.Symbol symbol.Comma) ∷ Name name ∷ []
 spell (named_type name) = Name name ∷ []
-spell (array_type size t) = Mark (kind.Reserved reserved.Array) ∷ (spell size ++ (Mark (kind.Reserved reserved.Of) ∷ spell t))
-spell (record_type first others) = Mark (kind.Reserved reserved.Record) ∷ (spell first ++ (spell others ++ mark (kind.Reserved reserved.End)))
+spell (array_type size t) =
+    Mark (kind.Reserved reserved.Array)
+    ∷ (spell size ++ (Mark (kind.Reserved reserved.Of) ∷ spell t))
+spell (record_type first others) =
+    Mark (kind.Reserved reserved.Record)
+    ∷ (spell first ++ (spell others ++ mark (kind.Reserved reserved.End)))
 spell no_fields = []
 spell (some_fields ns t) = spell ns ++ (Mark (kind.Symbol symbol.Colon) ∷ spell t)
 spell (then_fields f) = Mark (kind.Symbol symbol.Semicolon) ∷ spell f
 spell no_formals = Mark (kind.Symbol symbol.LeftParen) ∷ mark (kind.Symbol symbol.RightParen)
-spell (some_formals first others) = Mark (kind.Symbol symbol.LeftParen) ∷ (spell first ++ (spell others ++ mark (kind.Symbol symbol.RightParen)))
+spell (some_formals first others) =
+    Mark (kind.Symbol symbol.LeftParen)
+    ∷ (spell first ++ (spell others ++ mark (kind.Symbol symbol.RightParen)))
 spell (value_section ns t) = spell ns ++ (Mark (kind.Symbol symbol.Colon) ∷ spell t)
-spell (variable_section ns t) = Mark (kind.Reserved reserved.Var) ∷ (spell ns ++ (Mark (kind.Symbol symbol.Colon) ∷ spell t))
+spell (variable_section ns t) =
+    Mark (kind.Reserved reserved.Var) ∷ (spell ns ++ (Mark (kind.Symbol symbol.Colon) ∷ spell t))
 spell (then_section s) = Mark (kind.Symbol symbol.Semicolon) ∷ spell s
-spell (declares_constant name e) = Name name ∷ Mark (kind.Symbol symbol.Equal) ∷ (spell e ++ mark (kind.Symbol symbol.Semicolon))
+spell (declares_constant name e) =
+    Name name ∷ Mark (kind.Symbol symbol.Equal) ∷ (spell e ++ mark (kind.Symbol symbol.Semicolon))
 spell (declares_constants cs) = Mark (kind.Reserved reserved.Const) ∷ spell cs
-spell (declares_type name t) = Name name ∷ Mark (kind.Symbol symbol.Equal) ∷ (spell t ++ mark (kind.Symbol symbol.Semicolon))
+spell (declares_type name t) =
+    Name name ∷ Mark (kind.Symbol symbol.Equal) ∷ (spell t ++ mark (kind.Symbol symbol.Semicolon))
 spell (declares_types ts) = Mark (kind.Reserved reserved.Type) ∷ spell ts
-spell (declares_variable ns t) = spell ns ++ (Mark (kind.Symbol symbol.Colon) ∷ (spell t ++ mark (kind.Symbol symbol.Semicolon)))
+spell (declares_variable ns t) =
+    spell ns ++ (Mark (kind.Symbol symbol.Colon) ∷ (spell t ++ mark (kind.Symbol symbol.Semicolon)))
 spell (declares_variables vs) = Mark (kind.Reserved reserved.Var) ∷ spell vs
 spell (declares_procedure name fs b closing) =
-    Mark (kind.Reserved reserved.Procedure) ∷ Name name ∷ (spell fs ++ (Mark (kind.Symbol symbol.Semicolon) ∷ (spell b ++ (Mark (kind.Reserved reserved.End) ∷ Name closing ∷ mark (kind.Symbol symbol.Semicolon)))))
+    Mark (kind.Reserved reserved.Procedure)
+    ∷ Name name
+    ∷ (spell fs
+    ++ (Mark (kind.Symbol symbol.Semicolon)
+    ∷ (spell b
+    ++ (Mark (kind.Reserved reserved.End)
+    ∷ Name closing
+    ∷ mark (kind.Symbol symbol.Semicolon)))))
 spell (declares cs ts vs ps) = spell cs ++ (spell ts ++ (spell vs ++ spell ps))
 spell (begins s) = Mark (kind.Reserved reserved.Begin) ∷ spell s
 spell (has_body ds b) = spell ds ++ spell b
 spell (is_module name b closing) =
-    Mark (kind.Reserved reserved.Module) ∷ Name name ∷ Mark (kind.Symbol symbol.Semicolon) ∷ (spell b ++ (Mark (kind.Reserved reserved.End) ∷ Name closing ∷ mark (kind.Symbol symbol.Dot)))
+    Mark (kind.Reserved reserved.Module)
+    ∷ Name name
+    ∷ Mark (kind.Symbol symbol.Semicolon)
+    ∷ (spell b
+    ++ (Mark (kind.Reserved reserved.End) ∷ Name closing ∷ mark (kind.Symbol symbol.Dot)))
 
 -- how deeply constructs are nested: those count whose case adds 1
 abbrev pub nesting : {N : Type 0} {s : Sort} → Tree N s → ℕ
@@ -254,7 +298,8 @@ mapped f g (index e) = index (mapped f g e)
 mapped f g empty = empty
 mapped f g (assigns name selectors e) = assigns (f name) (mapped f g selectors) (mapped f g e)
 mapped f g (calls name args) = calls (f name) (mapped f g args)
-mapped f g (branches condition s elsifs rest) = branches (mapped f g condition) (mapped f g s) (mapped f g elsifs) (mapped f g rest)
+mapped f g (branches condition s elsifs rest) =
+    branches (mapped f g condition) (mapped f g s) (mapped f g elsifs) (mapped f g rest)
 mapped f g (while_loop condition s) = while_loop (mapped f g condition) (mapped f g s)
 mapped f g (repeat_loop s condition) = repeat_loop (mapped f g s) (mapped f g condition)
 mapped f g no_arguments = no_arguments
@@ -283,8 +328,10 @@ mapped f g (declares_type name t) = declares_type (f name) (mapped f g t)
 mapped f g (declares_types ts) = declares_types (mapped f g ts)
 mapped f g (declares_variable ns t) = declares_variable (mapped f g ns) (mapped f g t)
 mapped f g (declares_variables vs) = declares_variables (mapped f g vs)
-mapped f g (declares_procedure name fs b closing) = declares_procedure (f name) (mapped f g fs) (mapped f g b) (f closing)
-mapped f g (declares cs ts vs ps) = declares (mapped f g cs) (mapped f g ts) (mapped f g vs) (mapped f g ps)
+mapped f g (declares_procedure name fs b closing) =
+    declares_procedure (f name) (mapped f g fs) (mapped f g b) (f closing)
+mapped f g (declares cs ts vs ps) =
+    declares (mapped f g cs) (mapped f g ts) (mapped f g vs) (mapped f g ps)
 mapped f g (begins s) = begins (mapped f g s)
 mapped f g (has_body ds b) = has_body (mapped f g ds) (mapped f g b)
 mapped f g (is_module name b closing) = is_module (f name) (mapped f g b) (f closing)
@@ -309,7 +356,8 @@ identifiers r (negation f) = identifiers r f
 identifiers r (field name) = (role.FieldName, name) ∷ []
 identifiers r (index e) = identifiers r e
 identifiers r empty = []
-identifiers r (assigns name selectors e) = (role.LookedUp, name) ∷ (identifiers r selectors ++ identifiers r e)
+identifiers r (assigns name selectors e) =
+    (role.LookedUp, name) ∷ (identifiers r selectors ++ identifiers r e)
 identifiers r (calls name args) = (role.LookedUp, name) ∷ identifiers r args
 identifiers r (branches condition s elsifs rest) =
     identifiers r condition ++ (identifiers r s ++ (identifiers r elsifs ++ identifiers r rest))
@@ -342,11 +390,14 @@ identifiers r (declares_types ts) = identifiers r ts
 identifiers r (declares_variable ns t) = identifiers role.Declaring ns ++ identifiers r t
 identifiers r (declares_variables vs) = identifiers r vs
 identifiers r (declares_procedure name fs b closing) =
-    (role.Declaring, name) ∷ (identifiers r fs ++ (identifiers r b ++ ((role.ClosingName, closing) ∷ [])))
-identifiers r (declares cs ts vs ps) = identifiers r cs ++ (identifiers r ts ++ (identifiers r vs ++ identifiers r ps))
+    (role.Declaring, name)
+    ∷ (identifiers r fs ++ (identifiers r b ++ ((role.ClosingName, closing) ∷ [])))
+identifiers r (declares cs ts vs ps) =
+    identifiers r cs ++ (identifiers r ts ++ (identifiers r vs ++ identifiers r ps))
 identifiers r (begins s) = identifiers r s
 identifiers r (has_body ds b) = identifiers r ds ++ identifiers r b
-identifiers r (is_module name b closing) = (role.ModuleName, name) ∷ (identifiers r b ++ ((role.ModuleName, closing) ∷ []))
+identifiers r (is_module name b closing) =
+    (role.ModuleName, name) ∷ (identifiers r b ++ ((role.ModuleName, closing) ∷ []))
 
 -- The names that are looked up, in text order: no declaring name, no closing name, no field, no module's name.
 abbrev pub occurrences : {N : Type 0} {s : Sort} → Tree N s → List N
@@ -369,7 +420,8 @@ occurrences (index e) = occurrences e
 occurrences empty = []
 occurrences (assigns name selectors e) = name ∷ (occurrences selectors ++ occurrences e)
 occurrences (calls name args) = name ∷ occurrences args
-occurrences (branches condition s elsifs rest) = occurrences condition ++ (occurrences s ++ (occurrences elsifs ++ occurrences rest))
+occurrences (branches condition s elsifs rest) =
+    occurrences condition ++ (occurrences s ++ (occurrences elsifs ++ occurrences rest))
 occurrences (while_loop condition s) = occurrences condition ++ occurrences s
 occurrences (repeat_loop s condition) = occurrences s ++ occurrences condition
 occurrences no_arguments = []
@@ -399,7 +451,8 @@ occurrences (declares_types ts) = occurrences ts
 occurrences (declares_variable ns t) = occurrences t
 occurrences (declares_variables vs) = occurrences vs
 occurrences (declares_procedure name fs b closing) = occurrences fs ++ occurrences b
-occurrences (declares cs ts vs ps) = occurrences cs ++ (occurrences ts ++ (occurrences vs ++ occurrences ps))
+occurrences (declares cs ts vs ps) =
+    occurrences cs ++ (occurrences ts ++ (occurrences vs ++ occurrences ps))
 occurrences (begins s) = occurrences s
 occurrences (has_body ds b) = occurrences ds ++ occurrences b
 occurrences (is_module name b closing) = occurrences b

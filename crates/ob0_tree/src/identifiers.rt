@@ -32,7 +32,8 @@ impl<'t> Module<'t> {
 /// The identifiers of an expression.
 #[cycle(expressions)]
 pub fn expression(found: &mut Found, e: &Expression) -> Result<(), AllocError>
-    ensures { IfOk result (λ _. found.new.items ≡ found.old.items ++ identifiers roles.Declaring (expression_of e.now)) }
+    ensures { IfOk result (λ _. found.new.items
+        ≡ found.old.items ++ identifiers roles.Declaring (expression_of e.now)) }
 {
     simple(found, &e.left)?;
     if let Some(compared) = &e.compared {
@@ -43,7 +44,8 @@ pub fn expression(found: &mut Found, e: &Expression) -> Result<(), AllocError>
 
 #[cycle(expressions)]
 fn simple(found: &mut Found, s: &Simple) -> Result<(), AllocError>
-    ensures { IfOk result (λ _. found.new.items ≡ found.old.items ++ identifiers roles.Declaring (simple_of s.now)) }
+    ensures { IfOk result
+        (λ _. found.new.items ≡ found.old.items ++ identifiers roles.Declaring (simple_of s.now)) }
 {
     term(found, &s.first)?;
     for addend in &s.more {
@@ -54,7 +56,8 @@ fn simple(found: &mut Found, s: &Simple) -> Result<(), AllocError>
 
 #[cycle(expressions)]
 fn term(found: &mut Found, t: &Term) -> Result<(), AllocError>
-    ensures { IfOk result (λ _. found.new.items ≡ found.old.items ++ identifiers roles.Declaring (term_of t.now)) }
+    ensures { IfOk result
+        (λ _. found.new.items ≡ found.old.items ++ identifiers roles.Declaring (term_of t.now)) }
 {
     factor(found, &t.first)?;
     for multiplier in &t.more {
@@ -65,7 +68,8 @@ fn term(found: &mut Found, t: &Term) -> Result<(), AllocError>
 
 #[cycle(expressions)]
 fn factor(found: &mut Found, f: &Factor) -> Result<(), AllocError>
-    ensures { IfOk result (λ _. found.new.items ≡ found.old.items ++ identifiers roles.Declaring (factor_of f.now)) }
+    ensures { IfOk result
+        (λ _. found.new.items ≡ found.old.items ++ identifiers roles.Declaring (factor_of f.now)) }
 {
     match f {
         Factor::Designator(d) => designator(found, d),
@@ -77,7 +81,8 @@ fn factor(found: &mut Found, f: &Factor) -> Result<(), AllocError>
 
 #[cycle(expressions)]
 fn designator(found: &mut Found, d: &Designator) -> Result<(), AllocError>
-    ensures { IfOk result (λ _. found.new.items ≡ found.old.items ++ identifiers roles.Declaring (designator_of d.now)) }
+    ensures { IfOk result (λ _. found.new.items
+        ≡ found.old.items ++ identifiers roles.Declaring (designator_of d.now)) }
 {
     found.push((Role::LookedUp, d.name))?;
     for s in &d.selectors {
@@ -88,7 +93,8 @@ fn designator(found: &mut Found, d: &Designator) -> Result<(), AllocError>
 
 #[cycle(expressions)]
 fn selector(found: &mut Found, s: &Selector) -> Result<(), AllocError>
-    ensures { IfOk result (λ _. found.new.items ≡ found.old.items ++ identifiers roles.Declaring (selector_of s.now)) }
+    ensures { IfOk result (λ _. found.new.items
+        ≡ found.old.items ++ identifiers roles.Declaring (selector_of s.now)) }
 {
     match s {
         Selector::Field(name) => {
@@ -100,14 +106,16 @@ fn selector(found: &mut Found, s: &Selector) -> Result<(), AllocError>
 }
 
 fn assignment(found: &mut Found, a: &Assignment) -> Result<(), AllocError>
-    ensures { IfOk result (λ _. found.new.items ≡ found.old.items ++ identifiers roles.Declaring (assignment_of a.now)) }
+    ensures { IfOk result (λ _. found.new.items
+        ≡ found.old.items ++ identifiers roles.Declaring (assignment_of a.now)) }
 {
     designator(found, &a.target)?;
     expression(found, &a.value)
 }
 
 fn call(found: &mut Found, c: &Call) -> Result<(), AllocError>
-    ensures { IfOk result (λ _. found.new.items ≡ found.old.items ++ identifiers roles.Declaring (call_of c.now)) }
+    ensures { IfOk result
+        (λ _. found.new.items ≡ found.old.items ++ identifiers roles.Declaring (call_of c.now)) }
 {
     found.push((Role::LookedUp, c.procedure))?;
     if let Some(given) = &c.arguments {
@@ -117,7 +125,8 @@ fn call(found: &mut Found, c: &Call) -> Result<(), AllocError>
 }
 
 fn arguments(found: &mut Found, given: &Vec<Expression>) -> Result<(), AllocError>
-    ensures { IfOk result (λ _. found.new.items ≡ found.old.items ++ identifiers roles.Declaring (arguments_in given.now)) }
+    ensures { IfOk result (λ _. found.new.items
+        ≡ found.old.items ++ identifiers roles.Declaring (arguments_in given.now)) }
 {
     for e in given {
         expression(found, e)?;
@@ -127,7 +136,8 @@ fn arguments(found: &mut Found, given: &Vec<Expression>) -> Result<(), AllocErro
 
 #[cycle(statements)]
 fn sequence(found: &mut Found, statements: &Vec<Statement>) -> Result<(), AllocError>
-    ensures { IfOk result (λ _. found.new.items ≡ found.old.items ++ identifiers roles.Declaring (sequence_in statements.now)) }
+    ensures { IfOk result (λ _. found.new.items
+        ≡ found.old.items ++ identifiers roles.Declaring (sequence_in statements.now)) }
 {
     for s in statements {
         statement(found, s)?;
@@ -137,7 +147,8 @@ fn sequence(found: &mut Found, statements: &Vec<Statement>) -> Result<(), AllocE
 
 #[cycle(statements)]
 fn statement(found: &mut Found, s: &Statement) -> Result<(), AllocError>
-    ensures { IfOk result (λ _. found.new.items ≡ found.old.items ++ identifiers roles.Declaring (statement_of s.now)) }
+    ensures { IfOk result (λ _. found.new.items
+        ≡ found.old.items ++ identifiers roles.Declaring (statement_of s.now)) }
 {
     match s {
         Statement::Empty => Ok(()),
@@ -157,7 +168,8 @@ fn statement(found: &mut Found, s: &Statement) -> Result<(), AllocError>
 
 #[cycle(statements)]
 fn branches(found: &mut Found, i: &If) -> Result<(), AllocError>
-    ensures { IfOk result (λ _. found.new.items ≡ found.old.items ++ identifiers roles.Declaring (if_of i.now)) }
+    ensures { IfOk result
+        (λ _. found.new.items ≡ found.old.items ++ identifiers roles.Declaring (if_of i.now)) }
 {
     expression(found, &i.condition)?;
     sequence(found, &i.then)?;
@@ -170,7 +182,8 @@ fn branches(found: &mut Found, i: &If) -> Result<(), AllocError>
 
 #[cycle(statements)]
 fn elsifs(found: &mut Found, parts: &Vec<Elsif>) -> Result<(), AllocError>
-    ensures { IfOk result (λ _. found.new.items ≡ found.old.items ++ identifiers roles.Declaring (elsifs_in parts.now)) }
+    ensures { IfOk result (λ _. found.new.items
+        ≡ found.old.items ++ identifiers roles.Declaring (elsifs_in parts.now)) }
 {
     for e in parts {
         expression(found, &e.condition)?;
@@ -181,7 +194,8 @@ fn elsifs(found: &mut Found, parts: &Vec<Elsif>) -> Result<(), AllocError>
 
 /// Names of this role.
 fn names(found: &mut Found, role: Role, ns: &Names) -> Result<(), AllocError>
-    ensures { IfOk result (λ _. found.new.items ≡ found.old.items ++ identifiers role (names_of ns.now)) }
+    ensures { IfOk result
+        (λ _. found.new.items ≡ found.old.items ++ identifiers role (names_of ns.now)) }
 {
     found.push((role, ns.first))?;
     for name in &ns.more {
@@ -193,7 +207,8 @@ fn names(found: &mut Found, role: Role, ns: &Names) -> Result<(), AllocError>
 /// The identifiers of a type as it is written.
 #[cycle(types)]
 pub fn written_type(found: &mut Found, t: &WrittenType) -> Result<(), AllocError>
-    ensures { IfOk result (λ _. found.new.items ≡ found.old.items ++ identifiers roles.Declaring (type_of t.now)) }
+    ensures { IfOk result
+        (λ _. found.new.items ≡ found.old.items ++ identifiers roles.Declaring (type_of t.now)) }
 {
     match t {
         WrittenType::Named(name) => {
@@ -210,7 +225,8 @@ pub fn written_type(found: &mut Found, t: &WrittenType) -> Result<(), AllocError
 
 #[cycle(types)]
 fn record(found: &mut Found, r: &RecordType) -> Result<(), AllocError>
-    ensures { IfOk result (λ _. found.new.items ≡ found.old.items ++ identifiers roles.Declaring (record_in r.now)) }
+    ensures { IfOk result
+        (λ _. found.new.items ≡ found.old.items ++ identifiers roles.Declaring (record_in r.now)) }
 {
     for group in &r.groups {
         fields(found, group)?;
@@ -220,7 +236,8 @@ fn record(found: &mut Found, r: &RecordType) -> Result<(), AllocError>
 
 #[cycle(types)]
 fn fields(found: &mut Found, f: &Fields) -> Result<(), AllocError>
-    ensures { IfOk result (λ _. found.new.items ≡ found.old.items ++ identifiers roles.Declaring (fields_of f.now)) }
+    ensures { IfOk result
+        (λ _. found.new.items ≡ found.old.items ++ identifiers roles.Declaring (fields_of f.now)) }
 {
     match f {
         Fields::Empty => Ok(()),
@@ -232,14 +249,16 @@ fn fields(found: &mut Found, f: &Fields) -> Result<(), AllocError>
 }
 
 fn section(found: &mut Found, s: &Section) -> Result<(), AllocError>
-    ensures { IfOk result (λ _. found.new.items ≡ found.old.items ++ identifiers roles.Declaring (section_of s.now)) }
+    ensures { IfOk result
+        (λ _. found.new.items ≡ found.old.items ++ identifiers roles.Declaring (section_of s.now)) }
 {
     names(found, Role::Declaring, &s.names)?;
     written_type(found, &s.written)
 }
 
 fn formals(found: &mut Found, sections: &Option<Vec<Section>>) -> Result<(), AllocError>
-    ensures { IfOk result (λ _. found.new.items ≡ found.old.items ++ identifiers roles.Declaring (formals_of sections.now)) }
+    ensures { IfOk result (λ _. found.new.items
+        ≡ found.old.items ++ identifiers roles.Declaring (formals_of sections.now)) }
 {
     let Some(sections) = sections else {
         return Ok(());
@@ -251,7 +270,8 @@ fn formals(found: &mut Found, sections: &Option<Vec<Section>>) -> Result<(), All
 }
 
 fn constants(found: &mut Found, declared: &Option<Vec<Constant>>) -> Result<(), AllocError>
-    ensures { IfOk result (λ _. found.new.items ≡ found.old.items ++ identifiers roles.Declaring (constants_of declared.now)) }
+    ensures { IfOk result (λ _. found.new.items
+        ≡ found.old.items ++ identifiers roles.Declaring (constants_of declared.now)) }
 {
     let Some(declared) = declared else {
         return Ok(());
@@ -264,7 +284,8 @@ fn constants(found: &mut Found, declared: &Option<Vec<Constant>>) -> Result<(), 
 }
 
 fn types(found: &mut Found, declared: &Option<Vec<TypeDeclaration>>) -> Result<(), AllocError>
-    ensures { IfOk result (λ _. found.new.items ≡ found.old.items ++ identifiers roles.Declaring (types_of declared.now)) }
+    ensures { IfOk result (λ _. found.new.items
+        ≡ found.old.items ++ identifiers roles.Declaring (types_of declared.now)) }
 {
     let Some(declared) = declared else {
         return Ok(());
@@ -277,7 +298,8 @@ fn types(found: &mut Found, declared: &Option<Vec<TypeDeclaration>>) -> Result<(
 }
 
 fn variables(found: &mut Found, declared: &Option<Vec<Variables>>) -> Result<(), AllocError>
-    ensures { IfOk result (λ _. found.new.items ≡ found.old.items ++ identifiers roles.Declaring (variables_of declared.now)) }
+    ensures { IfOk result (λ _. found.new.items
+        ≡ found.old.items ++ identifiers roles.Declaring (variables_of declared.now)) }
 {
     let Some(declared) = declared else {
         return Ok(());
@@ -291,7 +313,8 @@ fn variables(found: &mut Found, declared: &Option<Vec<Variables>>) -> Result<(),
 
 /// The identifiers of a block's statements.
 pub fn body(found: &mut Found, statements: &Option<Vec<Statement>>) -> Result<(), AllocError>
-    ensures { IfOk result (λ _. found.new.items ≡ found.old.items ++ identifiers roles.Declaring (body_of statements.now)) }
+    ensures { IfOk result (λ _. found.new.items
+        ≡ found.old.items ++ identifiers roles.Declaring (body_of statements.now)) }
 {
     match statements {
         Some(statements) => sequence(found, statements),
@@ -301,7 +324,8 @@ pub fn body(found: &mut Found, statements: &Option<Vec<Statement>>) -> Result<()
 
 #[cycle(blocks)]
 fn block(found: &mut Found, b: &Block) -> Result<(), AllocError>
-    ensures { IfOk result (λ _. found.new.items ≡ found.old.items ++ identifiers roles.Declaring (block_of b.now)) }
+    ensures { IfOk result
+        (λ _. found.new.items ≡ found.old.items ++ identifiers roles.Declaring (block_of b.now)) }
 {
     constants(found, &b.constants)?;
     types(found, &b.types)?;
@@ -314,7 +338,8 @@ fn block(found: &mut Found, b: &Block) -> Result<(), AllocError>
 
 #[cycle(blocks)]
 fn procedure(found: &mut Found, p: &Procedure) -> Result<(), AllocError>
-    ensures { IfOk result (λ _. found.new.items ≡ found.old.items ++ identifiers roles.Declaring (procedure_of p.now)) }
+    ensures { IfOk result (λ _. found.new.items
+        ≡ found.old.items ++ identifiers roles.Declaring (procedure_of p.now)) }
 {
     found.push((Role::Declaring, p.name))?;
     formals(found, &p.formals)?;

@@ -20,8 +20,13 @@ use Rattle.ob0_types_check.specs.SoFar.{MadeType, PartTypes, of_elements, of_fie
 -- What is known of a type's parts is so of the parts of a shape. `shape` gives the shapes of types: None where a type is unknown.
 abbrev pub FormAgrees : {T : Type 0} → (T → Option Shape) → Form T → Shape → Type 0
 FormAgrees shape a_scalar s = Unit {0}
-FormAgrees shape (an_array t) s = (k : ℕ) × (n : ℕ) × (u : Shape) × (s ≡ array_shape k n u) × (shape t ≡ Some u)
-FormAgrees shape (a_record fields) s = (k : ℕ) × (fs : FieldShapes) × (s ≡ record_shape k fs) × ((x : Name) → option_map shape (fields x) ≡ option_map Some (shape_of_field fs x))
+FormAgrees shape (an_array t) s =
+    (k : ℕ) × (n : ℕ) × (u : Shape) × (s ≡ array_shape k n u) × (shape t ≡ Some u)
+FormAgrees shape (a_record fields) s =
+    (k : ℕ)
+    × (fs : FieldShapes)
+    × (s ≡ record_shape k fs)
+    × ((x : Name) → option_map shape (fields x) ≡ option_map Some (shape_of_field fs x))
 FormAgrees shape unknown_form s = ⊥
 
 -- types and their shapes: the same type has the same shape, and a shape's parts are those that are known
@@ -38,34 +43,62 @@ abbrev pub FormalsAgree : {T : Type 0} → (T → Option Shape) → List (Formal
 FormalsAgree shape [] [] = Unit {0}
 FormalsAgree shape [] (g ∷ gs) = ⊥
 FormalsAgree shape (f ∷ fs) [] = ⊥
-FormalsAgree shape (f ∷ fs) (g ∷ gs) = (g.mode ≡ mode_of f.by_place) × (shape f.of ≡ Some g.shape) × FormalsAgree shape fs gs
+FormalsAgree shape (f ∷ fs) (g ∷ gs) =
+    (g.mode ≡ mode_of f.by_place) × (shape f.of ≡ Some g.shape) × FormalsAgree shape fs gs
 
 -- what a name means is known: a type and a variable by their shape, a constant by its value, which is a scalar, and a
 -- procedure by its parameters
-abbrev pub MeaningAgrees : {T : Type 0} → (T → Option Shape) → Meaning T → Option (meant.Object Shape Signature) → Type 0
+abbrev pub MeaningAgrees : {T : Type 0}
+    → (T → Option Shape)
+    → Meaning T
+    → Option (meant.Object Shape Signature)
+    → Type 0
 MeaningAgrees shape (a_type t) o = (s : Shape) × (shape t ≡ Some s) × (o ≡ Some (meant.a_type s))
-MeaningAgrees shape (a_constant c) o = (v : Value) × (c ≡ Some v) × (o ≡ Some (meant.a_constant v)) × (is_some (value_type v) ≡ true)
-MeaningAgrees shape (a_variable t) o = (s : Shape) × (shape t ≡ Some s) × (o ≡ Some (meant.a_variable s))
-MeaningAgrees shape (a_procedure fs) o = (signature : Signature) × (signature_of o ≡ Some signature) × FormalsAgree shape fs signature
+MeaningAgrees shape (a_constant c) o =
+    (v : Value) × (c ≡ Some v) × (o ≡ Some (meant.a_constant v)) × (is_some (value_type v) ≡ true)
+MeaningAgrees shape (a_variable t) o =
+    (s : Shape) × (shape t ≡ Some s) × (o ≡ Some (meant.a_variable s))
+MeaningAgrees shape (a_procedure fs) o =
+    (signature : Signature) × (signature_of o ≡ Some signature) × FormalsAgree shape fs signature
 
 -- a name means something, and that is known
-abbrev pub MeansAlike : {T : Type 0} → (T → Option Shape) → Option (Meaning T) → Option (meant.Object Shape Signature) → Type 0
+abbrev pub MeansAlike : {T : Type 0}
+    → (T → Option Shape)
+    → Option (Meaning T)
+    → Option (meant.Object Shape Signature)
+    → Type 0
 MeansAlike shape None o = ⊥
 MeansAlike shape (Some m) o = MeaningAgrees shape m o
 
 -- The identifier at a token, which means a name of a tree by its label: one that is looked up is known, and a field is
 -- written as it is in the text.
-abbrev pub TokenAgrees : {T N : Type 0} → Facts T → (T → Option Shape) → (ℕ → N) → Typed N → Role → ℕ → Type 0
-TokenAgrees facts shape label meaning role.LookedUp x = MeansAlike shape (facts.stands_for x) (meaning.stands_for (label x))
-TokenAgrees facts shape label meaning role.FieldName x = meaning.written (label x) ≡ text_at facts.source x
+abbrev pub TokenAgrees : {T N : Type 0}
+    → Facts T
+    → (T → Option Shape)
+    → (ℕ → N)
+    → Typed N
+    → Role
+    → ℕ
+    → Type 0
+TokenAgrees facts shape label meaning role.LookedUp x =
+    MeansAlike shape (facts.stands_for x) (meaning.stands_for (label x))
+TokenAgrees facts shape label meaning role.FieldName x =
+    meaning.written (label x) ≡ text_at facts.source x
 TokenAgrees facts shape label meaning role.Declaring x = Unit {0}
 TokenAgrees facts shape label meaning role.ClosingName x = Unit {0}
 TokenAgrees facts shape label meaning role.ModuleName x = Unit {0}
 
 -- what is known of each looked-up name is what it means, and fields are written as in the text
-abbrev pub TokensAgree : {T N : Type 0} → Facts T → (T → Option Shape) → (ℕ → N) → Typed N → List (Role × ℕ) → Type 0
+abbrev pub TokensAgree : {T N : Type 0}
+    → Facts T
+    → (T → Option Shape)
+    → (ℕ → N)
+    → Typed N
+    → List (Role × ℕ)
+    → Type 0
 TokensAgree facts shape label meaning [] = Unit {0}
-TokensAgree facts shape label meaning (x ∷ xs) = TokenAgrees facts shape label meaning x.0 x.1 × TokensAgree facts shape label meaning xs
+TokensAgree facts shape label meaning (x ∷ xs) =
+    TokenAgrees facts shape label meaning x.0 x.1 × TokensAgree facts shape label meaning xs
 
 -- what is known at a place, for all that occurs in an expression or in statements there
 pub record Agrees {T N : Type 0} (facts : Facts T) (shape : T → Option Shape) (label : ℕ → N) (meaning : Typed N) {s : Sort} (t : Tree ℕ s) : Type 0 where

@@ -68,23 +68,35 @@ pub record KnownHeading : Type 0 where
 
 -- parameters of one type, which are variables in their procedure
 abbrev pub with_parameters : KnownHeading → Bool → List ℕ → TypedAfter → KnownHeading
-with_parameters h by_place xs t = record { formals = h.formals ++ map (λ x. record { by_place = by_place; of = t.of }) xs; behind = define_all t.behind (a_variable t.of) xs }
+with_parameters h by_place xs t =
+    record {
+      formals = h.formals ++ map (λ x. record { by_place = by_place; of = t.of }) xs;
+      behind = define_all t.behind (a_variable t.of) xs;
+    }
 
 -- the faults of parameters of one type
-unfoldable pub reported_parameters : KnownHeading → Bool → Tree ℕ names → Tree ℕ written_type → Reported KnownHeading
+unfoldable pub reported_parameters : KnownHeading
+    → Bool
+    → Tree ℕ names
+    → Tree ℕ written_type
+    → Reported KnownHeading
 unfolding reported_type
 reported_parameters h by_place ns t = do
   u ← reported_type h.behind t
   right (with_parameters h by_place (names_listed ns) u)
 
 -- the faults of a section of parameters
-unfoldable pub reported_section : KnownHeading → Tree ℕ (item further_section) → Reported KnownHeading
+unfoldable pub reported_section : KnownHeading
+    → Tree ℕ (item further_section)
+    → Reported KnownHeading
 unfolding reported_parameters
 reported_section h (then_section (value_section ns t)) = reported_parameters h false ns t
 reported_section h (then_section (variable_section ns t)) = reported_parameters h true ns t
 
 -- the faults of a heading's sections
-unfoldable pub reported_sections : KnownHeading → Tree ℕ (items further_section) → Reported KnownHeading
+unfoldable pub reported_sections : KnownHeading
+    → Tree ℕ (items further_section)
+    → Reported KnownHeading
 unfolding reported_section
 reported_sections h end = right h
 reported_sections h (more s rest) = do
@@ -99,7 +111,8 @@ after_heading x h = define h.behind (a_procedure h.formals) x
 unfoldable pub reported_body : SoFar → Tree ℕ (maybe body) → Reported SoFar
 unfolding reported_sequence
 reported_body p none = right p
-reported_body p (one (begins statements)) = record { known = p; faults = reported_sequence (facts_at p false) statements }
+reported_body p (one (begins statements)) =
+    record { known = p; faults = reported_sequence (facts_at p false) statements }
 
 unfoldable mutual
   unfolding reported_constants reported_types reported_variables reported_sections reported_body
@@ -127,4 +140,6 @@ unfoldable mutual
 -- the names that nothing binds, in text order, and then the faults of types
 unfoldable pub reported_module : Resolution → List Fault
 unfolding reported_block
-reported_module r = filter is_of_occurrences r.faults ++ (reported_block (at_first r) (module_block (tree_of r.module_read))).faults
+reported_module r =
+    filter is_of_occurrences r.faults
+    ++ (reported_block (at_first r) (module_block (tree_of r.module_read))).faults

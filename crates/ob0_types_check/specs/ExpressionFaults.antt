@@ -21,7 +21,11 @@ unfoldable mutual
     reported_addends facts y rest
 
   -- operators of one level group to the left
-  pub reported_addends : {T : Type 0} → Facts T → Operand T → Tree ℕ (items addend) → Reported (Operand T)
+  pub reported_addends : {T : Type 0}
+      → Facts T
+      → Operand T
+      → Tree ℕ (items addend)
+      → Reported (Operand T)
   reported_addends facts x end = right x
   reported_addends facts x (more (adds o t) rest) = do
     y ← reported_term facts t
@@ -33,7 +37,11 @@ unfoldable mutual
     x ← reported_factor facts f
     reported_multipliers facts x rest
 
-  pub reported_multipliers : {T : Type 0} → Facts T → Operand T → Tree ℕ (items multiplier) → Reported (Operand T)
+  pub reported_multipliers : {T : Type 0}
+      → Facts T
+      → Operand T
+      → Tree ℕ (items multiplier)
+      → Reported (Operand T)
   reported_multipliers facts x end = right x
   reported_multipliers facts x (more (multiplies o f) rest) = do
     y ← reported_factor facts f
@@ -53,7 +61,11 @@ unfoldable mutual
     complement_operand facts x
 
   -- a designator up to here, and the selectors that follow
-  pub reported_selectors : {T : Type 0} → Facts T → Operand T → Tree ℕ (items selector) → Reported (Operand T)
+  pub reported_selectors : {T : Type 0}
+      → Facts T
+      → Operand T
+      → Tree ℕ (items selector)
+      → Reported (Operand T)
   reported_selectors facts x end = right x
   reported_selectors facts x (more (field n) rest) = do
     y ← field_selected facts x n
@@ -64,7 +76,11 @@ unfoldable mutual
     reported_selectors facts y rest
 
 -- one selector
-unfoldable pub reported_selector : {T : Type 0} → Facts T → Operand T → Tree ℕ (item selector) → Reported (Operand T)
+unfoldable pub reported_selector : {T : Type 0}
+    → Facts T
+    → Operand T
+    → Tree ℕ (item selector)
+    → Reported (Operand T)
 unfolding reported_expression
 reported_selector facts x (field n) = field_selected facts x n
 reported_selector facts x (index e) = reported_expression facts e >>= element_selected facts x

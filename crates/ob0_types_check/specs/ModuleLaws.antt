@@ -9,4 +9,8 @@ use Rattle.ob0_types_check.specs.DeclarationFaults.{reported_module}
 
 -- a module of which nothing is reported fits
 abbrev pub ModulesFit : Type 0
-ModulesFit = (r : Resolution) → IsResolution r → reported_module r ≡ [] → fits_over as_names (named_tree_of r.module_read) ≡ true
+ModulesFit =
+    (r : Resolution)
+    → IsResolution r
+    → reported_module r ≡ []
+    → fits_over as_names (named_tree_of r.module_read) ≡ true

@@ -49,7 +49,11 @@ token_after source token = if nat_lt token (length source.tokens) then token + 1
 
 -- a fault from one token to another, at one token, and at an operand
 abbrev pub fault_between : Scanned → Code → ℕ → ℕ → Fault
-fault_between source c first last = record { code = c; span = record { start = (span_at source first).start; end = (span_at source last).end } }
+fault_between source c first last =
+    record {
+      code = c;
+      span = record { start = (span_at source first).start; end = (span_at source last).end };
+    }
 
 -- a fault from one token to another
 abbrev pub at_tokens : {T : Type 0} → Facts T → Code → ℕ → ℕ → List Fault
@@ -77,7 +81,13 @@ required facts wanted o = record {
 -- a type is required of two operands: the left one is reported where it is wrong, else the right one
 abbrev pub required_both : {T : Type 0} → Facts T → T → Operand T → Operand T → Reported T
 required_both facts wanted a b =
-    if fits facts.types a.of wanted then record { known = if facts.types.same a.of wanted then (required facts wanted b).known else facts.types.unknown; faults = (required facts wanted b).faults }
+    if fits facts.types a.of wanted
+    then record {
+      known = if facts.types.same a.of wanted
+          then (required facts wanted b).known
+          else facts.types.unknown;
+      faults = (required facts wanted b).faults;
+    }
     else record { known = facts.types.unknown; faults = at_operand facts code.TypeMismatch a }
 
 -- INTEGER is required of both sides of `+` and `-`, BOOLEAN of those of OR
@@ -114,29 +124,47 @@ truth_of types t = if types.same t types.unknown then types.unknown else types.b
 
 -- an operation on two operands, of this type and value, and one whose sign precedes its operand
 abbrev pub joined : {T : Type 0} → T → Option Value → Operand T → Operand T → Operand T
-joined of value a b = record { of = of; value = value; is_place = false; first = a.first; last = b.last }
+joined of value a b =
+    record { of = of; value = value; is_place = false; first = a.first; last = b.last }
 
 -- an operand with its sign
 abbrev pub after_sign : {T : Type 0} → T → Option Value → Operand T → Operand T
-after_sign of value o = record { of = of; value = value; is_place = false; first = token_before o.first; last = o.last }
+after_sign of value o =
+    record { of = of; value = value; is_place = false; first = token_before o.first; last = o.last }
 
 -- the faults of `+`, `-` and OR, and what they give
-abbrev pub add_operands : {T : Type 0} → Facts T → AddOperator → Operand T → Operand T → Reported (Operand T)
+abbrev pub add_operands : {T : Type 0}
+    → Facts T
+    → AddOperator
+    → Operand T
+    → Operand T
+    → Reported (Operand T)
 add_operands facts o a b = do
   t ← required_both facts (required_by_add facts.types o) a b
   right (joined t (option_and_then (sum_value o b.value) a.value) a b)
 
 -- the faults of `*`, DIV, MOD and `&`, and what they give
-abbrev pub multiply_operands : {T : Type 0} → Facts T → MultiplyOperator → Operand T → Operand T → Reported (Operand T)
+abbrev pub multiply_operands : {T : Type 0}
+    → Facts T
+    → MultiplyOperator
+    → Operand T
+    → Operand T
+    → Reported (Operand T)
 multiply_operands facts o a b = do
   t ← required_both facts (required_by_multiply facts.types o) a b
   right (joined t (option_and_then (product_value o b.value) a.value) a b)
 
 -- the faults of a relation, and what it gives
-abbrev pub relate_operands : {T : Type 0} → Facts T → Relation → Operand T → Operand T → Reported (Operand T)
+abbrev pub relate_operands : {T : Type 0}
+    → Facts T
+    → Relation
+    → Operand T
+    → Operand T
+    → Reported (Operand T)
 relate_operands facts r a b = do
   t ← required_both facts (required_by_relation facts.types r a.of) a b
-  right (joined (truth_of facts.types t) (both (λ x y. given_value (relate r x y)) a.value b.value) a b)
+  right (joined (truth_of facts.types t) (both (λ x y. given_value (relate r x y)) a.value b.value)
+      a b)
 
 -- a sign requires INTEGER, `~` for BOOLEAN
 abbrev pub sign_operand : {T : Type 0} → Facts T → Option Sign → Operand T → Reported (Operand T)
@@ -153,11 +181,25 @@ complement_operand facts o = do
 
 -- a number, and an expression in parentheses
 abbrev pub a_number : {T : Type 0} → Facts T → ℕ → Operand T
-a_number facts token = record { of = facts.types.integer; value = Some (number (pos (value_at facts.source token))); is_place = false; first = token; last = token }
+a_number facts token =
+    record {
+      of = facts.types.integer;
+      value = Some (number (pos (value_at facts.source token)));
+      is_place = false;
+      first = token;
+      last = token;
+    }
 
 -- an expression in parentheses
 abbrev pub enclosed : {T : Type 0} → Facts T → Operand T → Operand T
-enclosed facts o = record { of = o.of; value = o.value; is_place = false; first = token_before o.first; last = token_after facts.source o.last }
+enclosed facts o =
+    record {
+      of = o.of;
+      value = o.value;
+      is_place = false;
+      first = token_before o.first;
+      last = token_after facts.source o.last;
+    }
 
 -- a name alone, of this type: a variable's, or one of which nothing is known, and a constant's
 abbrev pub a_name : {T : Type 0} → T → ℕ → Operand T
@@ -173,7 +215,8 @@ value_type types (Some (members k ms)) = types.unknown
 
 -- the name of a constant
 abbrev pub a_constant_name : {T : Type 0} → Types T → Option Value → ℕ → Operand T
-a_constant_name types v token = record { of = value_type types v; value = v; is_place = false; first = token; last = token }
+a_constant_name types v token =
+    record { of = value_type types v; value = v; is_place = false; first = token; last = token }
 
 -- A name where a value is required: no type and no procedure, and in a constant expression no variable. Names that nothing
 -- binds are reported by themselves.
@@ -181,10 +224,16 @@ abbrev pub named_value : {T : Type 0} → Facts T → ℕ → Option (Meaning T)
 named_value facts token None = right (a_name facts.types.unknown token)
 named_value facts token (Some (a_constant v)) = right (a_constant_name facts.types v token)
 named_value facts token (Some (a_variable t)) =
-    if facts.only_constants then record { known = a_name facts.types.unknown token; faults = at_token facts code.NotConstant token }
+    if facts.only_constants
+    then record
+    { known = a_name facts.types.unknown token; faults = at_token facts code.NotConstant token }
     else right (a_name t token)
-named_value facts token (Some (a_type t)) = record { known = a_name facts.types.unknown token; faults = at_token facts code.WrongKind token }
-named_value facts token (Some (a_procedure fs)) = record { known = a_name facts.types.unknown token; faults = at_token facts code.WrongKind token }
+named_value facts token (Some (a_type t)) =
+    record
+    { known = a_name facts.types.unknown token; faults = at_token facts code.WrongKind token }
+named_value facts token (Some (a_procedure fs)) =
+    record
+    { known = a_name facts.types.unknown token; faults = at_token facts code.WrongKind token }
 
 -- a name where a value is required
 abbrev pub named : {T : Type 0} → Facts T → ℕ → Reported (Operand T)
@@ -192,19 +241,26 @@ named facts token = named_value facts token (facts.stands_for token)
 
 -- the part of a designator up to this token, of this type; a constant has no parts
 abbrev pub part_of : {T : Type 0} → Operand T → T → ℕ → Operand T
-part_of o of last = record { of = of; value = None; is_place = o.is_place; first = o.first; last = last }
+part_of o of last =
+    record { of = of; value = None; is_place = o.is_place; first = o.first; last = last }
 
 -- a field that a record has; where there is no record, the `.` is reported
 abbrev pub found_field : {T : Type 0} → Facts T → ℕ → Option T → Reported T
-found_field facts token None = record { known = facts.types.unknown; faults = at_token facts code.NoField token }
+found_field facts token None =
+    record { known = facts.types.unknown; faults = at_token facts code.NoField token }
 found_field facts token (Some t) = right t
 
 -- a field of a type, or the fault that it has none
 abbrev pub field_in : {T : Type 0} → Facts T → ℕ → Form T → Reported T
-field_in facts token (a_record fields) = found_field facts token (fields (text_at facts.source token))
+field_in facts token (a_record fields) =
+    found_field facts token (fields (text_at facts.source token))
 field_in facts token unknown_form = right facts.types.unknown
-field_in facts token a_scalar = record { known = facts.types.unknown; faults = at_token facts code.NotRecord (token_before token) }
-field_in facts token (an_array t) = record { known = facts.types.unknown; faults = at_token facts code.NotRecord (token_before token) }
+field_in facts token a_scalar =
+    record
+    { known = facts.types.unknown; faults = at_token facts code.NotRecord (token_before token) }
+field_in facts token (an_array t) =
+    record
+    { known = facts.types.unknown; faults = at_token facts code.NotRecord (token_before token) }
 
 -- a designator after one more field
 abbrev pub field_selected : {T : Type 0} → Facts T → Operand T → ℕ → Reported (Operand T)
@@ -214,10 +270,15 @@ field_selected facts o token = do
 
 -- an element of an array; where there is no array, the `[` before the index is reported
 abbrev pub element_in : {T : Type 0} → Facts T → Operand T → T → Form T → Reported T
-element_in facts i of (an_array t) = right (if facts.types.same of facts.types.integer then t else facts.types.unknown)
+element_in facts i of (an_array t) =
+    right (if facts.types.same of facts.types.integer then t else facts.types.unknown)
 element_in facts i of unknown_form = right facts.types.unknown
-element_in facts i of a_scalar = record { known = facts.types.unknown; faults = at_token facts code.NotArray (token_before i.first) }
-element_in facts i of (a_record fields) = record { known = facts.types.unknown; faults = at_token facts code.NotArray (token_before i.first) }
+element_in facts i of a_scalar =
+    record
+    { known = facts.types.unknown; faults = at_token facts code.NotArray (token_before i.first) }
+element_in facts i of (a_record fields) =
+    record
+    { known = facts.types.unknown; faults = at_token facts code.NotArray (token_before i.first) }
 
 -- an index is required to be INTEGER also where there is no array
 abbrev pub element_selected : {T : Type 0} → Facts T → Operand T → Operand T → Reported (Operand T)

@@ -33,9 +33,12 @@ pub record OperandFits {T N P : Type 0} (shape : T → Option Shape) (meaning : 
 -- an expression of which nothing is reported
 abbrev pub ExpressionsFit : Type 0 → Type 0
 ExpressionsFit N =
-    (p : SoFar) (only_constants : Bool) (shapes : List Shape) (label : ℕ → N) (meaning : Typed N) (e : Tree ℕ expression)
-    → Agrees (facts_at p only_constants) (shape_in shapes) label meaning e → (reported_expression (facts_at p only_constants) e).faults ≡ []
-    → OperandFits (shape_in shapes) (meaning_here only_constants meaning) (reported_expression (facts_at p only_constants) e).known (mapped label (value_at p.source) e)
+    (p : SoFar) (only_constants : Bool) (shapes : List Shape) (label : ℕ → N) (meaning : Typed N)
+    (e : Tree ℕ expression)
+    → Agrees (facts_at p only_constants) (shape_in shapes) label meaning e
+    → (reported_expression (facts_at p only_constants) e).faults ≡ []
+    → OperandFits (shape_in shapes) (meaning_here only_constants meaning)
+    (reported_expression (facts_at p only_constants) e).known (mapped label (value_at p.source) e)
 
 -- a constant's right side of which nothing is reported has the value that is known, a scalar
 pub record ConstantFits {N : Type 0} (meaning : Typed N) (told : Option Value) (e : Tree N expression) : Type 0 where
@@ -48,8 +51,10 @@ pub record ConstantFits {N : Type 0} (meaning : Typed N) (told : Option Value) (
 abbrev pub ConstantsFit : Type 0 → Type 0
 ConstantsFit N =
     (p : SoFar) (shapes : List Shape) (label : ℕ → N) (meaning : Typed N) (e : Tree ℕ expression)
-    → Agrees (facts_at p true) (shape_in shapes) label meaning e → (reported_constant (facts_at p true) e).faults ≡ []
-    → ConstantFits meaning (reported_constant (facts_at p true) e).known (mapped label (value_at p.source) e)
+    → Agrees (facts_at p true) (shape_in shapes) label meaning e
+    → (reported_constant (facts_at p true) e).faults ≡ []
+    → ConstantFits meaning (reported_constant (facts_at p true) e).known
+    (mapped label (value_at p.source) e)
 
 -- an array's length of which nothing is reported is the one that is known
 pub record LengthFits {N : Type 0} (meaning : Typed N) (told : Option ℕ) (e : Tree N expression) : Type 0 where
@@ -63,16 +68,24 @@ pub record LengthFits {N : Type 0} (meaning : Typed N) (told : Option ℕ) (e : 
 abbrev pub LengthsFit : Type 0 → Type 0
 LengthsFit N =
     (p : SoFar) (shapes : List Shape) (label : ℕ → N) (meaning : Typed N) (e : Tree ℕ expression)
-    → Agrees (facts_at p true) (shape_in shapes) label meaning e → (reported_expression (facts_at p true) e >>= length_of (facts_at p false)).faults ≡ []
-    → LengthFits meaning (reported_expression (facts_at p true) e >>= length_of (facts_at p false)).known (mapped label (value_at p.source) e)
+    → Agrees (facts_at p true) (shape_in shapes) label meaning e
+    → (reported_expression (facts_at p true) e >>= length_of (facts_at p false)).faults ≡ []
+    → LengthFits meaning
+    (reported_expression (facts_at p true) e >>= length_of (facts_at p false)).known
+    (mapped label (value_at p.source) e)
 
 -- statements of which nothing is reported
 abbrev pub StatementsFit : Type 0 → Type 0
 StatementsFit N =
-    (p : SoFar) (shapes : List Shape) (label : ℕ → N) (meaning : Typed N) (statements : Tree ℕ sequence)
-    → Agrees (facts_at p false) (shape_in shapes) label meaning statements → reported_sequence (facts_at p false) statements ≡ []
+    (p : SoFar) (shapes : List Shape) (label : ℕ → N) (meaning : Typed N)
+    (statements : Tree ℕ sequence)
+    → Agrees (facts_at p false) (shape_in shapes) label meaning statements
+    → reported_sequence (facts_at p false) statements ≡ []
     → sequence_fits meaning (mapped label (value_at p.source) statements) ≡ true
 
 -- what is known of types by what was made
 abbrev pub TypesOfTables : Type 0
-TypesOfTables = (made : List MadeType) (shapes : List Shape) → TableAgrees made shapes → TypesAgree (types_at made) (shape_in shapes)
+TypesOfTables =
+    (made : List MadeType) (shapes : List Shape)
+    → TableAgrees made shapes
+    → TypesAgree (types_at made) (shape_in shapes)

@@ -74,20 +74,40 @@ form_at made type.Unknown = unknown_form
 
 -- the types that are known so far
 abbrev pub types_at : List MadeType → Types TypeId
-types_at made = record { integer = type.Integer; boolean = type.Boolean; unknown = type.Unknown; same = same_type; form = form_at made }
+types_at made =
+    record {
+      integer = type.Integer;
+      boolean = type.Boolean;
+      unknown = type.Unknown;
+      same = same_type;
+      form = form_at made;
+    }
 
 -- what the name at a token means: its declaration
 abbrev pub meaning_at : SoFar → ℕ → Option (Meaning TypeId)
-meaning_at p token = option_and_then (λ k. slice_index_or p.declared k None) (ordinal_in p.ordinals token)
+meaning_at p token =
+    option_and_then (λ k. slice_index_or p.declared k None) (ordinal_in p.ordinals token)
 
 -- what is known at a place, everywhere or in constant expressions alone
 abbrev pub facts_at : SoFar → Bool → Facts TypeId
-facts_at p only_constants = record { source = p.source; types = types_at p.made; stands_for = meaning_at p; only_constants = only_constants }
+facts_at p only_constants =
+    record {
+      source = p.source;
+      types = types_at p.made;
+      stands_for = meaning_at p;
+      only_constants = only_constants;
+    }
 
 -- the same where a declaration is known, and where all of some are
 abbrev pub with_declared : SoFar → Meaning TypeId → Option ℕ → SoFar
 with_declared p m None = p
-with_declared p m (Some k) = record { source = p.source; ordinals = p.ordinals; declared = slice_set p.declared k (Some m); made = p.made }
+with_declared p m (Some k) =
+    record {
+      source = p.source;
+      ordinals = p.ordinals;
+      declared = slice_set p.declared k (Some m);
+      made = p.made;
+    }
 
 -- a declaration becomes known
 abbrev pub define : SoFar → Meaning TypeId → ℕ → SoFar
@@ -137,12 +157,22 @@ type_with (of_fields fields) k = type.Record k
 abbrev pub made : SoFar → PartTypes → Size → TypedAfter
 made p parts size = record {
   of = type_with parts (length p.made);
-  behind = record { source = p.source; ordinals = p.ordinals; declared = p.declared; made = p.made ++ record { parts = parts; size = size } ∷ [] };
+  behind =
+      record {
+        source = p.source;
+        ordinals = p.ordinals;
+        declared = p.declared;
+        made = p.made ++ record { parts = parts; size = size } ∷ [];
+      };
 }
 
 -- `TypeTooLarge` at the word ARRAY or RECORD, and an unknown type
 abbrev pub too_large : SoFar → ℕ → Reported TypedAfter
-too_large p word = record { known = record { of = type.Unknown; behind = p }; faults = at_token (facts_at p false) code.TypeTooLarge word }
+too_large p word =
+    record {
+      known = record { of = type.Unknown; behind = p };
+      faults = at_token (facts_at p false) code.TypeTooLarge word;
+    }
 
 -- an array or record of its own, or `TypeTooLarge`
 abbrev pub make : SoFar → ℕ → PartTypes → Size → Reported TypedAfter
@@ -159,4 +189,10 @@ predeclared_meanings =
 
 -- what is known where a module begins
 abbrev pub at_first : Resolution → SoFar
-at_first r = record { source = r.module_read.source; ordinals = r.ordinals; declared = predeclared_meanings ++ map (λ token. None) r.declarations; made = [] }
+at_first r =
+    record {
+      source = r.module_read.source;
+      ordinals = r.ordinals;
+      declared = predeclared_meanings ++ map (λ token. None) r.declarations;
+      made = [];
+    }

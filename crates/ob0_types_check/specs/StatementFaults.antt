@@ -22,9 +22,12 @@ reported_condition facts e = reported_required facts facts.types.boolean e
 -- selectors and of the right side.
 abbrev pub target_by_meaning : {T : Type 0} → Facts T → ℕ → Option (Meaning T) → Reported T
 target_by_meaning facts token (Some (a_variable t)) = right t
-target_by_meaning facts token (Some (a_constant v)) = record { known = facts.types.unknown; faults = at_token facts code.NotVariable token }
-target_by_meaning facts token (Some (a_type t)) = record { known = facts.types.unknown; faults = at_token facts code.WrongKind token }
-target_by_meaning facts token (Some (a_procedure fs)) = record { known = facts.types.unknown; faults = at_token facts code.WrongKind token }
+target_by_meaning facts token (Some (a_constant v)) =
+    record { known = facts.types.unknown; faults = at_token facts code.NotVariable token }
+target_by_meaning facts token (Some (a_type t)) =
+    record { known = facts.types.unknown; faults = at_token facts code.WrongKind token }
+target_by_meaning facts token (Some (a_procedure fs)) =
+    record { known = facts.types.unknown; faults = at_token facts code.WrongKind token }
 target_by_meaning facts token None = right facts.types.unknown
 
 -- what a name may be assigned, and its fault
@@ -32,32 +35,50 @@ abbrev pub target_meaning : {T : Type 0} → Facts T → ℕ → Reported T
 target_meaning facts token = target_by_meaning facts token (facts.stands_for token)
 
 -- the target of an assignment
-unfoldable pub reported_target : {T : Type 0} → Facts T → ℕ → Tree ℕ (items selector) → Reported (Operand T)
+unfoldable pub reported_target : {T : Type 0}
+    → Facts T
+    → ℕ
+    → Tree ℕ (items selector)
+    → Reported (Operand T)
 unfolding reported_expression
 reported_target facts x path = do
   t ← target_meaning facts x
   reported_selectors facts (a_name t x) path
 
 -- the right side is required the type of the target
-abbrev pub reported_assignment : {T : Type 0} → Facts T → Reported (Operand T) → Tree ℕ expression → List Fault
+abbrev pub reported_assignment : {T : Type 0}
+    → Facts T
+    → Reported (Operand T)
+    → Tree ℕ expression
+    → List Fault
 reported_assignment facts target e = target.faults ++ reported_required facts target.known.of e
 
 -- a VAR parameter requires a variable with its selectors, alone, and each parameter for its type
 abbrev pub passed : {T : Type 0} → Facts T → Formal T → Operand T → Reported T
 passed facts f o =
-    if f.by_place && not o.is_place then record { known = facts.types.unknown; faults = at_operand facts code.NotVariable o }
+    if f.by_place && not o.is_place
+    then record { known = facts.types.unknown; faults = at_operand facts code.NotVariable o }
     else required facts f.of o
 
 -- the faults of an argument
-unfoldable pub reported_argument : {T : Type 0} → Facts T → Formal T → Tree ℕ expression → List Fault
+unfoldable pub reported_argument : {T : Type 0}
+    → Facts T
+    → Formal T
+    → Tree ℕ expression
+    → List Fault
 unfolding reported_expression
 reported_argument facts f e = (reported_expression facts e >>= passed facts f).faults
 
 -- arguments beside their parameters
-abbrev pub reported_arguments : {T : Type 0} → Facts T → List (Formal T) → List (Tree ℕ expression) → List Fault
+abbrev pub reported_arguments : {T : Type 0}
+    → Facts T
+    → List (Formal T)
+    → List (Tree ℕ expression)
+    → List Fault
 reported_arguments facts [] es = []
 reported_arguments facts (f ∷ fs) [] = []
-reported_arguments facts (f ∷ fs) (e ∷ es) = reported_argument facts f e ++ reported_arguments facts fs es
+reported_arguments facts (f ∷ fs) (e ∷ es) =
+    reported_argument facts f e ++ reported_arguments facts fs es
 
 -- arguments of any type
 abbrev pub reported_parts : {T : Type 0} → Facts T → List (Tree ℕ expression) → List Fault
@@ -66,11 +87,22 @@ reported_parts facts (e ∷ es) = (reported_expression facts e).faults ++ report
 
 -- A call of a procedure has as many arguments as the procedure has parameters, else nothing more is reported of them. In a call of
 -- anything else the arguments are of any type; a name that nothing binds is reported by itself.
-abbrev pub call_by_meaning : {T : Type 0} → Facts T → ℕ → Option (Meaning T) → List (Tree ℕ expression) → List Fault
-call_by_meaning facts p (Some (a_procedure fs)) es = if nat_eq (length fs) (length es) then reported_arguments facts fs es else at_token facts code.ArgumentCount p
-call_by_meaning facts p (Some (a_type t)) es = at_token facts code.WrongKind p ++ reported_parts facts es
-call_by_meaning facts p (Some (a_constant v)) es = at_token facts code.WrongKind p ++ reported_parts facts es
-call_by_meaning facts p (Some (a_variable t)) es = at_token facts code.WrongKind p ++ reported_parts facts es
+abbrev pub call_by_meaning : {T : Type 0}
+    → Facts T
+    → ℕ
+    → Option (Meaning T)
+    → List (Tree ℕ expression)
+    → List Fault
+call_by_meaning facts p (Some (a_procedure fs)) es =
+    if nat_eq (length fs) (length es)
+    then reported_arguments facts fs es
+    else at_token facts code.ArgumentCount p
+call_by_meaning facts p (Some (a_type t)) es =
+    at_token facts code.WrongKind p ++ reported_parts facts es
+call_by_meaning facts p (Some (a_constant v)) es =
+    at_token facts code.WrongKind p ++ reported_parts facts es
+call_by_meaning facts p (Some (a_variable t)) es =
+    at_token facts code.WrongKind p ++ reported_parts facts es
 call_by_meaning facts p None es = reported_parts facts es
 
 -- the faults of a call
@@ -82,22 +114,32 @@ unfoldable mutual
 
   pub reported_statement : {T : Type 0} → Facts T → Tree ℕ statement → List Fault
   reported_statement facts empty = []
-  reported_statement facts (assigns x path e) = reported_assignment facts (reported_target facts x path) e
+  reported_statement facts (assigns x path e) =
+      reported_assignment facts (reported_target facts x path) e
   reported_statement facts (calls p es) = reported_call facts p (arguments_listed es)
-  reported_statement facts (branches e statements rest last) = reported_condition facts e ++ (reported_sequence facts statements ++ (reported_elsifs facts rest ++ reported_else facts last))
-  reported_statement facts (while_loop e statements) = reported_condition facts e ++ reported_sequence facts statements
-  reported_statement facts (repeat_loop statements e) = reported_sequence facts statements ++ reported_condition facts e
+  reported_statement facts (branches e statements rest last) =
+      reported_condition facts e
+      ++ (reported_sequence facts statements
+      ++ (reported_elsifs facts rest ++ reported_else facts last))
+  reported_statement facts (while_loop e statements) =
+      reported_condition facts e ++ reported_sequence facts statements
+  reported_statement facts (repeat_loop statements e) =
+      reported_sequence facts statements ++ reported_condition facts e
 
   pub reported_sequence : {T : Type 0} → Facts T → Tree ℕ sequence → List Fault
-  reported_sequence facts (runs a rest) = reported_statement facts a ++ reported_statements facts rest
+  reported_sequence facts (runs a rest) =
+      reported_statement facts a ++ reported_statements facts rest
 
   pub reported_statements : {T : Type 0} → Facts T → Tree ℕ (items further_statement) → List Fault
   reported_statements facts end = []
-  reported_statements facts (more (then_statement a) rest) = reported_statement facts a ++ reported_statements facts rest
+  reported_statements facts (more (then_statement a) rest) =
+      reported_statement facts a ++ reported_statements facts rest
 
   pub reported_elsifs : {T : Type 0} → Facts T → Tree ℕ (items elsif_part) → List Fault
   reported_elsifs facts end = []
-  reported_elsifs facts (more (elsif_branch e statements) rest) = reported_condition facts e ++ (reported_sequence facts statements ++ reported_elsifs facts rest)
+  reported_elsifs facts (more (elsif_branch e statements) rest) =
+      reported_condition facts e
+      ++ (reported_sequence facts statements ++ reported_elsifs facts rest)
 
   pub reported_else : {T : Type 0} → Facts T → Tree ℕ (maybe else_part) → List Fault
   reported_else facts none = []

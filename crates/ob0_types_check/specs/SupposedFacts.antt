@@ -61,7 +61,14 @@ form_in composites type.Unknown = unknown_form
 
 -- the types that the code knows
 abbrev pub types_in : List Composite → Types TypeId
-types_in composites = record { integer = type.Integer; boolean = type.Boolean; unknown = type.Unknown; same = same_type; form = form_in composites }
+types_in composites =
+    record {
+      integer = type.Integer;
+      boolean = type.Boolean;
+      unknown = type.Unknown;
+      same = same_type;
+      form = form_in composites;
+    }
 
 -- a parameter of the code
 abbrev pub formal_of : formal.Formal → Formal TypeId
@@ -76,7 +83,9 @@ meaning_of (declared.Procedure fs) = a_procedure (map formal_of fs.items)
 
 -- what the name at a token means
 abbrev pub declared_at : Supposed → ℕ → Option meaning.Meaning
-declared_at s token = option_and_then (λ k. slice_index_or s.meanings.items k None) (ordinal_in s.resolved.now.ordinals token)
+declared_at s token =
+    option_and_then (λ k. slice_index_or s.meanings.items k None)
+    (ordinal_in s.resolved.now.ordinals token)
 
 -- what the code knows at a place
 abbrev pub facts_in : Supposed → Bool → Facts TypeId
@@ -89,7 +98,14 @@ facts_in s only_constants = record {
 
 -- an operand of the code
 abbrev pub operand_of : operand.Operand → Operand TypeId
-operand_of o = record { of = o.of; value = option_map scalar_value o.value; is_place = o.is_place; first = o.first; last = o.last }
+operand_of o =
+    record {
+      of = o.of;
+      value = option_map scalar_value o.value;
+      is_place = o.is_place;
+      first = o.first;
+      last = o.last;
+    }
 
 -- What is supposed, as what is known so far.
 abbrev pub parts_of : Parts → so_far.PartTypes

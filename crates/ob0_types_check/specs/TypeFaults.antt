@@ -12,9 +12,12 @@ use Rattle.ob0_types_check.specs.Operations.{required, at_operand, at_token, rig
 -- a name where a type is required; a name that nothing binds is reported by itself
 abbrev pub type_meant : {T : Type 0} → Facts T → ℕ → Option (Meaning T) → Reported T
 type_meant facts token (Some (a_type t)) = right t
-type_meant facts token (Some (a_constant v)) = record { known = facts.types.unknown; faults = at_token facts code.WrongKind token }
-type_meant facts token (Some (a_variable t)) = record { known = facts.types.unknown; faults = at_token facts code.WrongKind token }
-type_meant facts token (Some (a_procedure fs)) = record { known = facts.types.unknown; faults = at_token facts code.WrongKind token }
+type_meant facts token (Some (a_constant v)) =
+    record { known = facts.types.unknown; faults = at_token facts code.WrongKind token }
+type_meant facts token (Some (a_variable t)) =
+    record { known = facts.types.unknown; faults = at_token facts code.WrongKind token }
+type_meant facts token (Some (a_procedure fs)) =
+    record { known = facts.types.unknown; faults = at_token facts code.WrongKind token }
 type_meant facts token None = right facts.types.unknown
 
 -- a name where a type is required
@@ -28,10 +31,14 @@ valued facts o (Some v) = right (Some v)
 
 -- the value of a constant expression, or `ConstFault`
 abbrev pub evaluated : {T : Type 0} → Facts T → Operand T → Reported (Option Value)
-evaluated facts o = if facts.types.same o.of facts.types.unknown then right None else valued facts o o.value
+evaluated facts o =
+    if facts.types.same o.of facts.types.unknown then right None else valued facts o o.value
 
 -- the right side of a constant's declaration, where names mean constants alone
-unfoldable pub reported_constant : {T : Type 0} → Facts T → Tree ℕ expression → Reported (Option Value)
+unfoldable pub reported_constant : {T : Type 0}
+    → Facts T
+    → Tree ℕ expression
+    → Reported (Option Value)
 unfolding reported_expression
 reported_constant facts e = reported_expression facts e >>= evaluated facts
 

@@ -21,9 +21,11 @@ use Rattle.ob0_types_check.specs.Agreement.{Agrees, shape_in}
 -- no fault in an expression that has a type
 abbrev pub NoFaultInExpressions : Type 0 → Type 0
 NoFaultInExpressions N =
-    (p : SoFar) (only_constants : Bool) (shapes : List Shape) (label : ℕ → N) (meaning : Typed N) (e : Tree ℕ expression)
+    (p : SoFar) (only_constants : Bool) (shapes : List Shape) (label : ℕ → N) (meaning : Typed N)
+    (e : Tree ℕ expression)
     → Agrees (facts_at p only_constants) (shape_in shapes) label meaning e
-    → is_some (type_of (meaning_here only_constants meaning) (mapped label (value_at p.source) e)) ≡ true
+    → is_some (type_of (meaning_here only_constants meaning) (mapped label (value_at p.source) e))
+    ≡ true
     → (reported_expression (facts_at p only_constants) e).faults ≡ []
 
 -- no fault in a constant expression that has a value
@@ -39,13 +41,16 @@ abbrev pub NoFaultInLengths : Type 0 → Type 0
 NoFaultInLengths N =
     (p : SoFar) (shapes : List Shape) (label : ℕ → N) (meaning : Typed N) (e : Tree ℕ expression)
     → Agrees (facts_at p true) (shape_in shapes) label meaning e
-    → is_some (option_and_then array_length (constant_value meaning (mapped label (value_at p.source) e))) ≡ true
+    → is_some
+    (option_and_then array_length (constant_value meaning (mapped label (value_at p.source) e)))
+    ≡ true
     → (reported_expression (facts_at p true) e >>= length_of (facts_at p false)).faults ≡ []
 
 -- no fault in the target of an assignment that is a variable or parameter with its selectors
 abbrev pub NoFaultInTargets : Type 0 → Type 0
 NoFaultInTargets N =
-    (p : SoFar) (shapes : List Shape) (label : ℕ → N) (meaning : Typed N) (x : ℕ) (path : Tree ℕ (items selector))
+    (p : SoFar) (shapes : List Shape) (label : ℕ → N) (meaning : Typed N) (x : ℕ)
+    (path : Tree ℕ (items selector))
     → Agrees (facts_at p false) (shape_in shapes) label meaning (designator x path)
     → is_some (variable_type meaning (Some (label x, mapped label (value_at p.source) path))) ≡ true
     → (reported_target (facts_at p false) x path).faults ≡ []
@@ -66,7 +71,8 @@ EachOnce shapes =
 -- no fault in statements that are well-typed
 abbrev pub NoFaultInStatements : Type 0 → Type 0
 NoFaultInStatements N =
-    (p : SoFar) (shapes : List Shape) (label : ℕ → N) (meaning : Typed N) (statements : Tree ℕ sequence)
+    (p : SoFar) (shapes : List Shape) (label : ℕ → N) (meaning : Typed N)
+    (statements : Tree ℕ sequence)
     → EachOnce shapes
     → Agrees (facts_at p false) (shape_in shapes) label meaning statements
     → sequence_fits meaning (mapped label (value_at p.source) statements) ≡ true
@@ -74,8 +80,16 @@ NoFaultInStatements N =
 
 -- in a well-typed module each name is bound
 abbrev pub NamesBound : Type 0
-NamesBound = (r : Resolution) → IsResolution r → fits_over as_names (named_tree_of r.module_read) ≡ true → filter is_of_occurrences r.faults ≡ []
+NamesBound =
+    (r : Resolution)
+    → IsResolution r
+    → fits_over as_names (named_tree_of r.module_read) ≡ true
+    → filter is_of_occurrences r.faults ≡ []
 
 -- no fault of names that nothing binds or of types in a well-typed module
 abbrev pub NoFaultInModules : Type 0
-NoFaultInModules = (r : Resolution) → IsResolution r → fits_over as_names (named_tree_of r.module_read) ≡ true → reported_module r ≡ []
+NoFaultInModules =
+    (r : Resolution)
+    → IsResolution r
+    → fits_over as_names (named_tree_of r.module_read) ≡ true
+    → reported_module r ≡ []

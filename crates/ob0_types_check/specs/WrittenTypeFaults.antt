@@ -22,7 +22,9 @@ array_size n z = record { scalars = z.scalars * n; depth = z.depth + 1 }
 -- before the length.
 abbrev pub array_made : Operand TypeId → Option ℕ → TypedAfter → Reported TypedAfter
 array_made o None element = right (record { of = type.Unknown; behind = element.behind })
-array_made o (Some n) element = make element.behind (token_before o.first) (of_elements element.of) (array_size n (size_at element.behind.made element.of))
+array_made o (Some n) element =
+    make element.behind (token_before o.first) (of_elements element.of)
+    (array_size n (size_at element.behind.made element.of))
 
 -- the fields of a record so far, their size, and what is known after them
 pub record Gathered : Type 0 where
@@ -36,7 +38,8 @@ nothing_gathered p = record { fields = λ x. None; size = no_scalar; behind = p 
 
 -- one field more: the first of a name stays
 abbrev pub with_field : (Name → Option TypeId) → Name → TypeId → Name → Option TypeId
-with_field known x t = if is_some (known x) then known else (λ y. if same_name x y then Some t else known y)
+with_field known x t =
+    if is_some (known x) then known else (λ y. if same_name x y then Some t else known y)
 
 -- the size of parts side by side
 abbrev pub beside : Size → Size → Size
@@ -44,7 +47,12 @@ beside z w = record { scalars = z.scalars + w.scalars; depth = max z.depth w.dep
 
 -- one name more of a field's type
 abbrev pub with_name : TypeId → Gathered → ℕ → Gathered
-with_name t g token = record { fields = with_field g.fields (text_at g.behind.source token) t; size = beside g.size (size_at g.behind.made t); behind = g.behind }
+with_name t g token =
+    record {
+      fields = with_field g.fields (text_at g.behind.source token) t;
+      size = beside g.size (size_at g.behind.made t);
+      behind = g.behind;
+    }
 
 -- the names of one group
 abbrev pub with_names : TypeId → Gathered → List ℕ → Gathered
@@ -53,7 +61,8 @@ with_names t g (x ∷ xs) = with_names t (with_name t g x) xs
 
 -- fields of one type, after its text
 abbrev pub gathered_after : Gathered → List ℕ → TypedAfter → Gathered
-gathered_after g xs t = with_names t.of (record { fields = g.fields; size = g.size; behind = t.behind }) xs
+gathered_after g xs t =
+    with_names t.of (record { fields = g.fields; size = g.size; behind = t.behind }) xs
 
 -- a record has at least one scalar
 abbrev pub record_size : Size → Size

@@ -45,7 +45,8 @@ struct Reporter<'t> {
 impl<'t> Reporter<'t> {
     fn new(alloc: Global, resolved: &'t Resolved<'t>) -> Result<Reporter<'t>, AllocError>
         ensures supposed { IfOk result (λ t. so_far_in t.supposed ≡ at_first resolved.now) }
-        ensures faults { IfOk result (λ t. t.faults.items ≡ filter is_of_occurrences resolved.now.faults) }
+        ensures faults { IfOk result
+            (λ t. t.faults.items ≡ filter is_of_occurrences resolved.now.faults) }
     {
         let mut meanings = predeclared(alloc)?;
         add_unknown(&mut meanings, resolved.declarations())?;
@@ -91,7 +92,8 @@ fn add_unknown(
     meanings: &mut Vec<Option<Meaning>>,
     declarations: &[usize],
 ) -> Result<(), AllocError>
-    ensures { OnOk result (map (option_map meaning_of) meanings.new.items ≡ map (option_map meaning_of) meanings.old.items ++ map (λ token. None) declarations.now) }
+    ensures { OnOk result (map (option_map meaning_of) meanings.new.items
+        ≡ map (option_map meaning_of) meanings.old.items ++ map (λ token. None) declarations.now) }
 {
     for _declaration in declarations {
         meanings.push(None)?;

@@ -26,25 +26,47 @@ for_some (Some a) list = list a
 unfoldable mutual
   unfolding declare_procedure typed_parameters
 
-  pub block_bindings : {N : Type 0} → Naming N → TypeEnvironment N → ℕ → Tree N block → TypeEnvironment N
+  pub block_bindings : {N : Type 0}
+      → Naming N
+      → TypeEnvironment N
+      → ℕ
+      → Tree N block
+      → TypeEnvironment N
   block_bindings naming env k (has_body (declares cs ts vs ps) statements) =
       for_some (declare_block naming env k (has_body (declares cs ts vs ps) statements))
-      (λ inner. procedures_bindings naming inner (after_variables k (has_body (declares cs ts vs ps) statements)) ps ++ since env inner)
+      (λ inner. procedures_bindings naming inner
+      (after_variables k (has_body (declares cs ts vs ps) statements)) ps
+      ++ since env inner)
 
-  pub procedures_bindings : {N : Type 0} → Naming N → TypeEnvironment N → ℕ → Tree N (items procedure) → TypeEnvironment N
+  pub procedures_bindings : {N : Type 0}
+      → Naming N
+      → TypeEnvironment N
+      → ℕ
+      → Tree N (items procedure)
+      → TypeEnvironment N
   procedures_bindings naming env k end = []
   procedures_bindings naming env k (more p rest) =
-      for_some (declare_procedure naming env k p) (λ later. procedures_bindings naming later (k + procedure_constructors p) rest ++ procedure_bindings naming env k p)
+      for_some (declare_procedure naming env k p) (λ later. procedures_bindings naming later
+      (k + procedure_constructors p) rest
+      ++ procedure_bindings naming env k p)
 
   -- a procedure's name, its parameters, and all of its block
-  pub procedure_bindings : {N : Type 0} → Naming N → TypeEnvironment N → ℕ → Tree N (item procedure) → TypeEnvironment N
+  pub procedure_bindings : {N : Type 0}
+      → Naming N
+      → TypeEnvironment N
+      → ℕ
+      → Tree N (item procedure)
+      → TypeEnvironment N
   procedure_bindings naming env k (declares_procedure x fs b closing) =
       for_some (typed_parameters naming env k (formal_sections fs))
-      (λ ps. block_bindings naming (bind_typed ps (heading x ps env)) (k + formals_constructors (formal_sections fs)) b ++ bind_typed ps (heading x ps []))
+      (λ ps. block_bindings naming (bind_typed ps (heading x ps env))
+      (k + formals_constructors (formal_sections fs)) b
+      ++ bind_typed ps (heading x ps []))
 
 -- the predeclared names, and all of a module
 abbrev pub module_bindings : {N : Type 0} → Naming N → Tree N module_text → TypeEnvironment N
-module_bindings naming m = block_bindings naming (outermost naming) 0 (module_block m) ++ outermost naming
+module_bindings naming m =
+    block_bindings naming (outermost naming) 0 (module_block m) ++ outermost naming
 
 -- what an ordinal is bound to last
 abbrev pub object_bound : TypeEnvironment Label → ℕ → Option (Object Shape Signature)

@@ -22,18 +22,40 @@ pub record BodyAt (N : Type 0) : Type 0 where
 unfoldable mutual
   unfolding typed_parameters
 
-  pub block_bodies : {N : Type 0} → Naming N → TypeEnvironment N → ℕ → Tree N block → List (BodyAt N)
+  pub block_bodies : {N : Type 0}
+      → Naming N
+      → TypeEnvironment N
+      → ℕ
+      → Tree N block
+      → List (BodyAt N)
   block_bodies naming env k (has_body (declares cs ts vs ps) statements) =
-      for_some (declare_block naming env k (has_body (declares cs ts vs ps) statements)) (λ inner. procedures_bodies naming inner (after_variables k (has_body (declares cs ts vs ps) statements)) statements ps)
+      for_some (declare_block naming env k (has_body (declares cs ts vs ps) statements))
+      (λ inner. procedures_bodies naming inner
+      (after_variables k (has_body (declares cs ts vs ps) statements)) statements ps)
 
-  pub procedures_bodies : {N : Type 0} → Naming N → TypeEnvironment N → ℕ → Tree N (maybe body) → Tree N (items procedure) → List (BodyAt N)
-  procedures_bodies naming env k statements end = record { environment = env; statements = statements } ∷ []
+  pub procedures_bodies : {N : Type 0}
+      → Naming N
+      → TypeEnvironment N
+      → ℕ
+      → Tree N (maybe body)
+      → Tree N (items procedure)
+      → List (BodyAt N)
+  procedures_bodies naming env k statements end =
+      record { environment = env; statements = statements } ∷ []
   procedures_bodies naming env k statements (more p rest) =
       for_some (typed_parameters naming env k (procedure_formals p))
-      (λ ps. procedure_bodies naming (bind_typed ps (heading (procedure_name p) ps env)) k p ++ procedures_bodies naming (heading (procedure_name p) ps env) (k + procedure_constructors p) statements rest)
+      (λ ps. procedure_bodies naming (bind_typed ps (heading (procedure_name p) ps env)) k p
+      ++ procedures_bodies naming (heading (procedure_name p) ps env)
+      (k + procedure_constructors p) statements rest)
 
-  pub procedure_bodies : {N : Type 0} → Naming N → TypeEnvironment N → ℕ → Tree N (item procedure) → List (BodyAt N)
-  procedure_bodies naming env k (declares_procedure x fs b closing) = block_bodies naming env (k + formals_constructors (formal_sections fs)) b
+  pub procedure_bodies : {N : Type 0}
+      → Naming N
+      → TypeEnvironment N
+      → ℕ
+      → Tree N (item procedure)
+      → List (BodyAt N)
+  procedure_bodies naming env k (declares_procedure x fs b closing) =
+      block_bodies naming env (k + formals_constructors (formal_sections fs)) b
 
 -- the bodies of a module, each with its environment
 abbrev pub module_bodies : {N : Type 0} → Naming N → Tree N module_text → List (BodyAt N)
@@ -43,4 +65,6 @@ module_bodies naming m = block_bodies naming (outermost naming) 0 (module_block 
 abbrev pub NamesAreDeclared : Type 0
 NamesAreDeclared =
     (m : Tree Name module_text) → WellTyped m
-    → All (λ place. (k : ℕ) (o : Object Shape Signature) → object_bound place.environment k ≡ Some o → declared_object m k ≡ Some o) (module_bodies as_labels (numbered m))
+    → All (λ place. (k : ℕ) (o : Object Shape Signature)
+    → object_bound place.environment k ≡ Some o
+    → declared_object m k ≡ Some o) (module_bodies as_labels (numbered m))

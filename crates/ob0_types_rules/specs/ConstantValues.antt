@@ -30,7 +30,8 @@ known_object (a_standard p) = no_constant
 
 -- the predeclared names, as far as constants count
 abbrev pub predeclared_known : Known
-predeclared_known = map (λ b. (b.0, known_object b.1)) (outermost {V = Unit {0}} {P = Unit {0}} as_names)
+predeclared_known =
+    map (λ b. (b.0, known_object b.1)) (outermost {V = Unit {0}} {P = Unit {0}} as_names)
 
 -- the value of the constant of ordinal d, among constants from ordinal k on
 unfoldable pub value_among : Known → ℕ → ℕ → Tree Name (items constant) → Option Value
@@ -46,23 +47,30 @@ unfoldable mutual
 
   pub value_in_block : Known → ℕ → ℕ → Tree Name block → Option Value
   value_in_block known d k (has_body (declares cs ts vs ps) statements) =
-      if nat_lt d (first_type k (has_body (declares cs ts vs ps) statements)) then value_among known d k (section_constants cs)
+      if nat_lt d (first_type k (has_body (declares cs ts vs ps) statements))
+      then value_among known d k (section_constants cs)
       else if nat_lt d (first_procedure k (has_body (declares cs ts vs ps) statements)) then None
-      else option_and_then (λ inner. value_in_procedures (bind_names (named_types (section_types ts) ++ variable_names (section_variables vs)) no_constant inner) d (first_procedure k (has_body (declares cs ts vs ps) statements)) ps)
+      else option_and_then (λ inner. value_in_procedures (bind_names
+      (named_types (section_types ts) ++ variable_names (section_variables vs)) no_constant
+      inner) d (first_procedure k (has_body (declares cs ts vs ps) statements)) ps)
       (declare_constants as_names known (section_constants cs))
 
   pub value_in_procedures : Known → ℕ → ℕ → Tree Name (items procedure) → Option Value
   value_in_procedures known d k end = None
   value_in_procedures known d k (more p rest) =
-      if nat_lt d (after_procedure (suc k) p) then value_in_procedure ((procedure_name p, no_constant) ∷ known) d (suc k) p
-      else value_in_procedures ((procedure_name p, no_constant) ∷ known) d (after_procedure (suc k) p) rest
+      if nat_lt d (after_procedure (suc k) p)
+      then value_in_procedure ((procedure_name p, no_constant) ∷ known) d (suc k) p
+      else value_in_procedures ((procedure_name p, no_constant) ∷ known) d
+      (after_procedure (suc k) p) rest
 
   pub value_in_procedure : Known → ℕ → ℕ → Tree Name (item procedure) → Option Value
   value_in_procedure known d k (declares_procedure x fs b closing) =
       if nat_lt d (after_names k (formal_names (formal_sections fs))) then None
-      else value_in_block (bind_names (formal_names (formal_sections fs)) no_constant known) d (after_names k (formal_names (formal_sections fs))) b
+      else value_in_block (bind_names (formal_names (formal_sections fs)) no_constant known) d
+      (after_names k (formal_names (formal_sections fs))) b
 
 -- the value of the constant of ordinal d, None where d is no constant that a CONST section declares
 unfoldable pub value_of_constant : Tree Name module_text → ℕ → Option Value
 unfolding value_in_block
-value_of_constant m d = if nat_lt d 7 then None else value_in_block predeclared_known d 7 (module_block m)
+value_of_constant m d =
+    if nat_lt d 7 then None else value_in_block predeclared_known d 7 (module_block m)

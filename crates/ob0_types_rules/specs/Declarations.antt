@@ -9,7 +9,11 @@ use Rattle.ob0_types_rules.specs.Expressions.{a_constant, a_type}
 use Rattle.ob0_types_rules.specs.Typing.{constant_value, constructors, denoted, ◌>>=◌}
 
 -- a constant is bound after its right side
-unfoldable pub declare_constants : {N V P : Type 0} → Naming N → Environment N V P → Tree N (items constant) → Option (Environment N V P)
+unfoldable pub declare_constants : {N V P : Type 0}
+    → Naming N
+    → Environment N V P
+    → Tree N (items constant)
+    → Option (Environment N V P)
 unfolding constant_value
 declare_constants naming env end = Some env
 declare_constants naming env (more (declares_constant x e) cs) = do
@@ -17,7 +21,12 @@ declare_constants naming env (more (declares_constant x e) cs) = do
   declare_constants naming ((x, a_constant v) ∷ env) cs
 
 -- a type is bound after its right side; k is the ordinal of the first ARRAY or RECORD
-unfoldable pub declare_types : {N V P : Type 0} → Naming N → Environment N V P → ℕ → Tree N (items type_name) → Option (Environment N V P)
+unfoldable pub declare_types : {N V P : Type 0}
+    → Naming N
+    → Environment N V P
+    → ℕ
+    → Tree N (items type_name)
+    → Option (Environment N V P)
 unfolding denoted
 declare_types naming env k end = Some env
 declare_types naming env k (more (declares_type x u) ds) = do
@@ -25,7 +34,12 @@ declare_types naming env k (more (declares_type x u) ds) = do
   declare_types naming ((x, a_type s) ∷ env) (k + constructors u) ds
 
 -- constants, then types
-unfoldable pub declare_first : {N V P : Type 0} → Naming N → Environment N V P → ℕ → Tree N block → Option (Environment N V P)
+unfoldable pub declare_first : {N V P : Type 0}
+    → Naming N
+    → Environment N V P
+    → ℕ
+    → Tree N block
+    → Option (Environment N V P)
 unfolding declare_constants declare_types
 declare_first naming env k b = do
   with_constants ← declare_constants naming env (block_constants b)
@@ -39,25 +53,29 @@ types_constructors (more (declares_type x u) ds) = constructors u + types_constr
 -- how many ARRAY and RECORD are in a VAR section
 abbrev pub variables_constructors : {N : Type 0} → Tree N (items variable) → ℕ
 variables_constructors end = 0
-variables_constructors (more (declares_variable ns u) gs) = constructors u + variables_constructors gs
+variables_constructors (more (declares_variable ns u) gs) =
+    constructors u + variables_constructors gs
 
 -- how many ARRAY and RECORD are in formal parameters
 abbrev pub formals_constructors : {N : Type 0} → Tree N (items further_section) → ℕ
 formals_constructors end = 0
-formals_constructors (more (then_section f) fs) = constructors (section_type f) + formals_constructors fs
+formals_constructors (more (then_section f) fs) =
+    constructors (section_type f) + formals_constructors fs
 
 -- how many ARRAY and RECORD are in a block, those of its procedures too
 abbrev mutual
   pub block_constructors : {N : Type 0} → Tree N block → ℕ
   block_constructors (has_body (declares cs ts vs ps) statements) =
-      types_constructors (section_types ts) + (variables_constructors (section_variables vs) + procedures_constructors ps)
+      types_constructors (section_types ts)
+      + (variables_constructors (section_variables vs) + procedures_constructors ps)
 
   pub procedures_constructors : {N : Type 0} → Tree N (items procedure) → ℕ
   procedures_constructors end = 0
   procedures_constructors (more p rest) = procedure_constructors p + procedures_constructors rest
 
   pub procedure_constructors : {N : Type 0} → Tree N (item procedure) → ℕ
-  procedure_constructors (declares_procedure x fs b closing) = formals_constructors (formal_sections fs) + block_constructors b
+  procedure_constructors (declares_procedure x fs b closing) =
+      formals_constructors (formal_sections fs) + block_constructors b
 
 -- the ordinal of the first ARRAY or RECORD after a block's types
 abbrev pub after_types : {N : Type 0} → ℕ → Tree N block → ℕ

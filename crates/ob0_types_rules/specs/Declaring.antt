@@ -9,12 +9,25 @@ use Rattle.ob0_types_rules.specs.Typing.{◌>>=◌}
 use Rattle.ob0_types_rules.specs.WellTyped.{TypeEnvironment, bind_typed, declare_typed, heading, procedure_fits, typed_parameters}
 
 -- the environment after a procedure that fits
-unfoldable pub declare_procedure : {N : Type 0} → Naming N → TypeEnvironment N → ℕ → Tree N (item procedure) → Option (TypeEnvironment N)
+unfoldable pub declare_procedure : {N : Type 0}
+    → Naming N
+    → TypeEnvironment N
+    → ℕ
+    → Tree N (item procedure)
+    → Option (TypeEnvironment N)
 unfolding typed_parameters procedure_fits
 declare_procedure naming env k p = do
   ps ← typed_parameters naming env k (procedure_formals p)
-  if procedure_fits naming (bind_typed ps (heading (procedure_name p) ps env)) k p then Some (heading (procedure_name p) ps env) else None
+  if procedure_fits naming (bind_typed ps (heading (procedure_name p) ps env)) k p
+      then Some (heading (procedure_name p) ps env)
+      else None
 
 -- the environment after a block's constants, types and variables
-abbrev pub declare_block : {N : Type 0} → Naming N → TypeEnvironment N → ℕ → Tree N block → Option (TypeEnvironment N)
-declare_block naming env k b = declare_first naming env k b >>= declare_typed naming (after_types k b) (block_variables b)
+abbrev pub declare_block : {N : Type 0}
+    → Naming N
+    → TypeEnvironment N
+    → ℕ
+    → Tree N block
+    → Option (TypeEnvironment N)
+declare_block naming env k b =
+    declare_first naming env k b >>= declare_typed naming (after_types k b) (block_variables b)

@@ -15,7 +15,11 @@ use Rattle.ob0_types_rules.specs.Written.{written_value}
 
 -- where a new name is free, the renamed module is well-typed where the module was
 abbrev pub FreeKeepsWellTyped : Type 0
-FreeKeepsWellTyped = (m : Tree Name module_text) (d : ℕ) (new : Name) → Free m d new → WellTyped m → WellTyped (renamed m d new)
+FreeKeepsWellTyped =
+    (m : Tree Name module_text) (d : ℕ) (new : Name)
+    → Free m d new
+    → WellTyped m
+    → WellTyped (renamed m d new)
 
 -- a number of 32 bits, or a truth value
 abbrev pub IsScalar : Value → Type 0
@@ -51,16 +55,24 @@ InliningKeepsWellTyped =
 abbrev pub LeavingOutKeepsWellTyped : Type 0
 LeavingOutKeepsWellTyped =
     (m : Tree Name module_text) (d : ℕ) (w : Value) (v : Tree Name factor)
-    → IsConstantWritten m d w v → ((k : ℕ) → binds m k ≢ Some d) → WellTyped m → WellTyped (module_without d m)
+    → IsConstantWritten m d w v
+    → ((k : ℕ) → binds m k ≢ Some d)
+    → WellTyped m
+    → WellTyped (module_without d m)
 
 -- a constant's literal in place of all its uses, and its declaration gone: the module stays well-typed
 abbrev pub InliningEverywhereKeepsWellTyped : Type 0
 InliningEverywhereKeepsWellTyped =
     (m : Tree Name module_text) (d : ℕ) (w : Value) (v : Tree Name factor)
-    → IsConstantWritten m d w v → ((k : ℕ) → binds m k ≡ Some d → IsPredeclaredTruth m k w) → WellTyped m → WellTyped (inlined_everywhere m d v)
+    → IsConstantWritten m d w v
+    → ((k : ℕ) → binds m k ≡ Some d → IsPredeclaredTruth m k w)
+    → WellTyped m
+    → WellTyped (inlined_everywhere m d v)
 
 -- in a well-typed module a constant's names are alone as factors: none is a type's, a procedure's or an assigned variable's, and none has selectors
 abbrev pub ConstantsAreAlone : Type 0
 ConstantsAreAlone =
     (m : Tree Name module_text) (d : ℕ) (w : Value) (v : Tree Name factor)
-    → IsConstantWritten m d w v → WellTyped m → All (λ l. l ≢ declared d) (names_elsewhere (numbered m))
+    → IsConstantWritten m d w v
+    → WellTyped m
+    → All (λ l. l ≢ declared d) (names_elsewhere (numbered m))

@@ -24,7 +24,8 @@ pub record Meanings (N V P : Type 0) : Type 0 where
 
 -- the step to an element; an index below 0 or not below the length ends with Index
 abbrev pub element_step : Value → Value → Outcome Step
-element_step (elements vs) (number (pos i)) = if nat_lt i (count_values vs) then gives (at_index i) else ends Index
+element_step (elements vs) (number (pos i)) =
+    if nat_lt i (count_values vs) then gives (at_index i) else ends Index
 element_step (elements vs) (number (negsuc i)) = ends Index
 element_step _ _ = ends Stuck
 
@@ -55,10 +56,16 @@ unfoldable mutual
     evaluate_addends meaning store y rest
 
   -- operators of one level group to the left
-  pub evaluate_addends : {N P : Type 0} → Meanings N Place P → Store → Value → Tree N (items addend) → Outcome Value
+  pub evaluate_addends : {N P : Type 0}
+      → Meanings N Place P
+      → Store
+      → Value
+      → Tree N (items addend)
+      → Outcome Value
   evaluate_addends meaning store x end = gives x
   evaluate_addends meaning store x (more (adds o t) rest) = do
-    y ← elim (add_is_settled o x) [ true ↦ gives x | false ↦ evaluate_term meaning store t >>= add o x ]
+    y ← elim (add_is_settled o x)
+        [ true ↦ gives x | false ↦ evaluate_term meaning store t >>= add o x ]
     evaluate_addends meaning store y rest
 
   pub evaluate_term : {N P : Type 0} → Meanings N Place P → Store → Tree N term → Outcome Value
@@ -66,10 +73,16 @@ unfoldable mutual
     x ← evaluate_factor meaning store f
     evaluate_multipliers meaning store x rest
 
-  pub evaluate_multipliers : {N P : Type 0} → Meanings N Place P → Store → Value → Tree N (items multiplier) → Outcome Value
+  pub evaluate_multipliers : {N P : Type 0}
+      → Meanings N Place P
+      → Store
+      → Value
+      → Tree N (items multiplier)
+      → Outcome Value
   evaluate_multipliers meaning store x end = gives x
   evaluate_multipliers meaning store x (more (multiplies o f) rest) = do
-    y ← elim (multiply_is_settled o x) [ true ↦ gives x | false ↦ evaluate_factor meaning store f >>= multiply o x ]
+    y ← elim (multiply_is_settled o x)
+        [ true ↦ gives x | false ↦ evaluate_factor meaning store f >>= multiply o x ]
     evaluate_multipliers meaning store y rest
 
   pub evaluate_factor : {N P : Type 0} → Meanings N Place P → Store → Tree N factor → Outcome Value
@@ -82,7 +95,12 @@ unfoldable mutual
   evaluate_factor meaning store (negation f) = evaluate_factor meaning store f >>= negated
 
   -- the path that selectors take from a value
-  pub follow : {N P : Type 0} → Meanings N Place P → Store → Value → Tree N (items selector) → Outcome (List Step)
+  pub follow : {N P : Type 0}
+      → Meanings N Place P
+      → Store
+      → Value
+      → Tree N (items selector)
+      → Outcome (List Step)
   follow meaning store v end = gives []
   follow meaning store v (more (field x) rest) = do
     w ← or_stuck (part v (at_field (meaning.written x)))
@@ -96,7 +114,12 @@ unfoldable mutual
     gives (s ∷ steps)
 
 -- the place that a designator gives: a variable's place and the path of its selectors
-unfoldable pub designate : {N P : Type 0} → Meanings N Place P → Store → N → Tree N (items selector) → Outcome Place
+unfoldable pub designate : {N P : Type 0}
+    → Meanings N Place P
+    → Store
+    → N
+    → Tree N (items selector)
+    → Outcome Place
 unfolding evaluate
 designate meaning store x path = do
   p ← place_of (meaning.stands_for x)

@@ -13,18 +13,27 @@ use Rattle.ob0_types_rules.specs.WellTyped.{Mode, Typed, WellTyped, fits_over}
 
 -- a module fits by name exactly where its numbered tree fits by ordinal
 abbrev pub FitsByOrdinal : Type 0
-FitsByOrdinal = (m : Tree Name module_text) → fits_over as_names m ≡ fits_over as_labels (numbered m)
+FitsByOrdinal =
+    (m : Tree Name module_text) → fits_over as_names m ≡ fits_over as_labels (numbered m)
 
 -- of two modules with one numbered tree, in which no block declares a name twice and closing names are right, both are well-typed or neither is
 abbrev pub WellTypedByShape : Type 0
-WellTypedByShape = (a b : Tree Name module_text) → numbered a ≡ numbered b → IsTrue (declared_once a) → IsTrue (declared_once b) → WellTyped a ↔ WellTyped b
+WellTypedByShape =
+    (a b : Tree Name module_text)
+    → numbered a ≡ numbered b
+    → IsTrue (declared_once a)
+    → IsTrue (declared_once b)
+    → WellTyped a ↔ WellTyped b
 
 -- a constant expression has the value in a run the value of it to the checker, where names mean the same constants
 abbrev pub ConstantsEvaluate : Type 0
 ConstantsEvaluate =
-    (checked : Typed Name) (active : Meanings Name Place (List Mode)) (store : Store) (e : Tree Name expression) (v : Value)
+    (checked : Typed Name) (active : Meanings Name Place (List Mode)) (store : Store)
+    (e : Tree Name expression) (v : Value)
     → ((x : Name) → checked.written x ≡ active.written x)
-    → ((x : Name) (w : Value) → constant_of (checked.stands_for x) ≡ Some w → constant_of (active.stands_for x) ≡ Some w)
+    → ((x : Name) (w : Value)
+    → constant_of (checked.stands_for x) ≡ Some w
+    → constant_of (active.stands_for x) ≡ Some w)
     → constant_value checked e ≡ Some v → evaluate active store e ≡ gives v
 
 -- each use among the occurrences from number k on has the property
@@ -35,13 +44,17 @@ UsesAre uses P k (x ∷ xs) = (uses k ≡ true → P x) × UsesAre uses P (suc k
 -- a factor of a constant's value in place of uses of that constant keeps an expression's evaluation
 abbrev pub InliningKeepsEvaluation : Type 0
 InliningKeepsEvaluation =
-    (meaning : Meanings Name Place (List Mode)) (store : Store) (uses : Uses) (v : Tree Name factor) (w : Value) (k : ℕ) (e : Tree Name expression)
-    → evaluate_factor meaning store v ≡ gives w → UsesAre uses (λ x. meaning.stands_for x ≡ Some (a_constant w)) k (occurrences e)
+    (meaning : Meanings Name Place (List Mode)) (store : Store) (uses : Uses) (v : Tree Name factor)
+    (w : Value) (k : ℕ) (e : Tree Name expression)
+    → evaluate_factor meaning store v ≡ gives w
+    → UsesAre uses (λ x. meaning.stands_for x ≡ Some (a_constant w)) k (occurrences e)
     → evaluate meaning store (inline_in uses v k e) ≡ evaluate meaning store e
 
 -- a factor of a constant's type in place of uses of that constant keeps an expression's type
 abbrev pub InliningKeepsTypes : Type 0
 InliningKeepsTypes =
-    (checked : Typed Name) (uses : Uses) (v : Tree Name factor) (w : Value) (k : ℕ) (e : Tree Name expression)
-    → type_of_factor checked v ≡ value_type w → UsesAre uses (λ x. checked.stands_for x ≡ Some (a_constant w)) k (occurrences e)
+    (checked : Typed Name) (uses : Uses) (v : Tree Name factor) (w : Value) (k : ℕ)
+    (e : Tree Name expression)
+    → type_of_factor checked v ≡ value_type w
+    → UsesAre uses (λ x. checked.stands_for x ≡ Some (a_constant w)) k (occurrences e)
     → type_of checked (inline_in uses v k e) ≡ type_of checked e

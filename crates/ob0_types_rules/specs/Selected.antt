@@ -9,7 +9,11 @@ use Rattle.ob0_types_rules.specs.Typing.{add_type, element_type, field_type, mul
 use Rattle.ob0_values.specs.Values.{Shape}
 
 -- the type after one selector
-unfoldable pub type_selected : {N P : Type 0} → Meanings N Shape P → Shape → Tree N (item selector) → Option Shape
+unfoldable pub type_selected : {N P : Type 0}
+    → Meanings N Shape P
+    → Shape
+    → Tree N (item selector)
+    → Option Shape
 unfolding type_of
 type_selected meaning s (field x) = field_type s (meaning.written x)
 type_selected meaning s (index e) = type_of meaning e >>= element_type s
@@ -23,11 +27,19 @@ abbrev pub both : {A B C : Type 0} → (A → B → Option C) → Option A → O
 both operation a b = option_and_then (λ x. option_and_then (operation x) b) a
 
 -- the type after one more operand
-unfoldable pub type_added : {N P : Type 0} → Meanings N Shape P → Shape → Tree N (item addend) → Option Shape
+unfoldable pub type_added : {N P : Type 0}
+    → Meanings N Shape P
+    → Shape
+    → Tree N (item addend)
+    → Option Shape
 unfolding type_of
 type_added meaning x (adds o t) = type_of_term meaning t >>= add_type o x
 
 -- the type after one more factor
-unfoldable pub type_multiplied : {N P : Type 0} → Meanings N Shape P → Shape → Tree N (item multiplier) → Option Shape
+unfoldable pub type_multiplied : {N P : Type 0}
+    → Meanings N Shape P
+    → Shape
+    → Tree N (item multiplier)
+    → Option Shape
 unfolding type_of
 type_multiplied meaning x (multiplies o f) = type_of_factor meaning f >>= multiply_type o x

@@ -75,7 +75,8 @@ element_type _ _ = None
 -- the type of the first field of this name
 abbrev pub shape_of_field : FieldShapes → Name → Option Shape
 shape_of_field no_field_shape x = None
-shape_of_field (next_field_shape y s rest) x = if same_name x y then Some s else shape_of_field rest x
+shape_of_field (next_field_shape y s rest) x =
+    if same_name x y then Some s else shape_of_field rest x
 
 -- the type of a record's field
 abbrev pub field_type : Shape → Name → Option Shape
@@ -97,7 +98,11 @@ unfoldable mutual
     y ← sign_type s x
     type_of_addends meaning y rest
 
-  pub type_of_addends : {N P : Type 0} → Meanings N Shape P → Shape → Tree N (items addend) → Option Shape
+  pub type_of_addends : {N P : Type 0}
+      → Meanings N Shape P
+      → Shape
+      → Tree N (items addend)
+      → Option Shape
   type_of_addends meaning x end = Some x
   type_of_addends meaning x (more (adds o t) rest) = do
     y ← type_of_term meaning t
@@ -109,7 +114,11 @@ unfoldable mutual
     x ← type_of_factor meaning f
     type_of_multipliers meaning x rest
 
-  pub type_of_multipliers : {N P : Type 0} → Meanings N Shape P → Shape → Tree N (items multiplier) → Option Shape
+  pub type_of_multipliers : {N P : Type 0}
+      → Meanings N Shape P
+      → Shape
+      → Tree N (items multiplier)
+      → Option Shape
   type_of_multipliers meaning x end = Some x
   type_of_multipliers meaning x (more (multiplies o f) rest) = do
     y ← type_of_factor meaning f
@@ -142,7 +151,12 @@ constant_of _ = None
 
 -- names mean constants alone, as in constant expressions (rule 6)
 abbrev pub constants_only : {N V P W Q : Type 0} → Meanings N V P → Meanings N W Q
-constants_only meaning = record { stands_for = λ x. option_map a_constant (constant_of (meaning.stands_for x)); written = meaning.written }
+constants_only meaning =
+    record {
+      stands_for
+          = λ x. option_map a_constant (constant_of (meaning.stands_for x));
+      written = meaning.written;
+    }
 
 -- a value, where the evaluation gives one
 abbrev pub given_value : Outcome Value → Option Value
@@ -231,13 +245,22 @@ unfoldable mutual
     within_limits (record_shape k fs)
 
   -- the fields of a group, before those that follow
-  pub denoted_group : {N V P : Type 0} → Meanings N V P → ℕ → FieldShapes → Tree N fields → Option FieldShapes
+  pub denoted_group : {N V P : Type 0}
+      → Meanings N V P
+      → ℕ
+      → FieldShapes
+      → Tree N fields
+      → Option FieldShapes
   denoted_group meaning k later no_fields = Some later
   denoted_group meaning k later (some_fields ns t) = do
     s ← denoted meaning k t
     Some (with_fields (map meaning.written (names_listed ns)) s later)
 
-  pub denoted_groups : {N V P : Type 0} → Meanings N V P → ℕ → Tree N (items further_fields) → Option FieldShapes
+  pub denoted_groups : {N V P : Type 0}
+      → Meanings N V P
+      → ℕ
+      → Tree N (items further_fields)
+      → Option FieldShapes
   denoted_groups meaning k end = Some no_field_shape
   denoted_groups meaning k (more (then_fields g) rest) = do
     later ← denoted_groups meaning (k + group_constructors g) rest

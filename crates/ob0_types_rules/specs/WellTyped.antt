@@ -23,7 +23,8 @@ abbrev mutual
 
   pub same_fields : FieldShapes → FieldShapes → Bool
   same_fields no_field_shape no_field_shape = true
-  same_fields (next_field_shape x s rest) (next_field_shape y t others) = same_name x y && (same_shape s t && same_fields rest others)
+  same_fields (next_field_shape x s rest) (next_field_shape y t others) =
+      same_name x y && (same_shape s t && same_fields rest others)
   same_fields _ _ = false
 
 -- a VAR parameter is passed by its place, another by its value
@@ -58,7 +59,10 @@ agree (Some s) (Some t) = same_shape s t
 agree _ _ = false
 
 -- the type of a variable or parameter with its selectors: what may be assigned to, or passed as VAR
-unfoldable pub variable_type : {N P : Type 0} → Meanings N Shape P → Option (N × Tree N (items selector)) → Option Shape
+unfoldable pub variable_type : {N P : Type 0}
+    → Meanings N Shape P
+    → Option (N × Tree N (items selector))
+    → Option Shape
 unfolding type_of
 variable_type meaning None = None
 variable_type meaning (Some (x, path)) =
@@ -67,26 +71,41 @@ variable_type meaning (Some (x, path)) =
 -- the parameters of what a name means, where that is a procedure
 abbrev pub signature_of : Option (Object Shape Signature) → Option Signature
 signature_of (Some (a_procedure signature)) = Some signature
-signature_of (Some (a_standard reads)) = Some (record { mode = by_place; shape = integer_shape } ∷ [])
-signature_of (Some (a_standard writes)) = Some (record { mode = by_value; shape = integer_shape } ∷ [])
+signature_of (Some (a_standard reads)) =
+    Some (record { mode = by_place; shape = integer_shape } ∷ [])
+signature_of (Some (a_standard writes)) =
+    Some (record { mode = by_value; shape = integer_shape } ∷ [])
 signature_of (Some (a_standard writes_line)) = Some []
 signature_of _ = None
 
 -- a parameter requires the same type; a VAR argument is a variable or parameter with its selectors, without parentheses
-unfoldable pub argument_fits : {N P : Type 0} → Meanings N Shape P → Formal → Tree N expression → Bool
+unfoldable pub argument_fits : {N P : Type 0}
+    → Meanings N Shape P
+    → Formal
+    → Tree N expression
+    → Bool
 unfolding type_of variable_type
 argument_fits meaning f e =
-    agree (Some f.shape) (elim f.mode [ by_value ↦ type_of meaning e | by_place ↦ variable_type meaning (designated e) ])
+    agree (Some f.shape) (elim f.mode
+    [ by_value ↦ type_of meaning e | by_place ↦ variable_type meaning (designated e) ])
 
 -- as many arguments as parameters, each of them fitting (rules 2 and 5)
-unfoldable pub arguments_fit : {N P : Type 0} → Meanings N Shape P → Signature → List (Tree N expression) → Bool
+unfoldable pub arguments_fit : {N P : Type 0}
+    → Meanings N Shape P
+    → Signature
+    → List (Tree N expression)
+    → Bool
 unfolding argument_fits
 arguments_fit meaning [] [] = true
 arguments_fit meaning (f ∷ fs) (e ∷ es) = argument_fits meaning f e && arguments_fit meaning fs es
 arguments_fit meaning _ _ = false
 
 -- a call is of a procedure, and its arguments fit
-unfoldable pub call_fits : {N P : Type 0} → Meanings N Shape P → Option Signature → List (Tree N expression) → Bool
+unfoldable pub call_fits : {N P : Type 0}
+    → Meanings N Shape P
+    → Option Signature
+    → List (Tree N expression)
+    → Bool
 unfolding arguments_fit
 call_fits meaning None es = false
 call_fits meaning (Some signature) es = arguments_fit meaning signature es
@@ -103,34 +122,51 @@ unfoldable mutual
 
   pub statement_fits : {N : Type 0} → Typed N → Tree N statement → Bool
   statement_fits meaning empty = true
-  statement_fits meaning (assigns x path e) = agree (variable_type meaning (Some (x, path))) (type_of meaning e)
-  statement_fits meaning (calls x es) = call_fits meaning (signature_of (meaning.stands_for x)) (arguments_listed es)
-  statement_fits meaning (branches e statements rest last) = condition_fits meaning e && (sequence_fits meaning statements && (elsifs_fit meaning rest && else_fits meaning last))
-  statement_fits meaning (while_loop e statements) = condition_fits meaning e && sequence_fits meaning statements
-  statement_fits meaning (repeat_loop statements e) = sequence_fits meaning statements && condition_fits meaning e
+  statement_fits meaning (assigns x path e) =
+      agree (variable_type meaning (Some (x, path))) (type_of meaning e)
+  statement_fits meaning (calls x es) =
+      call_fits meaning (signature_of (meaning.stands_for x)) (arguments_listed es)
+  statement_fits meaning (branches e statements rest last) =
+      condition_fits meaning e
+      && (sequence_fits meaning statements && (elsifs_fit meaning rest && else_fits meaning last))
+  statement_fits meaning (while_loop e statements) =
+      condition_fits meaning e && sequence_fits meaning statements
+  statement_fits meaning (repeat_loop statements e) =
+      sequence_fits meaning statements && condition_fits meaning e
 
   pub sequence_fits : {N : Type 0} → Typed N → Tree N sequence → Bool
   sequence_fits meaning (runs a rest) = statement_fits meaning a && statements_fit meaning rest
 
   pub statements_fit : {N : Type 0} → Typed N → Tree N (items further_statement) → Bool
   statements_fit meaning end = true
-  statements_fit meaning (more (then_statement a) rest) = statement_fits meaning a && statements_fit meaning rest
+  statements_fit meaning (more (then_statement a) rest) =
+      statement_fits meaning a && statements_fit meaning rest
 
   pub elsifs_fit : {N : Type 0} → Typed N → Tree N (items elsif_part) → Bool
   elsifs_fit meaning end = true
-  elsifs_fit meaning (more (elsif_branch e statements) rest) = condition_fits meaning e && (sequence_fits meaning statements && elsifs_fit meaning rest)
+  elsifs_fit meaning (more (elsif_branch e statements) rest) =
+      condition_fits meaning e && (sequence_fits meaning statements && elsifs_fit meaning rest)
 
   pub else_fits : {N : Type 0} → Typed N → Tree N (maybe else_part) → Bool
   else_fits meaning none = true
   else_fits meaning (one (else_branch statements)) = sequence_fits meaning statements
 
 -- several names bound to one object
-abbrev pub bind_names : {N V P : Type 0} → List N → Object V P → Environment N V P → Environment N V P
+abbrev pub bind_names : {N V P : Type 0}
+    → List N
+    → Object V P
+    → Environment N V P
+    → Environment N V P
 bind_names [] o env = env
 bind_names (x ∷ xs) o env = bind_names xs o ((x, o) ∷ env)
 
 -- variables are bound after their type
-unfoldable pub declare_typed : {N : Type 0} → Naming N → ℕ → Tree N (items variable) → TypeEnvironment N → Option (TypeEnvironment N)
+unfoldable pub declare_typed : {N : Type 0}
+    → Naming N
+    → ℕ
+    → Tree N (items variable)
+    → TypeEnvironment N
+    → Option (TypeEnvironment N)
 unfolding denoted
 declare_typed naming k end env = Some env
 declare_typed naming k (more (declares_variable ns u) gs) env = do
@@ -143,21 +179,36 @@ pub record TypedParameter (N : Type 0) : Type 0 where
   pub formal : Formal
 
 -- the parameters of a heading, in which each is visible after its type, and the procedure isn't yet
-unfoldable pub typed_parameters : {N : Type 0} → Naming N → TypeEnvironment N → ℕ → Tree N (items further_section) → Option (List (TypedParameter N))
+unfoldable pub typed_parameters : {N : Type 0}
+    → Naming N
+    → TypeEnvironment N
+    → ℕ
+    → Tree N (items further_section)
+    → Option (List (TypedParameter N))
 unfolding denoted
 typed_parameters naming env k end = Some []
 typed_parameters naming env k (more (then_section f) fs) = do
   s ← denoted (meanings naming env) k (section_type f)
-  rest ← typed_parameters naming (bind_names (section_names f) (a_variable s) env) (k + constructors (section_type f)) fs
-  Some (map (λ x. record { name = x; formal = record { mode = section_mode f; shape = s } }) (section_names f) ++ rest)
+  rest ← typed_parameters naming (bind_names (section_names f) (a_variable s) env)
+      (k + constructors (section_type f)) fs
+  Some (map (λ x. record { name = x; formal = record { mode = section_mode f; shape = s } })
+      (section_names f)
+      ++ rest)
 
 -- parameters become visible as variables (rule 4)
-abbrev pub bind_typed : {N : Type 0} → List (TypedParameter N) → TypeEnvironment N → TypeEnvironment N
+abbrev pub bind_typed : {N : Type 0}
+    → List (TypedParameter N)
+    → TypeEnvironment N
+    → TypeEnvironment N
 bind_typed [] env = env
 bind_typed (p ∷ ps) env = bind_typed ps ((p.name, a_variable p.formal.shape) ∷ env)
 
 -- a procedure becomes visible, and then its parameters
-abbrev pub heading : {N : Type 0} → N → List (TypedParameter N) → TypeEnvironment N → TypeEnvironment N
+abbrev pub heading : {N : Type 0}
+    → N
+    → List (TypedParameter N)
+    → TypeEnvironment N
+    → TypeEnvironment N
 heading x ps env = (x, a_procedure (map (λ p. p.formal) ps)) ∷ env
 
 -- the statements of a body fit
@@ -178,17 +229,30 @@ unfoldable mutual
   pub block_fits : {N : Type 0} → Naming N → TypeEnvironment N → ℕ → Tree N block → Bool
   block_fits naming env k (has_body (declares cs ts vs ps) statements) =
       some_and (do first ← declare_first naming env k (has_body (declares cs ts vs ps) statements); declare_typed naming (after_types k (has_body (declares cs ts vs ps) statements)) (section_variables vs) first)
-      (λ inner. procedures_fit naming inner (after_variables k (has_body (declares cs ts vs ps) statements)) statements ps)
+      (λ inner. procedures_fit naming inner
+      (after_variables k (has_body (declares cs ts vs ps) statements)) statements ps)
 
   -- each procedure in the environment of those before it, and then the statements of the block
-  pub procedures_fit : {N : Type 0} → Naming N → TypeEnvironment N → ℕ → Tree N (maybe body) → Tree N (items procedure) → Bool
+  pub procedures_fit : {N : Type 0}
+      → Naming N
+      → TypeEnvironment N
+      → ℕ
+      → Tree N (maybe body)
+      → Tree N (items procedure)
+      → Bool
   procedures_fit naming env k statements end = body_fits naming env statements
   procedures_fit naming env k statements (more p rest) =
       some_and (typed_parameters naming env k (procedure_formals p)) (λ ps. procedure_fits naming (bind_typed ps (heading (procedure_name p) ps env)) k p
       && procedures_fit naming (heading (procedure_name p) ps env) (k + procedure_constructors p) statements rest)
 
-  pub procedure_fits : {N : Type 0} → Naming N → TypeEnvironment N → ℕ → Tree N (item procedure) → Bool
-  procedure_fits naming env k (declares_procedure x fs b closing) = block_fits naming env (k + formals_constructors (formal_sections fs)) b
+  pub procedure_fits : {N : Type 0}
+      → Naming N
+      → TypeEnvironment N
+      → ℕ
+      → Tree N (item procedure)
+      → Bool
+  procedure_fits naming env k (declares_procedure x fs b closing) =
+      block_fits naming env (k + formals_constructors (formal_sections fs)) b
 
 -- all of a module fits: its names, its types, its statements
 unfoldable pub fits_over : {N : Type 0} → Naming N → Tree N module_text → Bool

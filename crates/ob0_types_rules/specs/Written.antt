@@ -11,8 +11,11 @@ use Rattle.ob0_values.specs.Values.{Value, number, truth}
 abbrev pub written_number : ℤ → Tree Name factor
 written_number (pos n) = integer n
 written_number (negsuc n) =
-    if nat_lt n 2147483647 then parenthesised (compares (sum (Some sign.Minus) (product (integer (suc n)) end) end) none)
-    else parenthesised (compares (sum (Some sign.Minus) (product (integer 2147483647) end) (more (adds add_operator.Subtract (product (integer 1) end)) end)) none)
+    if nat_lt n 2147483647
+    then parenthesised
+    (compares (sum (Some sign.Minus) (product (integer (suc n)) end) end) none)
+    else parenthesised (compares (sum (Some sign.Minus) (product (integer 2147483647) end)
+    (more (adds add_operator.Subtract (product (integer 1) end)) end)) none)
 
 -- a value of a constant as a factor
 abbrev pub written_value : Value → Option (Tree Name factor)

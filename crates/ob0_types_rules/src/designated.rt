@@ -18,7 +18,8 @@ pub fn designated(e: &Expression) -> Option<&Designator>
 }
 
 fn designated_simple(s: &Simple) -> Option<&Designator>
-    ensures { option_map (λ d. designator_parts d.now) result ≡ designated_simple (simple_of s.now) }
+    ensures { option_map (λ d. designator_parts d.now) result
+        ≡ designated_simple (simple_of s.now) }
 {
     match s.sign {
         None => {

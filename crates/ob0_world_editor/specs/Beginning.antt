@@ -9,20 +9,30 @@ use Rattle.ob0_rpc.specs.declared.clients.Client.{Client}
 
 -- {"codeAction":{"codeActionLiteralSupport":{}}}
 abbrev pub actions_taken : Data
-actions_taken = object (member (codes "codeAction") (object (member (codes "codeActionLiteralSupport") (object no_members) no_members)) no_members)
+actions_taken =
+    object (member (codes "codeAction")
+    (object (member (codes "codeActionLiteralSupport") (object no_members) no_members)) no_members)
 
 -- {"workspaceEdit":{"documentChanges":true}}
 abbrev pub versions_taken : Data
-versions_taken = object (member (codes "workspaceEdit") (object (member (codes "documentChanges") (boolean true) no_members)) no_members)
+versions_taken =
+    object (member (codes "workspaceEdit")
+    (object (member (codes "documentChanges") (boolean true) no_members)) no_members)
 
 -- {"positionEncodings":["utf-8"]}
 abbrev pub utf8_offered : Data
-utf8_offered = object (member (codes "positionEncodings") (array (item (string (codes "utf-8")) no_items)) no_members)
+utf8_offered =
+    object
+    (member (codes "positionEncodings") (array (item (string (codes "utf-8")) no_items)) no_members)
 
 -- {"general":{..},"textDocument":{..},"workspace":{..}}, without `general` where UTF-16 units are counted
 abbrev pub capabilities_for : Unit → Members
-capabilities_for Utf16 = member (codes "textDocument") actions_taken (member (codes "workspace") versions_taken no_members)
-capabilities_for Utf8 = member (codes "general") utf8_offered (member (codes "textDocument") actions_taken (member (codes "workspace") versions_taken no_members))
+capabilities_for Utf16 =
+    member (codes "textDocument") actions_taken
+    (member (codes "workspace") versions_taken no_members)
+capabilities_for Utf8 =
+    member (codes "general") utf8_offered (member (codes "textDocument") actions_taken
+    (member (codes "workspace") versions_taken no_members))
 
 -- {"id":"initialize","jsonrpc":"2.0","method":"initialize","params":{"capabilities":{..}}}
 abbrev pub initialize_message : Unit → Data
@@ -32,4 +42,10 @@ initialize_message unit =
 
 -- what the server knows of this editor then
 abbrev pub client_for : Unit → Client
-client_for unit = record { counts_utf8 = is_utf8 unit; prepares_renames = false; takes_literal_actions = true; takes_document_changes = true }
+client_for unit =
+    record {
+      counts_utf8 = is_utf8 unit;
+      prepares_renames = false;
+      takes_literal_actions = true;
+      takes_document_changes = true;
+    }

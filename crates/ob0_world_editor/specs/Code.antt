@@ -20,7 +20,9 @@ ask_of (ask.TheVariants.Format indent) = format indent
 
 -- a request that was sent, of the code
 abbrev pub asked_of : asked.SentAsk → SentAsk
-asked_of a = record { ask = ask_of a.ask; uri = string_bytes a.uri; opening = a.opening; version = a.version }
+asked_of a =
+    record
+    { ask = ask_of a.ask; uri = string_bytes a.uri; opening = a.opening; version = a.version }
 
 -- an answer with edits, of the code
 abbrev pub answer_of : answer.Answer → Answer
@@ -28,9 +30,15 @@ answer_of a = record { number = a.number; edits = replacements a.edits.items }
 
 -- a message to the editor, of the code
 abbrev pub message_of : message.Message → ToEditor
-message_of (message.TheVariants.Published uri version empty) = publishes (string_bytes uri) version empty
+message_of (message.TheVariants.Published uri version empty) =
+    publishes (string_bytes uri) version empty
 message_of (message.TheVariants.Answered number edits) = answers number (replacements edits.items)
 
 -- an applied edit of the code
 abbrev pub applied_of : applied.Applied → Applied
-applied_of a = record { uri = string_bytes a.uri; before = chars (string_bytes a.before); after = chars (string_bytes a.after) }
+applied_of a =
+    record {
+      uri = string_bytes a.uri;
+      before = chars (string_bytes a.before);
+      after = chars (string_bytes a.after);
+    }

@@ -17,7 +17,10 @@ documents_of entries = map_of.from_entries (map (λ e. (string_bytes e.0, open_o
 
 -- the code of an open document
 abbrev pub open_code : Coded Open
-open_code = code_by (ℕ × (List ℕ × ℕ)) (coded× coded_ℕ (coded× (coded_list coded_ℕ) coded_ℕ)) (λ d. (d.version, (d.text, d.opening))) (λ p. record { version = p.0; text = p.1.0; opening = p.1.1 }) (λ d. refl)
+open_code =
+    code_by (ℕ × (List ℕ × ℕ)) (coded× coded_ℕ (coded× (coded_list coded_ℕ) coded_ℕ))
+    (λ d. (d.version, (d.text, d.opening)))
+    (λ p. record { version = p.0; text = p.1.0; opening = p.1.1 }) (λ d. refl)
 
 -- the code of the open documents
 abbrev pub open_documents_code : Coded Documents

@@ -51,7 +51,10 @@ message_read asked response = None
 
 -- the message in a content, where these asks were sent
 unfoldable pub heard : List SentAsk → List ℕ → Option ToServer
-heard asked content = if is_utf8 content then option_and_then (λ d. message_read asked (meaning_of d)) (read content) else None
+heard asked content =
+    if is_utf8 content
+    then option_and_then (λ d. message_read asked (meaning_of d)) (read content)
+    else None
 
 -- ---- as the server reads it
 

@@ -26,7 +26,8 @@ abbrev pub Moves : Move → Editor → Option (Vec ℕ Global) → Editor → Ty
 Moves idle old None new = new ≡ old
 Moves idle old (Some content) new = ⊥
 Moves (sends e message) old None new = ⊥
-Moves (sends e message) old (Some content) new = (new ≡ e) × SaysToServer e.asked message content.items
+Moves (sends e message) old (Some content) new =
+    (new ≡ e) × SaysToServer e.asked message content.items
 
 -- this is what became of an answer
 abbrev pub ComesOf : ApplyOutcome → Editor → applying.Applying → Editor → Type 0
@@ -38,14 +39,17 @@ ComesOf (drops_answer e) old applying.TheVariants.Dropped new = new ≡ e
 ComesOf (drops_answer e) old (applying.TheVariants.Made applied content) new = ⊥
 ComesOf (makes e a message) old applying.TheVariants.NotHeld new = ⊥
 ComesOf (makes e a message) old applying.TheVariants.Dropped new = ⊥
-ComesOf (makes e a message) old (applying.TheVariants.Made applied content) new = (new ≡ e) × (applied_of applied ≡ a) × SaysToServer e.asked message content.items
+ComesOf (makes e a message) old (applying.TheVariants.Made applied content) new =
+    (new ≡ e) × (applied_of applied ≡ a) × SaysToServer e.asked message content.items
 
 -- ---- the steps of applying
 
 -- where the first answer to ask k is, and what is left without it
 abbrev pub IsPlaceOf : List answer.Answer → ℕ → Option ℕ → Type 0
 IsPlaceOf answers k (Some i) =
-    (i < length answers) × (kept_answer k (map answer_of answers) ≡ option_map (λ a. replacements a.edits.items) (slice_get answers i))
+    (i < length answers)
+    × (kept_answer k (map answer_of answers)
+    ≡ option_map (λ a. replacements a.edits.items) (slice_get answers i))
     × (all_but k (map answer_of answers) ≡ map answer_of (remove answers i))
 IsPlaceOf answers k None = kept_answer k (map answer_of answers) ≡ None
 
@@ -53,11 +57,17 @@ IsPlaceOf answers k None = kept_answer k (map answer_of answers) ≡ None
 abbrev pub with_text : Editor → rewritten.Rewritten → Editor
 with_text e r =
     let a : Applied = applied_of r.applied in
-    record e { documents = map_of.insert e.documents a.uri (record { version = r.version; text = a.after; opening = r.opening }) }
+    record e {
+      documents
+          = map_of.insert e.documents a.uri
+          (record { version = r.version; text = a.after; opening = r.opening });
+    }
 
 -- the notification of a document's new text
 abbrev pub text_sent : rewritten.Rewritten → ToServer
-text_sent r = let a : Applied = applied_of r.applied in tells (Changed a.uri (pos r.version) (whole_text a.after ∷ []))
+text_sent r =
+    let a : Applied
+    = applied_of r.applied in tells (Changed a.uri (pos r.version) (whole_text a.after ∷ []))
 
 -- this document gets a new text, if any does
 abbrev pub IsRewritten : Editor → ApplyOutcome → Option rewritten.Rewritten → Type 0
@@ -65,10 +75,17 @@ IsRewritten e not_held r = ⊥
 IsRewritten e (drops_answer f) None = f ≡ e
 IsRewritten e (drops_answer f) (Some r) = ⊥
 IsRewritten e (makes f a message) None = ⊥
-IsRewritten e (makes f a message) (Some r) = (f ≡ with_text e r) × (a ≡ applied_of r.applied) × (message ≡ text_sent r) × (r.version < 2 ^ 63)
+IsRewritten e (makes f a message) (Some r) =
+    (f ≡ with_text e r)
+    × (a ≡ applied_of r.applied)
+    × (message ≡ text_sent r)
+    × (r.version < 2 ^ 63)
 
 -- it got it, and this content is the notification
 abbrev pub IsMade : Editor → rewritten.Rewritten → applying.Applying → Editor → Type 0
 IsMade old r applying.TheVariants.NotHeld new = ⊥
 IsMade old r applying.TheVariants.Dropped new = ⊥
-IsMade old r (applying.TheVariants.Made applied content) new = (new ≡ with_text old r) × (applied_of applied ≡ applied_of r.applied) × SaysToServer new.asked (text_sent r) content.items
+IsMade old r (applying.TheVariants.Made applied content) new =
+    (new ≡ with_text old r)
+    × (applied_of applied ≡ applied_of r.applied)
+    × SaysToServer new.asked (text_sent r) content.items

@@ -19,11 +19,15 @@ request_message k method params =
 
 -- {"character":c,"line":l}
 abbrev pub position_value : Position → Data
-position_value p = object (member (codes "character") (number (unsigned p.character)) (member (codes "line") (number (unsigned p.line)) no_members))
+position_value p =
+    object (member (codes "character") (number (unsigned p.character))
+    (member (codes "line") (number (unsigned p.line)) no_members))
 
 -- {"end":P,"start":P}
 abbrev pub range_value : Range → Data
-range_value r = object (member (codes "end") (position_value r.end) (member (codes "start") (position_value r.start) no_members))
+range_value r =
+    object (member (codes "end") (position_value r.end)
+    (member (codes "start") (position_value r.start) no_members))
 
 -- ---- notes
 
@@ -35,7 +39,9 @@ open_params uri version contents =
 
 -- {"range":R,"text":t}, without `range` for the whole text
 abbrev pub change_by : Option Range → List ℕ → Data
-change_by (Some range) new = object (member (codes "range") (range_value range) (member (codes "text") (text new) no_members))
+change_by (Some range) new =
+    object
+    (member (codes "range") (range_value range) (member (codes "text") (text new) no_members))
 change_by None new = object (member (codes "text") (text new) no_members)
 
 -- a change as JSON
@@ -61,7 +67,8 @@ close_params uri = object (member (codes "textDocument") (document_value uri) no
 -- {"newName":n,"position":P,"textDocument":{"uri":u}}
 abbrev pub rename_params : List ℕ → Position → List ℕ → Data
 rename_params uri position name =
-    object (member (codes "newName") (text name) (member (codes "position") (position_value position) (member (codes "textDocument") (document_value uri) no_members)))
+    object (member (codes "newName") (text name) (member (codes "position")
+    (position_value position) (member (codes "textDocument") (document_value uri) no_members)))
 
 -- the empty range at a position
 abbrev pub empty_at : Position → Range
@@ -75,7 +82,9 @@ actions_params uri position =
 
 -- {"insertSpaces":b,"tabSize":n}
 abbrev pub options_by : Bool → ℕ → Data
-options_by spaces size = object (member (codes "insertSpaces") (boolean spaces) (member (codes "tabSize") (number (unsigned size)) no_members))
+options_by spaces size =
+    object (member (codes "insertSpaces") (boolean spaces)
+    (member (codes "tabSize") (number (unsigned size)) no_members))
 
 -- formatting options as JSON
 abbrev pub options_value : Indent → Data
@@ -84,7 +93,9 @@ options_value (Spaces n) = options_by true n
 
 -- {"options":{..},"textDocument":{"uri":u}}
 abbrev pub formatting_params : List ℕ → Indent → Data
-formatting_params uri indent = object (member (codes "options") (options_value indent) (member (codes "textDocument") (document_value uri) no_members))
+formatting_params uri indent =
+    object (member (codes "options") (options_value indent)
+    (member (codes "textDocument") (document_value uri) no_members))
 
 -- the method of an ask; both ways of inlining ask for the actions at their place
 abbrev pub method_of : Ask → List ℕ

@@ -21,14 +21,16 @@ has_none (item d ds) = false
 
 -- a publication, where its parts can be read
 abbrev pub publication_by : Option (List ℕ) → Option ℤ → Option Items → Option ToEditor
-publication_by (Some uri) version (Some diagnostics) = Some (publishes uri version (has_none diagnostics))
+publication_by (Some uri) version (Some diagnostics) =
+    Some (publishes uri version (has_none diagnostics))
 publication_by (Some uri) version None = None
 publication_by None version diagnostics = None
 
 -- a publication
 abbrev pub publication_understood : Data → Option ToEditor
 publication_understood params =
-    publication_by (text_in (codes "uri") params) (option_and_then as_i64 (option_and_then as_number (get (codes "version") params)))
+    publication_by (text_in (codes "uri") params)
+    (option_and_then as_i64 (option_and_then as_number (get (codes "version") params)))
     (option_and_then as_array (get (codes "diagnostics") params))
 
 -- ---- edits
@@ -50,7 +52,9 @@ edits_in (item d ds) = option_and_then (λ e. option_map (λ es. e ∷ es) (edit
 
 -- the lists of edits in an answer: of a WorkspaceEdit those of its first document
 abbrev pub workspace_items : Data → Option Items
-workspace_items value = option_and_then as_array (option_and_then (get (codes "edits")) (option_and_then (at 0) (get (codes "documentChanges") value)))
+workspace_items value =
+    option_and_then as_array (option_and_then (get (codes "edits"))
+    (option_and_then (at 0) (get (codes "documentChanges") value)))
 
 -- an action has this title
 abbrev pub is_titled : List ℕ → Option (List ℕ) → Bool
@@ -60,11 +64,14 @@ is_titled title None = false
 -- the first action with this title
 abbrev pub action_in : List ℕ → Items → Option Data
 action_in title no_items = None
-action_in title (item d ds) = if is_titled title (text_in (codes "title") d) then Some d else action_in title ds
+action_in title (item d ds) =
+    if is_titled title (text_in (codes "title") d) then Some d else action_in title ds
 
 -- the edits of the action with this title
 abbrev pub action_items : List ℕ → Data → Option Items
-action_items title value = option_and_then workspace_items (option_and_then (get (codes "edit")) (option_and_then (action_in title) (as_array value)))
+action_items title value =
+    option_and_then workspace_items
+    (option_and_then (get (codes "edit")) (option_and_then (action_in title) (as_array value)))
 
 -- a rename is answered with a WorkspaceEdit, an inlining with actions, of which that with its title is meant, and formatting with a list of edits
 abbrev pub items_for : Ask → Data → Option Items
@@ -75,7 +82,9 @@ items_for (format indent) value = as_array value
 
 -- the edits of an answer; a refusal and null have none
 abbrev pub edits_for : Ask → Data → List Replacement
-edits_for ask answer = unwrap_or (option_and_then edits_in (option_and_then (items_for ask) (get (codes "result") answer))) []
+edits_for ask answer =
+    unwrap_or
+    (option_and_then edits_in (option_and_then (items_for ask) (get (codes "result") answer))) []
 
 -- the answer to the request of this number, with its edits
 abbrev pub answer_to : List SentAsk → Data → ℕ → Option ToEditor
@@ -83,15 +92,19 @@ answer_to asked answer k = option_map (λ a. answers k (edits_for a.ask answer))
 
 -- an answer to a request that the editor sent
 abbrev pub answer_understood : List SentAsk → Data → Option ToEditor
-answer_understood asked answer = option_and_then (answer_to asked answer) (option_and_then number_of (get (codes "id") answer))
+answer_understood asked answer =
+    option_and_then (answer_to asked answer) (option_and_then number_of (get (codes "id") answer))
 
 -- ---- messages
 
 -- what a message says to the editor
 abbrev pub value_understood : List SentAsk → Data → Option ToEditor
 value_understood asked d =
-    if is_some (get (codes "method") d) then option_and_then publication_understood (get (codes "params") d) else answer_understood asked d
+    if is_some (get (codes "method") d)
+    then option_and_then publication_understood (get (codes "params") d)
+    else answer_understood asked d
 
 -- the message in a content, where these asks were sent
 unfoldable pub understood : List SentAsk → List ℕ → Option ToEditor
-understood asked content = if is_utf8 content then option_and_then (value_understood asked) (read content) else None
+understood asked content =
+    if is_utf8 content then option_and_then (value_understood asked) (read content) else None

@@ -33,7 +33,8 @@ fn initialize_value(alloc: Global, unit: Unit) -> Result<Value, AllocError>
 }
 
 fn capabilities_offered(alloc: Global, unit: Unit) -> Result<Value, AllocError>
-    ensures { IfOk result (λ v. view v ≡ object (member (codes "capabilities") (object (capabilities_for unit)) no_members)) }
+    ensures { IfOk result (λ v. view v
+        ≡ object (member (codes "capabilities") (object (capabilities_for unit)) no_members)) }
 {
     let capabilities = capabilities(alloc, unit)?;
     let mut members = Map::new(alloc);

@@ -53,7 +53,8 @@ impl OpenDocuments {
 
     /// Opens a document, or replaces an open one.
     pub fn put(&mut self, uri: String, document: Open) -> Result<(), AllocError>
-        ensures { OnOk result (self.new ≡ map_of.insert self.old (string_bytes uri) (open_of document)) }
+        ensures { OnOk result
+            (self.new ≡ map_of.insert self.old (string_bytes uri) (open_of document)) }
     {
         self.by_uri.insert(uri, document)?;
         Ok(())

@@ -86,7 +86,9 @@ impl Editor {
     /// Opens a document; the content is the notification. None where it is open already.
     pub fn open(&mut self, uri: &str, text: &str) -> Result<Option<Vec<u8>>, AllocError>
         requires { AreFew self.old }
-        ensures ok { IfOk result (λ content. Moves (opens_document self.old uri.now (chars text.now) (open_at self.old uri.now)) self.old content self.new) }
+        ensures ok { IfOk result (λ content. Moves
+            (opens_document self.old uri.now (chars text.now) (open_at self.old uri.now)) self.old
+            content self.new) }
         ensures err { OnErr result (self.new.asked ≡ self.old.asked) }
     {
         if self.documents.get(uri).is_some() {
@@ -111,7 +113,9 @@ impl Editor {
     /// Changes a document; the content is the notification. None where it isn't open.
     pub fn change(&mut self, uri: &str, changes: &[Change]) -> Result<Option<Vec<u8>>, AllocError>
         requires { AreFew self.old }
-        ensures ok { IfOk result (λ content. Moves (changes_document self.old uri.now (map reported_change changes.now) (open_at self.old uri.now)) self.old content self.new) }
+        ensures ok { IfOk result (λ content. Moves (changes_document self.old uri.now
+            (map reported_change changes.now) (open_at self.old uri.now)) self.old content
+            self.new) }
         ensures err { OnErr result (self.new.asked ≡ self.old.asked) }
     {
         let Some(open) = self.documents.get(uri) else {
@@ -135,7 +139,9 @@ impl Editor {
 
     /// Closes a document; the content is the notification. None where it isn't open.
     pub fn close(&mut self, uri: &str) -> Result<Option<Vec<u8>>, AllocError>
-        ensures ok { IfOk result (λ content. Moves (closes_document self.old uri.now (open_at self.old uri.now)) self.old content self.new) }
+        ensures ok { IfOk result (λ content. Moves
+            (closes_document self.old uri.now (open_at self.old uri.now)) self.old content
+            self.new) }
         ensures err { OnErr result (self.new.asked ≡ self.old.asked) }
     {
         if self.documents.get(uri).is_none() {
@@ -149,7 +155,9 @@ impl Editor {
     /// Asks this of a document; the content is the request. None where it isn't open.
     pub fn ask(&mut self, uri: &str, ask: &Ask) -> Result<Option<Vec<u8>>, AllocError>
         requires { AreFew self.old }
-        ensures ok { IfOk result (λ content. Moves (asks_about self.old uri.now (ask_of ask.now) (open_at self.old uri.now)) self.old content self.new) }
+        ensures ok { IfOk result (λ content. Moves
+            (asks_about self.old uri.now (ask_of ask.now) (open_at self.old uri.now)) self.old
+            content self.new) }
         ensures err { OnErr result (self.new.asked ≡ self.old.asked) }
     {
         let Some(open) = self.documents.get(uri) else {
@@ -171,7 +179,8 @@ impl Editor {
 
     /// Reads a content that came from the server; None where it isn't a message for this editor.
     pub fn read(&self, content: &[u8]) -> Result<Option<Message>, AllocError>
-        ensures { IfOk result (λ found. option_map message_of found ≡ understood self.now.asked content.now) }
+        ensures { IfOk result
+            (λ found. option_map message_of found ≡ understood self.now.asked content.now) }
     {
         read_message(self.alloc, self.asked.as_slice(), content)
     }
@@ -193,7 +202,9 @@ impl Editor {
     /// about; the content is the notification. Else the answer is dropped.
     pub fn apply(&mut self, k: u64) -> Result<Applying, AllocError>
         requires { AreFew self.old }
-        ensures ok { IfOk result (λ applying. ComesOf (applies_answer self.old k (kept_answer k self.old.answers)) self.old applying self.new) }
+        ensures ok { IfOk result (λ applying. ComesOf
+            (applies_answer self.old k (kept_answer k self.old.answers)) self.old applying
+            self.new) }
         ensures err { OnErr result (self.new.asked ≡ self.old.asked) }
     {
         let Some(edits) = self.drop_document(k) else {
@@ -214,7 +225,8 @@ impl Editor {
     }
 
     fn drop_document(&mut self, k: u64) -> Option<Vec<Edit>>
-        ensures edits { option_map (λ v. replacements v.items) result ≡ kept_answer k self.old.answers }
+        ensures edits { option_map (λ v. replacements v.items) result
+            ≡ kept_answer k self.old.answers }
         ensures after { self.new ≡ without_answer self.old k }
     {
         let place = place_of(self.answers.as_slice(), k)?;
@@ -225,7 +237,9 @@ impl Editor {
     /// The document that was asked about, with these edits made; None where it isn't the same any more, or the edits can't be made.
     fn rewritten(&self, k: u64, edits: &[Edit]) -> Result<Option<Rewritten>, AllocError>
         requires { AreFew self.now }
-        ensures { IfOk result (λ rewritten. IsRewritten self.now (applies_asked self.now (replacements edits.now) (numbered self.now.asked k)) rewritten) }
+        ensures { IfOk result (λ rewritten. IsRewritten self.now
+            (applies_asked self.now (replacements edits.now) (numbered self.now.asked k))
+            rewritten) }
     {
         let Some(asked) = numbered_ask(self.asked.as_slice(), k) else {
             return Ok(None);

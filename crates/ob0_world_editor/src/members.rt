@@ -15,7 +15,8 @@ pub fn put_text(
     name: &str,
     text: &str,
 ) -> Result<(), AllocError>
-    ensures { OnOk result (members_view members.new.entries ≡ with_member name.now (text_data text.now) (members_view members.old.entries)) }
+    ensures { OnOk result (members_view members.new.entries
+        ≡ with_member name.now (text_data text.now) (members_view members.old.entries)) }
 {
     let value = Value::try_from_str(alloc, text)?;
     put(members, alloc, name, value)
@@ -40,7 +41,9 @@ pub fn put_document(
     alloc: Global,
     uri: &str,
 ) -> Result<(), AllocError>
-    ensures { OnOk result (members_view members.new.entries ≡ with_member (codes "textDocument") (document_data uri.now) (members_view members.old.entries)) }
+    ensures { OnOk result (members_view members.new.entries
+        ≡ with_member (codes "textDocument") (document_data uri.now)
+        (members_view members.old.entries)) }
 {
     let mut document = Map::new(alloc);
     put_text(&mut document, alloc, "uri", uri)?;

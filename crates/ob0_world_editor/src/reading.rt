@@ -37,7 +37,8 @@ pub fn read_message(
     asked: &[SentAsk],
     content: &[u8],
 ) -> Result<Option<Message>, AllocError>
-    ensures { IfOk result (λ found. option_map message_of found ≡ understood (map asked_of asked.now) content.now) }
+    ensures { IfOk result
+        (λ found. option_map message_of found ≡ understood (map asked_of asked.now) content.now) }
 {
     match Value::from_slice(alloc, content) {
         Ok(message) => read_value(alloc, asked, &message),
@@ -54,7 +55,8 @@ fn read_value(
     asked: &[SentAsk],
     message: &Value,
 ) -> Result<Option<Message>, AllocError>
-    ensures { IfOk result (λ found. option_map message_of found ≡ value_understood (map asked_of asked.now) (view message.now)) }
+    ensures { IfOk result (λ found. option_map message_of found
+        ≡ value_understood (map asked_of asked.now) (view message.now)) }
 {
     if message.get("method").is_none() {
         return read_answer(alloc, asked, message);
@@ -68,7 +70,8 @@ fn read_value(
 // ---- publications
 
 fn read_publication(alloc: Global, params: &Value) -> Result<Option<Message>, AllocError>
-    ensures { IfOk result (λ found. option_map message_of found ≡ publication_understood (view params.now)) }
+    ensures { IfOk result
+        (λ found. option_map message_of found ≡ publication_understood (view params.now)) }
 {
     let Some(uri) = text_in(params, "uri") else {
         return Ok(None);
@@ -86,20 +89,25 @@ fn read_publication(alloc: Global, params: &Value) -> Result<Option<Message>, Al
 }
 
 fn published_version(params: &Value) -> Option<i64>
-    ensures { result ≡ option_and_then as_i64 (option_and_then as_number (get (codes "version") (view params.now))) }
+    ensures { result
+        ≡ option_and_then as_i64
+        (option_and_then as_number (get (codes "version") (view params.now))) }
 {
     params.get("version")?.as_i64()
 }
 
 fn has_no_diagnostics(params: &Value) -> Option<bool>
-    ensures { result ≡ option_map has_none (option_and_then as_array (get (codes "diagnostics") (view params.now))) }
+    ensures { result
+        ≡ option_map has_none
+        (option_and_then as_array (get (codes "diagnostics") (view params.now))) }
 {
     let diagnostics = published_diagnostics(params)?;
     Some(diagnostics.is_empty())
 }
 
 fn published_diagnostics(params: &Value) -> Option<&Vec<Value>>
-    ensures { option_map (λ v. items_view v.now.items) result ≡ option_and_then as_array (get (codes "diagnostics") (view params.now)) }
+    ensures { option_map (λ v. items_view v.now.items) result
+        ≡ option_and_then as_array (get (codes "diagnostics") (view params.now)) }
 {
     params.get("diagnostics")?.as_array()
 }
@@ -111,7 +119,8 @@ fn read_answer(
     asked: &[SentAsk],
     answer: &Value,
 ) -> Result<Option<Message>, AllocError>
-    ensures { IfOk result (λ found. option_map message_of found ≡ answer_understood (map asked_of asked.now) (view answer.now)) }
+    ensures { IfOk result (λ found. option_map message_of found
+        ≡ answer_understood (map asked_of asked.now) (view answer.now)) }
 {
     let Some(number) = answer_number(answer) else {
         return Ok(None);
@@ -146,7 +155,8 @@ pub fn numbered_ask(asked: &[SentAsk], number: u64) -> Option<&SentAsk>
 
 /// The edits in the answer to an ask; none where there are no such.
 fn read_edits(alloc: Global, ask: &Ask, answer: &Value) -> Result<Vec<Edit>, AllocError>
-    ensures { IfOk result (λ edits. replacements edits.items ≡ edits_for (ask_of ask.now) (view answer.now)) }
+    ensures { IfOk result
+        (λ edits. replacements edits.items ≡ edits_for (ask_of ask.now) (view answer.now)) }
 {
     let Some(values) = answered_values(ask, answer) else {
         return Ok(Vec::new(alloc));
@@ -158,7 +168,9 @@ fn read_edits(alloc: Global, ask: &Ask, answer: &Value) -> Result<Vec<Edit>, All
 }
 
 fn answered_values<'v>(ask: &Ask, answer: &'v Value) -> Option<&'v Vec<Value>>
-    ensures { option_map (λ v. items_view v.now.items) result ≡ option_and_then (items_of_answer (ask_of ask.now)) (get (codes "result") (view answer.now)) }
+    ensures { option_map (λ v. items_view v.now.items) result
+        ≡ option_and_then (items_of_answer (ask_of ask.now))
+        (get (codes "result") (view answer.now)) }
 {
     let result = answer.get("result")?;
     match ask {
@@ -186,7 +198,8 @@ fn workspace_values(edit: &Value) -> Option<&Vec<Value>>
 
 /// The edits of the action with this title.
 fn action_values<'v>(actions: &'v Value, title: &str) -> Option<&'v Vec<Value>>
-    ensures { option_map (λ v. items_view v.now.items) result ≡ action_items title.now (view actions.now) }
+    ensures { option_map (λ v. items_view v.now.items) result
+        ≡ action_items title.now (view actions.now) }
 {
     let action = titled(actions.as_array()?, title)?;
     workspace_values(action.get("edit")?)
@@ -216,7 +229,8 @@ fn has_title(action: &Value, title: &str) -> bool
 
 /// The edits of a list; none where one of them can't be read.
 fn edits_of(alloc: Global, values: &[Value]) -> Result<Option<Vec<Edit>>, AllocError>
-    ensures { IfOk result (λ found. option_map (λ edits. replacements edits.items) found ≡ edits_in (items_view values.now)) }
+    ensures { IfOk result (λ found. option_map (λ edits. replacements edits.items) found
+        ≡ edits_in (items_view values.now)) }
 {
     let mut edits = Vec::new(alloc);
     for value in values {

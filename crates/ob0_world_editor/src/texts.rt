@@ -16,7 +16,9 @@ pub fn changed<T: TextStore>(
     text: &str,
     changes: &[Change],
 ) -> Result<String, AllocError>
-    ensures { IfOk result (λ new. after_changes unit (Some (chars text.now)) (map reported_change changes.now) ≡ Some (chars (string_bytes new))) }
+    ensures { IfOk result (λ new. after_changes unit (Some (chars text.now))
+        (map reported_change changes.now)
+        ≡ Some (chars (string_bytes new))) }
 {
     let mut store = T::from_str_in(alloc, text, unit)?;
     for change in changes {
@@ -33,7 +35,9 @@ fn make_change<T: TextStore>(
 ) -> Result<(), AllocError>
     requires { T.unit_of store.old ≡ unit }
     ensures unit { OnOk result (T.unit_of store.new ≡ unit) }
-    ensures ok { OnOk result (changed_text unit (Some (T.content store.old)) (reported_change change.now) ≡ Some (T.content store.new)) }
+    ensures ok { OnOk result (changed_text unit (Some (T.content store.old))
+        (reported_change change.now)
+        ≡ Some (T.content store.new)) }
 {
     match change.range {
         None => *store = T::from_str_in(alloc, change.text.as_str(), unit)?,
@@ -49,7 +53,8 @@ pub fn patched<T: TextStore>(
     text: &str,
     edits: &[Edit],
 ) -> Result<Option<String>, AllocError>
-    ensures { IfOk result (λ new. edited unit (chars text.now) (replacements edits.now) ≡ option_map (λ s. chars (string_bytes s)) new) }
+    ensures { IfOk result (λ new. edited unit (chars text.now) (replacements edits.now)
+        ≡ option_map (λ s. chars (string_bytes s)) new) }
 {
     let store = T::from_str_in(alloc, text, unit)?;
     match patch(alloc, &store, edits) {

@@ -21,7 +21,8 @@ use std::alloc::{AllocError, Global};
 /// Notifies that a document was opened.
 pub fn did_open(alloc: Global, uri: &str, version: u64, text: &str) -> Result<Vec<u8>, AllocError>
     requires { version < 2 ^ 63 }
-    ensures { IfOk result (λ content. IsNote (Opened uri.now (pos version) (chars text.now)) content.items) }
+    ensures { IfOk result
+        (λ content. IsNote (Opened uri.now (pos version) (chars text.now)) content.items) }
 {
     let params = open_params(alloc, uri, version, text)?;
     notification(alloc, "textDocument/didOpen", params)
@@ -61,7 +62,8 @@ pub fn did_change(
     changes: &[Change],
 ) -> Result<Vec<u8>, AllocError>
     requires { version < 2 ^ 63 }
-    ensures { IfOk result (λ content. IsNote (Changed uri.now (pos version) (map reported_change changes.now)) content.items) }
+    ensures { IfOk result (λ content. IsNote
+        (Changed uri.now (pos version) (map reported_change changes.now)) content.items) }
 {
     let changes = change_values(alloc, changes)?;
     let params = change_params(alloc, uri, version, changes)?;
@@ -76,14 +78,16 @@ pub fn did_rewrite(
     text: &str,
 ) -> Result<Vec<u8>, AllocError>
     requires { version < 2 ^ 63 }
-    ensures { IfOk result (λ content. IsNote (Changed uri.now (pos version) (whole_text (chars text.now) ∷ [])) content.items) }
+    ensures { IfOk result (λ content. IsNote
+        (Changed uri.now (pos version) (whole_text (chars text.now) ∷ [])) content.items) }
 {
     let params = rewrite_params(alloc, uri, version, text)?;
     notification(alloc, "textDocument/didChange", params)
 }
 
 fn rewrite_params(alloc: Global, uri: &str, version: u64, text: &str) -> Result<Value, AllocError>
-    ensures { IfOk result (λ v. view v ≡ change_data_of uri.now version (change_by None text.now ∷ [])) }
+    ensures { IfOk result
+        (λ v. view v ≡ change_data_of uri.now version (change_by None text.now ∷ [])) }
 {
     let change = text_change(alloc, text)?;
     let changes = json!(in alloc; [change])?;
@@ -249,7 +253,8 @@ fn change_params(
 }
 
 fn change_values(alloc: Global, changes: &[Change]) -> Result<Vec<Value>, AllocError>
-    ensures { IfOk result (λ values. items_view values.items ≡ items_of (map change_data changes.now)) }
+    ensures { IfOk result
+        (λ values. items_view values.items ≡ items_of (map change_data changes.now)) }
 {
     let mut values = Vec::new(alloc);
     for change in changes {
@@ -300,7 +305,8 @@ fn put_position(
     name: &str,
     position: Position,
 ) -> Result<(), AllocError>
-    ensures { OnOk result (members_view members.new.entries ≡ with_member name.now (position_data position) (members_view members.old.entries)) }
+    ensures { OnOk result (members_view members.new.entries
+        ≡ with_member name.now (position_data position) (members_view members.old.entries)) }
 {
     let value = position_value(alloc, position)?;
     put(members, alloc, name, value)
@@ -321,7 +327,8 @@ fn position_value(alloc: Global, position: Position) -> Result<Value, AllocError
 }
 
 fn notification(alloc: Global, method: &str, params: Value) -> Result<Vec<u8>, AllocError>
-    ensures { IfOk result (λ content. depth (view params) ≤ 126 → ReadsContent content.items (Some (notification_message method.now (view params)))) }
+    ensures { IfOk result (λ content. depth (view params) ≤ 126
+        → ReadsContent content.items (Some (notification_message method.now (view params)))) }
 {
     let message = notification_value(alloc, method, params)?;
     content_of(alloc, &message)
@@ -338,7 +345,8 @@ fn notification_value(alloc: Global, method: &str, params: Value) -> Result<Valu
 
 /// The content of a message, which reads back as that message where it isn't nested too deep for the reader.
 pub fn content_of(alloc: Global, message: &Value) -> Result<Vec<u8>, AllocError>
-    ensures { IfOk result (λ content. depth (view message.now) ≤ 127 → ReadsContent content.items (Some (view message.now))) }
+    ensures { IfOk result (λ content. depth (view message.now) ≤ 127
+        → ReadsContent content.items (Some (view message.now))) }
 {
     let text = message.to_string(alloc)?;
     Ok(text.into_bytes())

@@ -24,7 +24,10 @@ place_at unit text position = offset_of (width_of unit) text position
 
 -- these edits inline the constant that is named at a position, here or everywhere
 abbrev pub InlinesAt : Inlining → Unit → List ℕ → Position → List Edit → Type 0
-InlinesAt how unit text position edits = (found : Vec Edit Global) × InlinesIn how unit text (place_at unit text position) found × (edits ≡ found.items)
+InlinesAt how unit text position edits =
+    (found : Vec Edit Global)
+    × InlinesIn how unit text (place_at unit text position) found
+    × (edits ≡ found.items)
 
 -- These edits are the ones requested: they write the new name, inline here or everywhere, or format the text.
 abbrev pub GivesEdits : Unit → List ℕ → Ask → List Edit → Type 0
@@ -35,9 +38,12 @@ GivesEdits unit text (format indent) edits = LaysOut unit (indent_read indent) t
 
 -- there are none, for a reason: the new name is refused, or the inlining, or the layout is too long
 abbrev pub Refuses : Unit → List ℕ → Ask → Type 0
-Refuses unit text (rename position name) = (refusal : EditRefusal) × IsRefusedIn unit text position name refusal
-Refuses unit text (inline_here position) = IsNotInlinedIn Here unit text (place_at unit text position)
-Refuses unit text (inline_all position) = IsNotInlinedIn Everywhere unit text (place_at unit text position)
+Refuses unit text (rename position name) =
+    (refusal : EditRefusal) × IsRefusedIn unit text position name refusal
+Refuses unit text (inline_here position) =
+    IsNotInlinedIn Here unit text (place_at unit text position)
+Refuses unit text (inline_all position) =
+    IsNotInlinedIn Everywhere unit text (place_at unit text position)
 Refuses unit text (format indent) = IsTooLongLaidOut (indent_read indent) text
 
 -- the answer about a text: the requested edits; none when they are refused, or the text isn't a well-typed module

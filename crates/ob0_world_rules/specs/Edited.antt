@@ -24,7 +24,8 @@ replacements edits = map replacement_of edits
 
 -- the text with all edits made, which is defined where no two of them share a character
 unfoldable pub edited : Unit → List ℕ → List Replacement → Option (List ℕ)
-edited unit text edits = patched_by_cuts text (map (λ e. cut_at (width_of unit) text e.range e.text) edits)
+edited unit text edits =
+    patched_by_cuts text (map (λ e. cut_at (width_of unit) text e.range e.text) edits)
 
 -- the change that gives the whole text
 abbrev pub whole_text : List ℕ → TextChange
@@ -38,4 +39,6 @@ after_changes unit text changes = fold (changed_text unit) text changes
 
 -- edits of the code, as replacements, leave the text that is patched by them
 abbrev pub EditsArePatched : Type 0
-EditsArePatched = (unit : Unit) (text : List ℕ) (edits : List Edit) → edited unit text (replacements edits) ≡ patched (width_of unit) text edits
+EditsArePatched =
+    (unit : Unit) (text : List ℕ) (edits : List Edit)
+    → edited unit text (replacements edits) ≡ patched (width_of unit) text edits

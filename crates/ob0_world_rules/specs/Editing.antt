@@ -19,7 +19,8 @@ abbrev pub opens_document : Editor → List ℕ → List ℕ → Option Open →
 opens_document e uri text (Some d) = idle
 opens_document e uri text None =
     let d : Open = record { version = 1; text = text; opening = e.openings + 1 } in
-    sends (record e { documents = map_of.insert e.documents uri d; openings = e.openings + 1 }) (tells (Opened uri (pos 1) text))
+    sends (record e { documents = map_of.insert e.documents uri d; openings = e.openings + 1 })
+    (tells (Opened uri (pos 1) text))
 
 -- an open document gets a new text, and its version rises by one
 abbrev pub rewritten : Open → List ℕ → Open
@@ -31,17 +32,20 @@ rewrites e uri d text = record e { documents = map_of.insert e.documents uri (re
 
 -- the change that makes this text is sent (one change alone overlaps no other, so there is always a text)
 abbrev pub changes_text : Editor → List ℕ → Open → List TextChange → Option (List ℕ) → Move
-changes_text e uri d how (Some text) = sends (rewrites e uri d text) (tells (Changed uri (pos (d.version + 1)) how))
+changes_text e uri d how (Some text) =
+    sends (rewrites e uri d text) (tells (Changed uri (pos (d.version + 1)) how))
 changes_text e uri d how None = idle
 
 -- an open document is changed
 abbrev pub changes_document : Editor → List ℕ → List TextChange → Option Open → Move
-changes_document e uri how (Some d) = changes_text e uri d how (after_changes e.unit (Some d.text) how)
+changes_document e uri how (Some d) =
+    changes_text e uri d how (after_changes e.unit (Some d.text) how)
 changes_document e uri how None = idle
 
 -- an open document is closed
 abbrev pub closes_document : Editor → List ℕ → Option Open → Move
-closes_document e uri (Some d) = sends (record e { documents = map_of.remove e.documents uri }) (tells (Closed uri))
+closes_document e uri (Some d) =
+    sends (record e { documents = map_of.remove e.documents uri }) (tells (Closed uri))
 closes_document e uri None = idle
 
 -- ---- asks and answers
@@ -49,7 +53,8 @@ closes_document e uri None = idle
 -- a request about an open document is sent, with the next number
 abbrev pub asks_about : Editor → List ℕ → Ask → Option Open → Move
 asks_about e uri ask (Some d) =
-    let asked : SentAsk = record { ask = ask; uri = uri; opening = d.opening; version = d.version } in
+    let asked : SentAsk
+    = record { ask = ask; uri = uri; opening = d.opening; version = d.version } in
     sends (record e { asked = e.asked ++ asked ∷ [] }) (asks (suc (length e.asked)) uri ask)
 asks_about e uri ask None = idle
 
@@ -61,7 +66,8 @@ has_edits (e ∷ es) = true
 -- an answer is kept only with edits
 abbrev pub keeps : Editor → ℕ → List Replacement → Editor
 keeps e number [] = e
-keeps e number (edit ∷ edits) = record e { answers = e.answers ++ record { number = number; edits = edit ∷ edits } ∷ [] }
+keeps e number (edit ∷ edits) =
+    record e { answers = e.answers ++ record { number = number; edits = edit ∷ edits } ∷ [] }
 
 -- the edits of the answer with this number
 abbrev pub kept_answer : ℕ → List Answer → Option (List Replacement)
@@ -94,7 +100,8 @@ discards e k None = not_held
 
 -- the document, where it is the same opening with the same version as when it was asked about
 abbrev pub if_same : SentAsk → Option Open → Option Open
-if_same asked (Some d) = if d.opening == asked.opening && d.version == asked.version then Some d else None
+if_same asked (Some d) =
+    if d.opening == asked.opening && d.version == asked.version then Some d else None
 if_same asked None = None
 
 -- an open document gets the text that edits make; edits that overlap make none, and are dropped
@@ -111,7 +118,8 @@ applies_edits e edits uri None = drops_answer e
 
 -- edits are applied where the document is as it was when they were requested
 abbrev pub applies_asked : Editor → List Replacement → Option SentAsk → ApplyOutcome
-applies_asked e edits (Some asked) = applies_edits e edits asked.uri (if_same asked (open_at e asked.uri))
+applies_asked e edits (Some asked) =
+    applies_edits e edits asked.uri (if_same asked (open_at e asked.uri))
 applies_asked e edits None = drops_answer e
 
 -- the edits of answer k are made of the document, where that is the same as when it was asked about; else the answer is dropped

@@ -46,7 +46,8 @@ pub record Editor : Type 0 where
 
 -- an editor with no open document
 abbrev pub new_editor : Unit → Editor
-new_editor unit = record { unit = unit; documents = map_of.empty; openings = 0; asked = []; answers = [] }
+new_editor unit =
+    record { unit = unit; documents = map_of.empty; openings = 0; asked = []; answers = [] }
 
 -- the request of this number, counted from 1
 abbrev pub numbered : List SentAsk → ℕ → Option SentAsk
@@ -126,4 +127,5 @@ as_open d = InStep (pos d.version) d.text
 
 -- The mirror: what is held, followed by the messages that wait for the server, is the editor's documents.
 abbrev pub Mirrors : Ends → Type 0
-Mirrors w = (uri : List ℕ) → document_at (will_have w) uri ≡ option_map as_open (open_at w.editor uri)
+Mirrors w =
+    (uri : List ℕ) → document_at (will_have w) uri ≡ option_map as_open (open_at w.editor uri)

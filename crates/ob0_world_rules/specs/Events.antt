@@ -45,21 +45,34 @@ nothing_happens w = record { seen = nothing; after = w }
 -- the editor's move
 abbrev pub moved : Ends → Move → EventStep
 moved w idle = nothing_happens w
-moved w (sends e message) = record { seen = sent; after = record w { editor = e; to_server = w.to_server ++ message ∷ [] } }
+moved w (sends e message) =
+    record { seen = sent; after = record w { editor = e; to_server = w.to_server ++ message ∷ [] } }
 
 -- the editor takes the first message that waits for it
 abbrev pub takes : Ends → List ToEditor → EventStep
 takes w [] = nothing_happens w
-takes w (publishes uri version empty ∷ rest) = record { seen = published uri empty; after = record w { to_editor = rest } }
+takes w (publishes uri version empty ∷ rest) =
+    record { seen = published uri empty; after = record w { to_editor = rest } }
 takes w (answers number edits ∷ rest) =
-    record { seen = answered number (has_edits edits); after = record w { editor = keeps w.editor number edits; to_editor = rest } }
+    record {
+      seen = answered number (has_edits edits);
+      after = record w { editor = keeps w.editor number edits; to_editor = rest };
+    }
 
 -- what becomes of answer k
 abbrev pub comes_of : Ends → ℕ → ApplyOutcome → EventStep
 comes_of w k not_held = nothing_happens w
 comes_of w k (drops_answer e) = record { seen = drops k; after = record w { editor = e } }
 comes_of w k (makes e applied message) =
-    record { seen = applies k; after = record w { editor = e; to_server = w.to_server ++ message ∷ []; applied = w.applied ++ applied ∷ [] } }
+    record {
+      seen = applies k;
+      after
+          = record w {
+            editor = e;
+            to_server = w.to_server ++ message ∷ [];
+            applied = w.applied ++ applied ∷ [];
+          };
+    }
 
 -- this is the step
 abbrev pub Is : EventStep → Seen → Ends → Type 0

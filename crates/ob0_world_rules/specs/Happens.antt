@@ -10,21 +10,37 @@ use Rattle.ob0_world_rules.specs.Serving.{Replies}
 abbrev pub ServerTakes : Ends → List ToServer → Seen → Ends → Type 0
 ServerTakes w [] seen new = (seen ≡ nothing) × (new ≡ w)
 ServerTakes w (message ∷ rest) seen new =
-    (said : List ToEditor) × (made : List Made) × Replies w.held message said made × (seen ≡ served (length said))
-    × (new ≡ record w { to_server = rest; held = after_message w.held message; to_editor = w.to_editor ++ said; made = w.made ++ made })
+    (said : List ToEditor)
+    × (made : List Made)
+    × Replies w.held message said made
+    × (seen ≡ served (length said))
+    × (new
+    ≡ record w {
+      to_server = rest;
+      held = after_message w.held message;
+      to_editor = w.to_editor ++ said;
+      made = w.made ++ made;
+    })
 
 -- At w this event shows what is seen, and leaves what is new.
 abbrev pub Happens : Ends → Event → Seen → Ends → Type 0
-Happens w (open_document uri text) seen new = Is (moved w (opens_document w.editor uri text (open_at w.editor uri))) seen new
-Happens w (change_document uri how) seen new = Is (moved w (changes_document w.editor uri how (open_at w.editor uri))) seen new
-Happens w (close_document uri) seen new = Is (moved w (closes_document w.editor uri (open_at w.editor uri))) seen new
-Happens w (ask_about uri ask) seen new = Is (moved w (asks_about w.editor uri ask (open_at w.editor uri))) seen new
+Happens w (open_document uri text) seen new =
+    Is (moved w (opens_document w.editor uri text (open_at w.editor uri))) seen new
+Happens w (change_document uri how) seen new =
+    Is (moved w (changes_document w.editor uri how (open_at w.editor uri))) seen new
+Happens w (close_document uri) seen new =
+    Is (moved w (closes_document w.editor uri (open_at w.editor uri))) seen new
+Happens w (ask_about uri ask) seen new =
+    Is (moved w (asks_about w.editor uri ask (open_at w.editor uri))) seen new
 Happens w serve seen new = ServerTakes w w.to_server seen new
 Happens w take_message seen new = Is (takes w w.to_editor) seen new
-Happens w (apply k) seen new = Is (comes_of w k (applies_answer w.editor k (kept_answer k w.editor.answers))) seen new
-Happens w (discard k) seen new = Is (comes_of w k (discards w.editor k (kept_answer k w.editor.answers))) seen new
+Happens w (apply k) seen new =
+    Is (comes_of w k (applies_answer w.editor k (kept_answer k w.editor.answers))) seen new
+Happens w (discard k) seen new =
+    Is (comes_of w k (discards w.editor k (kept_answer k w.editor.answers))) seen new
 
 -- these events, one after another, lead from one state to the other
 abbrev pub Course : Ends → List Event → Ends → Type 0
 Course w [] new = new ≡ w
-Course w (event ∷ events) new = (seen : Seen) × (between : Ends) × Happens w event seen between × Course between events new
+Course w (event ∷ events) new =
+    (seen : Seen) × (between : Ends) × Happens w event seen between × Course between events new

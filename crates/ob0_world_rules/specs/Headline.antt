@@ -56,7 +56,10 @@ IsMadeFor version text None = ⊥
 
 -- the last publication for each open document was made for its present version and text
 abbrev pub AreUpToDate : Editor → List Made → Type 0
-AreUpToDate e made = (uri : List ℕ) (d : Open) → open_at e uri ≡ Some d → IsMadeFor (pos d.version) d.text (latest uri made)
+AreUpToDate e made =
+    (uri : List ℕ) (d : Open)
+    → open_at e uri ≡ Some d
+    → IsMadeFor (pos d.version) d.text (latest uri made)
 
 -- ---- the headline
 

@@ -16,4 +16,8 @@ WellTypedText text = IsWellTypedModule (utf8 text)
 -- The modules of these texts output the same and end alike, for every input and all bounds on calls and loop turns
 -- (LANGUAGE.md, Runs).
 abbrev pub SameRun : List ℕ → List ℕ → Type 0
-SameRun a b = (before after : Tree Name module_text) → IsTextOf before (utf8 a) → IsTextOf after (utf8 b) → SameRuns before after
+SameRun a b =
+    (before after : Tree Name module_text)
+    → IsTextOf before (utf8 a)
+    → IsTextOf after (utf8 b)
+    → SameRuns before after

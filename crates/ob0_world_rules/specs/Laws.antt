@@ -23,24 +23,43 @@ pub record EditsPreserveRun (unit : Unit) (text : List ℕ) (edits : List Replac
 
 -- edits that answer an ask keep the run of the text
 abbrev pub EditsKeepTheRun : Type 0
-EditsKeepTheRun = (unit : Unit) (text : List ℕ) (ask : Ask) (edits : List Edit) → GivesEdits unit text ask edits → EditsPreserveRun unit text (replacements edits)
+EditsKeepTheRun =
+    (unit : Unit) (text : List ℕ) (ask : Ask) (edits : List Edit)
+    → GivesEdits unit text ask edits
+    → EditsPreserveRun unit text (replacements edits)
 
 -- an ask about a text has one answer
 abbrev pub AnswersAreOne : Type 0
-AnswersAreOne = (unit : Unit) (text : List ℕ) (ask : Ask) (given other : List Replacement) → AnswersFor unit text ask given → AnswersFor unit text ask other → given ≡ other
+AnswersAreOne =
+    (unit : Unit) (text : List ℕ) (ask : Ask) (given other : List Replacement)
+    → AnswersFor unit text ask given
+    → AnswersFor unit text ask other
+    → given ≡ other
 
 -- ---- events
 
 -- an event does one thing: what is seen of it and what it leaves are determined
 abbrev pub OneStep : Type 0
-OneStep = (w : Ends) (event : Event) (seen shown : Seen) (new other : Ends) → Happens w event seen new → Happens w event shown other → (seen ≡ shown) × (new ≡ other)
+OneStep =
+    (w : Ends) (event : Event) (seen shown : Seen) (new other : Ends)
+    → Happens w event seen new
+    → Happens w event shown other
+    → (seen ≡ shown) × (new ≡ other)
 
 -- two courses of one list of events have one end: documents, queues, edits applied and publications
 abbrev pub OneCourse : Type 0
-OneCourse = (w : Ends) (events : List Event) (end other : Ends) → Course w events end → Course w events other → end ≡ other
+OneCourse =
+    (w : Ends) (events : List Event) (end other : Ends)
+    → Course w events end
+    → Course w events other
+    → end ≡ other
 
 abbrev pub InEveryInterleaving : Type 0
-InEveryInterleaving = (unit : Unit) (events : List Event) (w : Ends) → Course (start unit) events w → Holds w
+InEveryInterleaving =
+    (unit : Unit) (events : List Event) (w : Ends) → Course (start unit) events w → Holds w
 
 abbrev pub MadeForTheEditor : Type 0
-MadeForTheEditor = (unit : Unit) (events : List Event) (end : Ends) → Course (start unit) events end → All (WasMadeFor unit events) end.made
+MadeForTheEditor =
+    (unit : Unit) (events : List Event) (end : Ends)
+    → Course (start unit) events end
+    → All (WasMadeFor unit events) end.made

@@ -37,20 +37,30 @@ announced_in_outcome (makes e applied message) = announced_by e message
 
 -- the document that is announced as this event happens
 abbrev pub announced_at_event : Ends → Event → List Announced
-announced_at_event w (open_document uri text) = announced_in_move (opens_document w.editor uri text (open_at w.editor uri))
-announced_at_event w (change_document uri how) = announced_in_move (changes_document w.editor uri how (open_at w.editor uri))
-announced_at_event w (close_document uri) = announced_in_move (closes_document w.editor uri (open_at w.editor uri))
-announced_at_event w (ask_about uri ask) = announced_in_move (asks_about w.editor uri ask (open_at w.editor uri))
+announced_at_event w (open_document uri text) =
+    announced_in_move (opens_document w.editor uri text (open_at w.editor uri))
+announced_at_event w (change_document uri how) =
+    announced_in_move (changes_document w.editor uri how (open_at w.editor uri))
+announced_at_event w (close_document uri) =
+    announced_in_move (closes_document w.editor uri (open_at w.editor uri))
+announced_at_event w (ask_about uri ask) =
+    announced_in_move (asks_about w.editor uri ask (open_at w.editor uri))
 announced_at_event w serve = []
 announced_at_event w take_message = []
-announced_at_event w (apply k) = announced_in_outcome (applies_answer w.editor k (kept_answer k w.editor.answers))
-announced_at_event w (discard k) = announced_in_outcome (discards w.editor k (kept_answer k w.editor.answers))
+announced_at_event w (apply k) =
+    announced_in_outcome (applies_answer w.editor k (kept_answer k w.editor.answers))
+announced_at_event w (discard k) =
+    announced_in_outcome (discards w.editor k (kept_answer k w.editor.answers))
 
 -- in the course of these events exactly these documents are announced, in this order
 abbrev pub AreAnnounced : Ends → List Event → List Announced → Type 0
 AreAnnounced w [] announced = announced ≡ []
 AreAnnounced w (event ∷ events) announced =
-    (seen : Seen) × (between : Ends) × (later : List Announced) × Happens w event seen between × AreAnnounced between events later
+    (seen : Seen)
+    × (between : Ends)
+    × (later : List Announced)
+    × Happens w event seen between
+    × AreAnnounced between events later
     × (announced ≡ announced_at_event w event ++ later)
 
 -- ---- what is published
@@ -87,9 +97,14 @@ pub record AreMadeInOrder (unit : Unit) (events : List Event) (made : List Made)
   pub waiting : List Announced
   pub all : AreAnnounced (start unit) events (announced ++ waiting)
   pub made_of : AreMadeOf made announced
-  pub still_wait : (end : Ends) → Course (start unit) events end → map name_of waiting ≡ named_in end.to_server
+  pub still_wait : (end : Ends)
+      → Course (start unit) events end
+      → map name_of waiting ≡ named_in end.to_server
 
 -- ---- the law
 
 abbrev pub MadeInOrder : Type 0
-MadeInOrder = (unit : Unit) (events : List Event) (end : Ends) → Course (start unit) events end → AreMadeInOrder unit events end.made
+MadeInOrder =
+    (unit : Unit) (events : List Event) (end : Ends)
+    → Course (start unit) events end
+    → AreMadeInOrder unit events end.made

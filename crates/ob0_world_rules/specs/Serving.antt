@@ -20,14 +20,24 @@ cleared uri true = publishes uri None true ∷ []
 cleared uri false = []
 
 -- what is sent for a notification, and the publications with a version among it, when these documents were open before
-abbrev pub RepliesToNotification : OpenDocuments → DocumentEvent → List ToEditor → List Made → Type 0
-RepliesToNotification held (Opened uri version text) sent made = Publishes uri (document_at (after_event held (Opened uri version text)) uri) sent made
-RepliesToNotification held (Changed uri version how) sent made = Publishes uri (document_at (after_event held (Changed uri version how)) uri) sent made
+abbrev pub RepliesToNotification : OpenDocuments
+    → DocumentEvent
+    → List ToEditor
+    → List Made
+    → Type 0
+RepliesToNotification held (Opened uri version text) sent made =
+    Publishes uri (document_at (after_event held (Opened uri version text)) uri) sent made
+RepliesToNotification held (Changed uri version how) sent made =
+    Publishes uri (document_at (after_event held (Changed uri version how)) uri) sent made
 RepliesToNotification held (Lost uri) sent made = (sent ≡ []) × (made ≡ [])
-RepliesToNotification held (Closed uri) sent made = (sent ≡ cleared uri (is_some (document_at held uri))) × (made ≡ [])
+RepliesToNotification held (Closed uri) sent made =
+    (sent ≡ cleared uri (is_some (document_at held uri))) × (made ≡ [])
 
 -- what is sent for a message, and the publications with a version among it
 abbrev pub Replies : OpenDocuments → ToServer → List ToEditor → List Made → Type 0
 Replies held (tells note) sent made = RepliesToNotification held note sent made
 Replies held (asks number uri ask) sent made =
-    (edits : List Replacement) × IsAnswer held.unit (document_at held uri) ask edits × (sent ≡ answers number edits ∷ []) × (made ≡ [])
+    (edits : List Replacement)
+    × IsAnswer held.unit (document_at held uri) ask edits
+    × (sent ≡ answers number edits ∷ [])
+    × (made ≡ [])

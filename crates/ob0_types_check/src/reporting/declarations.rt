@@ -17,7 +17,8 @@ use std::alloc::AllocError;
 
 /// Puts as many parameters after others as these names are.
 fn add_formals(names: &Names, formal: Formal, formals: &mut Vec<Formal>) -> Result<(), AllocError>
-    ensures { OnOk result (formals.new.items ≡ formals.old.items ++ map (λ name. formal) (names.now.first ∷ names.now.more.items)) }
+    ensures { OnOk result (formals.new.items
+        ≡ formals.old.items ++ map (λ name. formal) (names.now.first ∷ names.now.more.items)) }
 {
     formals.push(formal)?;
     for _name in &names.more {
@@ -28,7 +29,9 @@ fn add_formals(names: &Names, formal: Formal, formals: &mut Vec<Formal>) -> Resu
 
 impl<'t> Supposed<'t> {
     fn define_all(&mut self, names: &Names, of: TypeId)
-        ensures { so_far_in self.new ≡ define_all (so_far_in self.old) (a_variable of) (names.now.first ∷ names.now.more.items) }
+        ensures { so_far_in self.new
+            ≡ define_all (so_far_in self.old) (a_variable of)
+            (names.now.first ∷ names.now.more.items) }
     {
         self.define(names.first, Meaning::Variable(of));
         for name in &names.more {
@@ -41,7 +44,9 @@ impl<'t> Reporter<'t> {
     /// Constants, types, variables, procedures, and then the statements.
     #[cycle(blocks)]
     pub(crate) fn block(&mut self, b: &Block) -> Result<(), AllocError>
-        ensures { OnOk result (ReportsAfter self.old.faults.items self.new.faults.items (so_far_in self.new.supposed) (reported_block (so_far_in self.old.supposed) (block_of b.now))) }
+        ensures { OnOk result (ReportsAfter self.old.faults.items self.new.faults.items
+            (so_far_in self.new.supposed)
+            (reported_block (so_far_in self.old.supposed) (block_of b.now))) }
     {
         self.constants_of(&b.constants)?;
         self.types_of(&b.types)?;
@@ -52,7 +57,9 @@ impl<'t> Reporter<'t> {
 
     #[cycle(blocks)]
     fn procedures(&mut self, procedures: &Vec<Procedure>) -> Result<(), AllocError>
-        ensures { OnOk result (ReportsAfter self.old.faults.items self.new.faults.items (so_far_in self.new.supposed) (reported_procedures (so_far_in self.old.supposed) (items_of procedure_of procedures.now.items))) }
+        ensures { OnOk result (ReportsAfter self.old.faults.items self.new.faults.items
+            (so_far_in self.new.supposed) (reported_procedures (so_far_in self.old.supposed)
+            (items_of procedure_of procedures.now.items))) }
     {
         for p in procedures {
             self.procedure(p)?;
@@ -63,7 +70,9 @@ impl<'t> Reporter<'t> {
     /// A procedure is known after its heading, and so in its own body.
     #[cycle(blocks)]
     fn procedure(&mut self, p: &Procedure) -> Result<(), AllocError>
-        ensures { OnOk result (ReportsAfter self.old.faults.items self.new.faults.items (so_far_in self.new.supposed) (reported_procedure (so_far_in self.old.supposed) (procedure_of p.now))) }
+        ensures { OnOk result (ReportsAfter self.old.faults.items self.new.faults.items
+            (so_far_in self.new.supposed)
+            (reported_procedure (so_far_in self.old.supposed) (procedure_of p.now))) }
     {
         let formals = self.heading(&p.formals)?;
         self.supposed.define(p.name, Meaning::Procedure(formals));
@@ -71,7 +80,9 @@ impl<'t> Reporter<'t> {
     }
 
     fn body(&mut self, body: &Option<Vec<Statement>>) -> Result<(), AllocError>
-        ensures { OnOk result (ReportsAfter self.old.faults.items self.new.faults.items (so_far_in self.new.supposed) (reported_body (so_far_in self.old.supposed) (body_of body.now))) }
+        ensures { OnOk result (ReportsAfter self.old.faults.items self.new.faults.items
+            (so_far_in self.new.supposed)
+            (reported_body (so_far_in self.old.supposed) (body_of body.now))) }
     {
         match body {
             None => Ok(()),
@@ -80,7 +91,10 @@ impl<'t> Reporter<'t> {
     }
 
     fn heading(&mut self, sections: &Option<Vec<Section>>) -> Result<Vec<Formal>, AllocError>
-        ensures { IfOk result (λ formals. ReportsAfter self.old.faults.items self.new.faults.items (heading_in self.new.supposed formals.items) (reported_sections (record { formals = []; behind = so_far_in self.old.supposed }) (formal_sections (formals_of sections.now)))) }
+        ensures { IfOk result (λ formals. ReportsAfter self.old.faults.items self.new.faults.items
+            (heading_in self.new.supposed formals.items) (reported_sections
+            (record { formals = []; behind = so_far_in self.old.supposed })
+            (formal_sections (formals_of sections.now)))) }
     {
         let mut formals = Vec::new(self.alloc);
         self.sections_of(sections, &mut formals)?;
@@ -92,7 +106,10 @@ impl<'t> Reporter<'t> {
         sections: &Option<Vec<Section>>,
         formals: &mut Vec<Formal>,
     ) -> Result<(), AllocError>
-        ensures { OnOk result (ReportsAfter self.old.faults.items self.new.faults.items (heading_in self.new.supposed formals.new.items) (reported_sections (heading_in self.old.supposed formals.old.items) (formal_sections (formals_of sections.now)))) }
+        ensures { OnOk result (ReportsAfter self.old.faults.items self.new.faults.items
+            (heading_in self.new.supposed formals.new.items) (reported_sections
+            (heading_in self.old.supposed formals.old.items)
+            (formal_sections (formals_of sections.now)))) }
     {
         match sections {
             None => Ok(()),
@@ -105,7 +122,10 @@ impl<'t> Reporter<'t> {
         sections: &[Section],
         formals: &mut Vec<Formal>,
     ) -> Result<(), AllocError>
-        ensures { OnOk result (ReportsAfter self.old.faults.items self.new.faults.items (heading_in self.new.supposed formals.new.items) (reported_sections (heading_in self.old.supposed formals.old.items) (items_of further_section_of sections.now))) }
+        ensures { OnOk result (ReportsAfter self.old.faults.items self.new.faults.items
+            (heading_in self.new.supposed formals.new.items) (reported_sections
+            (heading_in self.old.supposed formals.old.items)
+            (items_of further_section_of sections.now))) }
     {
         for s in sections {
             self.section(s, formals)?;
@@ -114,7 +134,9 @@ impl<'t> Reporter<'t> {
     }
 
     fn section(&mut self, s: &Section, formals: &mut Vec<Formal>) -> Result<(), AllocError>
-        ensures { OnOk result (ReportsAfter self.old.faults.items self.new.faults.items (heading_in self.new.supposed formals.new.items) (reported_section (heading_in self.old.supposed formals.old.items) (further_section_of s.now))) }
+        ensures { OnOk result (ReportsAfter self.old.faults.items self.new.faults.items
+            (heading_in self.new.supposed formals.new.items) (reported_section
+            (heading_in self.old.supposed formals.old.items) (further_section_of s.now))) }
     {
         let of = self.written_type(&s.written)?;
         let formal = Formal {
@@ -127,7 +149,9 @@ impl<'t> Reporter<'t> {
     }
 
     fn constants_of(&mut self, section: &Option<Vec<Constant>>) -> Result<(), AllocError>
-        ensures { OnOk result (ReportsAfter self.old.faults.items self.new.faults.items (so_far_in self.new.supposed) (reported_constants (so_far_in self.old.supposed) (section_constants (constants_of section.now)))) }
+        ensures { OnOk result (ReportsAfter self.old.faults.items self.new.faults.items
+            (so_far_in self.new.supposed) (reported_constants (so_far_in self.old.supposed)
+            (section_constants (constants_of section.now)))) }
     {
         match section {
             None => Ok(()),
@@ -136,7 +160,9 @@ impl<'t> Reporter<'t> {
     }
 
     fn constants(&mut self, constants: &[Constant]) -> Result<(), AllocError>
-        ensures { OnOk result (ReportsAfter self.old.faults.items self.new.faults.items (so_far_in self.new.supposed) (reported_constants (so_far_in self.old.supposed) (items_of constant_of constants.now))) }
+        ensures { OnOk result (ReportsAfter self.old.faults.items self.new.faults.items
+            (so_far_in self.new.supposed) (reported_constants (so_far_in self.old.supposed)
+            (items_of constant_of constants.now))) }
     {
         for c in constants {
             self.constant(c)?;
@@ -145,7 +171,9 @@ impl<'t> Reporter<'t> {
     }
 
     fn constant(&mut self, c: &Constant) -> Result<(), AllocError>
-        ensures { OnOk result (ReportsAfter self.old.faults.items self.new.faults.items (so_far_in self.new.supposed) (constant_declared (so_far_in self.old.supposed) (constant_of c.now))) }
+        ensures { OnOk result (ReportsAfter self.old.faults.items self.new.faults.items
+            (so_far_in self.new.supposed)
+            (constant_declared (so_far_in self.old.supposed) (constant_of c.now))) }
     {
         let value = self.supposed.constant_value(&mut self.faults, &c.value)?;
         self.supposed.define(c.name, Meaning::Constant(value));
@@ -153,7 +181,9 @@ impl<'t> Reporter<'t> {
     }
 
     fn types_of(&mut self, section: &Option<Vec<TypeDeclaration>>) -> Result<(), AllocError>
-        ensures { OnOk result (ReportsAfter self.old.faults.items self.new.faults.items (so_far_in self.new.supposed) (reported_types (so_far_in self.old.supposed) (section_types (types_of section.now)))) }
+        ensures { OnOk result (ReportsAfter self.old.faults.items self.new.faults.items
+            (so_far_in self.new.supposed)
+            (reported_types (so_far_in self.old.supposed) (section_types (types_of section.now)))) }
     {
         match section {
             None => Ok(()),
@@ -162,7 +192,9 @@ impl<'t> Reporter<'t> {
     }
 
     fn types(&mut self, types: &[TypeDeclaration]) -> Result<(), AllocError>
-        ensures { OnOk result (ReportsAfter self.old.faults.items self.new.faults.items (so_far_in self.new.supposed) (reported_types (so_far_in self.old.supposed) (items_of type_declaration_of types.now))) }
+        ensures { OnOk result (ReportsAfter self.old.faults.items self.new.faults.items
+            (so_far_in self.new.supposed) (reported_types (so_far_in self.old.supposed)
+            (items_of type_declaration_of types.now))) }
     {
         for d in types {
             self.type_declaration(d)?;
@@ -171,7 +203,9 @@ impl<'t> Reporter<'t> {
     }
 
     fn type_declaration(&mut self, d: &TypeDeclaration) -> Result<(), AllocError>
-        ensures { OnOk result (ReportsAfter self.old.faults.items self.new.faults.items (so_far_in self.new.supposed) (type_declared (so_far_in self.old.supposed) (type_declaration_of d.now))) }
+        ensures { OnOk result (ReportsAfter self.old.faults.items self.new.faults.items
+            (so_far_in self.new.supposed)
+            (type_declared (so_far_in self.old.supposed) (type_declaration_of d.now))) }
     {
         let of = self.written_type(&d.written)?;
         self.supposed.define(d.name, Meaning::Named(of));
@@ -179,7 +213,9 @@ impl<'t> Reporter<'t> {
     }
 
     fn variables_of(&mut self, section: &Option<Vec<Variables>>) -> Result<(), AllocError>
-        ensures { OnOk result (ReportsAfter self.old.faults.items self.new.faults.items (so_far_in self.new.supposed) (reported_variables (so_far_in self.old.supposed) (section_variables (variables_of section.now)))) }
+        ensures { OnOk result (ReportsAfter self.old.faults.items self.new.faults.items
+            (so_far_in self.new.supposed) (reported_variables (so_far_in self.old.supposed)
+            (section_variables (variables_of section.now)))) }
     {
         match section {
             None => Ok(()),
@@ -188,7 +224,9 @@ impl<'t> Reporter<'t> {
     }
 
     fn variables(&mut self, variables: &[Variables]) -> Result<(), AllocError>
-        ensures { OnOk result (ReportsAfter self.old.faults.items self.new.faults.items (so_far_in self.new.supposed) (reported_variables (so_far_in self.old.supposed) (items_of variable_of variables.now))) }
+        ensures { OnOk result (ReportsAfter self.old.faults.items self.new.faults.items
+            (so_far_in self.new.supposed) (reported_variables (so_far_in self.old.supposed)
+            (items_of variable_of variables.now))) }
     {
         for v in variables {
             self.variables_of_one_type(v)?;
@@ -197,7 +235,9 @@ impl<'t> Reporter<'t> {
     }
 
     fn variables_of_one_type(&mut self, v: &Variables) -> Result<(), AllocError>
-        ensures { OnOk result (ReportsAfter self.old.faults.items self.new.faults.items (so_far_in self.new.supposed) (variables_declared (so_far_in self.old.supposed) (variable_of v.now))) }
+        ensures { OnOk result (ReportsAfter self.old.faults.items self.new.faults.items
+            (so_far_in self.new.supposed)
+            (variables_declared (so_far_in self.old.supposed) (variable_of v.now))) }
     {
         let of = self.written_type(&v.written)?;
         self.supposed.define_all(&v.names, of);

@@ -122,7 +122,8 @@ fn given(of: TypeId, wanted: TypeId) -> TypeId
 impl Operand {
     /// The operation on this whose sign precedes it.
     fn after_sign(self, of: TypeId, value: Option<Scalar>) -> Operand
-        ensures { operand_of result ≡ after_sign of (option_map scalar_value value) (operand_of self) }
+        ensures { operand_of result
+            ≡ after_sign of (option_map scalar_value value) (operand_of self) }
     {
         Operand {
             of,
@@ -135,7 +136,8 @@ impl Operand {
 
     /// The operation on this and what is to the right.
     fn with(self, right: Operand, of: TypeId, value: Option<Scalar>) -> Operand
-        ensures { operand_of result ≡ joined of (option_map scalar_value value) (operand_of self) (operand_of right) }
+        ensures { operand_of result
+            ≡ joined of (option_map scalar_value value) (operand_of self) (operand_of right) }
     {
         Operand {
             of,
@@ -168,7 +170,8 @@ impl<'t> Supposed<'t> {
         code: Code,
         operand: Operand,
     ) -> Result<(), AllocError>
-        ensures { OnOk result (faults.new.items ≡ faults.old.items ++ at_operand (facts_in self.now false) code (operand_of operand)) }
+        ensures { OnOk result (faults.new.items
+            ≡ faults.old.items ++ at_operand (facts_in self.now false) code (operand_of operand)) }
     {
         self.report(faults, code, operand.first, operand.last)
     }
@@ -180,7 +183,8 @@ impl<'t> Supposed<'t> {
         wanted: TypeId,
         operand: Operand,
     ) -> Result<TypeId, AllocError>
-        ensures { IfOk result (λ t. ReportsAfter faults.old.items faults.new.items t (required (facts_in self.now false) wanted (operand_of operand))) }
+        ensures { IfOk result (λ t. ReportsAfter faults.old.items faults.new.items t
+            (required (facts_in self.now false) wanted (operand_of operand))) }
     {
         if !fits(operand.of, wanted) {
             self.report_operand(faults, Code::TypeMismatch, operand)?;
@@ -197,7 +201,8 @@ impl<'t> Supposed<'t> {
         left: Operand,
         right: Operand,
     ) -> Result<TypeId, AllocError>
-        ensures { IfOk result (λ t. ReportsAfter faults.old.items faults.new.items t (required_both (facts_in self.now false) wanted (operand_of left) (operand_of right))) }
+        ensures { IfOk result (λ t. ReportsAfter faults.old.items faults.new.items t
+            (required_both (facts_in self.now false) wanted (operand_of left) (operand_of right))) }
     {
         if !fits(left.of, wanted) {
             self.report_operand(faults, Code::TypeMismatch, left)?;
@@ -219,7 +224,8 @@ impl<'t> Supposed<'t> {
         e: &Expression,
         only_constants: bool,
     ) -> Result<Operand, AllocError>
-        ensures { IfOk result (λ o. ReportsAfter faults.old.items faults.new.items (operand_of o) (reported_expression (facts_in self.now only_constants) (expression_of e.now))) }
+        ensures { IfOk result (λ o. ReportsAfter faults.old.items faults.new.items (operand_of o)
+            (reported_expression (facts_in self.now only_constants) (expression_of e.now))) }
     {
         let left = self.simple(faults, &e.left, only_constants)?;
         match &e.compared {
@@ -239,7 +245,9 @@ impl<'t> Supposed<'t> {
         left: Operand,
         right: Operand,
     ) -> Result<Operand, AllocError>
-        ensures { IfOk result (λ o. ReportsAfter faults.old.items faults.new.items (operand_of o) (relate_operands (facts_in self.now false) relation (operand_of left) (operand_of right))) }
+        ensures { IfOk result (λ o. ReportsAfter faults.old.items faults.new.items (operand_of o)
+            (relate_operands (facts_in self.now false) relation (operand_of left)
+            (operand_of right))) }
     {
         let wanted = required_by_relation(relation, left.of);
         let of = self.require_both(faults, wanted, left, right)?;
@@ -254,7 +262,8 @@ impl<'t> Supposed<'t> {
         s: &Simple,
         only_constants: bool,
     ) -> Result<Operand, AllocError>
-        ensures { IfOk result (λ o. ReportsAfter faults.old.items faults.new.items (operand_of o) (reported_simple (facts_in self.now only_constants) (simple_of s.now))) }
+        ensures { IfOk result (λ o. ReportsAfter faults.old.items faults.new.items (operand_of o)
+            (reported_simple (facts_in self.now only_constants) (simple_of s.now))) }
     {
         let first = self.term(faults, &s.first, only_constants)?;
         let mut so_far = self.sign(faults, s.sign, first)?;
@@ -272,7 +281,9 @@ impl<'t> Supposed<'t> {
         left: Operand,
         right: Operand,
     ) -> Result<Operand, AllocError>
-        ensures { IfOk result (λ o. ReportsAfter faults.old.items faults.new.items (operand_of o) (add_operands (facts_in self.now false) operator (operand_of left) (operand_of right))) }
+        ensures { IfOk result (λ o. ReportsAfter faults.old.items faults.new.items (operand_of o)
+            (add_operands (facts_in self.now false) operator (operand_of left)
+            (operand_of right))) }
     {
         let of = self.require_both(faults, required_by_add(operator), left, right)?;
         let value = operators::value_of_sum(operator, left.value, right.value);
@@ -285,7 +296,8 @@ impl<'t> Supposed<'t> {
         sign: Option<Sign>,
         operand: Operand,
     ) -> Result<Operand, AllocError>
-        ensures { IfOk result (λ o. ReportsAfter faults.old.items faults.new.items (operand_of o) (sign_operand (facts_in self.now false) sign (operand_of operand))) }
+        ensures { IfOk result (λ o. ReportsAfter faults.old.items faults.new.items (operand_of o)
+            (sign_operand (facts_in self.now false) sign (operand_of operand))) }
     {
         match sign {
             None => Ok(operand),
@@ -304,7 +316,8 @@ impl<'t> Supposed<'t> {
         t: &Term,
         only_constants: bool,
     ) -> Result<Operand, AllocError>
-        ensures { IfOk result (λ o. ReportsAfter faults.old.items faults.new.items (operand_of o) (reported_term (facts_in self.now only_constants) (term_of t.now))) }
+        ensures { IfOk result (λ o. ReportsAfter faults.old.items faults.new.items (operand_of o)
+            (reported_term (facts_in self.now only_constants) (term_of t.now))) }
     {
         let mut so_far = self.factor(faults, &t.first, only_constants)?;
         for multiplier in &t.more {
@@ -321,7 +334,9 @@ impl<'t> Supposed<'t> {
         left: Operand,
         right: Operand,
     ) -> Result<Operand, AllocError>
-        ensures { IfOk result (λ o. ReportsAfter faults.old.items faults.new.items (operand_of o) (multiply_operands (facts_in self.now false) operator (operand_of left) (operand_of right))) }
+        ensures { IfOk result (λ o. ReportsAfter faults.old.items faults.new.items (operand_of o)
+            (multiply_operands (facts_in self.now false) operator (operand_of left)
+            (operand_of right))) }
     {
         let of = self.require_both(faults, required_by_multiply(operator), left, right)?;
         let value = operators::value_of_product(operator, left.value, right.value);
@@ -335,7 +350,8 @@ impl<'t> Supposed<'t> {
         f: &Factor,
         only_constants: bool,
     ) -> Result<Operand, AllocError>
-        ensures { IfOk result (λ o. ReportsAfter faults.old.items faults.new.items (operand_of o) (reported_factor (facts_in self.now only_constants) (factor_of f.now))) }
+        ensures { IfOk result (λ o. ReportsAfter faults.old.items faults.new.items (operand_of o)
+            (reported_factor (facts_in self.now only_constants) (factor_of f.now))) }
     {
         match f {
             Factor::Designator(d) => {
@@ -380,7 +396,8 @@ impl<'t> Supposed<'t> {
     }
 
     fn complement(&self, faults: &mut Vec<Fault>, operand: Operand) -> Result<Operand, AllocError>
-        ensures { IfOk result (λ o. ReportsAfter faults.old.items faults.new.items (operand_of o) (complement_operand (facts_in self.now false) (operand_of operand))) }
+        ensures { IfOk result (λ o. ReportsAfter faults.old.items faults.new.items (operand_of o)
+            (complement_operand (facts_in self.now false) (operand_of operand))) }
     {
         let of = self.require(faults, TypeId::Boolean, operand)?;
         Ok(operand.after_sign(of, operators::complement(operand.value)))
@@ -393,7 +410,8 @@ impl<'t> Supposed<'t> {
         token: usize,
         only_constants: bool,
     ) -> Result<Operand, AllocError>
-        ensures { IfOk result (λ o. ReportsAfter faults.old.items faults.new.items (operand_of o) (named (facts_in self.now only_constants) token)) }
+        ensures { IfOk result (λ o. ReportsAfter faults.old.items faults.new.items (operand_of o)
+            (named (facts_in self.now only_constants) token)) }
     {
         let unknown = Operand {
             of: TypeId::Unknown,
@@ -434,7 +452,9 @@ impl<'t> Supposed<'t> {
         d: &Designator,
         only_constants: bool,
     ) -> Result<Operand, AllocError>
-        ensures { IfOk result (λ o. ReportsAfter faults.old.items faults.new.items (operand_of o) (reported_selectors (facts_in self.now only_constants) (operand_of base) (selectors_in d.now))) }
+        ensures { IfOk result (λ o. ReportsAfter faults.old.items faults.new.items (operand_of o)
+            (reported_selectors (facts_in self.now only_constants) (operand_of base)
+            (selectors_in d.now))) }
     {
         let mut so_far = base;
         for selector in &d.selectors {
@@ -451,7 +471,9 @@ impl<'t> Supposed<'t> {
         selector: &Selector,
         only_constants: bool,
     ) -> Result<Operand, AllocError>
-        ensures { IfOk result (λ o. ReportsAfter faults.old.items faults.new.items (operand_of o) (reported_selector (facts_in self.now only_constants) (operand_of base) (selector_of selector.now))) }
+        ensures { IfOk result (λ o. ReportsAfter faults.old.items faults.new.items (operand_of o)
+            (reported_selector (facts_in self.now only_constants) (operand_of base)
+            (selector_of selector.now))) }
     {
         match selector {
             Selector::Field(name) => self.select_field(faults, base, *name),
@@ -469,7 +491,8 @@ impl<'t> Supposed<'t> {
         base: Operand,
         index: Operand,
     ) -> Result<Operand, AllocError>
-        ensures { IfOk result (λ o. ReportsAfter faults.old.items faults.new.items (operand_of o) (element_selected (facts_in self.now false) (operand_of base) (operand_of index))) }
+        ensures { IfOk result (λ o. ReportsAfter faults.old.items faults.new.items (operand_of o)
+            (element_selected (facts_in self.now false) (operand_of base) (operand_of index))) }
     {
         let index_type = self.require(faults, TypeId::Integer, index)?;
         let of = self.element(faults, base.of, index, index_type)?;
@@ -483,7 +506,9 @@ impl<'t> Supposed<'t> {
         index: Operand,
         index_type: TypeId,
     ) -> Result<TypeId, AllocError>
-        ensures { IfOk result (λ t. ReportsAfter faults.old.items faults.new.items t (element_in (facts_in self.now false) (operand_of index) index_type (form_in self.now.composites.items base))) }
+        ensures { IfOk result (λ t. ReportsAfter faults.old.items faults.new.items t
+            (element_in (facts_in self.now false) (operand_of index) index_type
+            (form_in self.now.composites.items base))) }
     {
         match base {
             TypeId::Array(place) => {
@@ -501,7 +526,9 @@ impl<'t> Supposed<'t> {
     }
 
     fn no_array(&self, faults: &mut Vec<Fault>, index: Operand) -> Result<TypeId, AllocError>
-        ensures { IfOk result (λ t. ReportsAfter faults.old.items faults.new.items t (element_in (facts_in self.now false) (operand_of index) type.Integer (form_in [] type.Integer))) }
+        ensures { IfOk result (λ t. ReportsAfter faults.old.items faults.new.items t
+            (element_in (facts_in self.now false) (operand_of index) type.Integer
+            (form_in [] type.Integer))) }
     {
         self.report_at(faults, Code::NotArray, index.first.saturating_sub(1))?;
         Ok(TypeId::Unknown)
@@ -513,7 +540,8 @@ impl<'t> Supposed<'t> {
         base: Operand,
         name: usize,
     ) -> Result<Operand, AllocError>
-        ensures { IfOk result (λ o. ReportsAfter faults.old.items faults.new.items (operand_of o) (field_selected (facts_in self.now false) (operand_of base) name)) }
+        ensures { IfOk result (λ o. ReportsAfter faults.old.items faults.new.items (operand_of o)
+            (field_selected (facts_in self.now false) (operand_of base) name)) }
     {
         let of = self.field_type(faults, base.of, name)?;
         Ok(base.part(of, name))
@@ -525,7 +553,8 @@ impl<'t> Supposed<'t> {
         base: TypeId,
         name: usize,
     ) -> Result<TypeId, AllocError>
-        ensures { IfOk result (λ t. ReportsAfter faults.old.items faults.new.items t (field_in (facts_in self.now false) name (form_in self.now.composites.items base))) }
+        ensures { IfOk result (λ t. ReportsAfter faults.old.items faults.new.items t
+            (field_in (facts_in self.now false) name (form_in self.now.composites.items base))) }
     {
         match base {
             TypeId::Record(place) => match self.field(place, self.text(name)) {
@@ -543,7 +572,8 @@ impl<'t> Supposed<'t> {
     }
 
     fn no_record(&self, faults: &mut Vec<Fault>, name: usize) -> Result<TypeId, AllocError>
-        ensures { IfOk result (λ t. ReportsAfter faults.old.items faults.new.items t (field_in (facts_in self.now false) name (form_in [] type.Integer))) }
+        ensures { IfOk result (λ t. ReportsAfter faults.old.items faults.new.items t
+            (field_in (facts_in self.now false) name (form_in [] type.Integer))) }
     {
         self.report_at(faults, Code::NotRecord, name.saturating_sub(1))?;
         Ok(TypeId::Unknown)
@@ -555,7 +585,9 @@ impl<'t> Supposed<'t> {
         faults: &mut Vec<Fault>,
         e: &Expression,
     ) -> Result<Option<Scalar>, AllocError>
-        ensures { IfOk result (λ v. ReportsAfter faults.old.items faults.new.items (option_map scalar_value v) (reported_constant (facts_in self.now true) (expression_of e.now))) }
+        ensures { IfOk result (λ v. ReportsAfter faults.old.items faults.new.items
+            (option_map scalar_value v)
+            (reported_constant (facts_in self.now true) (expression_of e.now))) }
     {
         let constant = self.expression(faults, e, true)?;
         self.evaluated(faults, constant)
@@ -567,7 +599,9 @@ impl<'t> Supposed<'t> {
         faults: &mut Vec<Fault>,
         constant: Operand,
     ) -> Result<Option<Scalar>, AllocError>
-        ensures { IfOk result (λ v. ReportsAfter faults.old.items faults.new.items (option_map scalar_value v) (evaluated (facts_in self.now false) (operand_of constant))) }
+        ensures { IfOk result (λ v. ReportsAfter faults.old.items faults.new.items
+            (option_map scalar_value v)
+            (evaluated (facts_in self.now false) (operand_of constant))) }
     {
         if same_type(constant.of, TypeId::Unknown) {
             return Ok(None);
@@ -581,7 +615,8 @@ impl<'t> Supposed<'t> {
 
 /// A constant's name.
 fn constant(value: Option<Scalar>, token: usize) -> Operand
-    ensures { operand_of result ≡ a_constant_name (types_in []) (option_map scalar_value value) token }
+    ensures { operand_of result
+        ≡ a_constant_name (types_in []) (option_map scalar_value value) token }
 {
     Operand {
         of: constant_type(value),

@@ -23,7 +23,9 @@ impl<'t> Supposed<'t> {
         faults: &mut Vec<Fault>,
         statements: &Vec<Statement>,
     ) -> Result<(), AllocError>
-        ensures { OnOk result (faults.new.items ≡ faults.old.items ++ reported_sequence (facts_in self.now false) (sequence_in statements.now)) }
+        ensures { OnOk result (faults.new.items
+            ≡ faults.old.items
+            ++ reported_sequence (facts_in self.now false) (sequence_in statements.now)) }
     {
         for s in statements {
             self.statement(faults, s)?;
@@ -33,7 +35,9 @@ impl<'t> Supposed<'t> {
 
     #[cycle(statements)]
     fn statement(&self, faults: &mut Vec<Fault>, s: &Statement) -> Result<(), AllocError>
-        ensures { OnOk result (faults.new.items ≡ faults.old.items ++ reported_statement (facts_in self.now false) (statement_of s.now)) }
+        ensures { OnOk result (faults.new.items
+            ≡ faults.old.items
+            ++ reported_statement (facts_in self.now false) (statement_of s.now)) }
     {
         match s {
             Statement::Empty => Ok(()),
@@ -53,7 +57,8 @@ impl<'t> Supposed<'t> {
 
     #[cycle(statements)]
     fn branches(&self, faults: &mut Vec<Fault>, i: &If) -> Result<(), AllocError>
-        ensures { OnOk result (faults.new.items ≡ faults.old.items ++ reported_statement (facts_in self.now false) (if_of i.now)) }
+        ensures { OnOk result (faults.new.items
+            ≡ faults.old.items ++ reported_statement (facts_in self.now false) (if_of i.now)) }
     {
         self.condition(faults, &i.condition)?;
         self.sequence(faults, &i.then)?;
@@ -66,7 +71,8 @@ impl<'t> Supposed<'t> {
 
     #[cycle(statements)]
     fn elsifs(&self, faults: &mut Vec<Fault>, parts: &Vec<Elsif>) -> Result<(), AllocError>
-        ensures { OnOk result (faults.new.items ≡ faults.old.items ++ reported_elsifs (facts_in self.now false) (elsifs_in parts.now)) }
+        ensures { OnOk result (faults.new.items
+            ≡ faults.old.items ++ reported_elsifs (facts_in self.now false) (elsifs_in parts.now)) }
     {
         for part in parts {
             self.condition(faults, &part.condition)?;
@@ -76,7 +82,9 @@ impl<'t> Supposed<'t> {
     }
 
     fn condition(&self, faults: &mut Vec<Fault>, e: &Expression) -> Result<(), AllocError>
-        ensures { OnOk result (faults.new.items ≡ faults.old.items ++ reported_condition (facts_in self.now false) (expression_of e.now)) }
+        ensures { OnOk result (faults.new.items
+            ≡ faults.old.items
+            ++ reported_condition (facts_in self.now false) (expression_of e.now)) }
     {
         self.right_side(faults, TypeId::Boolean, e)
     }
@@ -88,7 +96,9 @@ impl<'t> Supposed<'t> {
         wanted: TypeId,
         e: &Expression,
     ) -> Result<(), AllocError>
-        ensures { OnOk result (faults.new.items ≡ faults.old.items ++ reported_required (facts_in self.now false) wanted (expression_of e.now)) }
+        ensures { OnOk result (faults.new.items
+            ≡ faults.old.items
+            ++ reported_required (facts_in self.now false) wanted (expression_of e.now)) }
     {
         let operand = self.expression(faults, e, false)?;
         self.require(faults, wanted, operand)?;
@@ -97,7 +107,9 @@ impl<'t> Supposed<'t> {
 
     /// After a target with a fault nothing is required of the right side but what its own parts are asked.
     fn assignment(&self, faults: &mut Vec<Fault>, a: &Assignment) -> Result<(), AllocError>
-        ensures { OnOk result (faults.new.items ≡ faults.old.items ++ reported_statement (facts_in self.now false) (assignment_of a.now)) }
+        ensures { OnOk result (faults.new.items
+            ≡ faults.old.items
+            ++ reported_statement (facts_in self.now false) (assignment_of a.now)) }
     {
         let token = a.target.name;
         let base = Operand {
@@ -113,7 +125,8 @@ impl<'t> Supposed<'t> {
 
     /// The type of the variable that is assigned to.
     fn target_type(&self, faults: &mut Vec<Fault>, token: usize) -> Result<TypeId, AllocError>
-        ensures { IfOk result (λ t. ReportsAfter faults.old.items faults.new.items t (target_meaning (facts_in self.now false) token)) }
+        ensures { IfOk result (λ t. ReportsAfter faults.old.items faults.new.items t
+            (target_meaning (facts_in self.now false) token)) }
     {
         match self.meaning(token) {
             None => Ok(TypeId::Unknown),
@@ -136,7 +149,8 @@ impl<'t> Supposed<'t> {
     }
 
     fn call(&self, faults: &mut Vec<Fault>, call: &Call) -> Result<(), AllocError>
-        ensures { OnOk result (faults.new.items ≡ faults.old.items ++ reported_statement (facts_in self.now false) (call_of call.now)) }
+        ensures { OnOk result (faults.new.items
+            ≡ faults.old.items ++ reported_statement (facts_in self.now false) (call_of call.now)) }
     {
         match &call.arguments {
             None => self.report_call(faults, call.procedure, &[]),
@@ -151,7 +165,10 @@ impl<'t> Supposed<'t> {
         procedure: usize,
         arguments: &[Expression],
     ) -> Result<(), AllocError>
-        ensures { OnOk result (faults.new.items ≡ faults.old.items ++ reported_call (facts_in self.now false) procedure (map expression_of arguments.now)) }
+        ensures { OnOk result (faults.new.items
+            ≡ faults.old.items
+            ++ reported_call (facts_in self.now false) procedure
+            (map expression_of arguments.now)) }
     {
         match self.meaning(procedure) {
             None => self.parts(faults, arguments),
@@ -172,7 +189,10 @@ impl<'t> Supposed<'t> {
         procedure: usize,
         arguments: &[Expression],
     ) -> Result<(), AllocError>
-        ensures { OnOk result (faults.new.items ≡ faults.old.items ++ (at_token (facts_in self.now false) code.WrongKind procedure ++ reported_parts (facts_in self.now false) (map expression_of arguments.now))) }
+        ensures { OnOk result (faults.new.items
+            ≡ faults.old.items
+            ++ (at_token (facts_in self.now false) code.WrongKind procedure
+            ++ reported_parts (facts_in self.now false) (map expression_of arguments.now))) }
     {
         self.report_at(faults, Code::WrongKind, procedure)?;
         self.parts(faults, arguments)
@@ -180,7 +200,9 @@ impl<'t> Supposed<'t> {
 
     /// Arguments of any type.
     fn parts(&self, faults: &mut Vec<Fault>, arguments: &[Expression]) -> Result<(), AllocError>
-        ensures { OnOk result (faults.new.items ≡ faults.old.items ++ reported_parts (facts_in self.now false) (map expression_of arguments.now)) }
+        ensures { OnOk result (faults.new.items
+            ≡ faults.old.items
+            ++ reported_parts (facts_in self.now false) (map expression_of arguments.now)) }
     {
         for e in arguments {
             self.expression(faults, e, false)?;
@@ -196,7 +218,10 @@ impl<'t> Supposed<'t> {
         formals: &[Formal],
         arguments: &[Expression],
     ) -> Result<(), AllocError>
-        ensures { OnOk result (faults.new.items ≡ faults.old.items ++ call_by_meaning (facts_in self.now false) procedure (Some (a_procedure (map formal_of formals.now))) (map expression_of arguments.now)) }
+        ensures { OnOk result (faults.new.items
+            ≡ faults.old.items
+            ++ call_by_meaning (facts_in self.now false) procedure
+            (Some (a_procedure (map formal_of formals.now))) (map expression_of arguments.now)) }
     {
         if formals.len() != arguments.len() {
             return self.report_at(faults, Code::ArgumentCount, procedure);
@@ -214,7 +239,10 @@ impl<'t> Supposed<'t> {
         formal: &Formal,
         e: &Expression,
     ) -> Result<(), AllocError>
-        ensures { OnOk result (faults.new.items ≡ faults.old.items ++ reported_argument (facts_in self.now false) (formal_of formal.now) (expression_of e.now)) }
+        ensures { OnOk result (faults.new.items
+            ≡ faults.old.items
+            ++ reported_argument (facts_in self.now false) (formal_of formal.now)
+            (expression_of e.now)) }
     {
         let operand = self.expression(faults, e, false)?;
         self.pass(faults, formal, operand)?;
@@ -227,7 +255,8 @@ impl<'t> Supposed<'t> {
         formal: &Formal,
         operand: Operand,
     ) -> Result<TypeId, AllocError>
-        ensures { IfOk result (λ t. ReportsAfter faults.old.items faults.new.items t (passed (facts_in self.now false) (formal_of formal.now) (operand_of operand))) }
+        ensures { IfOk result (λ t. ReportsAfter faults.old.items faults.new.items t
+            (passed (facts_in self.now false) (formal_of formal.now) (operand_of operand))) }
     {
         if formal.by_place && !operand.is_place {
             self.report_operand(faults, Code::NotVariable, operand)?;

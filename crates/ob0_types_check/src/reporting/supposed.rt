@@ -45,7 +45,8 @@ pub(crate) fn predeclared(alloc: Global) -> Result<Vec<Option<Meaning>>, AllocEr
 
 /// A procedure with one parameter, a number.
 fn one_parameter(alloc: Global, by_place: bool) -> Result<Meaning, AllocError>
-    ensures { IfOk result (λ m. meaning_of m ≡ a_procedure (record { by_place = by_place; of = type.Integer } ∷ [])) }
+    ensures { IfOk result
+        (λ m. meaning_of m ≡ a_procedure (record { by_place = by_place; of = type.Integer } ∷ [])) }
 {
     let mut formals = Vec::new(alloc);
     formals.push(Formal {
@@ -166,7 +167,10 @@ impl<'t> Supposed<'t> {
         first: usize,
         last: usize,
     ) -> Result<(), AllocError>
-        ensures { OnOk result (faults.new.items ≡ faults.old.items ++ fault_between self.now.resolved.now.module_read.source code first last ∷ []) }
+        ensures { OnOk result (faults.new.items
+            ≡ faults.old.items
+            ++ fault_between self.now.resolved.now.module_read.source code first last
+            ∷ []) }
     {
         let tokens = self.resolved.tokens();
         let span = Span {
@@ -184,7 +188,10 @@ impl<'t> Supposed<'t> {
         code: Code,
         token: usize,
     ) -> Result<(), AllocError>
-        ensures { OnOk result (faults.new.items ≡ faults.old.items ++ fault_between self.now.resolved.now.module_read.source code token token ∷ []) }
+        ensures { OnOk result (faults.new.items
+            ≡ faults.old.items
+            ++ fault_between self.now.resolved.now.module_read.source code token token
+            ∷ []) }
     {
         self.report(faults, code, token, token)
     }
@@ -201,7 +208,8 @@ impl<'t> Supposed<'t> {
 
     /// What the declaration of an ordinal is.
     fn declared(&self, ordinal: usize) -> Option<&Meaning>
-        ensures { option_map (λ m. m.now) result ≡ slice_index_or self.now.meanings.items ordinal None }
+        ensures { option_map (λ m. m.now) result
+            ≡ slice_index_or self.now.meanings.items ordinal None }
     {
         match self.meanings.get(ordinal) {
             None => None,
@@ -223,7 +231,8 @@ impl<'t> Supposed<'t> {
     }
 
     fn declare(&mut self, ordinal: usize, meaning: Meaning)
-        ensures { so_far_in self.new ≡ with_declared (so_far_in self.old) (meaning_of meaning) (Some ordinal) }
+        ensures { so_far_in self.new
+            ≡ with_declared (so_far_in self.old) (meaning_of meaning) (Some ordinal) }
     {
         if ordinal < self.meanings.len() {
             self.meanings[ordinal] = Some(meaning);
@@ -286,7 +295,9 @@ impl<'t> Supposed<'t> {
         parts: Parts<'t>,
         size: Size,
     ) -> Result<TypeId, AllocError>
-        ensures { IfOk result (λ t. ReportsAfter faults.old.items faults.new.items (record { of = t; behind = so_far_in self.new }) (make (so_far_in self.old) token (parts_of parts.entry) (size_of size))) }
+        ensures { IfOk result (λ t. ReportsAfter faults.old.items faults.new.items
+            (record { of = t; behind = so_far_in self.new })
+            (make (so_far_in self.old) token (parts_of parts.entry) (size_of size))) }
     {
         if !size.is_within() {
             self.report_at(faults, Code::TypeTooLarge, token)?;

@@ -64,7 +64,8 @@ impl<'t> Gathered<'t> {
     }
 
     fn add(&mut self, name: &'t str, of: TypeId) -> Result<(), AllocError>
-        ensures fields { OnOk result ((x : Name) → fields_in self.new.fields x ≡ with_field (fields_in self.old.fields) name.now of x) }
+        ensures fields { OnOk result ((x : Name)
+            → fields_in self.new.fields x ≡ with_field (fields_in self.old.fields) name.now of x) }
         ensures size { OnOk result (self.new.size ≡ self.old.size) }
     {
         if self.fields.contains_key(name) {
@@ -94,7 +95,8 @@ fn record_word(groups: &[Fields]) -> usize
 impl<'t> Supposed<'t> {
     /// The type that a name means.
     fn type_named(&self, faults: &mut Vec<Fault>, token: usize) -> Result<TypeId, AllocError>
-        ensures { IfOk result (λ t. ReportsAfter faults.old.items faults.new.items t (type_named (facts_in self.now false) token)) }
+        ensures { IfOk result (λ t. ReportsAfter faults.old.items faults.new.items t
+            (type_named (facts_in self.now false) token)) }
     {
         match self.meaning(token) {
             None => Ok(TypeId::Unknown),
@@ -108,7 +110,8 @@ impl<'t> Supposed<'t> {
     }
 
     fn no_type(&self, faults: &mut Vec<Fault>, token: usize) -> Result<TypeId, AllocError>
-        ensures { IfOk result (λ t. ReportsAfter faults.old.items faults.new.items t (type_meant (facts_in self.now false) token (Some (a_variable type.Integer)))) }
+        ensures { IfOk result (λ t. ReportsAfter faults.old.items faults.new.items t
+            (type_meant (facts_in self.now false) token (Some (a_variable type.Integer)))) }
     {
         self.report_at(faults, Code::WrongKind, token)?;
         Ok(TypeId::Unknown)
@@ -116,7 +119,8 @@ impl<'t> Supposed<'t> {
 
     /// The length of an array, by an operand. None where it has a fault.
     fn length(&self, faults: &mut Vec<Fault>, operand: Operand) -> Result<Option<usize>, AllocError>
-        ensures { IfOk result (λ n. ReportsAfter faults.old.items faults.new.items n (length_of (facts_in self.now false) (operand_of operand))) }
+        ensures { IfOk result (λ n. ReportsAfter faults.old.items faults.new.items n
+            (length_of (facts_in self.now false) (operand_of operand))) }
     {
         let of = self.require(faults, TypeId::Integer, operand)?;
         if !same_type(of, TypeId::Integer) {
@@ -138,7 +142,9 @@ impl<'t> Reporter<'t> {
     /// The type that is written, with unknown parts where these have faults.
     #[cycle(types)]
     pub(crate) fn written_type(&mut self, t: &WrittenType) -> Result<TypeId, AllocError>
-        ensures { IfOk result (λ of. ReportsAfter self.old.faults.items self.new.faults.items (record { of = of; behind = so_far_in self.new.supposed }) (reported_type (so_far_in self.old.supposed) (type_of t.now))) }
+        ensures { IfOk result (λ of. ReportsAfter self.old.faults.items self.new.faults.items
+            (record { of = of; behind = so_far_in self.new.supposed })
+            (reported_type (so_far_in self.old.supposed) (type_of t.now))) }
     {
         match t {
             WrittenType::Named(name) => self.supposed.type_named(&mut self.faults, *name),
@@ -149,7 +155,10 @@ impl<'t> Reporter<'t> {
 
     #[cycle(types)]
     fn array(&mut self, a: &ArrayType) -> Result<TypeId, AllocError>
-        ensures { IfOk result (λ of. ReportsAfter self.old.faults.items self.new.faults.items (record { of = of; behind = so_far_in self.new.supposed }) (reported_type (so_far_in self.old.supposed) (array_type (expression_of a.now.size) (type_of a.now.element.value)))) }
+        ensures { IfOk result (λ of. ReportsAfter self.old.faults.items self.new.faults.items
+            (record { of = of; behind = so_far_in self.new.supposed }) (reported_type
+            (so_far_in self.old.supposed)
+            (array_type (expression_of a.now.size) (type_of a.now.element.value)))) }
     {
         let size = self.supposed.expression(&mut self.faults, &a.size, true)?;
         let length = self.supposed.length(&mut self.faults, size)?;
@@ -165,7 +174,9 @@ impl<'t> Reporter<'t> {
         length: Option<usize>,
         element: TypeId,
     ) -> Result<TypeId, AllocError>
-        ensures { IfOk result (λ of. ReportsAfter self.old.faults.items self.new.faults.items (record { of = of; behind = so_far_in self.new.supposed }) (array_made (operand_of size) length (record { of = element; behind = so_far_in self.old.supposed }))) }
+        ensures { IfOk result (λ of. ReportsAfter self.old.faults.items self.new.faults.items
+            (record { of = of; behind = so_far_in self.new.supposed }) (array_made (operand_of size)
+            length (record { of = element; behind = so_far_in self.old.supposed }))) }
     {
         match length {
             None => Ok(TypeId::Unknown),
@@ -180,7 +191,9 @@ impl<'t> Reporter<'t> {
 
     #[cycle(types)]
     fn record(&mut self, r: &RecordType) -> Result<TypeId, AllocError>
-        ensures { IfOk result (λ of. ReportsAfter self.old.faults.items self.new.faults.items (record { of = of; behind = so_far_in self.new.supposed }) (reported_type (so_far_in self.old.supposed) (record_in r.now))) }
+        ensures { IfOk result (λ of. ReportsAfter self.old.faults.items self.new.faults.items
+            (record { of = of; behind = so_far_in self.new.supposed })
+            (reported_type (so_far_in self.old.supposed) (record_in r.now))) }
     {
         let mut gathered = Gathered::new(self.alloc);
         for group in &r.groups {
@@ -190,7 +203,10 @@ impl<'t> Reporter<'t> {
     }
 
     fn make_record(&mut self, word: usize, gathered: Gathered<'t>) -> Result<TypeId, AllocError>
-        ensures { (g : spec.Gathered) → IsGathered g self.old.supposed gathered.entry → IfOk result (λ of. ReportsAfter self.old.faults.items self.new.faults.items (record { of = of; behind = so_far_in self.new.supposed }) (record_made word g)) }
+        ensures { (g : spec.Gathered)
+            → IsGathered g self.old.supposed gathered.entry
+            → IfOk result (λ of. ReportsAfter self.old.faults.items self.new.faults.items
+            (record { of = of; behind = so_far_in self.new.supposed }) (record_made word g)) }
     {
         let Gathered { fields, size } = gathered;
         self.supposed.make(&mut self.faults, word, Parts::Fields(fields), size.record())
@@ -198,7 +214,10 @@ impl<'t> Reporter<'t> {
 
     #[cycle(types)]
     fn group(&mut self, group: &Fields, gathered: &mut Gathered<'t>) -> Result<(), AllocError>
-        ensures { OnOk result ((g : spec.Gathered) → IsGathered g self.old.supposed gathered.old → Gathers self.old.faults.items self.new.faults.items self.new.supposed gathered.new (told_fields g (fields_of group.now))) }
+        ensures { OnOk result ((g : spec.Gathered)
+            → IsGathered g self.old.supposed gathered.old
+            → Gathers self.old.faults.items self.new.faults.items self.new.supposed gathered.new
+            (told_fields g (fields_of group.now))) }
     {
         match group {
             Fields::Empty => Ok(()),
@@ -208,7 +227,10 @@ impl<'t> Reporter<'t> {
 
     #[cycle(types)]
     fn listed(&mut self, list: &FieldGroup, gathered: &mut Gathered<'t>) -> Result<(), AllocError>
-        ensures { OnOk result ((g : spec.Gathered) → IsGathered g self.old.supposed gathered.old → Gathers self.old.faults.items self.new.faults.items self.new.supposed gathered.new (told_fields g (some_fields (names_of list.now.names) (type_of list.now.written)))) }
+        ensures { OnOk result ((g : spec.Gathered)
+            → IsGathered g self.old.supposed gathered.old
+            → Gathers self.old.faults.items self.new.faults.items self.new.supposed gathered.new
+            (told_fields g (some_fields (names_of list.now.names) (type_of list.now.written)))) }
     {
         let of = self.written_type(&list.written)?;
         self.supposed.gather_all(&list.names, of, gathered)
@@ -222,7 +244,10 @@ impl<'t> Supposed<'t> {
         of: TypeId,
         gathered: &mut Gathered<'t>,
     ) -> Result<(), AllocError>
-        ensures { OnOk result ((g : spec.Gathered) → IsGathered g self.now gathered.old → IsGathered (with_names of g (names.now.first ∷ names.now.more.items)) self.now gathered.new) }
+        ensures { OnOk result ((g : spec.Gathered)
+            → IsGathered g self.now gathered.old
+            → IsGathered (with_names of g (names.now.first ∷ names.now.more.items)) self.now
+            gathered.new) }
     {
         self.gather(names.first, of, gathered)?;
         for name in &names.more {
@@ -233,7 +258,9 @@ impl<'t> Supposed<'t> {
 
     /// One field more.
     fn gather(&self, name: usize, of: TypeId, gathered: &mut Gathered<'t>) -> Result<(), AllocError>
-        ensures { OnOk result ((g : spec.Gathered) → IsGathered g self.now gathered.old → IsGathered (with_name of g name) self.now gathered.new) }
+        ensures { OnOk result ((g : spec.Gathered)
+            → IsGathered g self.now gathered.old
+            → IsGathered (with_name of g name) self.now gathered.new) }
     {
         gathered.add(self.text(name), of)?;
         gathered.size = gathered.size.and(self.size_of(of));
