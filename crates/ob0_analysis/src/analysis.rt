@@ -23,7 +23,7 @@ pub trait Question {
     /// What an answer says of the module.
     ghost answers: { Self → Resolution → Self.Answer → Type 0 };
 
-    fn answer(&self, alloc: Global, module: &WellTyped<'_, '_>) -> Result<Self::Answer, AllocError>
+    fn answer(&self, alloc: Global, module: &WellTyped<'_>) -> Result<Self::Answer, AllocError>
         requires { is_about self.now module.now.module_read.source.text }
         ensures { IfOk result (λ answer. answers self.now module.now answer) };
 }

@@ -1,5 +1,5 @@
 -- Names of one type are put after other fields, one by one.
-use Rattle.std.proofs.Common.{◌≡◌, ℕ, ◌+◌, ◌<◌, ◌≤◌, List, [], ◌∷◌, ◌++◌, All, length, get_or, drop, refl, sym, ap, ◌∙◌, subst}
+use Rattle.std.proofs.Common.{◌≡◌, ℕ, ◌+◌, ◌<◌, ◌≤◌, List, [], ◌∷◌, ◌++◌, All, length, get_or, drop, refl, sym, ap, ◌∙◌, subst, string_bytes}
 use Rattle.std.proofs.lemmas.List.{drop_all, drop_more}
 use Rattle.std.proofs.lemmas.List.Elements.{All-push}
 use Rattle.ob0_values.specs.Values.{FieldShapes, Shape, next_field_shape, no_field_shape}
@@ -21,7 +21,7 @@ joined-nothing (next_field_shape x s a) = ap (next_field_shape x s) (joined-noth
 
 fields_shape-joined : (shapes : List Shape) (xs ys : List Field) → fields_shape shapes (xs ++ ys) ≡ joined (fields_shape shapes xs) (fields_shape shapes ys)
 fields_shape-joined shapes [] ys = refl
-fields_shape-joined shapes (x ∷ xs) ys = ap (next_field_shape x.name.now (type_shape shapes x.of)) (fields_shape-joined shapes xs ys)
+fields_shape-joined shapes (x ∷ xs) ys = ap (next_field_shape (string_bytes x.name) (type_shape shapes x.of)) (fields_shape-joined shapes xs ys)
 
 -- some were put, and with those left all are
 pub record Adding (r : Resolution) (tokens : List ℕ) (t : TypeId) (before : List Field) (done : ℕ) (now : List Field) : Type 0 where
@@ -32,7 +32,7 @@ pub adding_begins : (r : Resolution) (tokens : List ℕ) (t : TypeId) (before : 
 adding_begins r tokens t before = record { shapes = λ shapes. refl; made = λ n h m. h }
 
 pub adding_goes_on : {r : Resolution} {tokens : List ℕ} {t : TypeId} {before now : List Field} {done : ℕ} (x d : ℕ) (f : Field) (later : List Field)
-    → Adding r tokens t before done now → done < length tokens → x ≡ get_or tokens done d → f.of ≡ t → f.name.now ≡ label_text (label_in r x) → later ≡ now ++ f ∷ []
+    → Adding r tokens t before done now → done < length tokens → x ≡ get_or tokens done d → f.of ≡ t → string_bytes f.name ≡ label_text (label_in r x) → later ≡ now ++ f ∷ []
     → Adding r tokens t before (done + 1) later
 adding_goes_on {r} {tokens} {t} {before} {now} {done} x d f later h less here of name put =
     let split : drop done tokens ≡ x ∷ drop (done + 1) tokens = drop_more tokens done d less ∙ ap (λ y. y ∷ drop (done + 1) tokens) (sym here) in
@@ -41,7 +41,7 @@ adding_goes_on {r} {tokens} {t} {before} {now} {done} x d f later h less here of
           let left = fields_named r (drop (done + 1) tokens) (type_shape shapes t) in
           ap (λ fs. joined (fields_shape shapes fs) left) put
           ∙ ap (λ z. joined z left) (fields_shape-joined shapes now (f ∷ []))
-          ∙ joined-assoc (fields_shape shapes now) (next_field_shape f.name.now (type_shape shapes f.of) no_field_shape) left
+          ∙ joined-assoc (fields_shape shapes now) (next_field_shape (string_bytes f.name) (type_shape shapes f.of) no_field_shape) left
           ∙ (λ i. joined (fields_shape shapes now) (next_field_shape (name i) (type_shape shapes (of i)) left))
           ∙ sym (ap (λ xs. joined (fields_shape shapes now) (fields_named r xs (type_shape shapes t))) split)
           ∙ h.shapes shapes;

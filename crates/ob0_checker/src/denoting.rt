@@ -42,7 +42,7 @@ pub fn array_length(value: Scalar) -> Option<usize>
 /// The type that a text denotes, where all in it fits. After an error the table isn't to be used.
 pub(crate) fn denote<'t>(
     alloc: Global,
-    known: &mut Known<'t>,
+    known: &mut Known,
     resolved: &Resolved<'t>,
     t: &WrittenType,
 ) -> Result<Option<TypeId>, AllocError>
@@ -62,7 +62,7 @@ pub(crate) fn denote<'t>(
 #[cycle(denoting)]
 fn denote_text<'t>(
     alloc: Global,
-    known: &mut Known<'t>,
+    known: &mut Known,
     resolved: &Resolved<'t>,
     around: usize,
     t: &WrittenType,
@@ -87,7 +87,7 @@ fn ordinal_in(known: &Known, around: usize) -> Option<usize>
     }
 }
 
-fn denote_name<'t>(known: &Known<'t>, resolved: &Resolved<'t>, name: usize) -> Option<TypeId>
+fn denote_name<'t>(known: &Known, resolved: &Resolved<'t>, name: usize) -> Option<TypeId>
     ensures { (around : ℕ) → Denotes resolved.now known.now known.now around (named_type name) result }
 {
     let names = Names {
@@ -99,7 +99,7 @@ fn denote_name<'t>(known: &Known<'t>, resolved: &Resolved<'t>, name: usize) -> O
 }
 
 /// How many elements an array has, where its text says a length.
-fn length_of<'t>(known: &Known<'t>, resolved: &Resolved<'t>, a: &ArrayType) -> Option<usize>
+fn length_of<'t>(known: &Known, resolved: &Resolved<'t>, a: &ArrayType) -> Option<usize>
     ensures { result ≡ option_and_then array_length (constant_value (known_meaning known.now) (in_labels resolved.now (expression_of a.now.size))) }
 {
     let names = Names {
@@ -116,7 +116,7 @@ fn length_of<'t>(known: &Known<'t>, resolved: &Resolved<'t>, a: &ArrayType) -> O
 #[cycle(denoting)]
 fn denote_array<'t>(
     alloc: Global,
-    known: &mut Known<'t>,
+    known: &mut Known,
     resolved: &Resolved<'t>,
     around: usize,
     a: &ArrayType,
@@ -139,7 +139,7 @@ fn denote_array<'t>(
 #[cycle(denoting)]
 fn denote_record<'t>(
     alloc: Global,
-    known: &mut Known<'t>,
+    known: &mut Known,
     resolved: &Resolved<'t>,
     around: usize,
     r: &RecordType,
@@ -158,7 +158,7 @@ fn denote_record<'t>(
                 else {
                     return Ok(None);
                 };
-                add_fields(known, resolved, list, of, &mut fields)?;
+                add_fields(alloc, known, resolved, list, of, &mut fields)?;
             }
         }
     }
@@ -167,12 +167,13 @@ fn denote_record<'t>(
 }
 
 /// Puts the names of a list after the fields so far, each of the same type.
-fn add_fields<'t>(
-    known: &Known<'t>,
-    resolved: &Resolved<'t>,
+fn add_fields(
+    alloc: Global,
+    known: &Known,
+    resolved: &Resolved<'_>,
     list: &FieldGroup,
     of: TypeId,
-    fields: &mut Vec<Field<'t>>,
+    fields: &mut Vec<Field>,
 ) -> Result<(), AllocError>
     ensures { OnOk result (AreAdded resolved.now (list.now.names.first ∷ list.now.names.more.items) of fields.old.items fields.new.items) }
 {
@@ -182,12 +183,12 @@ fn add_fields<'t>(
         only_constants: false,
     };
     fields.push(Field {
-        name: names.written(list.names.first),
+        name: String::from_str(alloc, names.written(list.names.first))?,
         of,
     })?;
     for name in &list.names.more {
         fields.push(Field {
-            name: names.written(*name),
+            name: String::from_str(alloc, names.written(*name))?,
             of,
         })?;
     }

@@ -11,7 +11,7 @@ use ob0_values::Scalar;
 /// mean constants alone.
 #[derive(Clone, Copy)]
 pub struct Names<'a, 't> {
-    pub known: &'a Known<'t>,
+    pub known: &'a Known,
     pub resolved: &'a Resolved<'t>,
     pub only_constants: bool,
 }

@@ -19,7 +19,7 @@ pub struct Parameter {
 pub(crate) struct Walk<'t> {
     pub(crate) alloc: Global,
     pub(crate) resolved: &'t Resolved<'t>,
-    pub(crate) known: Known<'t>,
+    pub(crate) known: Known,
     pub(crate) bound: Vec<Shadowed>,
 }
 

@@ -33,7 +33,7 @@ impl<'i> Question for RunOf<'i> {
 
     ghost answers = { λ q names outcome. run_of outcome ≡ run (named_tree_of names.module_read) q.input.now q.calls q.turns };
 
-    fn answer(&self, alloc: Global, module: &WellTyped<'_, '_>) -> Result<Outcome, AllocError> {
+    fn answer(&self, alloc: Global, module: &WellTyped<'_>) -> Result<Outcome, AllocError> {
         run(alloc, module, self.input, self.calls, self.turns)
     }
 }

@@ -23,7 +23,7 @@ use std::alloc::{AllocError, Global};
 /// where it is declared and where it is selected. None elsewhere.
 pub fn hover(
     alloc: Global,
-    well_typed: &WellTyped<'_, '_>,
+    well_typed: &WellTyped<'_>,
     offset: usize,
 ) -> Result<Option<Hover>, AllocError>
     ensures { IfOk result (λ h. option_map hover_in h ≡ hover_at_place well_typed.now offset) }
@@ -36,7 +36,7 @@ pub fn hover(
 
 fn hover_field(
     alloc: Global,
-    well_typed: &WellTyped<'_, '_>,
+    well_typed: &WellTyped<'_>,
     offset: usize,
 ) -> Result<Option<Hover>, AllocError>
     ensures { IfOk result (λ h. option_map hover_in h ≡ field_hover well_typed.now offset) }
@@ -50,7 +50,7 @@ fn hover_field(
 /// What is shown of a field where it is declared.
 fn hover_declared(
     alloc: Global,
-    well_typed: &WellTyped<'_, '_>,
+    well_typed: &WellTyped<'_>,
     offset: usize,
 ) -> Result<Option<Hover>, AllocError>
     ensures { IfOk result (λ h. option_map hover_in h ≡ selected_hover well_typed.now offset (module_typed well_typed.now)) }
@@ -64,7 +64,7 @@ fn hover_declared(
 /// What is shown of a field where it is selected.
 fn hover_selected(
     alloc: Global,
-    well_typed: &WellTyped<'_, '_>,
+    well_typed: &WellTyped<'_>,
     offset: usize,
 ) -> Result<Option<Hover>, AllocError>
     ensures { IfOk result (λ h. option_map hover_in h ≡ selected_hover well_typed.now offset (module_selections well_typed.now)) }
@@ -77,7 +77,7 @@ fn hover_selected(
 
 fn hover_among(
     alloc: Global,
-    known: &Known<'_>,
+    known: &Known,
     names: &Resolved<'_>,
     offset: usize,
     found: &[Selection],
@@ -92,7 +92,7 @@ fn hover_among(
 
 fn hover_of(
     alloc: Global,
-    known: &Known<'_>,
+    known: &Known,
     names: &Resolved<'_>,
     selection: Selection,
 ) -> Result<Hover, AllocError>

@@ -15,7 +15,7 @@ use std::alloc::{AllocError, Global};
 /// shows the procedure. None where there is no name, at a field and at the module's name.
 pub(crate) fn hover(
     alloc: Global,
-    well_typed: &WellTyped<'_, '_>,
+    well_typed: &WellTyped<'_>,
     offset: usize,
 ) -> Result<Option<Hover>, AllocError>
     ensures { IfOk result (λ h. option_map hover_in h ≡ name_hover_at well_typed.now.module_read offset) }
@@ -28,7 +28,7 @@ pub(crate) fn hover(
 
 fn hover_of(
     alloc: Global,
-    well_typed: &WellTyped<'_, '_>,
+    well_typed: &WellTyped<'_>,
     name: Named,
 ) -> Result<Option<Hover>, AllocError>
     ensures { IfOk result (λ h. option_map hover_in h ≡ hover_of well_typed.now.module_read name) }

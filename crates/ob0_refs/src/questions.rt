@@ -15,7 +15,7 @@ use std::alloc::{AllocError, Global};
 
 /// What a place is on, where it lies in an identifier or at its end: a name, or a field, at the identifier that declares it
 /// and at each that selects it. A closing name of a procedure is the procedure's. None at the module's name.
-pub fn at(well_typed: &WellTyped<'_, '_>, offset: usize) -> Option<At>
+pub fn at(well_typed: &WellTyped<'_>, offset: usize) -> Option<At>
     ensures { result ≡ identified_at well_typed.now offset }
 {
     let names = well_typed.resolved();
@@ -28,7 +28,7 @@ pub fn at(well_typed: &WellTyped<'_, '_>, offset: usize) -> Option<At>
     }
 }
 
-fn at_field(well_typed: &WellTyped<'_, '_>, field: (usize, usize)) -> At
+fn at_field(well_typed: &WellTyped<'_>, field: (usize, usize)) -> At
     ensures { result ≡ at_field well_typed.now.module_read field }
 {
     At {
@@ -41,7 +41,7 @@ fn at_field(well_typed: &WellTyped<'_, '_>, field: (usize, usize)) -> At
 }
 
 /// The place of a field in its record.
-fn index_of(well_typed: &WellTyped<'_, '_>, field: (usize, usize)) -> usize
+fn index_of(well_typed: &WellTyped<'_>, field: (usize, usize)) -> usize
     ensures { result ≡ index_of well_typed.now.module_read field }
 {
     let names = well_typed.resolved();
@@ -54,7 +54,7 @@ fn index_of(well_typed: &WellTyped<'_, '_>, field: (usize, usize)) -> usize
 
 /// Where it is declared what a place is on. A field is declared in its RECORD. None where there is no name, and for a
 /// predeclared one.
-pub fn definition(well_typed: &WellTyped<'_, '_>, offset: usize) -> Option<Span>
+pub fn definition(well_typed: &WellTyped<'_>, offset: usize) -> Option<Span>
     ensures { result ≡ definition_at well_typed.now offset }
 {
     let names = well_typed.resolved();
@@ -67,7 +67,7 @@ pub fn definition(well_typed: &WellTyped<'_, '_>, offset: usize) -> Option<Span>
     }
 }
 
-fn field_declared(well_typed: &WellTyped<'_, '_>, field: (usize, usize)) -> Option<Span>
+fn field_declared(well_typed: &WellTyped<'_>, field: (usize, usize)) -> Option<Span>
     ensures { result ≡ field_declared well_typed.now.module_read field }
 {
     let names = well_typed.resolved();
@@ -82,7 +82,7 @@ fn field_declared(well_typed: &WellTyped<'_, '_>, field: (usize, usize)) -> Opti
 /// is no name.
 pub fn references(
     alloc: Global,
-    well_typed: &WellTyped<'_, '_>,
+    well_typed: &WellTyped<'_>,
     offset: usize,
     include: bool,
 ) -> Result<Vec<Span>, AllocError>
@@ -100,7 +100,7 @@ pub fn references(
 
 fn field_named_at(
     alloc: Global,
-    well_typed: &WellTyped<'_, '_>,
+    well_typed: &WellTyped<'_>,
     include: bool,
     field: Option<(usize, usize)>,
 ) -> Result<Vec<Span>, AllocError>
@@ -119,7 +119,7 @@ fn field_named_at(
 /// The tokens of a field, in text order: with the one that declares it or without.
 fn field_references(
     alloc: Global,
-    well_typed: &WellTyped<'_, '_>,
+    well_typed: &WellTyped<'_>,
     field: (usize, usize),
     include: bool,
 ) -> Result<Vec<usize>, AllocError>

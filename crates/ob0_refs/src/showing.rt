@@ -26,7 +26,7 @@ use std::alloc::{AllocError, Global};
 /// What is shown of a name. None where its declaration is nothing.
 pub fn name_text(
     alloc: Global,
-    known: &Known<'_>,
+    known: &Known,
     names: &Resolved<'_>,
     name: Named,
 ) -> Result<Option<String>, AllocError>
@@ -44,7 +44,7 @@ pub fn name_text(
 
 fn object_text(
     alloc: Global,
-    known: &Known<'_>,
+    known: &Known,
     names: &Resolved<'_>,
     name: Named,
     object: &Object,
@@ -65,7 +65,7 @@ fn object_text(
     }
 }
 
-fn type_line(alloc: Global, known: &Known<'_>, name: &str, of: TypeId) -> Result<String, AllocError>
+fn type_line(alloc: Global, known: &Known, name: &str, of: TypeId) -> Result<String, AllocError>
     ensures { IfOk result (λ text. string_bytes text ≡ named_type_text name.now (type_text (type_shape (shapes_of known.now) of))) }
 {
     let of = type_text(alloc, known, of)?;
@@ -74,7 +74,7 @@ fn type_line(alloc: Global, known: &Known<'_>, name: &str, of: TypeId) -> Result
 
 fn variable_line(
     alloc: Global,
-    known: &Known<'_>,
+    known: &Known,
     name: &str,
     of: TypeId,
 ) -> Result<String, AllocError>
@@ -87,7 +87,7 @@ fn variable_line(
 /// What is shown of a field of a type.
 pub fn field_line(
     alloc: Global,
-    known: &Known<'_>,
+    known: &Known,
     name: &str,
     of: TypeId,
 ) -> Result<String, AllocError>
@@ -100,7 +100,7 @@ pub fn field_line(
 
 fn procedure_line(
     alloc: Global,
-    known: &Known<'_>,
+    known: &Known,
     names: &Resolved<'_>,
     name: Named,
     formals: &[Formal],
@@ -134,7 +134,7 @@ fn declared_after<'r>(names: &'r Resolved<'_>, ordinal: usize) -> &'r [usize]
 /// The parameters of a procedure, by the tokens of the declarations after it.
 fn parameters_of<'s>(
     alloc: Global,
-    known: &Known<'_>,
+    known: &Known,
     tokens: &'s Tokens,
     behind: &[usize],
     formals: &[Formal],
@@ -150,7 +150,7 @@ fn parameters_of<'s>(
 
 fn parameter_of<'s>(
     alloc: Global,
-    known: &Known<'_>,
+    known: &Known,
     name: &'s str,
     formal: Formal,
 ) -> Result<Parameter<'s>, AllocError>

@@ -12,7 +12,7 @@ use std::alloc::{AllocError, Global};
 
 /// The text of a type, arrays level by level; a record by the number of its fields.
 #[cycle(types)]
-pub(crate) fn type_text(alloc: Global, known: &Known<'_>, of: TypeId) -> Result<String, AllocError>
+pub(crate) fn type_text(alloc: Global, known: &Known, of: TypeId) -> Result<String, AllocError>
     ensures { IfOk result (λ text. string_bytes text ≡ type_text (type_shape (shapes_of known.now) of)) }
 {
     match known.parts(of) {
@@ -25,7 +25,7 @@ pub(crate) fn type_text(alloc: Global, known: &Known<'_>, of: TypeId) -> Result<
 }
 
 #[cycle(types)]
-fn of_array(alloc: Global, known: &Known<'_>, array: ArrayShape) -> Result<String, AllocError>
+fn of_array(alloc: Global, known: &Known, array: ArrayShape) -> Result<String, AllocError>
     ensures { IfOk result (λ text. string_bytes text ≡ type_text (array_shape array.ordinal array.length (type_shape (shapes_of known.now) array.element))) }
 {
     let element = type_text(alloc, known, array.element)?;

@@ -25,7 +25,7 @@ use std::alloc::{AllocError, Global};
 
 /// The field that a place is on: the identifier's token, and the ordinal of the field's record.
 pub(crate) fn field_named_at(
-    well_typed: &WellTyped<'_, '_>,
+    well_typed: &WellTyped<'_>,
     offset: usize,
 ) -> Option<(usize, usize)>
     ensures found { result ≡ field_at well_typed.now offset }
@@ -40,7 +40,7 @@ pub(crate) fn field_named_at(
 pub(crate) fn rename_field<T: TextStore>(
     alloc: Global,
     store: &T,
-    well_typed: &WellTyped<'_, '_>,
+    well_typed: &WellTyped<'_>,
     field: (usize, usize),
     new: &str,
 ) -> Result<Vec<Edit>, EditRefusal>
@@ -73,7 +73,7 @@ pub(crate) fn rename_field<T: TextStore>(
 }
 
 /// The token that declares another field of the record that has the new name.
-fn other_field(well_typed: &WellTyped<'_, '_>, owner: usize, old: &str, new: &str) -> Option<usize>
+fn other_field(well_typed: &WellTyped<'_>, owner: usize, old: &str, new: &str) -> Option<usize>
     ensures { result ≡ (if same_name new.now old.now then None else declaring_field well_typed.now.module_read owner new.now) }
 {
     if new == old {
@@ -85,7 +85,7 @@ fn other_field(well_typed: &WellTyped<'_, '_>, owner: usize, old: &str, new: &st
 /// The tokens of a field, in text order; none where it has the new name.
 fn field_tokens_to_rename(
     alloc: Global,
-    well_typed: &WellTyped<'_, '_>,
+    well_typed: &WellTyped<'_>,
     owner: usize,
     old: &str,
     new: &str,

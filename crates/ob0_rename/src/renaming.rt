@@ -35,7 +35,7 @@ use std::alloc::Global;
 pub fn rename<T: TextStore>(
     alloc: Global,
     store: &T,
-    well_typed: &WellTyped<'_, '_>,
+    well_typed: &WellTyped<'_>,
     place: Position,
     new: &str,
 ) -> Result<Vec<Edit>, EditRefusal>
@@ -64,7 +64,7 @@ pub fn rename<T: TextStore>(
 fn rename_declaration<T: TextStore>(
     alloc: Global,
     store: &T,
-    well_typed: &WellTyped<'_, '_>,
+    well_typed: &WellTyped<'_>,
     declaration: usize,
     new: &str,
 ) -> Result<Vec<Edit>, EditRefusal>

@@ -28,7 +28,7 @@ impl<'a, T: TextStore> Question for NewName<'a, T> {
     fn answer(
         &self,
         alloc: Global,
-        module: &WellTyped<'_, '_>,
+        module: &WellTyped<'_>,
     ) -> Result<Result<Vec<Edit>, EditRefusal>, AllocError> {
         match rename(alloc, self.store, module, self.place, self.new) {
             Ok(edits) => Ok(Ok(edits)),

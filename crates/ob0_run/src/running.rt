@@ -83,7 +83,7 @@ fn have_addresses(most_cells: usize, calls: u32) -> bool
 /// # Errors
 ///
 /// Out of memory.
-pub fn lower(alloc: Global, checked: &WellTyped<'_, '_>) -> Result<Program, AllocError>
+pub fn lower(alloc: Global, checked: &WellTyped<'_>) -> Result<Program, AllocError>
     ensures { IfOk result (RunsAs (named_tree_of checked.now.module_read)) }
 {
     runs_lowered();
@@ -125,7 +125,7 @@ pub fn execute(
 /// Those of both.
 pub fn run(
     alloc: Global,
-    checked: &WellTyped<'_, '_>,
+    checked: &WellTyped<'_>,
     input: &[i32],
     calls: u32,
     turns: u32,

@@ -12,7 +12,7 @@ use std::alloc::Global;
 pub(crate) struct LoweringContext<'g, 'k, 't> {
     pub(crate) alloc: Global,
     pub(crate) resolved: &'g Resolved<'t>,
-    pub(crate) types: &'g Types<'k, 't>,
+    pub(crate) types: &'g Types<'k>,
 }
 
 impl<'g, 'k, 't> LoweringContext<'g, 'k, 't> {

@@ -157,7 +157,7 @@ impl Lowering {
 pub fn lower<'t>(
     alloc: Global,
     resolved: &Resolved<'t>,
-    known: &Known<'t>,
+    known: &Known,
 ) -> Result<Program, AllocError>
     ensures { IfOk result (λ made. WellTyped (named_tree_of resolved.now.module_read) → ((k : ℕ) → declared_in known.now k ≡ declared_object (named_tree_of resolved.now.module_read) k) → ProgramMeans made.most_cells as_labels (numbered (named_tree_of resolved.now.module_read)) (program_of made.code)) }
 {

@@ -31,7 +31,7 @@ pub enum Site {
 #[derive(Clone, Copy)]
 pub struct Scene<'s, 'k, 't> {
     pub resolved: &'s Resolved<'t>,
-    pub types: &'s Types<'k, 't>,
+    pub types: &'s Types<'k>,
     pub sites: &'s [Site],
     pub depth: usize,
 }

@@ -32,8 +32,8 @@ enum Layout {
 
 /// What is known of a module, with the sizes of its types.
 #[derive(Drop)]
-pub struct Types<'k, 't> {
-    known: &'k Known<'t>,
+pub struct Types<'k> {
+    known: &'k Known,
     layouts: Vec<Layout>,
 }
 
@@ -156,7 +156,7 @@ fn constants_are_small(known: &Known)
     }
 }
 
-impl<'k, 't> Model for Types<'k, 't> {
+impl<'k> Model for Types<'k> {
     ghost use Rattle.std.specs.Prelude.{◌≡◌, ℕ, ℤ, Some, true};
     ghost use Rattle.ob0_run_machine.specs.Evaluation as machine;
     ghost use Rattle.ob0_types_table.specs.KnownTables.{Tables, declared_in, shapes_of};
@@ -171,7 +171,7 @@ impl<'k, 't> Model for Types<'k, 't> {
     ghost invariant = { λ t. LayOut (shapes_of t.known.now) t.layouts.items × ((k : ℕ) (n : ℤ) → declared_in t.known.now k ≡ Some (a_constant (number n)) → machine.fits n ≡ true) };
 }
 
-impl<'k, 't> Types<'k, 't> {
+impl<'k> Types<'k> {
     ghost use Rattle.ob0_types_table.specs.KnownTables.{shapes_of};
     ghost use Rattle.ob0_values.specs.Values.{at_field};
 
@@ -180,7 +180,7 @@ impl<'k, 't> Types<'k, 't> {
     /// # Errors
     ///
     /// Out of memory.
-    pub fn new(alloc: Global, known: &'k Known<'t>) -> Result<Types<'k, 't>, AllocError>
+    pub fn new(alloc: Global, known: &'k Known) -> Result<Types<'k>, AllocError>
         ensures { IfOk result (λ t. t ≡ known.now) }
     {
         constants_are_small(known);
@@ -189,7 +189,7 @@ impl<'k, 't> Types<'k, 't> {
     }
 
     /// What is known of the module. Its constants have 32 bits.
-    pub fn known(&self) -> &'k Known<'t>
+    pub fn known(&self) -> &'k Known
         ensures value { result.now ≡ self.now }
         ensures small { (k : ℕ) (n : ℤ) → declared_in self.now k ≡ Some (a_constant (values.number n)) → machine.fits n ≡ true }
     {

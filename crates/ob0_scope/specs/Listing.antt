@@ -1,6 +1,6 @@
 -- The identifiers of a module by a table of ordinals.
 -- Rule: none; for contracts: identifiers by a table of ordinals.
-use Rattle.std.specs.Prelude.{ℕ, Bool, true, false, not, ◌&&◌, ◌||◌, List, Option, map}
+use Rattle.std.specs.Prelude.{ℕ, ◌<◌, ◌≤◌, Bool, true, false, not, ◌&&◌, ◌||◌, List, [], ◌∷◌, Option, map}
 use Rattle.std.specs.List.{filter}
 use Rattle.ob0_scan.specs.declared.lexeme.Token.{Token}
 use Rattle.ob0_scan.specs.declared.lexeme.TokenKind.{TokenKind}
@@ -21,6 +21,11 @@ is_identifier (kind.Symbol symbol) = false
 -- a place is on an identifier
 abbrev pub is_name_on : ℕ → Token → Bool
 is_name_on offset t = is_identifier t.kind && is_on offset t.span
+
+-- each token has a byte, and begins where the one before it ends or after that
+abbrev pub AreApart : ℕ → List Token → Type 0
+AreApart from [] = Unit {0}
+AreApart from (t ∷ ts) = (from ≤ t.span.start) × ((t.span.start < t.span.end) × AreApart t.span.end ts)
 
 -- an identifier has this ordinal, and isn't the declaring one unless that is asked for
 abbrev pub is_listed : List (Option ℕ) → Bool → ℕ → Role × ℕ → Bool

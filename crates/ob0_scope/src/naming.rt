@@ -1,9 +1,11 @@
 //! The names of a module: the one at a place of its text, and where a declaration is named.
 
-ghost use Rattle.std.specs.Prelude.{◌≡◌, IfOk, length, true};
+ghost use Rattle.std.specs.Prelude.{◌≡◌, ◌≤◌, IfOk, false, length, nat_lt, true};
 ghost use Rattle.std.specs.List.{position_from};
+ghost use Rattle.std.specs.List.Sorted.{IsNonDecreasingBy, IsPartitionPoint};
+ghost use Rattle.ob0_scan.specs.declared.lexeme.Token as token;
 ghost use Rattle.ob0_tree.specs.Order.{AreIdentifiers, Ascending};
-ghost use Rattle.ob0_scope.specs.Listing.{is_identifier, is_name_on, tokens_listed};
+ghost use Rattle.ob0_scope.specs.Listing.{AreApart, is_identifier, is_name_on, tokens_listed};
 ghost use Rattle.ob0_scope_rules.specs.Resolution.{ordinal_in};
 ghost use Rattle.ob0_scope_rules.specs.Scopes.{same_ordinal};
 ghost use Rattle.ob0_scope.specs.NamesAtPlaces.{IsRenamedAt, is_declaring, name_on, tokens_bound};
@@ -26,6 +28,8 @@ pub fn name_at(names: &Resolved, offset: usize) -> Option<Named>
     ensures { result ≡ name_on names.now.module_read offset }
 {
     let tokens = names.module().tokens();
+    // For the proof: what the contract of this call says.
+    let _scanned = tokens.text();
     match first_on(tokens.tokens(), offset) {
         Some(token) => match names.ordinal_at(token) {
             Some(ordinal) => Some(Named { token, ordinal }),
@@ -105,11 +109,34 @@ fn is_declaring(role: Role) -> bool
     }
 }
 
-/// The index of the first identifier that a place is on.
+/// The index of the first identifier that a place is on. It is found by halving: it is the first token that doesn't end
+/// before the place, or the next one.
 fn first_on(tokens: &[Token], offset: usize) -> Option<usize>
-    ensures { result ≡ position_from (is_name_on offset) 0 tokens.now }
+    ensures { AreApart 0 tokens.now → result ≡ position_from (is_name_on offset) 0 tokens.now }
 {
-    tokens.iter().position(|token| is_name_on(token, offset))
+    let place = ended_before(tokens, offset);
+    if place >= tokens.len() {
+        return None;
+    }
+    if is_name_on(&tokens[place], offset) {
+        return Some(place);
+    }
+    let next = place + 1;
+    if next >= tokens.len() {
+        return None;
+    }
+    if is_name_on(&tokens[next], offset) {
+        return Some(next);
+    }
+    None
+}
+
+/// How many tokens end before a place.
+fn ended_before(tokens: &[Token], offset: usize) -> usize
+    ensures bound { result ≤ length tokens.now }
+    ensures point { IsNonDecreasingBy (λ (t : token.Token). t.span.end) tokens.now → IsPartitionPoint (λ (t : token.Token). nat_lt t.span.end offset ≡ true) (λ (t : token.Token). nat_lt t.span.end offset ≡ false) tokens.now result }
+{
+    tokens.partition_point(|token| token.span.end < offset)
 }
 
 fn is_name_on(token: &Token, offset: usize) -> bool

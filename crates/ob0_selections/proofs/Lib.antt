@@ -3,3 +3,5 @@ pub mod FieldWalks
 pub mod Paths
 pub mod SelectingWalks
 pub mod FieldLabels
+pub mod Halved
+pub mod RowsSorted

@@ -11,6 +11,7 @@ ghost use Rattle.ob0_types_table.specs.KnownTables.{declared_in, shapes_of};
 ghost use Rattle.ob0_types_table.specs.Tables.{type_shape};
 ghost use Rattle.ob0_values.specs.Values.{Shape};
 ghost use Rattle.ob0_selections.specs.FieldTypes.{field_named, fields_named, type_named, type_of_elements, typed_fields};
+ghost use Rattle.ob0_selections.specs.FieldRows.{typed_over};
 ghost use Rattle.ob0_selections.specs.FieldParts.{meaning_in, type_in, typed_in};
 
 use crate::selecting::Selection;
@@ -22,12 +23,12 @@ use ob0_types_table::{FieldOf, Known, TypeId, text_at};
 use std::alloc::{AllocError, Global};
 
 /// The identifiers that declare the fields of a module, in text order: each with its field and this field's type.
-pub fn declared_by<'a, 't>(
+pub(crate) fn declared_by<'a, 't>(
     alloc: Global,
-    known: &'a Known<'t>,
+    known: &'a Known,
     resolved: &'a Resolved<'t>,
 ) -> Result<Vec<Selection>, AllocError>
-    ensures { IfOk result (λ found. map (selection_in (shapes_of known.now)) found.items ≡ typed_fields (token_meaning (declared_in known.now) resolved.now) None (tree_of resolved.now.module_read)) }
+    ensures { IfOk result (λ found. map (selection_in (shapes_of known.now)) found.items ≡ typed_over (declared_in known.now) resolved.now) }
 {
     let walk = Declaring { known, resolved };
     let mut found = Vec::new(alloc);
@@ -59,7 +60,7 @@ fn remember(
 /// A module with the table of its declarations.
 #[derive(Clone, Copy)]
 pub(crate) struct Declaring<'a, 't> {
-    pub(crate) known: &'a Known<'t>,
+    pub(crate) known: &'a Known,
     pub(crate) resolved: &'a Resolved<'t>,
 }
 

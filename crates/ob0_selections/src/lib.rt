@@ -3,9 +3,9 @@
 #![tactic(auto)]
 
 mod declaring;
+mod field_rows;
 mod selecting;
 mod selections;
 
-pub use declaring::declared_by;
+pub use field_rows::FieldRows;
 pub use selecting::Selection;
-pub use selections::selections_by;

@@ -56,7 +56,7 @@ fn remember(
 /// A module with the table of its declarations.
 #[derive(Clone, Copy)]
 pub(crate) struct Selecting<'a, 't> {
-    pub(crate) known: &'a Known<'t>,
+    pub(crate) known: &'a Known,
     pub(crate) resolved: &'a Resolved<'t>,
 }
 

@@ -34,7 +34,7 @@ impl<'a, T: TextStore> Question for Formatting<'a, T> {
     fn answer(
         &self,
         alloc: Global,
-        module: &WellTyped<'_, '_>,
+        module: &WellTyped<'_>,
     ) -> Result<Result<Vec<Edit>, EditRefusal>, AllocError> {
         lexemes_stay();
         module_stays();

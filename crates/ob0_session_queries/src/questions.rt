@@ -45,7 +45,7 @@ impl Question for HoverAt {
     fn answer(
         &self,
         alloc: Global,
-        module: &WellTyped<'_, '_>,
+        module: &WellTyped<'_>,
     ) -> Result<Option<ob0_refs::Hover>, AllocError> {
         hover(alloc, module, self.offset)
     }
@@ -65,7 +65,7 @@ impl Question for DefinitionAt {
     fn answer(
         &self,
         _alloc: Global,
-        module: &WellTyped<'_, '_>,
+        module: &WellTyped<'_>,
     ) -> Result<Option<Span>, AllocError> {
         Ok(definition(module, self.offset))
     }
@@ -83,7 +83,7 @@ impl Question for ReferencesAt {
 
     ghost answers = { λ q names found. AreReferencesAt names q.offset q.include_declaration found.items };
 
-    fn answer(&self, alloc: Global, module: &WellTyped<'_, '_>) -> Result<Vec<Span>, AllocError> {
+    fn answer(&self, alloc: Global, module: &WellTyped<'_>) -> Result<Vec<Span>, AllocError> {
         references(alloc, module, self.offset, self.include_declaration)
     }
 }
@@ -102,7 +102,7 @@ impl Question for RenamableAt {
     fn answer(
         &self,
         _alloc: Global,
-        module: &WellTyped<'_, '_>,
+        module: &WellTyped<'_>,
     ) -> Result<Option<Span>, AllocError> {
         match at(module, self.offset) {
             Some(name) => Ok(renamable(name.of, name.span)),

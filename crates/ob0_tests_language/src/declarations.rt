@@ -23,7 +23,7 @@ impl Question for TypeOf {
 
     ghost answers = { λ _ _ _. ⊤ };
 
-    fn answer(&self, alloc: Global, module: &WellTyped<'_, '_>) -> Result<String, AllocError> {
+    fn answer(&self, alloc: Global, module: &WellTyped<'_>) -> Result<String, AllocError> {
         match module.shape(self.declaration) {
             None => String::from_str(alloc, "none"),
             Some(shape) => shown(alloc, shape),
@@ -32,7 +32,7 @@ impl Question for TypeOf {
 }
 
 /// A type, with at most two levels of arrays.
-fn shown(alloc: Global, shape: Shape<'_, '_>) -> Result<String, AllocError> {
+fn shown(alloc: Global, shape: Shape<'_>) -> Result<String, AllocError> {
     let mut out = String::new(alloc);
     let mut level = shape;
     for _ in 0..3 {
@@ -97,7 +97,7 @@ impl Question for Free {
 
     ghost answers = { λ _ _ _. ⊤ };
 
-    fn answer(&self, alloc: Global, module: &WellTyped<'_, '_>) -> Result<String, AllocError> {
+    fn answer(&self, alloc: Global, module: &WellTyped<'_>) -> Result<String, AllocError> {
         match captures(alloc, module.resolved(), self.declaration, self.new)? {
             None => String::from_str(alloc, "free"),
             Some(capture) => {
@@ -141,7 +141,7 @@ impl Question for Renamed {
 
     ghost answers = { λ _ _ _. ⊤ };
 
-    fn answer(&self, alloc: Global, module: &WellTyped<'_, '_>) -> Result<String, AllocError> {
+    fn answer(&self, alloc: Global, module: &WellTyped<'_>) -> Result<String, AllocError> {
         let names: &Resolved = module.resolved();
         let mut out = String::new(alloc);
         for ordinal in &resolve_renamed(alloc, names, self.declaration, self.new)? {

@@ -156,7 +156,7 @@ impl Question for Renamed {
 
     ghost answers = { λ _ _ _. ⊤ };
 
-    fn answer(&self, alloc: Global, module: &WellTyped<'_, '_>) -> Result<String, AllocError> {
+    fn answer(&self, alloc: Global, module: &WellTyped<'_>) -> Result<String, AllocError> {
         let store = Whole::from_str(alloc, module.resolved().tokens().text())?;
         let edits = rename(alloc, &store, module, self.place, self.new);
         made(alloc, &store, edits)
@@ -202,7 +202,7 @@ impl Question for Inlined {
 
     ghost answers = { λ _ _ _. ⊤ };
 
-    fn answer(&self, alloc: Global, module: &WellTyped<'_, '_>) -> Result<String, AllocError> {
+    fn answer(&self, alloc: Global, module: &WellTyped<'_>) -> Result<String, AllocError> {
         let store = Whole::from_str(alloc, module.resolved().tokens().text())?;
         let edits = if self.everywhere {
             inline_all(alloc, &store, module, self.place)
@@ -339,7 +339,7 @@ impl Question for LaidOut {
 
     ghost answers = { λ _ _ _. ⊤ };
 
-    fn answer(&self, alloc: Global, module: &WellTyped<'_, '_>) -> Result<String, AllocError> {
+    fn answer(&self, alloc: Global, module: &WellTyped<'_>) -> Result<String, AllocError> {
         let store = Whole::from_str(alloc, module.resolved().tokens().text())?;
         let edits = format(alloc, &store, module.resolved().module(), self.indent);
         made(alloc, &store, edits)

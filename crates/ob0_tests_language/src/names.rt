@@ -23,7 +23,7 @@ impl Question for NameAt {
     ghost answers = { λ _ _ _. ⊤ };
 
     /// What it is a name of, where that is declared, where it is named, and what is shown of it.
-    fn answer(&self, alloc: Global, module: &WellTyped<'_, '_>) -> Result<String, AllocError> {
+    fn answer(&self, alloc: Global, module: &WellTyped<'_>) -> Result<String, AllocError> {
         let mut out = String::new(alloc);
         if let Some(found) = at(module, self.offset) {
             push_of(alloc, &mut out, found.of)?;
@@ -47,7 +47,7 @@ fn push_of(alloc: Global, out: &mut String, of: Of) -> Result<(), AllocError> {
 fn push_places(
     alloc: Global,
     out: &mut String,
-    module: &WellTyped<'_, '_>,
+    module: &WellTyped<'_>,
     offset: usize,
 ) -> Result<(), AllocError> {
     if let Some(declared) = definition(module, offset) {
@@ -61,7 +61,7 @@ fn push_places(
 fn push_shown(
     alloc: Global,
     out: &mut String,
-    module: &WellTyped<'_, '_>,
+    module: &WellTyped<'_>,
     offset: usize,
 ) -> Result<(), AllocError> {
     if let Some(shown) = hover(alloc, module, offset)? {
@@ -171,7 +171,7 @@ impl Question for Shown {
 
     ghost answers = { λ _ _ _. ⊤ };
 
-    fn answer(&self, alloc: Global, module: &WellTyped<'_, '_>) -> Result<String, AllocError> {
+    fn answer(&self, alloc: Global, module: &WellTyped<'_>) -> Result<String, AllocError> {
         let mut lines = String::new(alloc);
         let mut end = 0;
         for token in module.resolved().tokens().tokens() {

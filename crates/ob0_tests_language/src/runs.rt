@@ -23,7 +23,7 @@ impl<'a> Question for RunOf<'a> {
 
     ghost answers = { λ _ _ _. ⊤ };
 
-    fn answer(&self, alloc: Global, module: &WellTyped<'_, '_>) -> Result<String, AllocError> {
+    fn answer(&self, alloc: Global, module: &WellTyped<'_>) -> Result<String, AllocError> {
         let outcome = run(alloc, module, self.input, self.calls, self.turns)?;
         shown(alloc, outcome.output.as_slice(), outcome.end)
     }

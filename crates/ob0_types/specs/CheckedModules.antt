@@ -10,6 +10,8 @@ use Rattle.ob0_types_rules.specs.Bindings.{declared_object}
 use Rattle.ob0_types_table.specs.KnownTables.{Tables, declared_in}
 use Rattle.ob0_types_rules.specs.WellTyped.{WellTyped}
 use Rattle.ob0_types.specs.FaultOrder.{AreFirstFaults}
+use Rattle.ob0_types.specs.declared.checked.ModuleTypes.{ModuleTypes}
+use Rattle.ob0_types_fields.specs.Listed.{AreFields}
 
 -- a checked module: its names, its faults, and the table of what it declares
 pub record CheckedModule : Type 0 where
@@ -38,6 +40,15 @@ pub record IsChecked (c : CheckedModule) : Type 0 where
 -- these are the faults of a module that was checked, whatever is known of it
 abbrev pub AreCheckedFaults : Resolution → List Fault → Type 0
 AreCheckedFaults names faults = (known : Option Tables) × IsChecked (record { names = names; faults = faults; known = known })
+
+-- a module with what was found of its types
+abbrev pub checked_by : Resolution → ModuleTypes → CheckedModule
+checked_by names types = record { names = names; faults = types.faults.items; known = types.known }
+
+-- This was found of a module's types: the module is checked by it, and where it has no fault its fields are these.
+pub record AreTypesOf (names : Resolution) (types : ModuleTypes) : Type 0 where
+  pub checked : IsChecked (checked_by names types)
+  pub fields : types.faults.items ≡ [] → AreFields names types.fields
 
 -- a module that is well-typed
 pub record IsWellTyped (names : Resolution) : Type 0 where

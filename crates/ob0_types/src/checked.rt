@@ -1,7 +1,7 @@
 //! Checking a module, and what is known of a well-typed one.
 
 ghost use Rattle.ob0_scope_rules.specs.Resolution.{is_of_declarations};
-ghost use Rattle.ob0_types.specs.CheckedModules.{AreCheckedFaults, IsChecked};
+ghost use Rattle.ob0_types.specs.CheckedModules.{AreCheckedFaults, AreTypesOf, IsChecked, checked_by};
 ghost use Rattle.ob0_types.specs.FaultOrder.{AreFirstOf};
 ghost use Rattle.ob0_types.specs.FoundFaults.{faults_found, types_found};
 ghost use Rattle.std.specs.List.{filter};
@@ -18,43 +18,50 @@ use ob0_types_rules::laws::fits_by_ordinal;
 use ob0_types_table::{Known, Parts, TypeId};
 use ob0_values::Scalar;
 use std::alloc::{AllocError, Global};
+use std::borrow::Cow;
 use std::marker::Model;
+
+/// What checking a module finds: what its declarations are and its fields, where it fits, and the faults of its scopes and types.
+/// It borrows nothing.
+#[derive(Drop)]
+pub struct ModuleTypes {
+    pub known: Option<Known>,
+    pub fields: FieldList,
+    pub faults: Vec<Fault>,
+}
 
 /// A module that was checked, with its faults.
 #[derive(Drop)]
 pub struct Checked<'t> {
     resolved: &'t Resolved<'t>,
-    known: Option<Known<'t>>,
-    fields: FieldList,
-    faults: Vec<Fault>,
+    types: Cow<'t, ModuleTypes>,
 }
 
 impl<'t> Model for Checked<'t> {
-    ghost use Rattle.ob0_types.specs.CheckedModules.{CheckedModule, IsChecked};
+    ghost use Rattle.std.specs.Cow.{cow_value};
+    ghost use Rattle.ob0_types.specs.CheckedModules.{AreTypesOf, CheckedModule, checked_by};
 
     ghost Value = { CheckedModule };
 
-    ghost use Rattle.std.specs.Prelude.{◌≡◌, []};
-    ghost use Rattle.ob0_types_fields.specs.Listed.{AreFields};
     ghost use Rattle.std.specs.Coded.{codes};
     ghost use Rattle.ob0_tree.specs.contracts.tree.Block as block_contract;
 
     ghost coded = { Prim.hlevel (codes, block_contract.the_row.coded) };
 
-    ghost view = { λ c. record { names = c.resolved.now; faults = c.faults.items; known = c.known } };
+    ghost view = { λ c. checked_by c.resolved.now (cow_value c.types) };
 
-    ghost invariant = { λ c. IsChecked (record { names = c.resolved.now; faults = c.faults.items; known = c.known }) × (c.faults.items ≡ [] → AreFields c.resolved.now c.fields) };
+    ghost invariant = { λ c. AreTypesOf c.resolved.now (cow_value c.types) };
 }
 
 /// A module without faults, and what is known of its declarations.
 #[derive(Drop)]
-pub struct WellTyped<'c, 't> {
-    checked: &'c Checked<'t>,
-    known: &'c Known<'t>,
-    fields: &'c FieldList,
+pub struct WellTyped<'t> {
+    checked: &'t Checked<'t>,
+    known: &'t Known,
+    fields: &'t FieldList,
 }
 
-impl<'c, 't> Model for WellTyped<'c, 't> {
+impl<'t> Model for WellTyped<'t> {
     ghost use Rattle.ob0_types_fields.specs.Listed.{AreFields};
     ghost use Rattle.ob0_types.specs.CheckedModules.{HasDeclarations, IsWellTyped};
     ghost use Rattle.ob0_tree.specs.Parsed.{named_tree_of};
@@ -74,8 +81,8 @@ impl<'c, 't> Model for WellTyped<'c, 't> {
 
 /// A type of a module, with the table that knows its parts.
 #[derive(Clone, Copy)]
-pub struct Shape<'c, 't> {
-    pub known: &'c Known<'t>,
+pub struct Shape<'t> {
+    pub known: &'t Known,
     pub of: TypeId,
 }
 
@@ -87,6 +94,14 @@ pub fn check<'t>(alloc: Global, resolved: &'t Resolved<'t>) -> Result<Checked<'t
     ensures names { IfOk result (λ c. c.names ≡ resolved.now) }
     ensures checked { IfOk result IsChecked }
 {
+    let types = types_of(alloc, resolved)?;
+    Ok(Checked::new(resolved, types))
+}
+
+/// What checking a module finds. It borrows nothing, so that it can be kept beside the module's bindings.
+pub fn types_of<'t>(alloc: Global, resolved: &'t Resolved<'t>) -> Result<ModuleTypes, AllocError>
+    ensures { IfOk result (AreTypesOf resolved.now) }
+{
     fits_by_ordinal();
     modules_fit();
     no_fault_in_modules();
@@ -95,8 +110,7 @@ pub fn check<'t>(alloc: Global, resolved: &'t Resolved<'t>) -> Result<Checked<'t
     let known = decide(alloc, resolved)?;
     let fields = known_fields(alloc, resolved, &known)?;
     let faults = faults_of(alloc, resolved, known.is_some())?;
-    Ok(Checked {
-        resolved,
+    Ok(ModuleTypes {
         known,
         fields,
         faults,
@@ -121,7 +135,7 @@ pub fn faults_in<'t>(alloc: Global, resolved: &'t Resolved<'t>) -> Result<Vec<Fa
 fn known_fields<'t>(
     alloc: Global,
     resolved: &'t Resolved<'t>,
-    known: &Option<Known<'t>>,
+    known: &Option<Known>,
 ) -> Result<FieldList, AllocError>
     ensures { IfOk result (λ fields. IfSome known.now (λ t. fields ≡ listed_by t resolved.now)) }
 {
@@ -183,7 +197,40 @@ fn is_of_declarations(fault: &Fault) -> bool
 }
 
 impl<'t> Checked<'t> {
-    ghost use Rattle.ob0_types.specs.CheckedModules.{IsChecked};
+    ghost use Rattle.ob0_types.specs.CheckedModules.{AreTypesOf, IsChecked, checked_by};
+
+    /// Joins what was found of a module's types to the module.
+    pub fn new(resolved: &'t Resolved<'t>, types: ModuleTypes) -> Checked<'t>
+        requires { AreTypesOf resolved.now types }
+        ensures { result ≡ checked_by resolved.now types }
+    {
+        Checked {
+            resolved,
+            types: Cow::Owned(types),
+        }
+    }
+
+    /// Joins what was found of a module's types, which is kept elsewhere, to the module.
+    pub fn borrowed(resolved: &'t Resolved<'t>, types: &'t ModuleTypes) -> Checked<'t>
+        requires { AreTypesOf resolved.now types.now }
+        ensures { result ≡ checked_by resolved.now types.now }
+    {
+        Checked {
+            resolved,
+            types: Cow::Borrowed(types),
+        }
+    }
+
+    /// What was found, without the module.
+    fn types(&self) -> &ModuleTypes
+        ensures found { checked_by self.now.names result.now ≡ self.now }
+        ensures types { AreTypesOf self.now.names result.now }
+    {
+        match &self.types {
+            Cow::Borrowed(types) => types,
+            Cow::Owned(types) => types,
+        }
+    }
 
     /// The module with its names bound.
     pub fn resolved(&self) -> &'t Resolved<'t>
@@ -197,21 +244,22 @@ impl<'t> Checked<'t> {
         ensures value { result.now ≡ self.now.faults }
         ensures checked { IsChecked self.now }
     {
-        self.faults.as_slice()
+        self.types().faults.as_slice()
     }
 
     /// The module, where it has no fault.
-    pub fn well_typed(&self) -> Option<WellTyped<'_, 't>>
+    pub fn well_typed(&self) -> Option<WellTyped<'_>>
         ensures { MatchOption result (self.now.faults ≡ [] → ⊥) (λ w. w ≡ self.now.names) }
     {
-        match &self.known {
+        let types = self.types();
+        match &types.known {
             None => None,
             Some(known) => {
-                if self.faults.is_empty() {
+                if types.faults.is_empty() {
                     Some(WellTyped {
                         checked: self,
                         known,
-                        fields: &self.fields,
+                        fields: &types.fields,
                     })
                 } else {
                     None
@@ -221,7 +269,7 @@ impl<'t> Checked<'t> {
     }
 }
 
-impl<'c, 't> WellTyped<'c, 't> {
+impl<'t> WellTyped<'t> {
     ghost use Rattle.std.specs.Prelude.{option_map};
     ghost use Rattle.ob0_tree.specs.Parsed.{named_tree_of};
     ghost use Rattle.ob0_types.specs.CheckedModules.{HasDeclarations, IsWellTyped};
@@ -241,14 +289,14 @@ impl<'c, 't> WellTyped<'c, 't> {
     }
 
     /// What is known of the module: what each declaration is, by its ordinal (`Known::object`), and the parts of types.
-    pub fn known(&self) -> &'c Known<'t>
+    pub fn known(&self) -> &'t Known
         ensures { HasDeclarations (named_tree_of self.now.module_read) result.now }
     {
         self.known
     }
 
     /// The fields of the module.
-    pub fn fields(&self) -> &'c FieldList
+    pub fn fields(&self) -> &'t FieldList
         ensures { AreFields self.now result.now }
     {
         self.fields
@@ -271,7 +319,7 @@ impl<'c, 't> WellTyped<'c, 't> {
 
     /// The type of a declaration, by its ordinal: of a type, of a variable or parameter, and of a constant. None for a
     /// procedure, and for a number that no declaration has.
-    pub fn shape(&self, declaration: usize) -> Option<Shape<'c, 't>>
+    pub fn shape(&self, declaration: usize) -> Option<Shape<'t>>
         ensures { option_map shape_of result ≡ type_declared (declared_object (named_tree_of self.now.module_read) declaration) }
     {
         let known = self.known();
@@ -280,13 +328,13 @@ impl<'c, 't> WellTyped<'c, 't> {
     }
 }
 
-impl<'c, 't> Shape<'c, 't> {
+impl<'t> Shape<'t> {
     ghost use Rattle.ob0_types_table.specs.KnownTables.{shapes_of};
     ghost use Rattle.ob0_types_table.specs.Parts.{parts_shape};
     ghost use Rattle.ob0_types.specs.DeclaredShapes.{shape_of};
 
     /// What the type is made of; the types of its parts are in the same table.
-    pub fn parts(&self) -> Parts<'c, 't>
+    pub fn parts(&self) -> Parts<'t>
         ensures { parts_shape (shapes_of self.now.known.now) result ≡ shape_of self.now }
     {
         self.known.parts(self.of)

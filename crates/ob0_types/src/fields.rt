@@ -9,7 +9,7 @@ use std::alloc::{AllocError, Global};
 
 /// The field that a place is on, where it lies in an identifier of the field or at its end: the identifier's token, and the
 /// ordinal of the field's record.
-pub fn field_at(well_typed: &WellTyped<'_, '_>, offset: usize) -> Option<(usize, usize)>
+pub fn field_at(well_typed: &WellTyped<'_>, offset: usize) -> Option<(usize, usize)>
     ensures value { result ≡ field_at well_typed.now offset }
     ensures stand { IfSome result (λ x. IsIdentifierToken well_typed.now.module_read.source.tokens x.0) }
 {
@@ -20,7 +20,7 @@ pub fn field_at(well_typed: &WellTyped<'_, '_>, offset: usize) -> Option<(usize,
 /// The tokens of the field of this name of a record: the one that declares it and all that select it, in text order.
 pub fn field_tokens(
     alloc: Global,
-    well_typed: &WellTyped<'_, '_>,
+    well_typed: &WellTyped<'_>,
     owner: usize,
     name: &str,
 ) -> Result<Vec<usize>, AllocError>
@@ -36,7 +36,7 @@ pub fn field_tokens(
 }
 
 /// The token that declares the field of this name of a record.
-pub fn declaring_field(well_typed: &WellTyped<'_, '_>, owner: usize, name: &str) -> Option<usize>
+pub fn declaring_field(well_typed: &WellTyped<'_>, owner: usize, name: &str) -> Option<usize>
     ensures { result ≡ declaring_field well_typed.now.module_read owner name.now }
 {
     let names = well_typed.resolved();
@@ -45,7 +45,7 @@ pub fn declaring_field(well_typed: &WellTyped<'_, '_>, owner: usize, name: &str)
 
 /// The place of the field of this name among the fields of a record, counted from 0. None where the record has no such
 /// field.
-pub fn field_place(well_typed: &WellTyped<'_, '_>, owner: usize, name: &str) -> Option<usize>
+pub fn field_place(well_typed: &WellTyped<'_>, owner: usize, name: &str) -> Option<usize>
     ensures { result ≡ field_place well_typed.now.module_read owner name.now }
 {
     let names = well_typed.resolved();

@@ -50,7 +50,7 @@ impl FieldList {
     /// selected.
     pub fn of<'a, 't>(
         alloc: Global,
-        known: &'a Known<'t>,
+        known: &'a Known,
         resolved: &'a Resolved<'t>,
     ) -> Result<FieldList, AllocError>
         ensures { IfOk result (λ f. f ≡ listed_by known.now resolved.now) }
@@ -109,7 +109,7 @@ fn declared_fields(alloc: Global, resolved: &Resolved<'_>) -> Result<Fields, All
 /// The same where some are declared; none where none is.
 fn fields_beside<'a, 't>(
     alloc: Global,
-    known: &'a Known<'t>,
+    known: &'a Known,
     resolved: &'a Resolved<'t>,
     declared: &[(usize, usize)],
 ) -> Result<Fields, AllocError>
@@ -125,7 +125,7 @@ fn fields_beside<'a, 't>(
 /// The fields of a module, in text order.
 fn found_fields<'a, 't>(
     alloc: Global,
-    known: &'a Known<'t>,
+    known: &'a Known,
     resolved: &'a Resolved<'t>,
 ) -> Result<Fields, AllocError>
     ensures { IfOk result (λ found. found.items ≡ marked_module (token_objects (declared_in known.now) resolved.now) (tree_of resolved.now.module_read)) }

@@ -27,7 +27,7 @@ pub(crate) type Fields = Vec<(usize, usize)>;
 /// A module with the table of its declarations.
 #[derive(Clone, Copy)]
 pub(crate) struct Owning<'a, 't> {
-    pub(crate) known: &'a Known<'t>,
+    pub(crate) known: &'a Known,
     pub(crate) resolved: &'a Resolved<'t>,
 }
 

@@ -1,7 +1,10 @@
 -- The first field of each name, in a map that is filled from the last field on.
-use Rattle.std.proofs.Common.{◌≡◌, ℕ, suc, ◌+◌, ◌-◌, ◌<◌, ◌≤◌, Bool, true, false, cond, Option, Some, None, List, [], ◌∷◌, length, get_or, drop, option_map, refl, sym, ap, ◌∙◌, arith, Bor}
+use Rattle.std.proofs.Common.{◌≡◌, ℕ, suc, ◌+◌, ◌-◌, ◌<◌, ◌≤◌, Bool, true, false, cond, Option, Some, None, List, [], ◌∷◌, length, get_or, drop, option_map, refl, sym, ap, ◌∙◌, arith, string_bytes}
 use Rattle.std.proofs.lemmas.List.{drop_more}
-use Rattle.std.proofs.lemmas.Map.Text.{btree_map_updates_str}
+use Rattle.std.proofs.lemmas.Map.Text.{btree_map_updates_text}
+use Rattle.std.specs.declared.alloc.Global.{Global}
+use Rattle.std.specs.String.{string_cmp}
+use Rattle.std.specs.Prelude.{String}
 use Rattle.std.specs.BTreeMap.{BTreeMap, UpdatesBy}
 use Rattle.std.specs.Cmp.Lexicographic.{slice_cmp}
 use Rattle.std.specs.Ordering.{nat_cmp}
@@ -24,8 +27,8 @@ either_type shapes false k t o = refl
 pub first_from-shape : (shapes : List Shape) (k : ℕ) (fs : List Field) (x : Name) → option_map (type_shape shapes) (option_map (λ (e : First). e.of) (first_from k fs x)) ≡ shape_of_field (fields_shape shapes fs) x
 first_from-shape shapes k [] x = refl
 first_from-shape shapes k (f ∷ fs) x =
-    either_type shapes (same_name x f.name.now) k f.of (first_from (suc k) fs x)
-    ∙ ap (cond (same_name x f.name.now) (Some (type_shape shapes f.of))) (first_from-shape shapes (suc k) fs x)
+    either_type shapes (same_name x (string_bytes f.name)) k f.of (first_from (suc k) fs x)
+    ∙ ap (cond (same_name x (string_bytes f.name)) (Some (type_shape shapes f.of))) (first_from-shape shapes (suc k) fs x)
 
 behind : (k : ℕ) (o : Option ℕ) → option_map (λ i. suc k + i) o ≡ option_map (λ i. k + i) (option_map suc o)
 behind k None = refl
@@ -34,7 +37,7 @@ behind k (Some i) = ap Some (omega arith)
 pub first_from-place : (shapes : List Shape) (k : ℕ) (fs : List Field) (x : Name) → option_map (λ (e : First). e.place) (first_from k fs x) ≡ option_map (λ i. k + i) (place_of_field (fields_shape shapes fs) x)
 first_from-place shapes k [] x = refl
 first_from-place shapes k (f ∷ fs) x =
-    elim (same_name x f.name.now) as (λ b. option_map (λ (e : First). e.place) (cond b (Some (record { place = k; of = f.of })) (first_from (suc k) fs x)) ≡ option_map (λ i. k + i) (cond b (Some 0) (option_map suc (place_of_field (fields_shape shapes fs) x))))
+    elim (same_name x (string_bytes f.name)) as (λ b. option_map (λ (e : First). e.place) (cond b (Some (record { place = k; of = f.of })) (first_from (suc k) fs x)) ≡ option_map (λ i. k + i) (cond b (Some 0) (option_map suc (place_of_field (fields_shape shapes fs) x))))
     [ true ↦ ap Some (omega arith) | false ↦ first_from-place shapes (suc k) fs x ∙ behind k (place_of_field (fields_shape shapes fs) x) ]
 
 none_before : (o : Option ℕ) → option_map (λ i. 0 + i) o ≡ o
@@ -45,13 +48,13 @@ pub first-place : (shapes : List Shape) (fs : List Field) (x : Name) → option_
 first-place shapes fs x = first_from-place shapes 0 fs x ∙ none_before (place_of_field (fields_shape shapes fs) x)
 
 -- the map has the fields from a place on
-pub record Filled (map : BTreeMap (Bor Name) First) (fs : List Field) (left : ℕ) : Type 0 where
+pub record Filled (map : BTreeMap (String Global) First) (fs : List Field) (left : ℕ) : Type 0 where
   pub index : IsIndexFrom map left (drop left fs)
   pub within : left ≤ length fs
 
-pub filled_on : (map next : BTreeMap (Bor Name) First) (fs : List Field) (left : ℕ) (f d : Field) → Filled map fs left → 0 < left → f ≡ get_or fs (left - 1) d
-    → UpdatesBy (λ a b. slice_cmp nat_cmp a.now b.now) (λ key. slice_cmp nat_cmp f.name.now key.now) map next (Some (record { place = left - 1; of = f.of })) → Filled next fs (left - 1)
-filled_on map next fs left f d h some here renewed =
+pub filled_on : (map next : BTreeMap (String Global) First) (fs : List Field) (left : ℕ) (bytes : List ℕ) (f d : Field) → Filled map fs left → 0 < left → f ≡ get_or fs (left - 1) d → bytes ≡ string_bytes f.name
+    → UpdatesBy string_cmp (λ key. slice_cmp nat_cmp bytes (string_bytes key)) map next (Some (record { place = left - 1; of = f.of })) → Filled next fs (left - 1)
+filled_on map next fs left bytes f d h some here named renewed =
     let back : left - 1 + 1 ≡ left = omega (arith, some) in
     let after : suc (left - 1) ≡ left = omega (arith, some) in
     let first : First = record { place = left - 1; of = f.of } in
@@ -59,9 +62,9 @@ filled_on map next fs left f d h some here renewed =
     record {
       index = record {
         found = λ x.
-            btree_map_updates_str f.name.now map next (Some first) renewed x
-            ∙ (λ i. cond (same_name-comm f.name.now x i) (Some first) (h.index.found x i))
-            ∙ (λ i. cond (same_name x f.name.now) (Some first) (first_from (sym after i) (drop left fs) x))
+            btree_map_updates_text bytes map next (Some first) renewed x
+            ∙ (λ i. cond (same_name-comm (named i) x i) (Some first) (h.index.found x i))
+            ∙ (λ i. cond (same_name x (string_bytes f.name)) (Some first) (first_from (sym after i) (drop left fs) x))
             ∙ ap (λ gs. first_from (left - 1) gs x) (sym split);
       };
       within = omega (arith, h.within);

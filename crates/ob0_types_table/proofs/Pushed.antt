@@ -1,5 +1,6 @@
 -- A shape that is put into the table.
-use Rattle.std.proofs.Common.{◌≡◌, ℕ, suc, max, ◌+◌, ◌≤◌, Bool, true, cond, ◌&&◌, List, [], ◌∷◌, ◌++◌, length, get_or, Some, None, nat_le, sym, ap, ◌∙◌, arith, length-append}
+use Rattle.std.proofs.Common.{◌≡◌, ℕ, suc, max, ◌+◌, ◌<◌, ◌≤◌, Bool, true, cond, ◌&&◌, List, [], ◌∷◌, ◌++◌, length, get_or, Some, None, nat_le, sym, ap, ◌∙◌, arith, length-append, slice_set, subst}
+use Rattle.std.proofs.lemmas.List.Elements.{All-get_or, All-set}
 use Rattle.std.proofs.Math.Seq.{get_or-append_seam}
 use Rattle.ob0_values.specs.Values.{Shape}
 use Rattle.ob0_types_table.specs.declared.known.TypeEntry as code
@@ -49,3 +50,11 @@ pub record_depth : (shapes : List Shape) (items read : List Field) (deepest n : 
 record_depth shapes items read deepest n e same counted =
     let total : deepest ≡ field_depth (fields_shape shapes items) = e ∙ ap (λ xs. field_depth (fields_shape shapes xs)) same in
     omega (arith, total, counted)
+
+-- an entry that was made is put in place of another
+pub tables-set : (t : Tables) (i : ℕ) (e : Entry) → AreTables t → EntryIsMade (length t.shapes) e → AreTables (record { shapes = t.shapes; entries = slice_set t.entries i e })
+tables-set t i e h made = record { in_order = h.in_order; entries_made = All-set (EntryIsMade (length t.shapes)) t.entries i e made h.entries_made }
+
+-- what an entry of the table is was made
+pub entry_at_made : (t : Tables) (i : ℕ) (e : Entry) → AreTables t → i < length t.entries → e ≡ get_or t.entries i e → EntryIsMade (length t.shapes) e
+entry_at_made t i e h less here = subst (EntryIsMade (length t.shapes)) (sym here) (All-get_or (EntryIsMade (length t.shapes)) t.entries i e less h.entries_made)

@@ -1,5 +1,5 @@
 -- Types that are the same: a type and itself, and fields side by side.
-use Rattle.std.proofs.Common.{◌≡◌, ℕ, ◌<◌, ◌≤◌, zero, suc, true, false, Bool, ◌&&◌, ◌==◌, List, [], ◌∷◌, length, get_or, refl, sym, ap, ◌∙◌, arith, eq-eqb, ne_eqb, nat_eq}
+use Rattle.std.proofs.Common.{◌≡◌, ℕ, ◌<◌, ◌≤◌, zero, suc, true, false, Bool, ◌&&◌, ◌==◌, List, [], ◌∷◌, length, get_or, refl, sym, ap, ◌∙◌, arith, eq-eqb, ne_eqb, nat_eq, string_bytes}
 use Rattle.std.proofs.lemmas.Cmp.{nat_list_eq_equiv}
 use Rattle.ob0_scope_rules.specs.Names.{same_name}
 use Rattle.ob0_values.specs.Values.{FieldShapes, Shape, array_shape, boolean_shape, integer_shape, next_field_shape, no_field_shape, record_shape}
@@ -29,12 +29,12 @@ same_shape-same s t e = sym (same_shape-refl s) ∙ ap (same_shape s) e
 
 -- fields side by side
 abbrev pub same_field : List Shape → Field → Field → Bool
-same_field shapes f g = same_name f.name.now g.name.now && same_shape (type_shape shapes f.of) (type_shape shapes g.of)
+same_field shapes f g = same_name (string_bytes f.name) (string_bytes g.name) && same_shape (type_shape shapes f.of) (type_shape shapes g.of)
 
 pub fields_pairwise : (shapes : List Shape) → IsPairwise (λ fs gs. same_fields (fields_shape shapes fs) (fields_shape shapes gs)) (same_field shapes)
 fields_pairwise shapes = record {
   ended = refl;
-  stepped = λ f g fs gs. and-assoc (same_name f.name.now g.name.now) (same_shape (type_shape shapes f.of) (type_shape shapes g.of)) (same_fields (fields_shape shapes fs) (fields_shape shapes gs));
+  stepped = λ f g fs gs. and-assoc (same_name (string_bytes f.name) (string_bytes g.name)) (same_shape (type_shape shapes f.of) (type_shape shapes g.of)) (same_fields (fields_shape shapes fs) (fields_shape shapes gs));
   fewer = λ f fs. refl;
   further = λ g gs. refl;
 }

@@ -1,5 +1,5 @@
 -- The table of shapes: what is pushed keeps what was there, and each entry is made over all of the table.
-use Rattle.std.proofs.Common.{◌≡◌, ℕ, zero, suc, ◌+◌, ◌<◌, ◌≤◌, List, [], ◌∷◌, ◌++◌, All, length, get_or, sym, refl, ap, ◌∙◌, subst, arith, append_assoc, append-nil, length-append, add-zero, zero-add}
+use Rattle.std.proofs.Common.{◌≡◌, ℕ, zero, suc, ◌+◌, ◌<◌, ◌≤◌, List, [], ◌∷◌, ◌++◌, All, length, get_or, sym, refl, ap, ◌∙◌, subst, arith, append_assoc, append-nil, length-append, add-zero, zero-add, string_bytes}
 use Rattle.std.proofs.lemmas.List.{get_or_past}
 use Rattle.std.proofs.lemmas.List.Elements.{All-head, All-tail}
 use Rattle.std.proofs.Math.ListN.{get_or-append}
@@ -43,7 +43,7 @@ type_shape-more shapes later type.Unknown h = refl
 
 pub fields_shape-more : (shapes later : List Shape) (fs : List Field) → All (λ f. IsMade (length shapes) f.of) fs → fields_shape (shapes ++ later) fs ≡ fields_shape shapes fs
 fields_shape-more shapes later [] h = refl
-fields_shape-more shapes later (f ∷ fs) h = λ i. next_field_shape f.name.now (type_shape-more shapes later f.of (All-head (λ f. IsMade (length shapes) f.of) f fs h) i) (fields_shape-more shapes later fs (All-tail (λ f. IsMade (length shapes) f.of) f fs h) i)
+fields_shape-more shapes later (f ∷ fs) h = λ i. next_field_shape (string_bytes f.name) (type_shape-more shapes later f.of (All-head (λ f. IsMade (length shapes) f.of) f fs h) i) (fields_shape-more shapes later fs (All-tail (λ f. IsMade (length shapes) f.of) f fs h) i)
 
 pub made_shape-more : (shapes later : List Shape) (m : code.TypeEntry) → PartsAreMade (length shapes) m → made_shape (shapes ++ later) m ≡ made_shape shapes m
 made_shape-more shapes later (made.Array a) h = ap (array_shape a.ordinal a.length) (type_shape-more shapes later a.element h)

@@ -1,10 +1,8 @@
 -- The first field of each name of a record, as it is kept.
 -- Rule: none; for contracts: the index of a record's fields.
-use Rattle.std.specs.Prelude.{◌≡◌, ℕ, suc, List, [], ◌∷◌, Option, Some, None, if◌then◌else◌}
-use Rattle.std.specs.Borrow.{Bor}
-use Rattle.std.specs.BTreeMap.{BTreeMap, get_by}
-use Rattle.std.specs.Cmp.Lexicographic.{slice_cmp}
-use Rattle.std.specs.Ordering.{nat_cmp}
+use Rattle.std.specs.Prelude.{◌≡◌, ℕ, suc, List, [], ◌∷◌, Option, Some, None, String, string_bytes, if◌then◌else◌}
+use Rattle.std.specs.declared.alloc.Global.{Global}
+use Rattle.std.specs.BTreeMap.{BTreeMap, get_by_text}
 use Rattle.ob0_scope_rules.specs.Names.{Name, same_name}
 use Rattle.ob0_types_table.specs.declared.field_table.First.{First}
 use Rattle.ob0_types_table.specs.declared.known.Field.{Field}
@@ -12,12 +10,12 @@ use Rattle.ob0_types_table.specs.declared.known.Field.{Field}
 -- the first field of a name among fields from place k on
 abbrev pub first_from : ℕ → List Field → Name → Option First
 first_from k [] x = None
-first_from k (f ∷ fs) x = if same_name x f.name.now then Some (record { place = k; of = f.of }) else first_from (suc k) fs x
+first_from k (f ∷ fs) x = if same_name x (string_bytes f.name) then Some (record { place = k; of = f.of }) else first_from (suc k) fs x
 
 -- a map has the first field of each name among fields from a place on
-pub record IsIndexFrom (map : BTreeMap (Bor Name) First) (k : ℕ) (fields : List Field) : Type 0 where
-  pub found : (x : Name) → get_by (λ key. slice_cmp nat_cmp x key.now) map ≡ first_from k fields x
+pub record IsIndexFrom (map : BTreeMap (String Global) First) (k : ℕ) (fields : List Field) : Type 0 where
+  pub found : (x : Name) → get_by_text map x ≡ first_from k fields x
 
 -- the map has the first field of each name
-abbrev pub IsIndex : BTreeMap (Bor Name) First → List Field → Type 0
+abbrev pub IsIndex : BTreeMap (String Global) First → List Field → Type 0
 IsIndex map fields = IsIndexFrom map 0 fields

@@ -1,10 +1,14 @@
 -- A type with its parts.
 -- Rule: none; for contracts: a type with its parts.
-use Rattle.std.specs.Prelude.{List}
-use Rattle.ob0_types_table.specs.Tables.{made_shape, no_shape}
+use Rattle.std.specs.Prelude.{Bool, true, false, List, Option, Some, None, slice_get}
+use Rattle.ob0_types_table.specs.KnownTables.{Tables}
+use Rattle.ob0_types_table.specs.Tables.{CountsParts, made_shape, no_shape}
+use Rattle.ob0_types_table.specs.declared.known.TypeEntry.{TypeEntry}
 use Rattle.ob0_types_table.specs.declared.known.TypeEntry.TheVariants as made
 use Rattle.ob0_types_table.specs.declared.sameness.Parts.{Parts}
 use Rattle.ob0_types_table.specs.declared.sameness.Parts.TheVariants as parts
+use Rattle.ob0_types_table.specs.declared.types.TypeId.{TypeId}
+use Rattle.ob0_types_table.specs.declared.types.TypeId.TheVariants as type
 use Rattle.ob0_values.specs.Values.{Shape, boolean_shape, integer_shape}
 
 -- the shape of a type with its parts
@@ -14,3 +18,39 @@ parts_shape shapes parts.Boolean = boolean_shape
 parts_shape shapes (parts.Array a) = made_shape shapes (made.Array a)
 parts_shape shapes (parts.Record r) = made_shape shapes (made.Record r.now)
 parts_shape shapes parts.Faulty = no_shape
+
+-- the scalars and the depth that come with an array or a record are those of its shape
+abbrev pub PartsAreCounted : List Shape → Parts → Type 0
+PartsAreCounted shapes parts.Integer = Unit {0}
+PartsAreCounted shapes parts.Boolean = Unit {0}
+PartsAreCounted shapes (parts.Array a) = CountsParts (made.Array a) (made_shape shapes (made.Array a))
+PartsAreCounted shapes (parts.Record r) = CountsParts (made.Record r.now) (made_shape shapes (made.Record r.now))
+PartsAreCounted shapes parts.Faulty = Unit {0}
+
+-- an ARRAY of the text made this entry
+abbrev pub is_array_entry : Option TypeEntry → Bool
+is_array_entry None = false
+is_array_entry (Some (made.Array a)) = true
+is_array_entry (Some (made.Record r)) = false
+
+-- a RECORD of the text made this entry
+abbrev pub is_record_entry : Option TypeEntry → Bool
+is_record_entry None = false
+is_record_entry (Some (made.Array a)) = false
+is_record_entry (Some (made.Record r)) = true
+
+-- a type of the module: INTEGER, BOOLEAN, or what an ARRAY or RECORD of the text made
+abbrev pub is_known_type : Tables → TypeId → Bool
+is_known_type t type.Integer = true
+is_known_type t type.Boolean = true
+is_known_type t (type.Array i) = is_array_entry (slice_get t.shapes i)
+is_known_type t (type.Record i) = is_record_entry (slice_get t.shapes i)
+is_known_type t type.Unknown = false
+
+-- all parts but those of what has a fault
+abbrev pub has_parts : Parts → Bool
+has_parts parts.Integer = true
+has_parts parts.Boolean = true
+has_parts (parts.Array a) = true
+has_parts (parts.Record r) = true
+has_parts parts.Faulty = false

@@ -1,6 +1,6 @@
 -- What the checker's tables mean: types, shapes and declarations.
 -- Rule: none; for contracts: what the checker's tables mean.
-use Rattle.std.specs.Prelude.{◌≡◌, ℕ, ◌<◌, Bool, true, false, List, [], ◌∷◌, ◌++◌, map, length, slice_index_or, All, Some, None, Option}
+use Rattle.std.specs.Prelude.{◌≡◌, ℕ, ◌<◌, Bool, true, false, List, [], ◌∷◌, ◌++◌, map, length, slice_index_or, All, Some, None, Option, string_bytes}
 use Rattle.ob0_values.specs.Scalars.{scalar_value}
 use Rattle.ob0_values.specs.Values.{FieldShapes, Shape, array_shape, boolean_shape, integer_shape, next_field_shape, no_field_shape, record_shape}
 use Rattle.ob0_types_table.specs.declared.types.TypeId.{TypeId}
@@ -42,7 +42,7 @@ type_shape shapes type.Unknown = no_shape
 -- the fields of a record, in order
 abbrev pub fields_shape : List Shape → List Field → FieldShapes
 fields_shape shapes [] = no_field_shape
-fields_shape shapes (f ∷ fs) = next_field_shape f.name.now (type_shape shapes f.of) (fields_shape shapes fs)
+fields_shape shapes (f ∷ fs) = next_field_shape (string_bytes f.name) (type_shape shapes f.of) (fields_shape shapes fs)
 
 -- an entry of the table of shapes, over the shapes made before it
 abbrev pub made_shape : List Shape → code.TypeEntry → Shape

@@ -22,12 +22,12 @@ struct First {
 
 /// Fields in order, with the first of each name.
 #[derive(Drop)]
-pub struct FieldTable<'t> {
-    fields: Vec<Field<'t>>,
-    first_of: BTreeMap<&'t str, First>,
+pub struct FieldTable {
+    fields: Vec<Field>,
+    first_of: BTreeMap<String, First>,
 }
 
-impl<'t> Model for FieldTable<'t> {
+impl Model for FieldTable {
     ghost use Rattle.std.specs.Prelude.{List};
     ghost use Rattle.ob0_types_table.specs.declared.known.Field.{Field};
 
@@ -41,7 +41,7 @@ impl<'t> Model for FieldTable<'t> {
 }
 
 /// The first field of each name. The last field goes first, so that the first of a name stays.
-fn first_of<'t>(alloc: Global, fields: &[Field<'t>]) -> Result<BTreeMap<&'t str, First>, AllocError>
+fn first_of(alloc: Global, fields: &[Field]) -> Result<BTreeMap<String, First>, AllocError>
     ensures { IfOk result (λ m. IsIndex m fields.now) }
 {
     let mut first = BTreeMap::new(alloc);
@@ -53,14 +53,14 @@ fn first_of<'t>(alloc: Global, fields: &[Field<'t>]) -> Result<BTreeMap<&'t str,
             place: left,
             of: field.of,
         };
-        first.insert(field.name, entry)?;
+        first.insert(field.name.clone()?, entry)?;
     }
     Ok(first)
 }
 
-impl<'t> FieldTable<'t> {
-    pub(crate) fn new(fields: Vec<Field<'t>>) -> Result<FieldTable<'t>, AllocError>
-        ensures { IfOk result (λ t. t ≡ fields.entry.items) }
+impl FieldTable {
+    pub(crate) fn new(fields: Vec<Field>) -> Result<FieldTable, AllocError>
+        ensures { IfOk result (λ t. t ≡ fields.items) }
     {
         let first = first_of(*fields.allocator(), fields.as_slice())?;
         Ok(FieldTable {
@@ -70,7 +70,7 @@ impl<'t> FieldTable<'t> {
     }
 
     /// The fields, in text order.
-    pub fn as_slice(&self) -> &[Field<'t>]
+    pub fn as_slice(&self) -> &[Field]
         ensures { result.now ≡ self.now }
     {
         self.fields.as_slice()

@@ -19,9 +19,9 @@ pub const MOST_SCALARS: usize = 65536;
 pub const MOST_DEPTH: usize = 100;
 
 /// A field of a record.
-#[derive(Clone, Copy)]
-pub struct Field<'t> {
-    pub name: &'t str,
+#[derive(Drop)]
+pub struct Field {
+    pub name: String,
     pub of: TypeId,
 }
 
@@ -44,18 +44,18 @@ pub struct ArrayShape {
 
 /// `RECORD fields END`, made by the constructor with this ordinal in the text.
 #[derive(Drop)]
-pub struct RecordShape<'t> {
+pub struct RecordShape {
     pub ordinal: usize,
-    pub fields: FieldTable<'t>,
+    pub fields: FieldTable,
     pub scalars: usize,
     pub depth: usize,
 }
 
 /// What an ARRAY or RECORD of the text makes.
 #[derive(Drop)]
-pub enum TypeEntry<'t> {
+pub enum TypeEntry {
     Array(ArrayShape),
-    Record(RecordShape<'t>),
+    Record(RecordShape),
 }
 
 /// A formal parameter: passed by its place, as VAR, or by its value.
@@ -112,12 +112,12 @@ pub struct Shadowed {
 
 /// The shapes of the types made so far, and the declarations so far by their ordinals, each in scope or not.
 #[derive(Drop)]
-pub struct Known<'t> {
-    shapes: Vec<TypeEntry<'t>>,
+pub struct Known {
+    shapes: Vec<TypeEntry>,
     entries: Vec<Entry>,
 }
 
-impl<'t> RecordShape<'t> {
+impl RecordShape {
     /// The first field of this name.
     fn field_of(&self, name: &str) -> Option<FieldOf>
         ensures { (shapes : List shape.Shape) → result ≡ field_selected (shape.record_shape self.now.ordinal (fields_shape shapes self.now.fields)) name.now }
@@ -139,7 +139,7 @@ fn is_within(scalars: usize, depth: usize) -> bool
     scalars <= MOST_SCALARS && depth <= MOST_DEPTH
 }
 
-impl<'t> Model for Known<'t> {
+impl Model for Known {
     ghost use Rattle.ob0_types_table.specs.KnownTables.{Tables, AreTables};
 
     ghost Value = { Tables };
@@ -149,7 +149,7 @@ impl<'t> Model for Known<'t> {
     ghost invariant = { λ k. AreTables (record { shapes = k.shapes.items; entries = k.entries.items }) };
 }
 
-impl<'t> Known<'t> {
+impl Known {
     ghost use Rattle.std.specs.Prelude.{◌≡◌, ℕ, suc, ◌<◌, ◌++◌, ◌∷◌, [], true, false, Some, length, option_map, option_and_then, slice_get, slice_set, slice_index_or, MatchOption, All, ◌^◌, IfOk, OnOk, IfSome, None};
     ghost use Rattle.ob0_types_table.specs.declared.known.Object.TheVariants as kind;
     ghost use Rattle.ob0_types_table.specs.declared.known.VisibleBinding.TheVariants as sight;
@@ -161,7 +161,7 @@ impl<'t> Known<'t> {
     ghost use Rattle.ob0_values.specs.Values.{array_shape, integer_shape, record_shape};
 
     /// The predeclared names.
-    pub fn new(alloc: Global) -> Result<Known<'t>, AllocError>
+    pub fn new(alloc: Global) -> Result<Known, AllocError>
         ensures { IfOk result (λ k. k ≡ predeclared) }
     {
         let mut known = Known {
@@ -325,7 +325,7 @@ impl<'t> Known<'t> {
     }
 
     /// The types that were made, in order: each is made of those before it.
-    pub fn shapes(&self) -> &[TypeEntry<'t>]
+    pub fn shapes(&self) -> &[TypeEntry]
         ensures { result.now ≡ self.now.shapes }
     {
         self.shapes.as_slice()
@@ -382,8 +382,9 @@ impl<'t> Known<'t> {
     }
 
     /// What the shape at a place of the table is.
-    pub(crate) fn entry(&self, place: usize) -> Option<&TypeEntry<'t>>
-        ensures { MatchOption result (slice_index_or (shapes_of self.now) place no_shape ≡ no_shape) (λ m. (slice_index_or (shapes_of self.now) place no_shape ≡ made_shape (shapes_of self.now) m.now) × CountsParts m.now (made_shape (shapes_of self.now) m.now)) }
+    pub(crate) fn entry(&self, place: usize) -> Option<&TypeEntry>
+        ensures found { option_map (λ m. m.now) result ≡ slice_get self.now.shapes place }
+        ensures shape { MatchOption result (slice_index_or (shapes_of self.now) place no_shape ≡ no_shape) (λ m. (slice_index_or (shapes_of self.now) place no_shape ≡ made_shape (shapes_of self.now) m.now) × CountsParts m.now (made_shape (shapes_of self.now) m.now)) }
     {
         if place < self.shapes.len() {
             Some(&self.shapes[place])
@@ -491,10 +492,10 @@ impl<'t> Known<'t> {
     }
 
     /// Puts a shape into the table, and returns its place.
-    fn put(&mut self, shape: TypeEntry<'t>) -> Result<usize, AllocError>
+    fn put(&mut self, shape: TypeEntry) -> Result<usize, AllocError>
         requires { IsEntry (shapes_of self.old) shape }
         ensures place { IfOk result (λ i. i ≡ length self.old.shapes) }
-        ensures shapes { OnOk result (self.new.shapes ≡ self.old.shapes ++ shape.entry ∷ []) }
+        ensures shapes { OnOk result (self.new.shapes ≡ self.old.shapes ++ shape ∷ []) }
         ensures entries { OnOk result (self.new.entries ≡ self.old.entries) }
         ensures meaning { OnOk result (known_meaning self.new ≡ known_meaning self.old) }
     {
@@ -539,7 +540,7 @@ impl<'t> Known<'t> {
     }
 
     /// How many scalars the fields of a record have. None past what a number can say.
-    fn field_scalars(&self, fields: &[Field<'t>]) -> Option<usize>
+    fn field_scalars(&self, fields: &[Field]) -> Option<usize>
         ensures { MatchOption result (2 ^ 64 ≤ field_scalars (fields_shape (shapes_of self.now) fields.now)) (λ n. n ≡ field_scalars (fields_shape (shapes_of self.now) fields.now)) }
     {
         let mut sum = 0usize;
@@ -554,7 +555,7 @@ impl<'t> Known<'t> {
     }
 
     /// How deep the deepest field of a record is.
-    fn field_depth(&self, fields: &[Field<'t>]) -> usize
+    fn field_depth(&self, fields: &[Field]) -> usize
         ensures { result ≡ field_depth (fields_shape (shapes_of self.now) fields.now) }
     {
         let mut deepest = 0usize;
@@ -568,11 +569,11 @@ impl<'t> Known<'t> {
     pub fn make_record(
         &mut self,
         ordinal: usize,
-        fields: Vec<Field<'t>>,
+        fields: Vec<Field>,
     ) -> Result<Option<TypeId>, AllocError>
         requires { All (λ f. IsMade (length self.old.shapes) f.of) fields.items }
         ensures made { IfOk result (λ r. IfSome r (IsMade (length self.new.shapes))) }
-        ensures value { IfOk result (λ r. option_map (type_shape (shapes_of self.new)) r ≡ within_limits (record_shape ordinal (fields_shape (shapes_of self.old) fields.entry.items))) }
+        ensures value { IfOk result (λ r. option_map (type_shape (shapes_of self.new)) r ≡ within_limits (record_shape ordinal (fields_shape (shapes_of self.old) fields.items))) }
         ensures entries { OnOk result (self.new.entries ≡ self.old.entries) }
         ensures shapes { OnOk result ((later : List shape.Shape) × (shapes_of self.new ≡ shapes_of self.old ++ later)) }
         ensures counted { IfOk result (λ r. IfSome r (λ _. length self.new.shapes ≡ suc (length self.old.shapes))) }

@@ -1,9 +1,9 @@
 //! Whether two types are the same.
 
-ghost use Rattle.std.specs.Prelude.{◌≡◌, ◌&&◌, List};
+ghost use Rattle.std.specs.Prelude.{◌≡◌, ◌&&◌, List, string_bytes};
 ghost use Rattle.ob0_scope_rules.specs.Names.{same_name};
 ghost use Rattle.ob0_types_table.specs.declared.known.TypeEntry.TheVariants as made;
-ghost use Rattle.ob0_types_table.specs.Parts.{parts_shape};
+ghost use Rattle.ob0_types_table.specs.Parts.{PartsAreCounted, has_parts, is_known_type, parts_shape};
 ghost use Rattle.ob0_types_table.specs.KnownTables.{shapes_of};
 ghost use Rattle.ob0_types_table.specs.Tables.{fields_shape, made_shape, no_shape, type_shape};
 ghost use Rattle.ob0_types_rules.specs.WellTyped.{same_fields, same_shape};
@@ -14,11 +14,11 @@ use crate::types::TypeId;
 
 /// A type with its parts. What has a fault is a record without fields.
 #[derive(Clone, Copy)]
-pub enum Parts<'k, 't> {
+pub enum Parts<'k> {
     Integer,
     Boolean,
     Array(ArrayShape),
-    Record(&'k RecordShape<'t>),
+    Record(&'k RecordShape),
     Faulty,
 }
 
@@ -29,10 +29,12 @@ fn is_nothing(entry: &RecordShape) -> bool
     entry.ordinal == 0 && entry.fields.as_slice().is_empty()
 }
 
-impl<'t> Known<'t> {
-    /// A type with its parts.
-    pub fn parts(&self, of: TypeId) -> Parts<'_, 't>
-        ensures { parts_shape (shapes_of self.now) result ≡ type_shape (shapes_of self.now) of }
+impl Known {
+    /// A type with its parts. It has none exactly where it is no type of the module.
+    pub fn parts(&self, of: TypeId) -> Parts<'_>
+        ensures shape { parts_shape (shapes_of self.now) result ≡ type_shape (shapes_of self.now) of }
+        ensures counted { PartsAreCounted (shapes_of self.now) result }
+        ensures known { has_parts result ≡ is_known_type self.now of }
     {
         match of {
             TypeId::Integer => Parts::Integer,
@@ -104,7 +106,7 @@ impl<'t> Known<'t> {
     }
 
     #[cycle(sameness)]
-    fn same_record(&self, one: &RecordShape<'t>, other: &RecordShape<'t>) -> bool
+    fn same_record(&self, one: &RecordShape, other: &RecordShape) -> bool
         ensures { result ≡ same_shape (made_shape (shapes_of self.now) (made.Record one.now)) (made_shape (shapes_of self.now) (made.Record other.now)) }
     {
         one.ordinal == other.ordinal
@@ -119,7 +121,7 @@ impl<'t> Known<'t> {
     }
 
     #[cycle(sameness)]
-    fn same_fields(&self, fields: &[Field<'t>], others: &[Field<'t>]) -> bool
+    fn same_fields(&self, fields: &[Field], others: &[Field]) -> bool
         ensures { result ≡ same_fields (fields_shape (shapes_of self.now) fields.now) (fields_shape (shapes_of self.now) others.now) }
     {
         if fields.len() != others.len() {
@@ -134,8 +136,8 @@ impl<'t> Known<'t> {
     }
 
     #[cycle(sameness)]
-    fn same_field(&self, field: &Field<'t>, other: &Field<'t>) -> bool
-        ensures { result ≡ (same_name field.now.name.now other.now.name.now && same_shape (type_shape (shapes_of self.now) field.now.of) (type_shape (shapes_of self.now) other.now.of)) }
+    fn same_field(&self, field: &Field, other: &Field) -> bool
+        ensures { result ≡ (same_name (string_bytes field.now.name) (string_bytes other.now.name) && same_shape (type_shape (shapes_of self.now) field.now.of) (type_shape (shapes_of self.now) other.now.of)) }
     {
         field.name == other.name && self.same(field.of, other.of)
     }

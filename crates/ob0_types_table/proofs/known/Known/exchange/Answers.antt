@@ -1,7 +1,9 @@
-use Rattle.std.proofs.Common.{◌≡◌, ◌<◌, Some, length, sym, ap, ◌∙◌, subst}
+use Rattle.std.proofs.Common.{◌≡◌, ◌<◌, Some, length, sym, ap, ◌∙◌, slice_set, subst}
 use Rattle.ob0_types_table.specs.declared.known.Entry.{Entry}
-use Rattle.ob0_types_table.specs.KnownTables.{declared_in, visible_objects, object_seen, put_at, seen_object, shapes_of}
-use Rattle.ob0_types_table.specs.Tables.{object_in}
+use Rattle.ob0_types_table.specs.KnownTables.{AreTables, Tables, declared_in, visible_objects, object_seen, put_at, seen_object, shapes_of}
+use Rattle.ob0_types_table.specs.Tables.{ObjectIsMade, object_in}
+use Rattle.ob0_types_table.specs.declared.known.VisibleBinding.TheVariants as sight
+use Rattle.ob0_types_table.proofs.Pushed.{tables-set}
 use Rattle.ob0_types_table.proofs.Sighted.{seen_at, set_seen}
 use Rattle.ob0_types_table.proofs.known.Known.exchange.Goals as goal
 use Rattle.ob0_types_table.proofs.known.Known.exchange.Goals.{in-Nothing+in-Procedure-1, in-Nothing+in-Named-1, in-Last, in-Earlier+in-Procedure-1, in-Earlier+in-Named-1}
@@ -37,3 +39,9 @@ returns-clause-before c =
     ∙ ap object_seen (sym c.replace-before.ensures.value)
     ∙ given
     )
+
+pub invariant_of-self : goal.invariant_of-self
+invariant_of-self c =
+    let t : Tables = record { shapes = c.self.inside.shapes.items; entries = c.self.inside.entries.items } in
+    subst (λ (e : Entry). AreTables (record { shapes = t.shapes; entries = slice_set t.entries c.args.ordinal e })) (sym c.replace-before.ensures.after)
+    (tables-set t c.args.ordinal (record { object = c.args.object; sight = sight.Last }) c.self.invariant (subst (λ (t : Tables). ObjectIsMade (length t.shapes) c.args.object) (sym c.self.view_is) c.requires.made, tt))
