@@ -4,7 +4,7 @@ use Rattle.std.proofs.lemmas.List.{take-append-drop}
 use Rattle.std.specs.Str.{chars, IsUtf8}
 use Rattle.std.proofs.lemmas.Str.{encodes-chars}
 use Rattle.ob0_scan.specs.Refused.{AreFaults}
-use Rattle.ob0_scan.specs.Scanned.{Scanned, IsScan, IsScannable}
+use Rattle.ob0_scan.specs.Scanned.{Scanned, IsScan, IsScannable, IsScanOf}
 use Rattle.ob0_scan.specs.declared.fault.Fault.{Fault}
 use Rattle.ob0_tree.specs.Lexeme.{Terminal, EndOfText}
 use Rattle.ob0_tree.specs.Module.{ModuleOf, text_lexemes}
@@ -17,6 +17,7 @@ use Rattle.ob0_tree.specs.Parsed.{Parsed, named_tree_of}
 use Rattle.ob0_types.specs.CheckedModules.{CheckedModule, IsChecked, IsWellTyped}
 use Rattle.ob0_types_rules.specs.WellTyped.{WellTyped}
 use Rattle.ob0_analysis.specs.Analysed.{IsModuleIn}
+use Rattle.ob0_analysis.specs.Found.{IsDecided}
 use Rattle.ob0_analysis.specs.Diagnosed.{Complaint, IsTextOf, IsWellTypedModule, IsRefusalAt, Reports, ReportsFaults, complaint_of}
 use Rattle.ob0_analysis.specs.Texts.{utf8}
 
@@ -45,6 +46,15 @@ unformed : (s : Scanned) (i : ℕ) → OneScan → IsScan s → NoneBegins s i �
 unformed s i one scan h w =
     let same : w.text_of.scanned ≡ s = one w.text_of.scanned s w.text_of.scan.scan scan w.text_of.scan.of in
     none s i w.tree h (subst (λ (x : Scanned). ModuleOf x w.tree) same w.text_of.module_of)
+
+-- a text without lexemes is no well-typed module, nor is one that the parser refuses
+pub no_lexemes_is_none : (text : List ℕ) → (IsScannable text → ⊥) → IsWellTypedModule text → ⊥
+no_lexemes_is_none text bad w = bad (scannable text w)
+
+pub refused_is_none : (s : Scanned) (refusal : ParseRefusal) → OneScan → IsScan s → RefusedBy s refusal → IsDecided refusal → IsWellTypedModule s.text → ⊥
+refused_is_none s (Syntax i expected) one scan by decided = unformed s i one scan by.1
+refused_is_none s (TooDeep i) one scan by decided = unformed s i one scan by.1
+refused_is_none s Memory one scan by decided = absurd decided
 
 pub finds_parser : (s : Scanned) (refusal : ParseRefusal) (c : Complaint) → OneScan → IsScan s → RefusedBy s refusal → IsRefusalAt s refusal c
     → ¬ IsWellTypedModule s.text × ReportsFaults s.text (c ∷ [])
@@ -87,10 +97,16 @@ finds_types c told one only scan checked bad is =
       })),
     )
 
+-- a text that is read as a module which isn't well-typed is none
+pub faulty_is_none : (text : List ℕ) (c : CheckedModule) (m : Resolution) → c.names ≡ m → OneScan → OneTree → IsScanOf text m.module_read.source → IsChecked c → (c.faults ≡ [] → ⊥) → IsWellTypedModule text → ⊥
+faulty_is_none text c m is one only read checked bad =
+    let s : Scanned = c.names.module_read.source in
+    let here : IsScanOf text s = subst (λ (r : Resolution). IsScanOf text r.module_read.source) (sym is) read in
+    subst (λ (t : List ℕ). IsWellTypedModule t → ⊥) here.of (ill_typed s (named_tree_of c.names.module_read) one only here.scan checked.resolved.parsed.module_of (λ w. bad (checked.told.1 w)))
+
 -- the module that was checked is that of its text
-pub module_in : (m : Parsed) (names : Resolution) → names.module_read ≡ m → IsScan m.source → IsWellTyped names → IsModuleIn m.source.text names
-module_in m names is scan w =
-    record { scan = record { of = ap (λ (p : Parsed). p.source.text) is; scan = subst (λ (p : Parsed). IsScan p.source) (sym is) scan }; well_typed = w }
+pub module_in : (text : List ℕ) (names m : Resolution) → names ≡ m → IsScanOf text m.module_read.source → IsWellTyped names → IsModuleIn text names
+module_in text names m is read w = record { scan = subst (λ (r : Resolution). IsScanOf text r.module_read.source) (sym is) read; well_typed = w }
 
 -- the text of a well-typed module is one
 abbrev pub is_module : (text : List ℕ) (names : Resolution) → IsModuleIn text names → IsWellTypedModule text
@@ -109,6 +125,6 @@ tells_module c told one only scan checked is =
     elim (some_or_none c.faults) [
       | inl none ↦
           let fits : IsWellTyped c.names = record { resolved = checked.resolved; well_typed = checked.told.0 none } in
-          inl (is_module m.source.text c.names (module_in m c.names refl scan fits), is ∙ ap (map complaint_of) none)
+          inl (is_module m.source.text c.names (module_in m.source.text c.names c.names refl (record { of = refl; scan = scan }) fits), is ∙ ap (map complaint_of) none)
       | inr some ↦ inr (finds_types c told one only scan checked some is)
     ]

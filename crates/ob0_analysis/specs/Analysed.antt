@@ -1,14 +1,12 @@
 -- What comes of asking a text.
 -- Rule: none; for contracts of `ask`.
-use Rattle.std.specs.Prelude.{ℕ, List, map}
+use Rattle.std.specs.Prelude.{ℕ, List, None, Option, Some}
 use Rattle.ob0_scan.specs.Scanned.{IsScanOf}
 use Rattle.ob0_tree.specs.Parsed.{Parsed, IsParsed, named_tree_of}
 use Rattle.ob0_scope_rules.specs.Resolution.{Resolution}
 use Rattle.ob0_types_rules.specs.WellTyped.{WellTyped}
 use Rattle.ob0_types.specs.CheckedModules.{IsWellTyped}
-use Rattle.ob0_analysis.specs.Diagnosed.{IsWellTypedModule, ReportsFaults, complaint_in}
-use Rattle.ob0_analysis.specs.declared.analysis.Finding.{Finding}
-use Rattle.ob0_analysis.specs.declared.analysis.Finding.TheVariants.{Answered, IllTyped}
+use Rattle.ob0_analysis.specs.Diagnosed.{IsWellTypedModule}
 
 -- the text is this module, which is well-typed
 pub record IsModuleIn (text : List ℕ) (names : Resolution) : Type 0 where
@@ -21,7 +19,7 @@ pub record IsReadAs (text : List ℕ) (m : Parsed) : Type 0 where
   pub parsed : IsParsed m
   pub well_typed : WellTyped (named_tree_of m)
 
--- an answer by the module of the text, or what is wrong where the text isn't a well-typed module
-abbrev pub Finds : {A : Type 0} → List ℕ → (Resolution → A → Type 0) → Finding A → Type 0
-Finds text answers (Answered answer) = (names : Resolution) × IsModuleIn text names × answers names answer
-Finds text answers (IllTyped told) = ¬ IsWellTypedModule text × ReportsFaults text (map complaint_in told.items)
+-- an answer by the module of the text; none where the text isn't a well-typed module
+abbrev pub Finds : {A : Type 0} → List ℕ → (Resolution → A → Type 0) → Option A → Type 0
+Finds text answers (Some answer) = (names : Resolution) × IsModuleIn text names × answers names answer
+Finds text answers None = ¬ IsWellTypedModule text

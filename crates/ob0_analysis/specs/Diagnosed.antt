@@ -116,12 +116,6 @@ ReportsFaults text told = ReportsLexemes text told ⊎ (ReportsParser text told 
 abbrev pub Reports : List ℕ → List Complaint → Type 0
 Reports text told = (IsWellTypedModule text × (told ≡ [])) ⊎ (¬ IsWellTypedModule text × ReportsFaults text told)
 
--- ---- what is kept for the next scan
-
--- the text's tokens and comments; what was kept before, exactly where it has no lexemes or is too long
-abbrev pub KeepsTokens : List ℕ → Option Scanned → Option Scanned → Type 0
-KeepsTokens text before after = ((scanned : Scanned) × IsScanOf text scanned × (after ≡ Some scanned)) ⊎ ((IsScannable text → ⊥) × (after ≡ before))
-
 -- ---- laws
 
 -- What is reported of the parser is determined by the text.

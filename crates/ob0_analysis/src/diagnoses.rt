@@ -40,17 +40,17 @@ fn of_fault(alloc: Global, fault: &Fault) -> Result<Diagnosis, AllocError>
 pub fn of_refusal(
     alloc: Global,
     tokens: &Tokens,
-    refusal: ParseRefusal,
+    refusal: &ParseRefusal,
 ) -> Result<Diagnosis, AllocError>
-    ensures { IfOk result (λ d. IsRefusalAt tokens.now refusal (complaint_in d)) }
+    ensures { IfOk result (λ d. IsRefusalAt tokens.now refusal.now (complaint_in d)) }
 {
     match refusal {
         ParseRefusal::Syntax { token, expected } => expects(
             alloc,
             expected.text(),
-            place_of(tokens, token),
+            place_of(tokens, *token),
         ),
-        ParseRefusal::TooDeep { token } => too_deep(alloc, place_of(tokens, token)),
+        ParseRefusal::TooDeep { token } => too_deep(alloc, place_of(tokens, *token)),
         ParseRefusal::Memory => Err(AllocError),
     }
 }

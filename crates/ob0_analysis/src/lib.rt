@@ -1,14 +1,16 @@
-//! The analysis of a text: it is scanned, parsed, resolved and checked once, and a question is put to its module. What is
-//! wrong with a text (`diagnose`).
+//! What a text is, as one value that is made once, kept, and queried (`Analysis`, `ask`). What is wrong with a text (`diagnose`).
 #![tactic(auto)]
 
 mod analysis;
+mod asking;
 mod diagnoses;
 mod diagnosing;
 mod differences;
 pub mod laws;
+mod parts;
 
-pub use analysis::{Finding, Question, ask};
+pub use analysis::Analysis;
+pub use asking::{Question, ask};
 pub use diagnoses::Diagnosis;
-pub use diagnosing::{diagnose, diagnose_again};
+pub use diagnosing::diagnose;
 pub use ob0_types::{WellTyped, declaring_field, field_at, field_tokens};

@@ -1,5 +1,5 @@
 -- A text is printed only where the edits write the name in the file's text, and no text where the name is refused.
-use Rattle.std.proofs.Common.{◌≡◌, ℕ, List, Option, Result, Ok, Err, Vec, Global, subst}
+use Rattle.std.proofs.Common.{◌≡◌, ℕ, List, Option, Some, Result, Ok, Err, Vec, Global, subst}
 use Rattle.std.specs.Str.{chars}
 use Rattle.ob0_text.specs.declared.edits.Edit.{Edit}
 use Rattle.ob0_text.specs.declared.position_types.Position.{Position}
@@ -7,17 +7,15 @@ use Rattle.ob0_text.specs.declared.position_types.Unit.{Unit}
 use Rattle.ob0_text.specs.declared.position_types.Unit.TheVariants.{Utf16}
 use Rattle.ob0_text.specs.declared.refusals.EditRefusal.{EditRefusal}
 use Rattle.ob0_rename.specs.InTexts.{FindsNewName}
-use Rattle.ob0_analysis.specs.declared.analysis.Finding.{Finding}
-use Rattle.ob0_analysis.specs.declared.analysis.Finding.TheVariants.{Answered}
 use Rattle.ob0_commands.specs.Renamed.{IsRefusal, PrintsEdited, PrintsRenamed, RefusesName}
 
 -- what was found in a store that holds the text
-pub found_in_text : (unit : Unit) (content text : List ℕ) (place : Position) (new : List ℕ) (found : Finding (Result (Vec Edit Global) EditRefusal)) (outcome : Result (Vec Edit Global) EditRefusal)
-    → unit ≡ Utf16 → content ≡ chars text → found ≡ Answered outcome → FindsNewName unit content place new found → FindsNewName Utf16 (chars text) place new (Answered outcome)
+pub found_in_text : (unit : Unit) (content text : List ℕ) (place : Position) (new : List ℕ) (found : Option (Result (Vec Edit Global) EditRefusal)) (outcome : Result (Vec Edit Global) EditRefusal)
+    → unit ≡ Utf16 → content ≡ chars text → found ≡ Some outcome → FindsNewName unit content place new found → FindsNewName Utf16 (chars text) place new (Some outcome)
 found_in_text unit content text place new found outcome counts holds is h =
-    let here : FindsNewName unit content place new (Answered outcome) = subst (λ (a : Finding (Result (Vec Edit Global) EditRefusal)). FindsNewName unit content place new a) is h in
-    let in_unit : FindsNewName Utf16 content place new (Answered outcome) = subst (λ (u : Unit). FindsNewName u content place new (Answered outcome)) counts here in
-    subst (λ (t : List ℕ). FindsNewName Utf16 t place new (Answered outcome)) holds in_unit
+    let here : FindsNewName unit content place new (Some outcome) = subst (λ (a : Option (Result (Vec Edit Global) EditRefusal)). FindsNewName unit content place new a) is h in
+    let in_unit : FindsNewName Utf16 content place new (Some outcome) = subst (λ (u : Unit). FindsNewName u content place new (Some outcome)) counts here in
+    subst (λ (t : List ℕ). FindsNewName Utf16 t place new (Some outcome)) holds in_unit
 
 pub edited_in_text : (unit : Unit) (content text : List ℕ) (outcome : Result (Vec Edit Global) EditRefusal) (before after : Option (List ℕ))
     → unit ≡ Utf16 → content ≡ chars text → PrintsEdited unit content outcome before after → PrintsEdited Utf16 (chars text) outcome before after
@@ -26,11 +24,11 @@ edited_in_text unit content text outcome before after counts holds h =
     subst (λ (t : List ℕ). PrintsEdited Utf16 t outcome before after) holds in_unit
 
 pub prints_renamed : (text : List ℕ) (place : Position) (new : List ℕ) (outcome : Result (Vec Edit Global) EditRefusal) (before after : Option (List ℕ))
-    → FindsNewName Utf16 (chars text) place new (Answered outcome) → PrintsEdited Utf16 (chars text) outcome before after → PrintsRenamed text place new before after
+    → FindsNewName Utf16 (chars text) place new (Some outcome) → PrintsEdited Utf16 (chars text) outcome before after → PrintsRenamed text place new before after
 prints_renamed text place new (Ok edits) before after h p = record { edits = edits.items; rename = h; prints = p }
 prints_renamed text place new (Err refusal) before after h p = absurd p
 
 pub refuses_name : (text : List ℕ) (place : Position) (new : List ℕ) (outcome : Result (Vec Edit Global) EditRefusal) (before after : Option (List ℕ))
-    → FindsNewName Utf16 (chars text) place new (Answered outcome) → IsRefusal outcome → after ≡ before → RefusesName text place new before after
+    → FindsNewName Utf16 (chars text) place new (Some outcome) → IsRefusal outcome → after ≡ before → RefusesName text place new before after
 refuses_name text place new (Ok edits) before after h p e = absurd p
 refuses_name text place new (Err refusal) before after h p e = record { refusal = refusal; refused = h; nothing = e }

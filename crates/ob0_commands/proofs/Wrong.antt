@@ -1,17 +1,10 @@
 -- What is reported of a text is reported of its file.
-use Rattle.std.proofs.Common.{◌≡◌, ◌∙◌, ℕ, List, [], ◌∷◌, Option, Result, Vec, Global, false, nat_eq, length, map, encode_utf8_all, inl, inr, ap, subst}
+use Rattle.std.proofs.Common.{◌≡◌, ◌∙◌, ℕ, List, [], ◌∷◌, Option, false, nat_eq, length, map, encode_utf8_all, inl, inr, ap, subst}
 use Rattle.std.proofs.lemmas.Str.{encodes-chars}
 use Rattle.std.specs.Io.KnownBytes.{Appends}
 use Rattle.std.specs.Str.{chars, IsUtf8}
-use Rattle.ob0_analysis.specs.Diagnosed.{IsWellTypedModule, Reports, ReportsFaults, complaint_in}
-use Rattle.ob0_rename.specs.InTexts.{FindsNewName}
-use Rattle.ob0_analysis.specs.declared.analysis.Finding.{Finding}
-use Rattle.ob0_analysis.specs.declared.analysis.Finding.TheVariants.{IllTyped}
+use Rattle.ob0_analysis.specs.Diagnosed.{IsWellTypedModule, Reports, complaint_in}
 use Rattle.ob0_analysis.specs.declared.diagnoses.Diagnosis.{Diagnosis}
-use Rattle.ob0_text.specs.declared.edits.Edit.{Edit}
-use Rattle.ob0_text.specs.declared.position_types.Position.{Position}
-use Rattle.ob0_text.specs.declared.position_types.Unit.{Unit}
-use Rattle.ob0_text.specs.declared.refusals.EditRefusal.{EditRefusal}
 use Rattle.ob0_commands.specs.Printed.{PrintsFaults, complaint_lines}
 
 of_faults : (file : List ℕ) (told : List Diagnosis) (before after : Option (List ℕ)) → Reports file (map complaint_in told) → nat_eq (length told) 0 ≡ false
@@ -37,16 +30,10 @@ tells_wrong text file told shown before mid after same kept is h some printed =
 pub bytes_of : (content text : List ℕ) → content ≡ chars text → IsUtf8 text → encode_utf8_all content ≡ text
 bytes_of content text is u = ap encode_utf8_all is ∙ encodes-chars text u
 
-of_text : (content text : List ℕ) (told shown : List Diagnosis) (before after : Option (List ℕ)) → content ≡ chars text → IsUtf8 text → shown ≡ told
-    → (¬ IsWellTypedModule (encode_utf8_all content) × ReportsFaults (encode_utf8_all content) (map complaint_in told)) → Appends before after (complaint_lines text (map complaint_in shown)) → PrintsFaults text before after
-of_text content text told shown before after holds u is h printed =
-    let here : ¬ IsWellTypedModule text × ReportsFaults text (map complaint_in told) =
-    subst (λ (t : List ℕ). ¬ IsWellTypedModule t × ReportsFaults t (map complaint_in told)) (bytes_of content text holds u) h in
-    inr (map complaint_in told, here.0, here.1, subst (λ (ds : List Diagnosis). Appends before after (complaint_lines text (map complaint_in ds))) is printed)
-
--- what is reported in place of another name
-pub ill_typed : (unit : Unit) (content text : List ℕ) (place : Position) (new : List ℕ) (found : Finding (Result (Vec Edit Global) EditRefusal)) (told : Vec Diagnosis Global) (shown : List Diagnosis) (before after : Option (List ℕ))
-    → content ≡ chars text → IsUtf8 text → shown ≡ told.items → found ≡ IllTyped told → FindsNewName unit content place new found
-    → Appends before after (complaint_lines text (map complaint_in shown)) → PrintsFaults text before after
-ill_typed unit content text place new found told shown before after holds u is ill h printed =
-    of_text content text told.items shown before after holds u is (subst (λ (a : Finding (Result (Vec Edit Global) EditRefusal)). FindsNewName unit content place new a) ill h) printed
+-- what is printed in place of a text with another name
+pub ill_typed : (content text : List ℕ) (told shown : List Diagnosis) (before after : Option (List ℕ)) → content ≡ chars text → IsUtf8 text → shown ≡ told
+    → ¬ IsWellTypedModule (encode_utf8_all content) → Reports text (map complaint_in told) → Appends before after (complaint_lines text (map complaint_in shown)) → PrintsFaults text before after
+ill_typed content text told shown before after holds u is no (inl h) printed =
+    absurd (subst (λ (t : List ℕ). IsWellTypedModule t → ⊥) (bytes_of content text holds u) no h.0)
+ill_typed content text told shown before after holds u is no (inr h) printed =
+    inr (map complaint_in told, h.0, h.1, subst (λ (ds : List Diagnosis). Appends before after (complaint_lines text (map complaint_in ds))) is printed)

@@ -8,7 +8,7 @@ ghost use Rattle.ob0_commands.specs.Statuses.{CanNotReport, IsOfOutput, IsStatus
 use crate::checking::{print_diagnoses, text_of};
 use crate::faults::{FileFault, print_fault};
 use crate::printing::{Output, print};
-use ob0_analysis::Finding;
+use ob0_analysis::Analysis;
 use ob0_rename::rename_in;
 use ob0_text::{Edit, EditRefusal, Lines, Position, TextStore, patch};
 use std::alloc::Global;
@@ -77,9 +77,11 @@ fn rename_in_text<O: Output, E: Output>(
     ensures failed { IfErr result (IsOfOutput (O.has_failed out.new)) }
 {
     let store = Lines::from_str(alloc, text)?;
-    match rename_in(alloc, &store, None, position, new)? {
-        Finding::Answered(outcome) => print_edited(alloc, &store, outcome, out, err),
-        Finding::IllTyped(told) => {
+    let analysis = Analysis::of(alloc, text)?;
+    match rename_in(alloc, &store, &analysis, position, new)? {
+        Some(outcome) => print_edited(alloc, &store, outcome, out, err),
+        None => {
+            let told = analysis.diagnoses(alloc)?;
             print_diagnoses(alloc, text, told.as_slice(), out)?;
             Ok(1)
         }

@@ -15,7 +15,7 @@ use crate::checking::check;
 use crate::faults::{FileFault, print_fault};
 use crate::numbers::read_numbers;
 use crate::printing::{Output, print};
-use ob0_analysis::{Finding, Question, WellTyped, ask};
+use ob0_analysis::{Analysis, Question, WellTyped, ask};
 use ob0_run::{End, Item, Outcome, run};
 use std::alloc::{AllocError, Global};
 use std::io::Read;
@@ -99,9 +99,10 @@ fn run_module(
         calls,
         turns,
     };
-    match ask(alloc, text, None, &question)? {
-        Finding::Answered(outcome) => Ok(outcome),
-        Finding::IllTyped(_) => unreachable!(),
+    let analysis = Analysis::of(alloc, text)?;
+    match ask(alloc, &analysis, &question)? {
+        Some(outcome) => Ok(outcome),
+        None => unreachable!(),
     }
 }
 

@@ -1,5 +1,5 @@
 -- The edits of a renaming leave a text whose module runs as before.
-use Rattle.std.proofs.Common.{◌≡◌, ◌⊎◌, ℕ, List, Result, Ok, Err, Vec, Global, inl, inr, map, refl, subst}
+use Rattle.std.proofs.Common.{◌≡◌, ◌⊎◌, ℕ, List, Option, Some, None, Result, Ok, Err, Vec, Global, inl, inr, refl, subst}
 use Rattle.std.specs.Str.{chars, IsUtf8}
 use Rattle.ob0_rename_laws.specs.Renaming.{field_renamed}
 use Rattle.ob0_rename.specs.Answers.{AreEdits, IsRefused, WritesName}
@@ -15,11 +15,9 @@ use Rattle.ob0_text.specs.declared.refusals.EditRefusal.TheVariants.{Memory}
 use Rattle.ob0_tree.specs.Parsed.{named_tree_of}
 use Rattle.ob0_tree.specs.Tree.{Tree, module_text}
 use Rattle.ob0_analysis.specs.Analysed.{Finds, IsModuleIn}
-use Rattle.ob0_analysis.specs.Diagnosed.{IsTextOf, IsWellTypedModule, ReportsFaults, complaint_in}
+use Rattle.ob0_analysis.specs.Diagnosed.{IsTextOf, IsWellTypedModule}
 use Rattle.ob0_analysis.specs.Texts.{utf8}
 use Rattle.ob0_rename.specs.InTexts.{FindsNewName, RenamesIn, Settles, renaming_of}
-use Rattle.ob0_analysis.specs.declared.analysis.Finding.{Finding}
-use Rattle.ob0_analysis.specs.declared.analysis.Finding.TheVariants.{Answered, IllTyped}
 use Rattle.ob0_analysis.proofs.Scanning.{is_module, utf8_of}
 
 -- a refusal that isn't out of memory
@@ -52,11 +50,11 @@ renamed_in unit text place new edits names h (inl (d, means, renames)) =
 renamed_in unit text place new edits names h (inr (k, (f, means, renames))) =
     renames_in unit text place new edits names h (inr (k, (f, means, renames))) (field_tokens_to_rename names k f new) (field_renamed (named_tree_of names.module_read) k f new) renames.writes
 
-pub new_name_found : (unit : Unit) (bytes text : List ℕ) (place : Position) (new : List ℕ) (found : Finding (Result (Vec Edit Global) EditRefusal)) → IsUtf8 bytes → chars bytes ≡ text
+pub new_name_found : (unit : Unit) (bytes text : List ℕ) (place : Position) (new : List ℕ) (found : Option (Result (Vec Edit Global) EditRefusal)) → IsUtf8 bytes → chars bytes ≡ text
     → Finds bytes (λ names outcome. Settles (renaming_of unit text names place new) outcome) found → FindsNewName unit text place new found
-new_name_found unit bytes text place new (Answered (Ok edits)) u is h =
+new_name_found unit bytes text place new (Some (Ok edits)) u is h =
     renamed_in unit text place new edits.items h.0 (subst (λ (t : List ℕ). IsModuleIn t h.0) (utf8_of bytes text u is) h.1) h.2
-new_name_found unit bytes text place new (Answered (Err refusal)) u is h =
+new_name_found unit bytes text place new (Some (Err refusal)) u is h =
     record { names = h.0; read = subst (λ (t : List ℕ). IsModuleIn t h.0) (utf8_of bytes text u is) h.1; refused = h.2 }
-new_name_found unit bytes text place new (IllTyped told) u is h =
-    subst (λ (t : List ℕ). (IsWellTypedModule t → ⊥) × ReportsFaults t (map complaint_in told.items)) (utf8_of bytes text u is) h
+new_name_found unit bytes text place new None u is h =
+    subst (λ (t : List ℕ). IsWellTypedModule t → ⊥) (utf8_of bytes text u is) h

@@ -1,6 +1,6 @@
 -- Renaming in a text: the edits, or why there are none.
 -- Rule: docs/PROTOCOL.md, Requests on documents 2, 6.
-use Rattle.std.specs.Prelude.{◌≡◌, ℕ, List, Some, Result, Ok, Err, Vec, map}
+use Rattle.std.specs.Prelude.{◌≡◌, ℕ, List, Option, Some, None, Result, Ok, Err, Vec}
 use Rattle.std.specs.declared.alloc.Global.{Global}
 use Rattle.ob0_text.specs.Patches.{patched}
 use Rattle.ob0_text.specs.Units.{width_of}
@@ -10,11 +10,9 @@ use Rattle.ob0_text.specs.declared.position_types.Unit.{Unit}
 use Rattle.ob0_text.specs.declared.refusals.EditRefusal.{EditRefusal}
 use Rattle.ob0_scope_rules.specs.Resolution.{Resolution}
 use Rattle.ob0_analysis.specs.Analysed.{IsModuleIn}
-use Rattle.ob0_analysis.specs.Diagnosed.{IsWellTypedModule, ReportsFaults, complaint_in}
+use Rattle.ob0_analysis.specs.Diagnosed.{IsWellTypedModule}
 use Rattle.ob0_analysis.specs.RunsKept.{RunsAsBefore}
 use Rattle.ob0_analysis.specs.Texts.{utf8}
-use Rattle.ob0_analysis.specs.declared.analysis.Finding.{Finding}
-use Rattle.ob0_analysis.specs.declared.analysis.Finding.TheVariants.{Answered, IllTyped}
 use Rattle.ob0_rename.specs.Answers.{AreEdits, IsRefused}
 use Rattle.ob0_rename.specs.Renaming.{Renaming}
 
@@ -43,7 +41,7 @@ pub record IsRefusedIn (unit : Unit) (text : List ℕ) (place : Position) (new :
   pub refused : IsRefused (renaming_of unit text names place new) refusal
 
 -- edits, or why there are none, for a well-typed module alone
-abbrev pub FindsNewName : Unit → List ℕ → Position → List ℕ → Finding (Result (Vec Edit Global) EditRefusal) → Type 0
-FindsNewName unit text place new (Answered (Ok edits)) = RenamesIn unit text place new edits.items
-FindsNewName unit text place new (Answered (Err refusal)) = IsRefusedIn unit text place new refusal
-FindsNewName unit text place new (IllTyped told) = ¬ IsWellTypedModule (utf8 text) × ReportsFaults (utf8 text) (map complaint_in told.items)
+abbrev pub FindsNewName : Unit → List ℕ → Position → List ℕ → Option (Result (Vec Edit Global) EditRefusal) → Type 0
+FindsNewName unit text place new (Some (Ok edits)) = RenamesIn unit text place new edits.items
+FindsNewName unit text place new (Some (Err refusal)) = IsRefusedIn unit text place new refusal
+FindsNewName unit text place new None = ¬ IsWellTypedModule (utf8 text)

@@ -1,12 +1,11 @@
-//! Renaming in a text, which is scanned, parsed, resolved and checked first.
+//! Renaming in a text, by its analysis.
 
 ghost use Rattle.std.specs.Prelude.{◌≡◌, IfOk};
 ghost use Rattle.std.specs.Str.{chars};
 ghost use Rattle.ob0_rename.specs.InTexts.{FindsNewName, Settles, renaming_of};
 
 use crate::renaming::rename;
-use ob0_analysis::{Finding, Question, WellTyped, ask};
-use ob0_scan::Tokens;
+use ob0_analysis::{Analysis, Question, WellTyped, ask};
 use ob0_text::{Edit, EditRefusal, Position, TextStore};
 use std::alloc::{AllocError, Global};
 
@@ -43,18 +42,18 @@ impl<'a, T: TextStore> Question for NewName<'a, T> {
     }
 }
 
-/// The edits that write `new` for what is named at a place of the text in a store, or why there are none; what is wrong with
-/// a text that isn't a well-typed module. Out of memory is never the reason: it is answered as such. Where the tokens that were
-/// kept are the text's, it isn't scanned again.
+/// The edits that write `new` for what is named at a place of the text in a store, or why there are none. None for a text that
+/// isn't a well-typed module. Out of memory is never the reason: it is answered as such.
 pub fn rename_in<T: TextStore>(
     alloc: Global,
     store: &T,
-    kept: Option<&Tokens>,
+    analysis: &Analysis,
     place: Position,
     new: &str,
-) -> Result<Finding<Result<Vec<Edit>, EditRefusal>>, AllocError>
+) -> Result<Option<Result<Vec<Edit>, EditRefusal>>, AllocError>
+    requires { T.content store.now ≡ chars analysis.now }
     ensures { IfOk result (λ found. FindsNewName (T.unit_of store.now) (T.content store.now) place new.now found) }
 {
     let question = NewName { store, place, new };
-    ask(alloc, store.as_str(), kept, &question)
+    ask(alloc, analysis, &question)
 }

@@ -21,8 +21,6 @@ use Rattle.ob0_analysis.specs.Texts.{utf8}
 use Rattle.ob0_session_offers.specs.declared.inlining.Inlining.{Inlining}
 use Rattle.ob0_session_offers.specs.declared.inlining.Inlining.TheVariants.{Here, Everywhere}
 use Rattle.ob0_session_edits.specs.declared.actions.Inlinings.{Inlinings}
-use Rattle.ob0_analysis.specs.declared.analysis.Finding.{Finding}
-use Rattle.ob0_analysis.specs.declared.analysis.Finding.TheVariants.{Answered, IllTyped}
 use Rattle.ob0_analysis.proofs.Scanning.{is_module, utf8_of}
 
 -- ---- what is offered of an answer
@@ -68,11 +66,11 @@ offers : (how : Inlining) (unit : Unit) (text : List ℕ) (offset : ℕ) (edits 
 offers how unit text offset (Some edits) names h inlines = inlines_in how unit text offset edits names h inlines
 offers how unit text offset None names h refused = record { module_read = names.module_read; read = read_as (utf8 text) names h; refused = refused }
 
-pub inlinings_found : (unit : Unit) (bytes text : List ℕ) (offset : ℕ) (found : Finding Inlinings) → IsUtf8 bytes → chars bytes ≡ text
+pub inlinings_found : (unit : Unit) (bytes text : List ℕ) (offset : ℕ) (found : Option Inlinings) → IsUtf8 bytes → chars bytes ≡ text
     → Finds bytes (λ names answer. Inlines Here unit text names.module_read offset answer.here × Inlines Everywhere unit text names.module_read offset answer.everywhere) found
     → FindsInlinings unit text offset found
-inlinings_found unit bytes text offset (Answered found) u is h =
+inlinings_found unit bytes text offset (Some found) u is h =
     let names : Resolution = h.0 in
     let module_in : IsModuleIn (utf8 text) names = subst (λ (t : List ℕ). IsModuleIn t names) (utf8_of bytes text u is) h.1 in
     (offers Here unit text offset found.here names module_in h.2.0, offers Everywhere unit text offset found.everywhere names module_in h.2.1)
-inlinings_found unit bytes text offset (IllTyped told) u is h = subst (λ (t : List ℕ). IsWellTypedModule t → ⊥) (utf8_of bytes text u is) h.0
+inlinings_found unit bytes text offset None u is h = subst (λ (t : List ℕ). IsWellTypedModule t → ⊥) (utf8_of bytes text u is) h

@@ -1,5 +1,5 @@
 -- The edits that lay out a text leave the same module.
-use Rattle.std.proofs.Common.{◌≡◌, ◌≤◌, ◌<◌, ◌⊎◌, ◌∙◌, ℕ, List, Some, Result, Vec, Global, map, length, inl, inr, refl, sym, ap, subst}
+use Rattle.std.proofs.Common.{◌≡◌, ◌≤◌, ◌<◌, ◌⊎◌, ◌∙◌, ℕ, List, Option, Some, None, Result, Vec, Global, map, length, inl, inr, refl, sym, ap, subst}
 use Rattle.std.specs.Str.{chars, IsUtf8}
 use Rattle.std.proofs.lemmas.Str.{encodes-chars}
 use Rattle.ob0_scan.specs.Lexed.{Lexeme, Lexed}
@@ -23,8 +23,6 @@ use Rattle.ob0_analysis.specs.Diagnosed.{IsTextOf, IsWellTypedModule}
 use Rattle.ob0_analysis.specs.Texts.{utf8}
 use Rattle.ob0_session_offers.specs.Layouts.{IsTooLongLaidOut, LaysOut, changes_of, layout_of}
 use Rattle.ob0_session_edits.specs.Formatted.{Formats}
-use Rattle.ob0_analysis.specs.declared.analysis.Finding.{Finding}
-use Rattle.ob0_analysis.specs.declared.analysis.Finding.TheVariants.{Answered, IllTyped}
 use Rattle.ob0_analysis.proofs.Scanning.{is_module, utf8_of}
 
 abbrev pub ModuleStays : Type 0
@@ -87,13 +85,13 @@ too_long indent text names m refusal is h long (inl longer) other =
     (longer, record { before = is_module (utf8 text) names h; long = subst P is long h.scan.scan longer })
 
 -- what was found of a text that is to be laid out
-abbrev pub FoundOf : Unit → Indent → List ℕ → Finding (Result (Vec Edit Global) EditRefusal) → Type 0
-FoundOf unit indent text (Answered outcome) = Formats unit indent text outcome
-FoundOf unit indent text (IllTyped told) = IsWellTypedModule (utf8 text) → ⊥
+abbrev pub FoundOf : Unit → Indent → List ℕ → Option (Result (Vec Edit Global) EditRefusal) → Type 0
+FoundOf unit indent text (Some outcome) = Formats unit indent text outcome
+FoundOf unit indent text None = IsWellTypedModule (utf8 text) → ⊥
 
-pub found_of : (unit : Unit) (indent : Indent) (bytes text : List ℕ) (found : Finding (Result (Vec Edit Global) EditRefusal)) → IsUtf8 bytes → chars bytes ≡ text
+pub found_of : (unit : Unit) (indent : Indent) (bytes text : List ℕ) (found : Option (Result (Vec Edit Global) EditRefusal)) → IsUtf8 bytes → chars bytes ≡ text
     → Finds bytes (λ names outcome. IsModuleIn (utf8 text) names → text ≡ chars names.module_read.source.text → Formats unit indent text outcome) found
     → FoundOf unit indent text found
-found_of unit indent bytes text (Answered outcome) u is h =
+found_of unit indent bytes text (Some outcome) u is h =
     h.2 (subst (λ (t : List ℕ). IsModuleIn t h.0) (utf8_of bytes text u is) h.1) (sym is ∙ ap chars (sym h.1.scan.of))
-found_of unit indent bytes text (IllTyped told) u is h = subst (λ (t : List ℕ). IsWellTypedModule t → ⊥) (utf8_of bytes text u is) h.0
+found_of unit indent bytes text None u is h = subst (λ (t : List ℕ). IsWellTypedModule t → ⊥) (utf8_of bytes text u is) h

@@ -20,8 +20,6 @@ use Rattle.ob0_analysis.specs.Diagnosed.{IsWellTypedModule}
 use Rattle.ob0_analysis.specs.Texts.{utf8}
 use Rattle.ob0_session_offers.specs.Inlinings.{InlinesIn, IsNotInlinedIn}
 use Rattle.ob0_session_json.specs.Shapes.{action_value, workspace_edit}
-use Rattle.ob0_analysis.specs.declared.analysis.Finding.{Finding}
-use Rattle.ob0_analysis.specs.declared.analysis.Finding.TheVariants.{Answered, IllTyped}
 use Rattle.ob0_session_edits.specs.declared.actions.ActionsRequest.{ActionsRequest}
 use Rattle.ob0_session_edits.specs.declared.actions.Inlinings.{Inlinings}
 use Rattle.ob0_session_offers.specs.declared.inlining.Inlining.{Inlining}
@@ -72,9 +70,9 @@ Offers how unit text offset (Some edits) = InlinesIn how unit text offset edits
 Offers how unit text offset None = IsNotInlinedIn how unit text offset
 
 -- what is offered at a place of a text, if it is a well-typed module
-abbrev pub FindsInlinings : Unit → List ℕ → ℕ → Finding Inlinings → Type 0
-FindsInlinings unit text offset (Answered found) = Offers Here unit text offset found.here × Offers Everywhere unit text offset found.everywhere
-FindsInlinings unit text offset (IllTyped told) = ¬ IsWellTypedModule (utf8 text)
+abbrev pub FindsInlinings : Unit → List ℕ → ℕ → Option Inlinings → Type 0
+FindsInlinings unit text offset (Some found) = Offers Here unit text offset found.here × Offers Everywhere unit text offset found.everywhere
+FindsInlinings unit text offset None = ¬ IsWellTypedModule (utf8 text)
 
 -- ---- the message
 

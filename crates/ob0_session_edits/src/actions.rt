@@ -15,10 +15,9 @@ ghost use Rattle.ob0_session_offers.specs.Inlinings.{Inlines};
 ghost use Rattle.ob0_session_edits.specs.Actions.{AnswersActions, FindsInlinings, IsOffered, action_of, action_values, actions_asked, actions_value, allows_inlining as allows, is_of_kind as of_kind, place_of as place_in, title, wants_inlining as wants};
 ghost use Rattle.ob0_session_offers.specs.declared.inlining.Inlining.TheVariants as how;
 
-use ob0_analysis::{Finding, Question, WellTyped, ask};
+use ob0_analysis::{Analysis, Question, WellTyped, ask};
 use ob0_inline::{inline_all, inline_here};
 use ob0_rpc::{Client, Id, Written, result, result_of, write_comma, write_piece};
-use ob0_scan::Tokens;
 use ob0_session_json::writing::{DocumentEdits, write_action};
 use ob0_session_offers::Inlining;
 use ob0_text::{Edit, EditRefusal, Position, Range, TextStore};
@@ -74,13 +73,14 @@ fn offered_edits(answer: Result<Vec<Edit>, EditRefusal>) -> Result<Option<Vec<Ed
 fn inlinings_in<T: TextStore>(
     alloc: Global,
     store: &T,
-    kept: Option<&Tokens>,
+    analysis: &Analysis,
     range: Range,
-) -> Result<Finding<Inlinings>, AllocError>
+) -> Result<Option<Inlinings>, AllocError>
+    requires { T.content store.now ≡ chars analysis.now }
     ensures { IfOk result (λ found. FindsInlinings (T.unit_of store.now) (T.content store.now) (place_in (T.unit_of store.now) (T.content store.now) range) found) }
 {
     let place = place_of(store, range);
-    ask(alloc, store.as_str(), kept, &InlinedAt { store, place })
+    ask(alloc, analysis, &InlinedAt { store, place })
 }
 
 /// The start of a range, and the end of one that is swapped.
@@ -106,22 +106,22 @@ pub struct ActionsRequest<'a> {
     pub only: &'a Option<Vec<String>>,
 }
 
-/// The answer to a request for code actions in the text in a store. Where the tokens that were kept are the text's, it isn't
-/// scanned again.
+/// The answer to a request for code actions in the text in a store.
 pub fn code_actions<T: TextStore>(
     alloc: Global,
     store: &T,
-    kept: Option<&Tokens>,
+    analysis: &Analysis,
     request: &ActionsRequest<'_>,
 ) -> Result<Vec<u8>, AllocError>
+    requires { T.content store.now ≡ chars analysis.now }
     ensures { IfOk result (λ bytes. (message : Data) × AnswersActions (T.unit_of store.now) (actions_asked request.now) (T.content store.now) message × Writes message bytes.items) }
 {
     if !wants_inlining(request) {
         return no_actions(alloc, request.id);
     }
-    match inlinings_in(alloc, store, kept, request.range)? {
-        Finding::Answered(found) => list_actions(alloc, request, &found),
-        Finding::IllTyped(_) => no_actions(alloc, request.id),
+    match inlinings_in(alloc, store, analysis, request.range)? {
+        Some(found) => list_actions(alloc, request, &found),
+        None => no_actions(alloc, request.id),
     }
 }
 

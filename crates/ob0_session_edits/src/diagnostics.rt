@@ -1,33 +1,31 @@
 //! The diagnostics of a text.
 
-ghost use Rattle.std.specs.Prelude.{◌≡◌, List, IfOk, OnOk, map};
+ghost use Rattle.std.specs.Prelude.{◌≡◌, List, IfOk, map};
+ghost use Rattle.std.specs.Str.{chars};
 ghost use Rattle.serde_json.specs.View.{view};
-ghost use Rattle.ob0_analysis.specs.Diagnosed.{KeepsTokens, complaint_in};
-ghost use Rattle.ob0_analysis.specs.Texts.{utf8};
+ghost use Rattle.ob0_analysis.specs.Diagnosed.{complaint_in};
 ghost use Rattle.ob0_session_json.specs.Shapes.{DiagnosticsAre};
 ghost use Rattle.ob0_session_edits.specs.Diagnostics.{Diagnoses, diagnostic_of};
 ghost use Rattle.ob0_session_json.specs.Shapes.{Diagnostic, diagnostic_value};
 ghost use Rattle.ob0_text.specs.Texts.{position_of};
 ghost use Rattle.ob0_text.specs.Units.{width_of};
 
-use ob0_analysis::{Diagnosis, diagnose_again};
-use ob0_scan::Tokens;
+use ob0_analysis::{Analysis, Diagnosis};
 use ob0_session_json::results::range_value;
 use ob0_text::{Position, TextStore};
 use serde_json::{Value, json};
 use std::alloc::{AllocError, Global};
 
-/// The list that is published for a text. What the text has in common with that of the tokens that were kept is taken over from
-/// these, and where it has lexemes its own tokens are kept in their place.
+/// The list that is published for a text.
 pub fn diagnostics<T: TextStore>(
     alloc: Global,
     store: &T,
-    kept: &mut Option<Tokens>,
+    analysis: &Analysis,
 ) -> Result<Vec<Value>, AllocError>
-    ensures list { IfOk result (λ list. (ds : List Diagnostic) × Diagnoses (T.unit_of store.now) (T.content store.now) ds × DiagnosticsAre ds list.items) }
-    ensures keeps { OnOk result (KeepsTokens (utf8 (T.content store.now)) kept.old kept.new) }
+    requires { T.content store.now ≡ chars analysis.now }
+    ensures { IfOk result (λ list. (ds : List Diagnostic) × Diagnoses (T.unit_of store.now) (T.content store.now) ds × DiagnosticsAre ds list.items) }
 {
-    let told = diagnose_again(alloc, store.as_str(), kept)?;
+    let told = analysis.diagnoses(alloc)?;
     all_diagnostics(alloc, store, told.as_slice())
 }
 

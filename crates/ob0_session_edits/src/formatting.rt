@@ -8,11 +8,10 @@ ghost use Rattle.ob0_analysis.specs.Analysed.{IsModuleIn};
 ghost use Rattle.ob0_analysis.specs.Texts.{utf8};
 ghost use Rattle.ob0_session_edits.specs.Formatted.{AnswersFormatting, Formats};
 
-use ob0_analysis::{Finding, Question, WellTyped, ask};
+use ob0_analysis::{Analysis, Question, WellTyped, ask};
 use ob0_layout::format;
 use ob0_layout::laws::{gaps_make_the_layout, lexemes_stay, module_stays};
 use ob0_rpc::{Id, result_of};
-use ob0_scan::Tokens;
 use ob0_session_json::results::{refused, refused_ill_typed};
 use ob0_session_json::writing::Edits;
 use ob0_text::{Edit, EditRefusal, Indent, TextStore};
@@ -53,24 +52,25 @@ impl<'a, T: TextStore> Question for Formatting<'a, T> {
     }
 }
 
-/// The answer to a request to lay out the text in a store. Where the tokens that were kept are the text's, it isn't scanned again.
+/// The answer to a request to lay out the text in a store.
 pub fn format_document<T: TextStore>(
     alloc: Global,
     id: &Id,
     store: &T,
-    kept: Option<&Tokens>,
+    analysis: &Analysis,
     indent: Indent,
 ) -> Result<Vec<u8>, AllocError>
+    requires { T.content store.now ≡ chars analysis.now }
     ensures { IfOk result (λ bytes. (message : Data) × AnswersFormatting (T.unit_of store.now) (id_data id.now) indent (T.content store.now) message × Writes message bytes.items) }
 {
-    match ask(alloc, store.as_str(), kept, &Formatting { store, indent })? {
-        Finding::Answered(outcome) => match outcome {
+    match ask(alloc, analysis, &Formatting { store, indent })? {
+        Some(outcome) => match outcome {
             Ok(edits) => {
                 let edits = edits.as_slice();
                 result_of(alloc, id, &Edits { edits })
             }
             Err(refusal) => refused(alloc, id, refusal.text(alloc)?.as_str()),
         },
-        Finding::IllTyped(_) => refused_ill_typed(alloc, id),
+        None => refused_ill_typed(alloc, id),
     }
 }

@@ -1,16 +1,16 @@
 //! Renaming on request.
 
 ghost use Rattle.std.specs.Prelude.{◌≡◌, IfOk};
+ghost use Rattle.std.specs.Str.{chars};
 ghost use Rattle.serde_json.specs.Data.{Data};
 ghost use Rattle.ob0_rpc.specs.Seen.{id_data};
 ghost use Rattle.ob0_rpc.specs.Shapes.{result_message};
 ghost use Rattle.ob0_rpc.specs.Writing.{Writes};
 ghost use Rattle.ob0_session_edits.specs.Renamed.{AnswersRenaming, asked_of, edits_for_client};
 
-use ob0_analysis::Finding;
+use ob0_analysis::Analysis;
 use ob0_rename::rename_in;
 use ob0_rpc::{Client, DocumentPosition, Id, result_of};
-use ob0_scan::Tokens;
 use ob0_session_json::results::{refused_because, refused_ill_typed};
 use ob0_session_json::writing::DocumentEdits;
 use ob0_text::{Edit, TextStore};
@@ -26,24 +26,24 @@ pub struct RenameRequest<'a> {
     pub new: &'a str,
 }
 
-/// The answer to a request for another name in the text in a store. Where the tokens that were kept are the text's, it isn't
-/// scanned again.
+/// The answer to a request for another name in the text in a store.
 pub fn rename_symbol<T: TextStore>(
     alloc: Global,
     store: &T,
-    kept: Option<&Tokens>,
+    analysis: &Analysis,
     request: &RenameRequest<'_>,
 ) -> Result<Vec<u8>, AllocError>
+    requires { T.content store.now ≡ chars analysis.now }
     ensures { IfOk result (λ bytes. (message : Data) × AnswersRenaming (T.unit_of store.now) (asked_of request.now) (T.content store.now) message × Writes message bytes.items) }
 {
     let id = request.id;
     let place = request.place;
-    match rename_in(alloc, store, kept, place.position, request.new)? {
-        Finding::Answered(outcome) => match outcome {
+    match rename_in(alloc, store, analysis, place.position, request.new)? {
+        Some(outcome) => match outcome {
             Ok(edits) => edits_answer(alloc, request, edits.as_slice()),
             Err(refusal) => refused_because(alloc, id, refusal),
         },
-        Finding::IllTyped(_) => refused_ill_typed(alloc, id),
+        None => refused_ill_typed(alloc, id),
     }
 }
 

@@ -15,22 +15,20 @@ use Rattle.ob0_analysis.specs.Analysed.{Finds, IsModuleIn}
 use Rattle.ob0_analysis.specs.Diagnosed.{IsWellTypedModule}
 use Rattle.ob0_analysis.specs.Texts.{utf8}
 use Rattle.ob0_session_queries.specs.Questions.{AnswersName, AnswersIn, no_answer, place_in, renamable_in, hover_at, location_at, range_at, or_null}
-use Rattle.ob0_analysis.specs.declared.analysis.Finding.{Finding}
-use Rattle.ob0_analysis.specs.declared.analysis.Finding.TheVariants.{Answered, IllTyped}
 use Rattle.ob0_session_queries.specs.declared.questions.NameQuestion.{NameQuestion}
 use Rattle.ob0_session_queries.specs.declared.questions.NameQuestion.TheVariants.{Hover, Definition, References, PrepareRename}
 use Rattle.ob0_analysis.proofs.Scanning.{utf8_of}
 
 -- what was found of the module that a text is, or that there is none
-abbrev pub FoundOf : {A : Type 0} → List ℕ → (Resolution → A → Type 0) → Finding A → Type 0
-FoundOf text is (Answered answer) = (names : Resolution) × IsModuleIn (utf8 text) names × is names answer
-FoundOf text is (IllTyped told) = IsWellTypedModule (utf8 text) → ⊥
+abbrev pub FoundOf : {A : Type 0} → List ℕ → (Resolution → A → Type 0) → Option A → Type 0
+FoundOf text is (Some answer) = (names : Resolution) × IsModuleIn (utf8 text) names × is names answer
+FoundOf text is None = IsWellTypedModule (utf8 text) → ⊥
 
-pub found_of : {A : Type 0} (bytes text : List ℕ) (is : Resolution → A → Type 0) (found : Finding A) → IsUtf8 bytes → chars bytes ≡ text
+pub found_of : {A : Type 0} (bytes text : List ℕ) (is : Resolution → A → Type 0) (found : Option A) → IsUtf8 bytes → chars bytes ≡ text
     → Finds bytes (λ names answer. is names answer) found → FoundOf text is found
-found_of bytes text is (Answered answer) u same h =
+found_of bytes text is (Some answer) u same h =
     (h.0, subst (λ (t : List ℕ). IsModuleIn t h.0) (utf8_of bytes text u same) h.1, h.2)
-found_of bytes text is (IllTyped told) u same h = subst (λ (t : List ℕ). IsWellTypedModule t → ⊥) (utf8_of bytes text u same) h.0
+found_of bytes text is None u same h = subst (λ (t : List ℕ). IsWellTypedModule t → ⊥) (utf8_of bytes text u same) h
 
 -- ---- what can be sent
 

@@ -1,6 +1,7 @@
 //! Questions about the name or field at a position.
 
 ghost use Rattle.std.specs.Prelude.{◌≡◌, IfOk, option_map, map};
+ghost use Rattle.std.specs.Str.{chars};
 ghost use Rattle.serde_json.specs.Data.{Data, array};
 ghost use Rattle.serde_json.specs.View.{view, items_of};
 ghost use Rattle.ob0_rpc.specs.Seen.{at_seen, id_data};
@@ -11,11 +12,11 @@ ghost use Rattle.ob0_refs.specs.Questions.{AreReferencesAt, hover_at_place, defi
 ghost use Rattle.ob0_session_queries.specs.Questions.{AnswersName, can_be_renamed, hover_at, renamable_in, location_at, range_at, or_null};
 ghost use Rattle.ob0_session_queries.specs.declared.questions.NameQuestion.TheVariants.{Hover, Definition, References, PrepareRename};
 
-use ob0_analysis::{Finding, Question, WellTyped, ask};
+use ob0_analysis::{Analysis, Question, WellTyped, ask};
 use ob0_edits::ranges;
 use ob0_refs::{Of, at, definition, hover, references};
 use ob0_rpc::{DocumentPosition, Id, result, result_of};
-use ob0_scan::{Span, Tokens};
+use ob0_scan::Span;
 use ob0_session_json::results::{hover_value, location_value, range_value};
 use ob0_session_json::writing::Locations;
 use ob0_text::TextStore;
@@ -121,29 +122,33 @@ fn renamable(of: Of, span: Span) -> Option<Span>
     }
 }
 
-/// The answer to a question about what is at a position of the text in a store. Where the tokens that were kept are the text's,
-/// it isn't scanned again.
+/// The answer to a question about what is at a position of the text in a store.
 pub fn answer_question<T: TextStore>(
     alloc: Global,
     id: &Id,
     store: &T,
-    kept: Option<&Tokens>,
+    analysis: &Analysis,
     place: &DocumentPosition,
     question: NameQuestion,
 ) -> Result<Vec<u8>, AllocError>
+    requires { T.content store.now ≡ chars analysis.now }
     ensures { IfOk result (λ bytes. (value : Data) × AnswersName (T.unit_of store.now) (T.content store.now) (at_seen place.now) question value
         × Writes (result_message (id_data id.now) value) bytes.items) }
 {
     match question {
-        NameQuestion::Hover => result(alloc, id, name_hover_value(alloc, store, kept, place)?),
-        NameQuestion::Definition => result(alloc, id, definition_value(alloc, store, kept, place)?),
+        NameQuestion::Hover => result(alloc, id, name_hover_value(alloc, store, analysis, place)?),
+        NameQuestion::Definition => result(
+            alloc,
+            id,
+            definition_value(alloc, store, analysis, place)?,
+        ),
         NameQuestion::References {
             include_declaration,
-        } => references_answer(alloc, id, store, kept, place, include_declaration),
+        } => references_answer(alloc, id, store, analysis, place, include_declaration),
         NameQuestion::PrepareRename => result(
             alloc,
             id,
-            renamable_value(alloc, store, kept, place)?,
+            renamable_value(alloc, store, analysis, place)?,
         ),
     }
 }
@@ -151,30 +156,32 @@ pub fn answer_question<T: TextStore>(
 fn name_hover_value<T: TextStore>(
     alloc: Global,
     store: &T,
-    kept: Option<&Tokens>,
+    analysis: &Analysis,
     place: &DocumentPosition,
 ) -> Result<Value, AllocError>
+    requires { T.content store.now ≡ chars analysis.now }
     ensures { IfOk result (λ v. AnswersName (T.unit_of store.now) (T.content store.now) (at_seen place.now) Hover (view v)) }
 {
     let offset = store.offset(place.position);
-    match ask(alloc, store.as_str(), kept, &HoverAt { offset })? {
-        Finding::Answered(found) => hover_or_null(alloc, store, found),
-        Finding::IllTyped(_told) => Ok(Value::Null),
+    match ask(alloc, analysis, &HoverAt { offset })? {
+        Some(found) => hover_or_null(alloc, store, found),
+        None => Ok(Value::Null),
     }
 }
 
 fn definition_value<T: TextStore>(
     alloc: Global,
     store: &T,
-    kept: Option<&Tokens>,
+    analysis: &Analysis,
     place: &DocumentPosition,
 ) -> Result<Value, AllocError>
+    requires { T.content store.now ≡ chars analysis.now }
     ensures { IfOk result (λ v. AnswersName (T.unit_of store.now) (T.content store.now) (at_seen place.now) Definition (view v)) }
 {
     let offset = store.offset(place.position);
-    match ask(alloc, store.as_str(), kept, &DefinitionAt { offset })? {
-        Finding::Answered(found) => location_or_null(alloc, store, place.uri.as_str(), found),
-        Finding::IllTyped(_told) => Ok(Value::Null),
+    match ask(alloc, analysis, &DefinitionAt { offset })? {
+        Some(found) => location_or_null(alloc, store, place.uri.as_str(), found),
+        None => Ok(Value::Null),
     }
 }
 
@@ -182,10 +189,11 @@ fn references_answer<T: TextStore>(
     alloc: Global,
     id: &Id,
     store: &T,
-    kept: Option<&Tokens>,
+    analysis: &Analysis,
     place: &DocumentPosition,
     include_declaration: bool,
 ) -> Result<Vec<u8>, AllocError>
+    requires { T.content store.now ≡ chars analysis.now }
     ensures { IfOk result (λ bytes. (value : Data) × AnswersName (T.unit_of store.now) (T.content store.now) (at_seen place.now) (References include_declaration) value
         × Writes (result_message (id_data id.now) value) bytes.items) }
 {
@@ -193,15 +201,9 @@ fn references_answer<T: TextStore>(
         offset: store.offset(place.position),
         include_declaration,
     };
-    match ask(alloc, store.as_str(), kept, &question)? {
-        Finding::Answered(found) => locations(
-            alloc,
-            id,
-            store,
-            place.uri.as_str(),
-            found.as_slice(),
-        ),
-        Finding::IllTyped(_) => {
+    match ask(alloc, analysis, &question)? {
+        Some(found) => locations(alloc, id, store, place.uri.as_str(), found.as_slice()),
+        None => {
             let none = Vec::new(alloc);
             result(alloc, id, Value::Array(none))
         }
@@ -211,15 +213,16 @@ fn references_answer<T: TextStore>(
 fn renamable_value<T: TextStore>(
     alloc: Global,
     store: &T,
-    kept: Option<&Tokens>,
+    analysis: &Analysis,
     place: &DocumentPosition,
 ) -> Result<Value, AllocError>
+    requires { T.content store.now ≡ chars analysis.now }
     ensures { IfOk result (λ v. AnswersName (T.unit_of store.now) (T.content store.now) (at_seen place.now) PrepareRename (view v)) }
 {
     let offset = store.offset(place.position);
-    match ask(alloc, store.as_str(), kept, &RenamableAt { offset })? {
-        Finding::Answered(found) => range_or_null(alloc, store, found),
-        Finding::IllTyped(_told) => Ok(Value::Null),
+    match ask(alloc, analysis, &RenamableAt { offset })? {
+        Some(found) => range_or_null(alloc, store, found),
+        None => Ok(Value::Null),
     }
 }
 

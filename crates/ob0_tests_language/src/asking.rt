@@ -1,6 +1,6 @@
 //! The one way in which these tests ask a text.
 
-use ob0_analysis::{Diagnosis, Finding, Question, ask};
+use ob0_analysis::{Analysis, Diagnosis, Question, ask};
 use std::alloc::{AllocError, Global};
 
 /// What a question answers to a text, or what is wrong with it.
@@ -11,9 +11,10 @@ pub fn said<Q: Question<Answer = String>>(
 ) -> Result<String, AllocError>
     requires { Q.is_about question.now text.now }
 {
-    match ask(alloc, text, None, question)? {
-        Finding::Answered(answer) => Ok(answer),
-        Finding::IllTyped(faults) => told(alloc, faults.as_slice()),
+    let analysis = Analysis::of(alloc, text)?;
+    match ask(alloc, &analysis, question)? {
+        Some(answer) => Ok(answer),
+        None => told(alloc, analysis.diagnoses(alloc)?.as_slice()),
     }
 }
 

@@ -3,7 +3,7 @@
 ghost use Rattle.std.specs.Prelude.{⊤};
 
 use crate::asking::{said, told};
-use ob0_analysis::{Finding, Question};
+use ob0_analysis::{Analysis, Question};
 use ob0_inline::{inline_all, inline_here};
 use ob0_layout::format;
 use ob0_rename::{rename, rename_in};
@@ -138,9 +138,10 @@ fn rename_text(
     new: &str,
 ) -> Result<String, AllocError> {
     let store = Whole::from_str(alloc, text)?;
-    match rename_in(alloc, &store, None, place, new)? {
-        Finding::Answered(edits) => made(alloc, &store, edits),
-        Finding::IllTyped(faults) => told(alloc, faults.as_slice()),
+    let analysis = Analysis::of(alloc, text)?;
+    match rename_in(alloc, &store, &analysis, place, new)? {
+        Some(edits) => made(alloc, &store, edits),
+        None => told(alloc, analysis.diagnoses(alloc)?.as_slice()),
     }
 }
 

@@ -4,24 +4,24 @@ use Rattle.ob0_commands.proofs.Renames.{edited_in_text, found_in_text, prints_re
 use Rattle.ob0_commands.proofs.Wrong.{ill_typed}
 use Rattle.ob0_commands.proofs.renaming.rename_in_text.Goals as goal
 
-pub returns-in-Answered-clause-renamed : goal.returns-in-Answered-clause-renamed
-returns-in-Answered-clause-renamed g c =
-    let found = found_in_text _ _ c.args.text.now c.args.position c.args.new.now c.in_ok-outcome.field-0 c.in-Answered.outcome c.in_ok-store.ensures.unit c.in_ok-store.ensures.content c.in-Answered.is c.in_ok-outcome.ensures in
+pub returns-in-Some-clause-renamed : goal.returns-in-Some-clause-renamed
+returns-in-Some-clause-renamed g c =
+    let found = found_in_text _ _ c.args.text.now c.args.position c.args.new.now c.in_ok-outcome.field-0 c.in-Some.outcome c.in_ok-store.ensures.unit c.in_ok-store.ensures.content c.in-Some.is c.in_ok-outcome.ensures in
     IfOk-weaker c.print_edited.result _ _ (λ status edited zero.
-    prints_renamed c.args.text.now c.args.position c.args.new.now c.in-Answered.outcome _ _ found
-    (edited_in_text _ _ c.args.text.now c.in-Answered.outcome _ _ c.in_ok-store.ensures.unit c.in_ok-store.ensures.content (edited zero))) c.print_edited.ensures.edited
+    prints_renamed c.args.text.now c.args.position c.args.new.now c.in-Some.outcome _ _ found
+    (edited_in_text _ _ c.args.text.now c.in-Some.outcome _ _ c.in_ok-store.ensures.unit c.in_ok-store.ensures.content (edited zero))) c.print_edited.ensures.edited
 
-pub returns-in-Answered-clause-other : goal.returns-in-Answered-clause-other
-returns-in-Answered-clause-other g c =
-    let found = found_in_text _ _ c.args.text.now c.args.position c.args.new.now c.in_ok-outcome.field-0 c.in-Answered.outcome c.in_ok-store.ensures.unit c.in_ok-store.ensures.content c.in-Answered.is c.in_ok-outcome.ensures in
+pub returns-in-Some-clause-other : goal.returns-in-Some-clause-other
+returns-in-Some-clause-other g c =
+    let found = found_in_text _ _ c.args.text.now c.args.position c.args.new.now c.in_ok-outcome.field-0 c.in-Some.outcome c.in_ok-store.ensures.unit c.in_ok-store.ensures.content c.in-Some.is c.in_ok-outcome.ensures in
     IfOk-weaker c.print_edited.result _ _ (λ status refused one.
-    inr (refuses_name c.args.text.now c.args.position c.args.new.now c.in-Answered.outcome _ _ found (refused one).0 (ap g.O.Write.contents (refused one).1))) c.print_edited.ensures.refused
+    inr (refuses_name c.args.text.now c.args.position c.args.new.now c.in-Some.outcome _ _ found (refused one).0 (ap g.O.Write.contents (refused one).1))) c.print_edited.ensures.refused
 
 pub returns-clause-other : goal.returns-clause-other
 returns-clause-other g c =
-    λ one. inl (ill_typed _ _ c.args.text.now c.args.position c.args.new.now c.in_ok-outcome.field-0 c.in-IllTyped.told c.as_slice.result.now (g.O.Write.contents c.args.out.now) (g.O.Write.contents c.print_diagnoses.new.out)
-    c.in_ok-store.ensures.content c.utf8.text c.as_slice.ensures.value c.in-IllTyped.is c.in_ok-outcome.ensures c.in_ok-print_diagnoses-in-IllTyped.ensures.printed)
+    λ one. inl (ill_typed _ c.args.text.now c.in_ok-told.told.items c.as_slice.result.now (g.O.Write.contents c.args.out.now) (g.O.Write.contents c.print_diagnoses.new.out)
+    c.in_ok-store.ensures.content c.utf8.text c.as_slice.ensures.value (rw c.in-None.is at c.in_ok-outcome.ensures) c.in_ok-told.ensures.told c.in_ok-print_diagnoses-in-None.ensures.printed)
 
-pub returns-in-Answered-clause-handed_on : goal.returns-in-Answered-clause-handed_on
-returns-in-Answered-clause-handed_on g c =
+pub returns-in-Some-clause-handed_on : goal.returns-in-Some-clause-handed_on
+returns-in-Some-clause-handed_on g c =
     IfOk-weaker c.print_edited.result _ _ (λ status refused one. inr (refused one).1) c.print_edited.ensures.refused

@@ -3,11 +3,8 @@ use Rattle.std.proofs.lemmas.Result.{IfOk-weaker}
 use Rattle.ob0_rename.proofs.InTexts.{new_name_found}
 use Rattle.ob0_rename.proofs.texts.rename_in.Goals as goal
 
-pub ask-requires : goal.ask-requires
-ask-requires g c = sym c.as_str.ensures
-
 pub returns : goal.returns
 returns g c =
     let text : List ℕ = g.T.TextStore.content c.args.store.now in
     IfOk-weaker c.ask.result _ _ (λ found h.
-    new_name_found (g.T.TextStore.unit_of c.args.store.now) c.as_str.result.now text c.args.place c.args.new.now found c.as_str.utf8 c.as_str.ensures h) c.ask.ensures
+    new_name_found (g.T.TextStore.unit_of c.args.store.now) c.args.analysis.now text c.args.place c.args.new.now found c.ask.ensures.utf8 (sym c.requires) h) c.ask.ensures.found

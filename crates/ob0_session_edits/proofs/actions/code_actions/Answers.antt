@@ -1,31 +1,30 @@
-use Rattle.std.proofs.Common.{◌∙◌, ℕ, List, inl, inr, refl, subst, sym}
+use Rattle.std.proofs.Common.{◌∙◌, ℕ, List, Option, inl, inr, refl, subst, sym}
 use Rattle.std.proofs.lemmas.Result.{IfOk-weaker}
 use Rattle.ob0_session_edits.specs.Actions.{FindsInlinings, actions_asked, place_of}
 use Rattle.ob0_session_edits.specs.declared.actions.Inlinings.{Inlinings}
-use Rattle.ob0_analysis.specs.declared.analysis.Finding.{Finding}
 use Rattle.ob0_session_edits.proofs.actions.code_actions.Goals as goal
 
 pub returns-then-not-wants_inlining : goal.returns-then-not-wants_inlining
 returns-then-not-wants_inlining g c = IfOk-weaker c.no_actions.result _ _ (λ bytes sent. (_, (_, inr (inl (sym c.wants_inlining.ensures ∙ c.if-not-wants_inlining.true), refl), refl), sent)) c.no_actions.ensures
 
-pub returns-in-Answered : goal.returns-in-Answered
-returns-in-Answered g c =
+pub returns-in-Some : goal.returns-in-Some
+returns-in-Some g c =
     let unit = g.T.TextStore.unit_of c.args.store.now in
     let text : List ℕ = g.T.TextStore.content c.args.store.now in
     let asked = actions_asked c.args.request.now in
     let offset = place_of unit text asked.range in
-    let found = subst (λ (a : Finding Inlinings). FindsInlinings unit text offset a) c.in-Answered.is c.in_ok-found.ensures in
+    let found = subst (λ (a : Option Inlinings). FindsInlinings unit text offset a) c.in-Some.is c.in_ok-found.ensures in
     IfOk-weaker c.list_actions.result _ _ (λ bytes sent. (
       _,
-      (_, inl (c.in-Answered.found.here, c.in-Answered.found.everywhere, sym c.wants_inlining.ensures ∙ c.if-not-wants_inlining.false, found.0, found.1, refl), refl),
+      (_, inl (c.in-Some.found.here, c.in-Some.found.everywhere, sym c.wants_inlining.ensures ∙ c.if-not-wants_inlining.false, found.0, found.1, refl), refl),
       sent,
     )) c.list_actions.ensures
 
-pub returns : goal.returns
-returns g c =
+pub returns-in-None : goal.returns-in-None
+returns-in-None g c =
     let unit = g.T.TextStore.unit_of c.args.store.now in
     let text : List ℕ = g.T.TextStore.content c.args.store.now in
     let asked = actions_asked c.args.request.now in
     let offset = place_of unit text asked.range in
-    let unfit = subst (λ (a : Finding Inlinings). FindsInlinings unit text offset a) c.in-IllTyped.is c.in_ok-found.ensures in
-    IfOk-weaker c.no_actions-in-IllTyped.result _ _ (λ bytes sent. (_, (_, inr (inr unfit, refl), refl), sent)) c.no_actions-in-IllTyped.ensures
+    let unfit = subst (λ (a : Option Inlinings). FindsInlinings unit text offset a) c.in-None.is c.in_ok-found.ensures in
+    IfOk-weaker c.no_actions-in-None.result _ _ (λ bytes sent. (_, (_, inr (inr unfit, refl), refl), sent)) c.no_actions-in-None.ensures

@@ -6,9 +6,6 @@ use Rattle.ob0_session_edits.specs.Actions.{FindsInlinings}
 use Rattle.ob0_session_edits.proofs.Inlined.{inlinings_found}
 use Rattle.ob0_session_edits.proofs.actions.inlinings_in.Goals as goal
 
-pub ask-requires : goal.ask-requires
-ask-requires g c = sym c.as_str.ensures
-
 pub returns : goal.returns
 returns g c =
     let unit = g.T.TextStore.unit_of c.args.store.now in
@@ -16,4 +13,4 @@ returns g c =
     let offset : ℕ = offset_of (width_of unit) text c.place_of-place.result in
     IfOk-weaker c.ask.result _ _ (λ found h.
     subst (λ (o : ℕ). FindsInlinings unit text o found) c.place_of-place.ensures
-    (inlinings_found unit c.as_str.result.now text offset found c.as_str.utf8 c.as_str.ensures h)) c.ask.ensures
+    (inlinings_found unit c.args.analysis.now text offset found c.ask.ensures.utf8 (sym c.requires) h)) c.ask.ensures.found

@@ -1,4 +1,4 @@
-use Rattle.std.proofs.Common.{◌∙◌, ℕ, List, Result, Vec, Global, codes, ap, inl, inr, refl, subst}
+use Rattle.std.proofs.Common.{◌∙◌, ℕ, List, Option, Result, Vec, Global, codes, ap, inl, inr, refl, subst, sym}
 use Rattle.std.proofs.lemmas.Result.{IfOk-weaker}
 use Rattle.serde_json.specs.Data.{Data}
 use Rattle.ob0_rpc.specs.Seen.{id_data}
@@ -10,7 +10,6 @@ use Rattle.ob0_text.specs.declared.refusals.EditRefusal.{EditRefusal}
 use Rattle.ob0_text.specs.declared.refusals.EditRefusal.TheVariants.{TooLong}
 use Rattle.ob0_session_edits.specs.Formatted.{Formats}
 use Rattle.ob0_session_json.specs.Shapes.{edit_refused, edits_value}
-use Rattle.ob0_analysis.specs.declared.analysis.Finding.{Finding}
 use Rattle.ob0_session_edits.proofs.LaidOut.{FoundOf, found_of}
 use Rattle.ob0_session_json.proofs.Plain.{edits_can_be_sent}
 use Rattle.ob0_session_edits.proofs.formatting.format_document.Goals as goal
@@ -19,8 +18,8 @@ pub returns-in-Ok : goal.returns-in-Ok
 returns-in-Ok g c =
     let unit = g.T.TextStore.unit_of c.args.store.now in
     let text : List ℕ = g.T.TextStore.content c.args.store.now in
-    let found = found_of unit c.args.indent c.as_str.result.now text c.in_ok-outcome.field-0 c.as_str.utf8 c.as_str.ensures c.in_ok-outcome.ensures in
-    let outcome = subst (λ (o : Finding (Result (Vec Edit Global) EditRefusal)). FoundOf unit c.args.indent text o) c.in-Answered.is found in
+    let found = found_of unit c.args.indent c.args.analysis.now text c.in_ok-outcome.field-0 c.in_ok-outcome.ensures.utf8 (sym c.requires) c.in_ok-outcome.ensures.found in
+    let outcome = subst (λ (o : Option (Result (Vec Edit Global) EditRefusal)). FoundOf unit c.args.indent text o) c.in-Some.is found in
     let laid = subst (λ (o : Result (Vec Edit Global) EditRefusal). Formats unit c.args.indent text o) c.in-Ok.is outcome in
     let is = ap edits_value c.as_slice-edits.ensures.value in
     IfOk-weaker c.result_of.result _ _ (λ bytes sent. (
@@ -29,24 +28,24 @@ returns-in-Ok g c =
       subst (λ (d : Data). Writes (result_message (id_data c.args.id.now) d) bytes.items) is (sent (edits_can_be_sent c.as_slice-edits.result.now)),
     )) c.result_of.ensures
 
-pub returns-in-Answered : goal.returns-in-Answered
-returns-in-Answered g c =
+pub returns-in_ok-text-in-Err : goal.returns-in_ok-text-in-Err
+returns-in_ok-text-in-Err g c =
     let unit = g.T.TextStore.unit_of c.args.store.now in
     let text : List ℕ = g.T.TextStore.content c.args.store.now in
-    let found = found_of unit c.args.indent c.as_str.result.now text c.in_ok-outcome.field-0 c.as_str.utf8 c.as_str.ensures c.in_ok-outcome.ensures in
-    let outcome = subst (λ (o : Finding (Result (Vec Edit Global) EditRefusal)). FoundOf unit c.args.indent text o) c.in-Answered.is found in
+    let found = found_of unit c.args.indent c.args.analysis.now text c.in_ok-outcome.field-0 c.in_ok-outcome.ensures.utf8 (sym c.requires) c.in_ok-outcome.ensures.found in
+    let outcome = subst (λ (o : Option (Result (Vec Edit Global) EditRefusal)). FoundOf unit c.args.indent text o) c.in-Some.is found in
     let long = subst (λ (o : Result (Vec Edit Global) EditRefusal). Formats unit c.args.indent text o) c.in-Err.is outcome in
-    let is = c.as_str-in-Err.ensures.value ∙ (c.in_ok-text-in-Err.ensures ∙ ap refusal_text long.0) in
+    let is = c.as_str.ensures.value ∙ (c.in_ok-text-in-Err.ensures ∙ ap refusal_text long.0) in
     IfOk-weaker c.refused.result _ _ (λ bytes sent. (
       edit_refused (id_data c.args.id.now) (refusal_text TooLong),
       inr (inl (long.1, refl)),
       subst (λ (said : List ℕ). Writes (edit_refused (id_data c.args.id.now) said) bytes.items) is sent,
     )) c.refused.ensures
 
-pub returns : goal.returns
-returns g c =
+pub returns-in-None : goal.returns-in-None
+returns-in-None g c =
     let unit = g.T.TextStore.unit_of c.args.store.now in
     let text : List ℕ = g.T.TextStore.content c.args.store.now in
-    let found = found_of unit c.args.indent c.as_str.result.now text c.in_ok-outcome.field-0 c.as_str.utf8 c.as_str.ensures c.in_ok-outcome.ensures in
-    let ill = subst (λ (o : Finding (Result (Vec Edit Global) EditRefusal)). FoundOf unit c.args.indent text o) c.in-IllTyped.is found in
+    let found = found_of unit c.args.indent c.args.analysis.now text c.in_ok-outcome.field-0 c.in_ok-outcome.ensures.utf8 (sym c.requires) c.in_ok-outcome.ensures.found in
+    let ill = subst (λ (o : Option (Result (Vec Edit Global) EditRefusal)). FoundOf unit c.args.indent text o) c.in-None.is found in
     IfOk-weaker c.refused_ill_typed.result _ _ (λ bytes sent. (edit_refused (id_data c.args.id.now) (codes "ill-typed"), inr (inr (ill, refl)), sent)) c.refused_ill_typed.ensures

@@ -1,0 +1,15 @@
+use Rattle.std.proofs.Common.{◌∙◌, ℕ, List, ap, inr, map, sym, subst}
+use Rattle.std.proofs.lemmas.Result.{IfOk-weaker}
+use Rattle.ob0_analysis.specs.Diagnosed.{Reports, complaint_in, complaint_of}
+use Rattle.ob0_analysis.specs.Found.{IsFound, text_of}
+use Rattle.ob0_analysis.proofs.Scanning.{finds_lexemes}
+use Rattle.ob0_analysis.proofs.analysis.Analysis.diagnoses.Goals as goal
+
+pub diagnose_refusal-requires : goal.diagnose_refusal-requires
+diagnose_refusal-requires c = (subst IsFound c.in-NoTree.is c.self.invariant).0
+
+pub returns-in-NoLexemes-clause-told : goal.returns-in-NoLexemes-clause-told
+returns-in-NoLexemes-clause-told c =
+    let by = subst IsFound c.in-NoLexemes.is c.self.invariant in
+    IfOk-weaker c.of_faults.result _ _ (λ list is.
+    subst (λ (t : List ℕ). Reports t (map complaint_in list.items)) (sym (ap text_of c.in-NoLexemes.is) ∙ c.self.view_is) (inr (finds_lexemes _ _ _ by.0 by.1 (is ∙ ap (map complaint_of) c.as_slice.ensures.value)))) c.of_faults.ensures

@@ -1,6 +1,0 @@
-use Rattle.ob0_analysis.proofs.Scanning.{finds_parser}
-use Rattle.ob0_analysis.proofs.analysis.ask_tokens.Goals as goal
-
-pub returns-in_ok-push-in-Err : goal.returns-in_ok-push-in-Err
-returns-in_ok-push-in-Err g c =
-    rw (c.in_ok-push-in-Err.ensures.items, c.new-told.ensures.items) (finds_parser c.args.tokens.now c.in-Err.refusal _ c.one_scan.ensures c.text-text.ensures.scan c.in-Err.ensures.refused c.in_ok-of_refusal-in-Err.ensures)

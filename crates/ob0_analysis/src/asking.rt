@@ -1,0 +1,57 @@
+//! Asking the module that a text is.
+
+ghost use Rattle.std.specs.Prelude.{⊤, ℕ, List, IfOk};
+ghost use Rattle.std.specs.Str.{IsUtf8};
+ghost use Rattle.ob0_scope_rules.specs.Resolution.{Resolution};
+ghost use Rattle.ob0_analysis.specs.Analysed.{Finds};
+
+use crate::analysis::Analysis;
+use ob0_parse::one_tree;
+use ob0_scan::laws::one_scan;
+use ob0_types::WellTyped;
+use std::alloc::{AllocError, Global};
+
+/// What is asked of a well-typed module.
+pub trait Question {
+    type Answer;
+
+    /// What is known of the text, by its bytes, where the question is asked.
+    ghost is_about: { Self → List ℕ → Type 0 } = { λ _ _. ⊤ };
+
+    /// What an answer says of the module.
+    ghost answers: { Self → Resolution → Self.Answer → Type 0 };
+
+    fn answer(&self, alloc: Global, module: &WellTyped<'_>) -> Result<Self::Answer, AllocError>
+        requires { is_about self.now module.now.module_read.source.text }
+        ensures { IfOk result (λ answer. answers self.now module.now answer) };
+}
+
+/// Asks the module of a text. None where the text isn't a well-typed module.
+pub fn ask<Q: Question>(
+    alloc: Global,
+    analysis: &Analysis,
+    question: &Q,
+) -> Result<Option<Q::Answer>, AllocError>
+    requires { Q.is_about question.now analysis.now }
+    ensures found { IfOk result (Finds analysis.now (Q.answers question.now)) }
+    ensures utf8 { IsUtf8 analysis.now }
+{
+    one_scan();
+    one_tree();
+    // For the proof: what the contract of this call says.
+    let _text = analysis.text();
+    let Some(parts) = analysis.module_parts() else {
+        return Ok(None);
+    };
+    let module = parts.module();
+    let resolved = parts.resolved(&module);
+    let checked = parts.checked(&resolved);
+    match checked.well_typed() {
+        Some(module) => {
+            // For the proof: what the contract of this call says.
+            let _names = module.resolved();
+            Ok(Some(question.answer(alloc, &module)?))
+        }
+        None => Ok(None),
+    }
+}

@@ -1,0 +1,135 @@
+//! A text that is a module.
+
+ghost use Rattle.std.specs.Prelude.{◌≡◌, IfOk};
+ghost use Rattle.ob0_tree.specs.Parsed.{IsParsed};
+ghost use Rattle.ob0_scope_rules.specs.Bindings.{resolution_by};
+ghost use Rattle.ob0_scope_rules.specs.Resolution.{IsResolution};
+ghost use Rattle.ob0_types.specs.CheckedModules.{AreCheckedFaults, AreTypesOf, IsChecked};
+ghost use Rattle.ob0_analysis.specs.Parts.{parsed_by};
+
+use ob0_scan::{Fault, Tokens};
+use ob0_scope::bindings_of;
+use ob0_scope_rules::{Bindings, Resolved};
+use ob0_tree::{Module, ModuleTree};
+use ob0_types::{Checked, ModuleTypes, types_of};
+use std::alloc::{AllocError, Global};
+use std::marker::Model;
+
+/// The tokens of a text that is a module, the tree that they spell, what its names are bound to, and what checking its types
+/// finds. None borrows another.
+#[derive(Drop)]
+pub(crate) struct ModuleParts {
+    tokens: Tokens,
+    tree: ModuleTree,
+    bindings: Bindings,
+    types: ModuleTypes,
+}
+
+impl Model for ModuleParts {
+    ghost use Rattle.ob0_tree.specs.Parsed.{IsParsed};
+    ghost use Rattle.ob0_scope_rules.specs.Bindings.{resolution_by};
+    ghost use Rattle.ob0_scope_rules.specs.Resolution.{IsResolution, Resolution};
+    ghost use Rattle.ob0_types.specs.CheckedModules.{AreTypesOf};
+    ghost use Rattle.ob0_analysis.specs.Parts.{parsed_by};
+
+    ghost Value = { Resolution };
+
+    ghost use Rattle.std.specs.Coded.{codes};
+    ghost use Rattle.ob0_tree.specs.contracts.tree.Block as block_contract;
+
+    ghost coded = { Prim.hlevel (codes, block_contract.the_row.coded) };
+
+    ghost view = { λ m. resolution_by (parsed_by m.tokens m.tree) m.bindings };
+
+    ghost invariant = { λ m. IsParsed (parsed_by m.tokens m.tree) × (IsResolution (resolution_by (parsed_by m.tokens m.tree) m.bindings) × AreTypesOf (resolution_by (parsed_by m.tokens m.tree) m.bindings) m.types) };
+}
+
+impl ModuleParts {
+    /// Binds the names of a module, and checks its types.
+    pub(crate) fn of(
+        alloc: Global,
+        tokens: Tokens,
+        tree: ModuleTree,
+    ) -> Result<ModuleParts, AllocError>
+        requires { IsParsed (parsed_by tokens tree) }
+        ensures { IfOk result (λ m. m.module_read ≡ parsed_by tokens tree) }
+    {
+        let bindings = bindings_of(alloc, &Module::borrowed(&tokens, &tree))?;
+        let types = check_types(alloc, &tokens, &tree, &bindings)?;
+        Ok(ModuleParts {
+            tokens,
+            tree,
+            bindings,
+            types,
+        })
+    }
+
+    /// The text as a module.
+    pub(crate) fn module(&self) -> Module<'_>
+        ensures { result ≡ self.now.module_read }
+    {
+        Module::borrowed(&self.tokens, &self.tree)
+    }
+
+    /// The module with its names bound.
+    pub(crate) fn resolved<'a>(&'a self, module: &'a Module<'a>) -> Resolved<'a>
+        requires { «module».now ≡ self.now.module_read }
+        ensures { result ≡ self.now }
+    {
+        Resolved::borrowed(module, &self.bindings)
+    }
+
+    /// The module with its types checked.
+    pub(crate) fn checked<'a>(&'a self, resolved: &'a Resolved<'a>) -> Checked<'a>
+        requires { resolved.now ≡ self.now }
+        ensures names { result.names ≡ self.now }
+        ensures checked { IsChecked result }
+    {
+        Checked::borrowed(resolved, &self.types)
+    }
+
+    /// The faults of the module's names and types, the first hundred.
+    pub(crate) fn faults(&self) -> &[Fault]
+        ensures { AreCheckedFaults self.now result.now }
+    {
+        self.types.faults.as_slice()
+    }
+
+    /// The tokens of the text.
+    pub(crate) fn tokens(&self) -> &Tokens
+        ensures source { result.now ≡ self.now.module_read.source }
+        ensures parsed { IsParsed self.now.module_read }
+    {
+        &self.tokens
+    }
+
+    /// The tokens alone.
+    pub(crate) fn into_tokens(self) -> Tokens
+        ensures { result ≡ self.module_read.source }
+    {
+        let ModuleParts {
+            tokens,
+            tree: _,
+            bindings: _,
+            types: _,
+        } = self;
+        tokens
+    }
+}
+
+/// What checking the types of a module finds.
+fn check_types(
+    alloc: Global,
+    tokens: &Tokens,
+    tree: &ModuleTree,
+    bindings: &Bindings,
+) -> Result<ModuleTypes, AllocError>
+    requires parsed { IsParsed (parsed_by tokens.now tree.now) }
+    requires resolved { IsResolution (resolution_by (parsed_by tokens.now tree.now) bindings.now) }
+    ensures { IfOk result (AreTypesOf (resolution_by (parsed_by tokens.now tree.now) bindings.now)) }
+{
+    let module = Module::borrowed(tokens, tree);
+    let resolved = Resolved::borrowed(&module, bindings);
+    let types = types_of(alloc, &resolved)?;
+    Ok(types)
+}
