@@ -390,10 +390,7 @@ fn formals_of(alloc: Global, parameters: &[Parameter]) -> Result<Vec<Formal>, Al
 }
 
 /// What is known of a module that fits. None where it doesn't fit.
-pub fn decide<'t>(
-    alloc: Global,
-    resolved: &'t Resolved<'t>,
-) -> Result<Option<Known>, AllocError>
+pub fn decide<'t>(alloc: Global, resolved: &'t Resolved<'t>) -> Result<Option<Known>, AllocError>
     ensures decides { IfOk result (λ r. is_some r ≡ fits_over as_labels (in_labels resolved.now (tree_of resolved.now.module_read))) }
     ensures declared { IfOk result (λ r. IfSome r (Keeps (module_bindings as_labels (in_labels resolved.now (tree_of resolved.now.module_read))))) }
 {

@@ -25,7 +25,7 @@ use Rattle.ob0_types.specs.CheckedModules.{IsWellTyped}
 use Rattle.ob0_types_fields.specs.Identifiers.{declared_fields, declared_in, declared_in_procedure, declared_in_procedures}
 use Rattle.ob0_types_fields.specs.Owned.{marked_group, marked_groups, marked_sections, marked_type, marked_types, marked_variables}
 use Rattle.ob0_selections.specs.FieldTypes.{field_named, fields_named, first_listed, type_of_elements, typed_fields}
-use Rattle.ob0_refs.specs.Fields.{module_typed}
+use Rattle.ob0_selections.specs.FieldRows.{module_typed}
 use Rattle.ob0_selections.specs.Selections.{Selected, selection_of}
 use Rattle.ob0_refs.proofs.DeclaredTypes.{BlockStands, Denotes, FormalsStand, ProcedureStands, ProceduresStand, TypesStand, VariablesStand, meaning, module-stands}
 use Rattle.ob0_selections.proofs.FieldLabels.{AllWritten, BlockPlain, GroupPlain, GroupsPlain, IsWritten, ProcedurePlain, ProceduresPlain, SectionsPlain, TypePlain, TypesPlain, VariablesPlain, numbered-plain}

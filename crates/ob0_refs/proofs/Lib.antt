@@ -1,4 +1,3 @@
-pub mod Selected
 pub mod AtFields
 pub mod SelectedFields
 pub mod DeclaredTypes

@@ -1,13 +1,11 @@
 -- Each identifier that selects a field is among the selections of a module.
 use Rattle.std.proofs.Common.{◌≡◌, ◌⊎◌, inl, inr, ℕ, suc, ◌+◌, Bool, true, false, ◌||◌, if◌then◌else◌, List, [], ◌∷◌, ◌++◌, is_some, Some, None, Option, option_map, option_and_then, refl, sym, ap, ◌∙◌, true≢false}
 use Rattle.std.specs.List.{list_any}
-use Rattle.ob0_scan.specs.Scanned.{Scanned}
 use Rattle.ob0_tree.specs.Parsed.{Parsed, named_tree_of, tree_of}
 use Rattle.ob0_tree.specs.Tree.{Sort, Tree, adds, array_type, assigns, begins, block, branches, calls, compares, declares, declares_constant, declares_constants, declares_procedure, declares_type, declares_types, declares_variable, declares_variables, designator, else_branch, elsif_branch, empty, end, field, has_body, index, integer, is_module, item, items, listed, module_text, more, multiplies, named_type, negation, no_arguments, no_fields, no_formals, none, one, parenthesised, procedure, product, record_type, relates, repeat_loop, runs, selector, some_arguments, some_fields, some_formals, sum, then_argument, then_fields, then_name, then_section, then_statement, value_section, variable_section, while_loop}
 use Rattle.ob0_scope_rules.specs.Names.{Name, same_name}
 use Rattle.ob0_scope_rules.specs.Parts.{formal_sections, module_block, section_types, section_variables}
-use Rattle.ob0_scope_rules.specs.Resolution.{Resolution, span_at}
-use Rattle.ob0_scope_rules.specs.Spans.{is_on}
+use Rattle.ob0_scope_rules.specs.Resolution.{Resolution}
 use Rattle.ob0_types_rules.specs.Bindings.{declared_object}
 use Rattle.ob0_types_table.specs.FieldPlaces.{field_selected, place_of_field}
 use Rattle.ob0_types_table.specs.declared.known.FieldOf.{FieldOf}
@@ -16,12 +14,11 @@ use Rattle.ob0_types_rules.specs.Expressions.{Meanings}
 use Rattle.ob0_types_rules.specs.Typing.{element_type, field_type, object_type, shape_of_field}
 use Rattle.ob0_types_rules.specs.WellTyped.{Signature}
 use Rattle.ob0_values.specs.Values.{FieldShapes, Shape, array_shape, boolean_shape, integer_shape, next_field_shape, no_field_shape, record_shape}
-use Rattle.ob0_types_fields.specs.Identifiers.{declared_fields, declared_in, declared_in_procedure, declared_in_procedures, field_identifiers, field_on}
+use Rattle.ob0_types_fields.specs.Identifiers.{declared_fields, declared_in, declared_in_procedure, declared_in_procedures, field_identifiers}
 use Rattle.ob0_types_fields.specs.Owned.{mark, marked, marked_block, marked_module, marked_path, marked_procedure, marked_procedures, marked_sections, marked_types, marked_variables, owner, token_objects}
 use Rattle.ob0_types_fields.proofs.MarkedFields.{module-fields}
-use Rattle.ob0_refs.specs.Questions.{selected_on}
 use Rattle.ob0_selections.specs.Selections.{Selected, selection_of, path_selections, selected_by, selections, token_meaning, type_after}
-use Rattle.ob0_refs.specs.Fields.{module_selections}
+use Rattle.ob0_selections.specs.FieldRows.{module_selections}
 
 -- ---- what holds of some element of one of two lists
 
@@ -247,38 +244,10 @@ module _ (m : Meanings ℕ Shape Signature) (p : ℕ → Bool) where
   in_module : (t : Tree ℕ module_text) → hits (marked_module m t) ≡ true → Either (declared_in 0 (module_block t)) (selections m t)
   in_module (is_module x b closing) h = in_block 0 b h
 
--- ---- at a place
-
-module _ (source : Scanned) (offset : ℕ) where
-  abbrev pub here : ℕ → Bool
-  here token = is_on offset (span_at source token)
-
-  pub field_hit : (xs : List (ℕ × ℕ)) → is_some (field_on source offset xs) ≡ list_any (λ x. here x.0) xs
-  field_hit [] = refl
-  field_hit (x ∷ xs) = one (here x.0) (field_hit xs)
-    where
-      one : (b : Bool) → is_some (field_on source offset xs) ≡ list_any (λ y. here y.0) xs → is_some (if b then Some x else field_on source offset xs) ≡ (b || list_any (λ y. here y.0) xs)
-      one true later = refl
-      one false later = later
-
-  pub selected_hit : (xs : List (Selected ℕ)) → is_some (selected_on source offset xs) ≡ list_any (λ s. here s.name) xs
-  selected_hit [] = refl
-  selected_hit (x ∷ xs) = one (here x.name) (selected_hit xs)
-    where
-      one : (b : Bool) → is_some (selected_on source offset xs) ≡ list_any (λ s. here s.name) xs → is_some (if b then Some x else selected_on source offset xs) ≡ (b || list_any (λ s. here s.name) xs)
-      one true later = refl
-      one false later = later
-
--- a field at a place is declared there or selected there
-pub declared_or_selected : (r : Resolution) (offset : ℕ) → is_some (field_on r.module_read.source offset (field_identifiers r)) ≡ true
-    → (is_some (field_on r.module_read.source offset (declared_fields r.module_read)) ≡ true) ⊎ (is_some (selected_on r.module_read.source offset (module_selections r)) ≡ true)
-declared_or_selected r offset h =
+-- an identifier of a field declares it or selects it
+pub declared_or_selected : (r : Resolution) (p : ℕ → Bool) → list_any (λ (x : ℕ × ℕ). p x.0) (field_identifiers r) ≡ true
+    → (list_any (λ (x : ℕ × ℕ). p x.0) (declared_fields r.module_read) ≡ true) ⊎ (list_any (λ (s : Selected ℕ). p s.name) (module_selections r) ≡ true)
+declared_or_selected r p h =
     let m : Parsed = r.module_read in
     let meaning = token_meaning (declared_object (named_tree_of m)) r in
-    let p : ℕ → Bool = here m.source offset in
-    let all : list_any (λ (x : ℕ × ℕ). p x.0) (marked_module meaning (tree_of m)) ≡ true =
-    ap (list_any (λ (x : ℕ × ℕ). p x.0)) (sym (module-fields meaning (tree_of m))) ∙ (sym (field_hit m.source offset (field_identifiers r)) ∙ h) in
-    elim (in_module meaning p (tree_of m) all) [
-      | inl e ↦ inl (field_hit m.source offset (declared_fields m) ∙ e)
-      | inr e ↦ inr (selected_hit m.source offset (module_selections r) ∙ e)
-    ]
+    in_module meaning p (tree_of m) (ap (list_any (λ (x : ℕ × ℕ). p x.0)) (sym (module-fields meaning (tree_of m))) ∙ h)

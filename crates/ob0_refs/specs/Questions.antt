@@ -2,18 +2,16 @@
 -- Rule: docs/PROTOCOL.md, Requests on documents 3 to 5.
 use Rattle.std.specs.Prelude.{◌≡◌, ◌==◌, ℕ, Bool, true, false, not, List, [], ◌∷◌, if◌then◌else◌, map, Option, Some, None, option_map, option_and_then, unwrap_or}
 use Rattle.std.specs.List.{filter}
-use Rattle.ob0_scan.specs.Scanned.{Scanned}
 use Rattle.ob0_scan.specs.declared.lexeme.Span.{Span}
 use Rattle.ob0_tree.specs.Parsed.{Parsed}
 use Rattle.ob0_tree.specs.Places.{text_at}
 use Rattle.ob0_scope_rules.specs.Resolution.{Resolution, span_at}
-use Rattle.ob0_scope_rules.specs.Spans.{is_on}
 use Rattle.ob0_scope.specs.NamesAtPlaces.{name_on}
 use Rattle.ob0_scope.specs.declared.naming.Named as named
 use Rattle.ob0_types_fields.specs.Identifiers.{declaring_field, field_at, field_place, field_tokens}
 use Rattle.ob0_refs.specs.Answered.{at_name}
 use Rattle.ob0_refs.specs.Places.{declared_at, references_to}
-use Rattle.ob0_refs.specs.Fields.{module_selections, module_typed}
+use Rattle.ob0_types.specs.RowsOfFields.{field_row_at}
 use Rattle.ob0_refs.specs.Hovers.{field_text, type_text}
 use Rattle.ob0_selections.specs.Selections.{Selected}
 use Rattle.ob0_refs.specs.Shown.{HoverText, name_hover_at}
@@ -88,22 +86,13 @@ abbrev pub or_else : {A : Type 0} → Option A → Option A → Option A
 or_else (Some a) other = Some a
 or_else None other = other
 
--- the first identifier of some fields that a place is on, with its field's type
-abbrev pub selected_on : Scanned → ℕ → List (Selected ℕ) → Option (Selected ℕ)
-selected_on source offset [] = None
-selected_on source offset (s ∷ found) = if is_on offset (span_at source s.name) then Some s else selected_on source offset found
-
--- the hover of a selected field
+-- the hover of an identifier of a field: the field's type
 abbrev pub selection_hover : Resolution → Selected ℕ → HoverText
 selection_hover r s = record { span = span_at r.module_read.source s.name; text = field_text (text_at r.module_read.source s.name) (type_text s.shape) }
 
--- what is shown of the one of some fields that a place is on
-abbrev pub selected_hover : Resolution → ℕ → List (Selected ℕ) → Option HoverText
-selected_hover r offset found = option_map (selection_hover r) (selected_on r.module_read.source offset found)
-
--- what is shown of a field, where it is declared and where it is selected
+-- what is shown of the field at a place, where it is declared and where it is selected
 abbrev pub field_hover : Resolution → ℕ → Option HoverText
-field_hover r offset = or_else (selected_hover r offset (module_typed r)) (selected_hover r offset (module_selections r))
+field_hover r offset = option_map (selection_hover r) (field_row_at r offset)
 
 -- what is shown at a place: of a name, or else of a field
 abbrev pub hover_at_place : Resolution → ℕ → Option HoverText

@@ -1,11 +1,9 @@
 //! What is answered of a name: where it is, and what it is a name of.
 
 ghost use Rattle.std.specs.Prelude.{◌≡◌};
-ghost use Rattle.ob0_scope_rules.specs.Spans.{is_on};
 ghost use Rattle.ob0_refs.specs.Answered.{at_name, of_ordinal};
 
 use crate::answers::{At, Of};
-use ob0_scan::Span;
 use ob0_scope::Named;
 use ob0_scope_rules::{PREDECLARED, Resolved, token_span};
 
@@ -27,10 +25,4 @@ fn of_ordinal(ordinal: usize) -> Of
     } else {
         Of::Declared(ordinal)
     }
-}
-
-pub(crate) fn is_on(offset: usize, span: Span) -> bool
-    ensures { result ≡ is_on offset span }
-{
-    span.start <= offset && offset <= span.end
 }

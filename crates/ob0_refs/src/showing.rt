@@ -72,12 +72,7 @@ fn type_line(alloc: Global, known: &Known, name: &str, of: TypeId) -> Result<Str
     named_type_text(alloc, name, of.as_str())
 }
 
-fn variable_line(
-    alloc: Global,
-    known: &Known,
-    name: &str,
-    of: TypeId,
-) -> Result<String, AllocError>
+fn variable_line(alloc: Global, known: &Known, name: &str, of: TypeId) -> Result<String, AllocError>
     ensures { IfOk result (λ text. string_bytes text ≡ variable_text name.now (type_text (type_shape (shapes_of known.now) of))) }
 {
     let of = type_text(alloc, known, of)?;

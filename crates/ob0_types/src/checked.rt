@@ -3,6 +3,7 @@
 ghost use Rattle.ob0_scope_rules.specs.Resolution.{is_of_declarations};
 ghost use Rattle.ob0_types.specs.CheckedModules.{AreCheckedFaults, AreTypesOf, IsChecked, checked_by};
 ghost use Rattle.ob0_types.specs.FaultOrder.{AreFirstOf};
+ghost use Rattle.ob0_types.specs.RowsOfFields.{AreRowsBeside};
 ghost use Rattle.ob0_types.specs.FoundFaults.{faults_found, types_found};
 ghost use Rattle.std.specs.List.{filter};
 ghost use Rattle.std.specs.Prelude.{◌≡◌, ◌≤◌, ◌↔◌, ◌++◌, [], length, IfOk, IfSome, OnOk, MatchOption};
@@ -11,22 +12,24 @@ ghost use Rattle.ob0_types_fields.specs.Listed.{listed_by};
 use ob0_checker::decide;
 use ob0_scan::{Code, Fault};
 use ob0_scope_rules::{PREDECLARED, Resolved};
+use ob0_selections::FieldRows;
 use ob0_types_check::laws::{modules_fit, no_fault_in_modules};
 use ob0_types_check::report_faults;
 use ob0_types_fields::FieldList;
 use ob0_types_rules::laws::fits_by_ordinal;
-use ob0_types_table::{Known, Parts, TypeId};
+use ob0_types_table::{FieldOf, Known, Parts, TypeId};
 use ob0_values::Scalar;
 use std::alloc::{AllocError, Global};
 use std::borrow::Cow;
 use std::marker::Model;
 
-/// What checking a module finds: what its declarations are and its fields, where it fits, and the faults of its scopes and types.
-/// It borrows nothing.
+/// What checking a module finds: what its declarations are, its fields and their types, where it is well-typed; and the
+/// faults of its scopes and types. It borrows nothing.
 #[derive(Drop)]
 pub struct ModuleTypes {
     pub known: Option<Known>,
     pub fields: FieldList,
+    pub rows: FieldRows,
     pub faults: Vec<Fault>,
 }
 
@@ -59,12 +62,11 @@ pub struct WellTyped<'t> {
     checked: &'t Checked<'t>,
     known: &'t Known,
     fields: &'t FieldList,
+    rows: &'t FieldRows,
 }
 
 impl<'t> Model for WellTyped<'t> {
-    ghost use Rattle.ob0_types_fields.specs.Listed.{AreFields};
-    ghost use Rattle.ob0_types.specs.CheckedModules.{HasDeclarations, IsWellTyped};
-    ghost use Rattle.ob0_tree.specs.Parsed.{named_tree_of};
+    ghost use Rattle.ob0_types.specs.CheckedModules.{IsKnownOf};
     ghost use Rattle.ob0_scope_rules.specs.Resolution.{Resolution};
 
     ghost Value = { Resolution };
@@ -76,7 +78,7 @@ impl<'t> Model for WellTyped<'t> {
 
     ghost view = { λ w. w.checked.now.names };
 
-    ghost invariant = { λ w. IsWellTyped w.checked.now.names × (HasDeclarations (named_tree_of w.checked.now.names.module_read) w.known.now × AreFields w.checked.now.names w.fields.now) };
+    ghost invariant = { λ w. IsKnownOf w.checked.now.names w.known.now w.fields.now w.rows.now };
 }
 
 /// A type of a module, with the table that knows its parts.
@@ -84,6 +86,14 @@ impl<'t> Model for WellTyped<'t> {
 pub struct Shape<'t> {
     pub known: &'t Known,
     pub of: TypeId,
+}
+
+/// An identifier of a field: its token, the field, and the field's type.
+#[derive(Clone, Copy)]
+pub struct FieldRow<'t> {
+    pub token: usize,
+    pub field: FieldOf,
+    pub shape: Shape<'t>,
 }
 
 /// The most faults that are kept.
@@ -109,10 +119,12 @@ pub fn types_of<'t>(alloc: Global, resolved: &'t Resolved<'t>) -> Result<ModuleT
     let _module = resolved.module();
     let known = decide(alloc, resolved)?;
     let fields = known_fields(alloc, resolved, &known)?;
+    let rows = known_rows(alloc, resolved, &known, &fields)?;
     let faults = faults_of(alloc, resolved, known.is_some())?;
     Ok(ModuleTypes {
         known,
         fields,
+        rows,
         faults,
     })
 }
@@ -144,6 +156,35 @@ fn known_fields<'t>(
         None => Ok(FieldList::none(alloc)),
         Some(known) => FieldList::of(alloc, known, names),
     }
+}
+
+/// The identifiers of the fields of a module that fits, each with its type. None where it has no fields.
+fn known_rows<'t>(
+    alloc: Global,
+    resolved: &'t Resolved<'t>,
+    known: &Option<Known>,
+    fields: &FieldList,
+) -> Result<FieldRows, AllocError>
+    ensures { IfOk result (λ rows. IfSome known.now (λ t. AreRowsBeside fields.now t resolved.now rows)) }
+{
+    match known {
+        None => Ok(FieldRows::none(alloc)),
+        Some(known) => rows_beside(alloc, resolved, known, fields),
+    }
+}
+
+fn rows_beside<'t>(
+    alloc: Global,
+    resolved: &'t Resolved<'t>,
+    known: &Known,
+    fields: &FieldList,
+) -> Result<FieldRows, AllocError>
+    ensures { IfOk result (AreRowsBeside fields.now known.now resolved.now) }
+{
+    if fields.is_empty() {
+        return Ok(FieldRows::none(alloc));
+    }
+    FieldRows::of(alloc, known, resolved)
 }
 
 /// The faults of scopes and types, sorted by start, end and number, the first 100. Names that nothing binds are reported with
@@ -260,6 +301,7 @@ impl<'t> Checked<'t> {
                         checked: self,
                         known,
                         fields: &types.fields,
+                        rows: &types.rows,
                     })
                 } else {
                     None
@@ -276,9 +318,20 @@ impl<'t> WellTyped<'t> {
     ghost use Rattle.ob0_types_fields.specs.Listed.{AreFields};
     ghost use Rattle.ob0_types_rules.specs.ConstantValues.{value_of_constant};
     ghost use Rattle.ob0_types_rules.specs.Bindings.{declared_object};
+    ghost use Rattle.std.specs.List.{Contains};
+    ghost use Rattle.std.specs.Prelude.{ℕ};
     ghost use Rattle.ob0_types.specs.DeclaredShapes.{shape_of};
+    ghost use Rattle.ob0_types.specs.RowsOfFields.{row_in, row_of};
+    ghost use Rattle.ob0_types_fields.specs.Identifiers.{field_identifiers};
     ghost use Rattle.ob0_types_rules.specs.Typing.{type_declared};
     ghost use Rattle.ob0_values.specs.Scalars.{scalar_value};
+
+    /// The module with its faults: there are none.
+    pub fn checked(&self) -> &'t Checked<'t>
+        ensures { result.now.names ≡ self.now }
+    {
+        self.checked
+    }
 
     /// The module with its names bound.
     pub fn resolved(&self) -> &'t Resolved<'t>
@@ -300,6 +353,23 @@ impl<'t> WellTyped<'t> {
         ensures { AreFields self.now result.now }
     {
         self.fields
+    }
+
+    /// What the identifier of a field at a token is.
+    pub(crate) fn field_row(&self, token: usize) -> Option<FieldRow<'t>>
+        ensures { (k : ℕ) → Contains (field_identifiers self.now) (token, k) → option_map row_in result ≡ row_of self.now token }
+    {
+        match self.rows.at(token) {
+            None => None,
+            Some(row) => Some(FieldRow {
+                token: row.token,
+                field: row.field,
+                shape: Shape {
+                    known: self.known,
+                    of: row.of,
+                },
+            }),
+        }
     }
 
     /// The value of a constant that a CONST section declares, by its ordinal. None for every other declaration, TRUE and
@@ -330,12 +400,15 @@ impl<'t> WellTyped<'t> {
 
 impl<'t> Shape<'t> {
     ghost use Rattle.ob0_types_table.specs.KnownTables.{shapes_of};
-    ghost use Rattle.ob0_types_table.specs.Parts.{parts_shape};
+    ghost use Rattle.ob0_types_table.specs.Parts.{PartsAreCounted, has_parts, is_known_type, parts_shape};
     ghost use Rattle.ob0_types.specs.DeclaredShapes.{shape_of};
 
-    /// What the type is made of; the types of its parts are in the same table.
+    /// What the type is made of; the types of its parts are in the same table. Nothing exactly where it is no type of the
+    /// module.
     pub fn parts(&self) -> Parts<'t>
-        ensures { parts_shape (shapes_of self.now.known.now) result ≡ shape_of self.now }
+        ensures shape { parts_shape (shapes_of self.now.known.now) result ≡ shape_of self.now }
+        ensures counted { PartsAreCounted (shapes_of self.now.known.now) result }
+        ensures known { has_parts result ≡ is_known_type self.now.known.now self.now.of }
     {
         self.known.parts(self.of)
     }

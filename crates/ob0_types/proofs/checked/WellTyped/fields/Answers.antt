@@ -4,4 +4,4 @@ use Rattle.ob0_types_fields.specs.Listed.{AreFields}
 use Rattle.ob0_types.proofs.checked.WellTyped.fields.Goals as goal
 
 pub returns : goal.returns
-returns c = subst (λ (r : Resolution). AreFields r c.self.inside.fields.now) c.self.view_is c.self.invariant.1.1
+returns c = subst (λ (r : Resolution). AreFields r c.self.inside.fields.now) c.self.view_is c.self.invariant.fields_are
