@@ -1,16 +1,15 @@
--- A range of a text is replaced, and its table of lines is mended.
+-- A range of a text is replaced.
 use Rattle.std.proofs.Common.{◌≡◌, ℕ, List, ◌++◌, take, drop, min, max, sym, ap, ◌∙◌, subst, Some, Ok, Err}
 use Rattle.std.specs.Prelude.{Result, OnOk}
 use Rattle.std.specs.Str.{IsUtf8, IsCharBoundary, chars}
 use Rattle.ob0_text.specs.Texts.{before, byte_len, offset_of}
 use Rattle.ob0_text.specs.Patches.{place, cut_at, replaced}
-use Rattle.ob0_text.specs.LineStarts.{line_starts}
 use Rattle.ob0_text.specs.declared.position_types.Range.{Range}
 use Rattle.ob0_text.proofs.Prefixes.{patched-one, range_start, range_end, border_at, replaced_at}
 
-pub on_ok_always : {T E P : Type 0} (r : Result T E) → P → OnOk r P
-on_ok_always (Ok x) p = p
-on_ok_always (Err e) p = tt
+pub on_ok_so : {T E P Q : Type 0} (r : Result T E) → (P → Q) → OnOk r P → OnOk r Q
+on_ok_so (Ok x) so p = so p
+on_ok_so (Err e) so p = tt
 
 module _ (width : ℕ → ℕ) (text bs : List ℕ) (u : IsUtf8 bs) (is : chars bs ≡ text) (r : Range) (s e from to : ℕ) (s_is : s ≡ offset_of width text r.start) (e_is : e ≡ offset_of width text r.end) (from_is : from ≡ min s e) (to_is : to ≡ max s e) where
   at_from : from ≡ byte_len (take (min (place width (chars bs) r.start) (place width (chars bs) r.end)) (chars bs))
@@ -35,8 +34,3 @@ module _ (width : ℕ → ℕ) (text bs : List ℕ) (u : IsUtf8 bs) (is : chars 
       ap (λ t. replaced width t r (chars new)) (sym is)
       ∙ patched-one (chars bs) (min (place width (chars bs) r.start) (place width (chars bs) r.end)) (max (place width (chars bs) r.start) (place width (chars bs) r.end)) (chars new)
       ∙ ap Some (sym (ap chars bytes_is ∙ (λ i. chars ((take (at_from i) bs ++ new) ++ drop (at_to i) bs)) ∙ replaced_at bs u (min (place width (chars bs) r.start) (place width (chars bs) r.end)) (max (place width (chars bs) r.start) (place width (chars bs) r.end)) new v))
-
-pub table_after : (bs text starts table later new bytes : List ℕ) (from to kept : ℕ) → text ≡ bs → table ≡ starts → (IsUtf8 ((take from text ++ new) ++ drop to text) → take kept table ++ later ≡ line_starts (chars ((take from text ++ new) ++ drop to text))) → IsUtf8 bytes → bytes ≡ (take from bs ++ new) ++ drop to bs → take kept starts ++ later ≡ line_starts (chars bytes)
-table_after bs text starts table later new bytes from to kept text_is table_is h u bytes_is =
-    let same : bytes ≡ (take from text ++ new) ++ drop to text = bytes_is ∙ ap (λ t. (take from t ++ new) ++ drop to t) (sym text_is) in
-    ap (λ t. take kept t ++ later) (sym table_is) ∙ h (subst IsUtf8 same u) ∙ ap (λ b. line_starts (chars b)) (sym same)

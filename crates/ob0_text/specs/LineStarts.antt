@@ -1,6 +1,7 @@
 -- Where the lines of a text start, in bytes.
 -- Rule: docs/PROTOCOL.md, Positions 2 (by bytes, for the table of lines).
-use Rattle.std.specs.Prelude.{ℕ, suc, ◌+◌, ◌<◌, ◌≤◌, if◌then◌else◌, List, [], ◌∷◌, ◌++◌, length, slice_index, refl}
+use Rattle.std.specs.Prelude.{◌≡◌, ℕ, suc, ◌+◌, ◌-◌, ◌<◌, ◌≤◌, if◌then◌else◌, List, [], ◌∷◌, ◌++◌, length, map, reverse, slice_index, refl}
+use Rattle.std.specs.Str.{chars}
 use Rattle.std.specs.Coded.{Coded, code_by, coded×, coded_list, coded_ℕ}
 use Rattle.ob0_text.specs.declared.position_types.Unit.{Unit}
 use Rattle.ob0_text.specs.Units.{unit_code}
@@ -34,6 +35,12 @@ AllUnder bound ns = (k : ℕ) → k < length ns → slice_index ns k < bound
 abbrev pub AllFrom : ℕ → List ℕ → Type 0
 AllFrom bound ns = (k : ℕ) → k < length ns → bound ≤ slice_index ns k
 
+-- as many starts as this are before an offset, wherever the starts are cut there
+abbrev pub IsCountBefore : List ℕ → ℕ → ℕ → Type 0
+IsCountBefore starts offset count =
+    (front back : List ℕ) → starts ≡ front ++ back → AllUnder offset front → AllFrom offset back
+    → count ≡ length front
+
 -- a text, and the unit in which its positions are counted
 pub record TextInUnit : Type 0 where
   pub text : List ℕ
@@ -43,3 +50,18 @@ pub record TextInUnit : Type 0 where
 abbrev pub text_code : Coded TextInUnit
 text_code =
     code_by (List ℕ × Unit) (coded× (coded_list coded_ℕ) unit_code) (λ t. (t.text, t.unit)) (λ p. record { text = p.0; unit = p.1 }) (λ t. refl)
+
+-- Starts, of which the later ones are kept as distances from the end of a text of this length,
+-- the last of them first
+abbrev pub starts_in : ℕ → List ℕ → List ℕ → List ℕ
+starts_in len front back = front ++ map (λ d. len - d) (reverse back)
+
+-- offsets where lines start, and a length
+pub record Table : Type 0 where
+  pub starts : List ℕ
+  pub len : ℕ
+
+-- the table is that of a text
+pub record HasLines (text : List ℕ) (t : Table) : Type 0 where
+  pub starts : t.starts ≡ line_starts (chars text)
+  pub len : t.len ≡ length text

@@ -7,26 +7,26 @@ ghost use Rattle.ob0_text.specs.Texts.{lines, offset_of};
 ghost use Rattle.ob0_text.specs.Units.{width_of};
 ghost use Rattle.ob0_text.specs.LineStarts.{with_ending};
 
-use crate::line_lookups::{bounds_in, line_in, mend, offset_in, position_in};
-use crate::line_tables::starts_of;
+use crate::line_lookups::{bounds_in, line_in, offset_in, position_in};
+use crate::line_table::LineTable;
 use crate::passes::{offsets_of, positions_of};
 use crate::position_types::{Position, Range, Unit};
 use crate::stores::TextStore;
 use std::alloc::{AllocError, Global};
 use std::marker::Model;
 
-/// A text with the offsets where its lines start, in bytes. A look-up costs what its line does.
+/// A text with the table of its lines. A look-up costs what its line does.
 #[derive(Debug, Drop)]
 pub struct Lines {
     text: String,
-    starts: Vec<usize>,
+    table: LineTable,
     unit: Unit,
 }
 
 impl Model for Lines {
-    ghost use Rattle.std.specs.Prelude.{◌≡◌, string_bytes};
+    ghost use Rattle.std.specs.Prelude.{string_bytes};
     ghost use Rattle.std.specs.Str.{chars};
-    ghost use Rattle.ob0_text.specs.LineStarts.{TextInUnit, text_code, line_starts};
+    ghost use Rattle.ob0_text.specs.LineStarts.{HasLines, TextInUnit, text_code};
 
     ghost Value = { TextInUnit };
 
@@ -34,7 +34,7 @@ impl Model for Lines {
 
     ghost view = { λ lines. record { text = chars (string_bytes lines.text); unit = lines.unit } };
 
-    ghost invariant = { λ lines. lines.starts.items ≡ line_starts (chars (string_bytes lines.text)) };
+    ghost invariant = { λ lines. HasLines (string_bytes lines.text) lines.table };
 }
 
 impl Lines {
@@ -42,7 +42,7 @@ impl Lines {
     pub fn line(&self, k: usize) -> Option<&str>
         ensures { option_map (λ line. chars line.now) result ≡ option_map with_ending (slice_get (lines self.now.text) k) }
     {
-        line_in(self.text.as_str(), &self.starts, k)
+        line_in(self.text.as_str(), &self.table, k)
     }
 
     /// Where a range starts and ends, in bytes.
@@ -50,7 +50,7 @@ impl Lines {
         ensures start { result.0 ≡ offset_of (width_of self.now.unit) self.now.text range.start }
         ensures end { result.1 ≡ offset_of (width_of self.now.unit) self.now.text range.end }
     {
-        bounds_in(self.text.as_str(), &self.starts, self.unit, range)
+        bounds_in(self.text.as_str(), &self.table, self.unit, range)
     }
 }
 
@@ -60,9 +60,9 @@ impl TextStore for Lines {
     ghost unit_of = { λ lines. lines.unit };
 
     fn from_str_in(alloc: Global, text: &str, unit: Unit) -> Result<Lines, AllocError> {
-        let starts = starts_of(alloc, text)?;
+        let table = LineTable::of(alloc, text)?;
         let text = String::from_str(alloc, text)?;
-        Ok(Lines { text, starts, unit })
+        Ok(Lines { text, table, unit })
     }
 
     fn unit(&self) -> Unit {
@@ -74,11 +74,11 @@ impl TextStore for Lines {
     }
 
     fn offset(&self, position: Position) -> usize {
-        offset_in(self.text.as_str(), &self.starts, self.unit, position)
+        offset_in(self.text.as_str(), &self.table, self.unit, position)
     }
 
     fn position(&self, offset: usize) -> Position {
-        position_in(self.text.as_str(), &self.starts, self.unit, offset)
+        position_in(self.text.as_str(), &self.table, self.unit, offset)
     }
 
     fn positions(&self, alloc: Global, offsets: &[usize]) -> Result<Vec<Position>, AllocError> {
@@ -92,12 +92,7 @@ impl TextStore for Lines {
     fn replace(&mut self, range: Range, text: &str) -> Result<(), AllocError> {
         let (start, end) = self.bounds(range);
         let (from, to) = (start.min(end), start.max(end));
-        let alloc = *self.starts.allocator();
-        let mended = mend(alloc, self.text.as_str(), &self.starts, from, to, text)?;
-        self.starts.reserve(mended.later.len())?;
-        self.text.replace_range(from..to, text)?;
-        self.starts.truncate(mended.kept);
-        self.starts.extend_from_slice(&mended.later)
+        self.table.replace(&mut self.text, from, to, text)
     }
 
     fn as_str(&self) -> &str {

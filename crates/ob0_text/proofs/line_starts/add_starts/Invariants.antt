@@ -1,6 +1,6 @@
 use Rattle.std.proofs.Common.{◌≡◌, ◌+◌, ◌∷◌, ◌++◌, drop}
 use Rattle.ob0_text.specs.LineStarts.{starts_after}
-use Rattle.ob0_text.proofs.line_tables.add_starts.Given as goal
+use Rattle.ob0_text.proofs.line_starts.add_starts.Given as goal
 
 abbrev pub invariant-loop-byte : goal.invariant-loop-byte
 invariant-loop-byte l = record {

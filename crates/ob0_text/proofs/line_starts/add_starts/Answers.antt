@@ -4,8 +4,8 @@ use Rattle.std.proofs.lemmas.List.{drop_all}
 use Rattle.ob0_text.specs.Texts.{ends_line}
 use Rattle.ob0_text.specs.LineStarts.{starts_after}
 use Rattle.ob0_text.proofs.StartLaws.{start_pushed, start_passed, last_test, start_last, no_start_last}
-use Rattle.ob0_text.proofs.line_tables.add_starts.Goals as goal
-use Rattle.ob0_text.proofs.line_tables.add_starts.Goals.{then-parts_lines+in_ok-push, else-parts_lines}
+use Rattle.ob0_text.proofs.line_starts.add_starts.Goals as goal
+use Rattle.ob0_text.proofs.line_starts.add_starts.Goals.{then-parts_lines+in_ok-push, else-parts_lines}
 
 pub loop-byte-preserved : goal.loop-byte-preserved
 loop-byte-preserved c =

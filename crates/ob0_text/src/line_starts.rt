@@ -1,11 +1,10 @@
-//! The table of a text's lines: their running lengths, which are the offsets in bytes where they start.
+//! Where the lines of a text start, in bytes: their running lengths.
 
-ghost use Rattle.std.specs.Prelude.{◌≡◌, ◌+◌, ◌-◌, ◌^◌, ◌<◌, ◌≤◌, List, ℕ, ◌∷◌, ◌++◌, IfOk, OnOk, drop, length, map, min, option_to_list, slice_index};
+ghost use Rattle.std.specs.Prelude.{◌≡◌, ◌+◌, ◌^◌, ◌<◌, ◌≤◌, ◌∷◌, ◌++◌, IfOk, OnOk, drop, length, option_to_list, slice_index};
 ghost use Rattle.std.specs.Str.{chars};
 ghost use Rattle.ob0_text.specs.Texts.{LF, ends_line};
-ghost use Rattle.ob0_text.specs.LineStarts.{line_starts, starts_after, AllUnder, AllFrom};
+ghost use Rattle.ob0_text.specs.LineStarts.{line_starts, starts_after};
 
-use crate::passes::PassState;
 use std::alloc::{AllocError, Global};
 
 /// The offsets where a text's lines start.
@@ -17,22 +16,18 @@ pub fn starts_of(alloc: Global, text: &str) -> Result<Vec<usize>, AllocError>
     Ok(starts)
 }
 
-/// What is in the table from a change on, where `new` takes the place of the bytes `from..to` of the text, and
-/// `later` are the starts of lines after `to`. The byte at each border decides with those of the change.
-pub fn starts_from_change(
+/// Where lines start in `new` and right after it, where it takes the place of the bytes `from..to` of
+/// the text. The byte at each border decides with those of the change.
+pub fn starts_in_change(
     alloc: Global,
     text: &str,
     from: usize,
     to: usize,
     new: &str,
-    later: &[usize],
 ) -> Result<Vec<usize>, AllocError>
     requires from { from ≤ length text.now }
     requires to { to ≤ length text.now }
-    requires behind { AllFrom to later.now }
-    requires within { AllUnder (length text.now + 1) later.now }
-    requires order { from ≤ to }
-    ensures { IfOk result (λ starts. starts.items ≡ starts_after from (slice_index (LF ∷ text.now) from ∷ new.now) (drop to text.now) ++ map (λ s. s - to + (from + length new.now)) later.now) }
+    ensures { IfOk result (λ starts. starts.items ≡ starts_after from (slice_index (LF ∷ text.now) from ∷ new.now) (drop to text.now)) }
 {
     let bytes = text.as_bytes();
     let mut starts = Vec::new(alloc);
@@ -43,9 +38,6 @@ pub fn starts_from_change(
         new.as_bytes(),
         &bytes[to..],
     )?;
-    for start in later {
-        starts.push(*start - to + (from + new.len()))?;
-    }
     Ok(starts)
 }
 
@@ -97,27 +89,4 @@ fn parts_lines(last: u8, next: Option<u8>) -> bool
         Some(next) => last == b'\n' || (last == b'\r' && next != b'\n'),
         None => last == b'\n' || last == b'\r',
     }
-}
-
-/// The place where a line starts, and for a line past the last that of the last.
-pub fn line_place(starts: &[usize], line: u64) -> PassState
-    requires { 0 < length starts.now }
-    ensures offset { result.offset ≡ slice_index starts.now result.line }
-    ensures line { result.line ≡ min line (length starts.now - 1) }
-    ensures character { result.character ≡ 0 }
-{
-    let line = line.min(starts.len() as u64 - 1);
-    PassState {
-        offset: starts[line as usize],
-        line,
-        character: 0,
-    }
-}
-
-/// How many lines start before an offset.
-pub fn starts_before(starts: &[usize], offset: usize) -> usize
-    ensures bound { result ≤ length starts.now }
-    ensures count { (front back : List ℕ) → starts.now ≡ front ++ back → AllUnder offset front → AllFrom offset back → result ≡ length front }
-{
-    starts.partition_point(|start| *start < offset)
 }
