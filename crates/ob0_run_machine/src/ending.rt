@@ -23,7 +23,7 @@ pub enum Ending {
 
 /// Why a step of a run gives nothing.
 #[derive(Clone, Copy, PartialEq, Eq, Debug)]
-pub enum Stop {
+pub(crate) enum Stop {
     Ended(Ending),
     /// An allocation failed.
     Memory,
