@@ -33,12 +33,12 @@ bytes_of content text is u = ap encode_utf8_all is ∙ encodes-chars text u
 -- what is printed of a text that isn't a well-typed module
 pub not_well_typed : (text : List ℕ) (told shown : List Diagnosis) (before after : Option (List ℕ)) → shown ≡ told
     → ¬ IsWellTypedModule text → Reports text (map complaint_in told) → Appends before after (complaint_lines text (map complaint_in shown)) → PrintsFaults text before after
-not_well_typed text told shown before after is no (inl h) printed = absurd (no h.0)
-not_well_typed text told shown before after is no (inr h) printed =
+not_well_typed text told shown before after is isnt (inl h) printed = absurd (isnt h.0)
+not_well_typed text told shown before after is isnt (inr h) printed =
     inr (map complaint_in told, h.0, h.1, subst (λ (ds : List Diagnosis). Appends before after (complaint_lines text (map complaint_in ds))) is printed)
 
 -- what is printed in place of a text with another name
 pub ill_typed : (content text : List ℕ) (told shown : List Diagnosis) (before after : Option (List ℕ)) → content ≡ chars text → IsUtf8 text → shown ≡ told
     → ¬ IsWellTypedModule (encode_utf8_all content) → Reports text (map complaint_in told) → Appends before after (complaint_lines text (map complaint_in shown)) → PrintsFaults text before after
-ill_typed content text told shown before after holds u is no h printed =
-    not_well_typed text told shown before after is (subst (λ (t : List ℕ). IsWellTypedModule t → ⊥) (bytes_of content text holds u) no) h printed
+ill_typed content text told shown before after holds u is isnt h printed =
+    not_well_typed text told shown before after is (subst (λ (t : List ℕ). IsWellTypedModule t → ⊥) (bytes_of content text holds u) isnt) h printed
