@@ -1,6 +1,6 @@
 -- The identifiers of fields with their types, as they are kept with a module.
 -- Rule: docs/PROTOCOL.md, Requests on documents 4 (a field with its type).
-use Rattle.std.specs.Prelude.{◌≡◌, ℕ, List, [], All, Option, option_map, option_and_then}
+use Rattle.std.specs.Prelude.{◌≡◌, ◌⊎◌, ℕ, List, [], All, Option, option_map, option_and_then}
 use Rattle.std.specs.List.{find}
 use Rattle.ob0_scope_rules.specs.Resolution.{Resolution}
 use Rattle.ob0_types_table.specs.KnownTables.{Tables, shapes_of}
