@@ -1,13 +1,11 @@
 -- A question about what is at a place of a text has one answer.
-use Rattle.std.proofs.Common.{◌≡◌, ◌∙◌, ℕ, ◌+◌, ◌-◌, nat_lt, Bool, true, false, Option, Some, None, List, [], ◌∷◌, map, drop, if◌then◌else◌, refl, sym, ap, subst, inl, inr}
-use Rattle.std.specs.Prelude.{◌⊎◌, option_and_then, option_map, unwrap_or}
+use Rattle.std.proofs.Common.{◌≡◌, ◌∙◌, ℕ, ◌+◌, ◌-◌, nat_lt, Bool, true, false, Option, Some, None, List, map, drop, if◌then◌else◌, refl, sym, ap, inl, inr}
+use Rattle.std.specs.Prelude.{option_and_then, option_map, unwrap_or}
 use Rattle.std.specs.List.{position_from}
 use Rattle.serde_json.specs.Data.{Data, array}
 use Rattle.serde_json.specs.View.{items_of}
 use Rattle.ob0_scan.specs.Scanned.{Scanned}
-use Rattle.ob0_scan.specs.declared.lexeme.Span.{Span}
 use Rattle.ob0_text.specs.declared.position_types.Unit.{Unit}
-use Rattle.ob0_tree.specs.Parsed.{Parsed, tree_of}
 use Rattle.ob0_tree.specs.Places.{named, text_at}
 use Rattle.ob0_tree.specs.Tree.{Tree, identifiers, module_text}
 use Rattle.ob0_tree.specs.declared.tree.Role.TheVariants as role
@@ -20,7 +18,6 @@ use Rattle.ob0_types_rules.specs.Bindings.{declared_object}
 use Rattle.ob0_types_fields.specs.Identifiers.{declared_in, field_at, field_identifiers, field_on, first, record_tokens, tokens_among}
 use Rattle.ob0_selections.specs.FieldTypes.{typed_fields}
 use Rattle.ob0_selections.specs.Selections.{Selected, selections}
-use Rattle.ob0_refs.specs.Answered.{at_name}
 use Rattle.ob0_refs.specs.Declarations.{object_hover}
 use Rattle.ob0_refs.specs.Hovers.{field_text, predeclared_text, type_text}
 use Rattle.ob0_refs.specs.Questions.{Identified, hover_at_place, declared, definition_at, field_named_at, field_references, named_at, or_else, references_at, selected_on, name_or_field, identified_at, without}

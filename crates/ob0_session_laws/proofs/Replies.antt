@@ -1,5 +1,5 @@
 -- A reply is sent in one way.
-use Rattle.std.proofs.Common.{◌≡◌, ◌∙◌, ◌⊎◌, ℕ, ◌++◌, Bool, true, false, Option, Some, None, List, [], ◌∷◌, map, refl, sym, ap, subst, inl, inr, if◌then◌else◌}
+use Rattle.std.proofs.Common.{◌≡◌, ◌∙◌, ℕ, ◌++◌, true, false, Option, Some, None, List, [], ◌∷◌, map, refl, sym, ap, inl, inr, if◌then◌else◌}
 use Rattle.std.specs.Prelude.{ℤ, Vec, codes}
 use Rattle.std.specs.declared.alloc.Global.{Global}
 use mathlib.Core.List.{map-map}
@@ -12,26 +12,21 @@ use Rattle.ob0_text.specs.declared.edits.Indent.{Indent}
 use Rattle.ob0_text.specs.declared.position_types.Range.{Range}
 use Rattle.ob0_text.specs.declared.position_types.Unit.{Unit}
 use Rattle.ob0_text.specs.declared.refusals.EditRefusal.{EditRefusal}
-use Rattle.ob0_text.specs.declared.refusals.EditRefusal.TheVariants.{TooLong}
 use Rattle.ob0_edits.specs.Replaced.{parts}
 use Rattle.ob0_layout.specs.Sites.{EditText, edit_text}
 use Rattle.ob0_rpc.specs.declared.clients.Client.{Client}
 use Rattle.ob0_rpc.specs.Shapes.{range_value, result_message, text as text_value}
-use Rattle.ob0_rename.specs.InTexts.{IsRefusedIn, RenamesIn}
-use Rattle.ob0_analysis.specs.Analysed.{IsModuleIn}
-use Rattle.ob0_analysis.specs.Diagnosed.{Complaint, IsWellTypedModule}
-use Rattle.ob0_analysis.specs.RunsKept.{RunsAsBefore}
+use Rattle.ob0_rename.specs.InTexts.{IsRefusedIn}
+use Rattle.ob0_analysis.specs.Diagnosed.{IsWellTypedModule}
 use Rattle.ob0_analysis.specs.Texts.{utf8}
-use Rattle.ob0_session_offers.specs.Inlinings.{InlinesIn, IsNotInlinedIn}
-use Rattle.ob0_session_offers.specs.Layouts.{IsTooLongLaidOut, LaysOut}
 use Rattle.ob0_session_offers.specs.declared.inlining.Inlining.{Inlining}
 use Rattle.ob0_session_offers.specs.declared.inlining.Inlining.TheVariants.{Here, Everywhere}
-use Rattle.ob0_session_edits.specs.Actions.{ActionsAsked, AnswersActions, ListsActions, Offers, action_values, actions_value, place_of, title, wants_inlining}
-use Rattle.ob0_session_edits.specs.Diagnostics.{Diagnoses, diagnostic_of}
+use Rattle.ob0_session_edits.specs.Actions.{ActionsAsked, ListsActions, Offers, action_values, place_of, title, wants_inlining}
+use Rattle.ob0_session_edits.specs.Diagnostics.{diagnostic_of}
 use Rattle.ob0_session_edits.specs.Formatted.{AnswersFormatting}
 use Rattle.ob0_session_edits.specs.Renamed.{AnswersRenaming, RenameAsked, edits_for_client}
-use Rattle.ob0_session_json.specs.Shapes.{Diagnostic, action_value, edit_refused, edit_value, edits_value, publication, versioned_document}
-use Rattle.ob0_session.specs.Answers.{Reply, Says, Sends, diagnoses, answers_name, lays_out, nothing, offers_actions, renames, says}
+use Rattle.ob0_session_json.specs.Shapes.{action_value, edit_refused, edit_value, publication, versioned_document}
+use Rattle.ob0_session.specs.Answers.{Sends, diagnoses, answers_name, lays_out, nothing, offers_actions, renames, says}
 use Rattle.ob0_world_rules.proofs.OneInlining.{inlines_or_refused, inlines_parts}
 use Rattle.ob0_world_rules.proofs.OneLayout.{lays_out_or_long, lays_out_said}
 use Rattle.ob0_world_rules.proofs.OneRenaming.{refuses_one, renames_or_refused, renames_parts}

@@ -1,5 +1,5 @@
 -- A text has one list of diagnostics.
-use Rattle.std.proofs.Common.{◌≡◌, ◌∙◌, ◌⊎◌, ℕ, suc, ◌+◌, None, Bool, true, false, cond, List, [], ◌∷◌, ◌++◌, map, take, drop, length, filter, replicate, refl, sym, ap, subst, inl, inr, arith}
+use Rattle.std.proofs.Common.{◌≡◌, ◌∙◌, ℕ, suc, ◌+◌, None, Bool, true, false, cond, List, [], ◌∷◌, ◌++◌, map, take, drop, filter, replicate, refl, sym, ap, subst, inl, inr, arith}
 use Rattle.std.specs.Prelude.{slice_index_or}
 use Rattle.std.specs.List.{sum_by}
 use Rattle.std.specs.Cmp.{IsStrictWeakOrder, IsTotalOrder, nat_cmp_total, on_total, then_total}
@@ -34,8 +34,7 @@ use Rattle.ob0_tree.specs.Tree.{identifiers}
 use Rattle.ob0_types.specs.FaultOrder.{AreFirstFaults, code_number, fault_cmp, faults_in, place_cmp}
 use Rattle.ob0_types_check.specs.DeclarationFaults.{reported_module, reported_block}
 use Rattle.ob0_types_check.specs.SoFar.{at_first, predeclared_meanings}
-use Rattle.ob0_types_rules.specs.WellTyped.{WellTyped}
-use Rattle.ob0_analysis.specs.Diagnosed.{Complaint, IsRefusalAt, IsWellTypedModule, OneRefusal, Reports, ReportsFaults, ReportsLexemes, ReportsParser, ReportsTypes, complaint_of}
+use Rattle.ob0_analysis.specs.Diagnosed.{Complaint, IsRefusalAt, OneRefusal, Reports, ReportsFaults, ReportsLexemes, ReportsParser, ReportsTypes, complaint_of}
 use Rattle.ob0_world_rules.proofs.OneModule.{Same, same_module}
 use Rattle.ob0_session_laws.specs.Determined.{OneDiagnosis, OneTable}
 use Rattle.ob0_session_laws.proofs.SameTables.{Like, block_like}

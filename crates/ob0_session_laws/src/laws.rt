@@ -50,8 +50,8 @@ pub fn one_output()
     feeding_is_determined();
 }
 
-/// What `serve` returns is a function of the bytes that it reads, unless an allocation or a device fails, or it has read
-/// too many pieces.
+/// What `serve` returns is a function of the bytes that it reads, unless an allocation or a device fails, or it has
+/// read too many pieces.
 pub fn one_result()
     ensures { OneResult }
 {
