@@ -1,5 +1,5 @@
 -- A pass may begin at the start of any line.
-use Rattle.std.proofs.Common.{◌≡◌, ℕ, zero, suc, ◌+◌, ◌-◌, ◌<◌, ◌≤◌, min, length-append, length-drop, Bool, true, false, List, [], ◌∷◌, ◌++◌, length, get_or, take, drop, map, refl, sym, ap, ◌∙◌, subst, arith}
+use Rattle.std.proofs.Common.{◌≡◌, ℕ, zero, suc, ◌+◌, ◌-◌, ◌<◌, ◌≤◌, min, length-append, Bool, true, false, List, [], ◌∷◌, ◌++◌, length, get_or, take, drop, map, refl, sym, ap, ◌∙◌, subst, arith}
 use Rattle.std.specs.Prelude.{encode_utf8_all, ◌==◌}
 use Rattle.std.proofs.lemmas.Bool.{eqb-true}
 use Rattle.std.proofs.lemmas.Bool.Decides.{nat_tests}
@@ -16,7 +16,7 @@ use Rattle.ob0_text.specs.LineStarts.{line_starts, starts_after, AllUnder, AllFr
 use Rattle.ob0_text.proofs.Prefixes.{halves}
 use Rattle.ob0_text.proofs.PositionSteps.{counted_at_start, counted_here_dropped, counted_past_end, counted_past_cr, counted_past_char}
 use Rattle.ob0_text.proofs.PlaceSteps.{sought_at_start, sought_dropped, sought_past_end, sought_on}
-use Rattle.ob0_text.proofs.StartLaws.{behind_ends, ends-here, ends-on, starts-lines, table, table-split, table-mended, start_before, behind-from, behind-under}
+use Rattle.ob0_text.proofs.StartLaws.{behind_ends, ends-here, ends-on, starts-lines, table, table-split, table-mended, start_before}
 use Rattle.ob0_text.proofs.Halving.{before}
 
 -- what holds at each of some starts, of which the first is that of a line
@@ -139,12 +139,6 @@ moved_starts bs starts to moved u is within moved_is =
     let next : suc to ≡ to + 1 = omega arith in
     let moved_here : moved ≡ length far_front = moved_is far_front _ (old ∙ far.whole) (subst (λ k. AllUnder k far_front) next far.under) (subst (λ k. AllFrom k (starts_after (suc to) (drop to bs) [])) next far.from) in
     (λ i. drop (moved_here i) ((old ∙ far.whole) i)) ∙ drop-append_seam far_front _
-
-pub moved_bounds : (bs later : List ℕ) (to : ℕ) → to ≤ length bs → later ≡ starts_after (suc to) (drop to bs) [] → AllFrom to later × AllUnder (length bs + 1) later
-moved_bounds bs later to within is =
-    let long : suc to + length (drop to bs) ≡ length bs + 1 = omega (arith, length-drop to bs) in
-    subst (λ t. AllFrom to t × AllUnder (length bs + 1) t) (sym is)
-    ((λ k h. let up : suc to ≤ get_or (starts_after (suc to) (drop to bs) []) k 0 = behind-from (suc to) (drop to bs) [] k h in omega (arith, up)), behind-under (suc to) (length bs + 1) (drop to bs) [] long)
 
 -- the table of a text of which a part was replaced
 pub mended_starts : (bs new starts later : List ℕ) (from to kept moved : ℕ) → IsUtf8 bs → starts ≡ line_starts (chars bs) → from ≤ to → to ≤ length bs → ((front back : List ℕ) → starts ≡ front ++ back → AllUnder from front → AllFrom from back → kept ≡ length front) → ((front back : List ℕ) → starts ≡ front ++ back → AllUnder (to + 1) front → AllFrom (to + 1) back → moved ≡ length front) → later ≡ starts_after from (get_or (LF ∷ bs) from 0 ∷ new) (drop to bs) ++ map (λ s. s - to + (from + length new)) (drop moved starts) → IsUtf8 ((take from bs ++ new) ++ drop to bs) → take kept starts ++ later ≡ line_starts (chars ((take from bs ++ new) ++ drop to bs))

@@ -1,7 +1,7 @@
-//! The table of a text's lines, in a form in which a change costs what it touches.
+//! The table of a text's lines, in two parts.
 
 ghost use Rattle.std.specs.Prelude.{◌≡◌, ◌+◌, ◌<◌, ◌≤◌, ◌++◌, IfOk, OnOk, OnErr, drop, length, min, slice_index, string_bytes, take};
-ghost use Rattle.std.specs.Str.{IsCharBoundary, chars};
+ghost use Rattle.std.specs.Str.{IsCharBoundary};
 ghost use Rattle.ob0_text.specs.LineStarts.{AllUnder, HasLines, IsCountBefore, starts_in};
 
 use crate::line_starts::{starts_in_change, starts_of};
