@@ -21,5 +21,6 @@ pub record IsReadAs (text : List ℕ) (m : Parsed) : Type 0 where
 
 -- an answer by the module of the text; none where the text isn't a well-typed module
 abbrev pub Finds : {A : Type 0} → List ℕ → (Resolution → A → Type 0) → Option A → Type 0
-Finds text answers (Some answer) = (names : Resolution) × IsModuleIn text names × answers names answer
+Finds text answers (Some answer) =
+    (names : Resolution) × IsModuleIn text names × answers names answer
 Finds text answers None = ¬ IsWellTypedModule text

@@ -48,7 +48,8 @@ pub record IsWellTypedModule (text : List ℕ) : Type 0 where
 
 -- a fault of the scanner, of names or of types, with its code, message and place
 abbrev pub complaint_of : Fault → Complaint
-complaint_of fault = record { code = code_name fault.code; said = code_message fault.code; span = fault.span }
+complaint_of fault =
+    record { code = code_name fault.code; said = code_message fault.code; span = fault.span }
 
 -- all the faults of its lexemes, of which there are 1 to 100
 pub record ReportsLexemes (text : List ℕ) (told : List Complaint) : Type 0 where
@@ -70,7 +71,8 @@ place_of s token = place_in s.text (slice_get s.tokens token)
 
 -- another token is expected at the place, or that token is nested too deep
 abbrev pub expects : List ℕ → Span → Complaint
-expects word place = record { code = codes "Syntax"; said = codes "expected " ++ word; span = place }
+expects word place =
+    record { code = codes "Syntax"; said = codes "expected " ++ word; span = place }
 
 -- a construct of nesting 101 opens at this place
 abbrev pub too_deep : Span → Complaint
@@ -110,14 +112,17 @@ pub record ReportsTypes (text : List ℕ) (told : List Complaint) : Type 0 where
 
 -- what is wrong with the lexemes, or else with the tokens, or else with the names and types
 abbrev pub ReportsFaults : List ℕ → List Complaint → Type 0
-ReportsFaults text told = ReportsLexemes text told ⊎ (ReportsParser text told ⊎ ReportsTypes text told)
+ReportsFaults text told =
+    ReportsLexemes text told ⊎ (ReportsParser text told ⊎ ReportsTypes text told)
 
 -- nothing is reported exactly of a well-typed module
 abbrev pub Reports : List ℕ → List Complaint → Type 0
-Reports text told = (IsWellTypedModule text × (told ≡ [])) ⊎ (¬ IsWellTypedModule text × ReportsFaults text told)
+Reports text told =
+    (IsWellTypedModule text × (told ≡ [])) ⊎ (¬ IsWellTypedModule text × ReportsFaults text told)
 
 -- ---- laws
 
 -- What is reported of the parser is determined by the text.
 abbrev pub OneRefusal : Type 0
-OneRefusal = (text : List ℕ) (a b : List Complaint) → ReportsParser text a → ReportsParser text b → a ≡ b
+OneRefusal =
+    (text : List ℕ) (a b : List Complaint) → ReportsParser text a → ReportsParser text b → a ≡ b

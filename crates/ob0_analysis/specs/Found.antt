@@ -22,6 +22,7 @@ IsDecided Memory = ⊥
 
 -- a text without lexemes has these faults, and one without a tree is refused so
 abbrev pub IsFound : Found → Type 0
-IsFound (NoLexemes ill) = (IsScannable (string_bytes ill.text) → ⊥) × AreFaults (string_bytes ill.text) ill.faults.items
+IsFound (NoLexemes ill) =
+    (IsScannable (string_bytes ill.text) → ⊥) × AreFaults (string_bytes ill.text) ill.faults.items
 IsFound (NoTree tokens refusal) = RefusedBy tokens refusal × IsDecided refusal
 IsFound (Module m) = Unit {0}

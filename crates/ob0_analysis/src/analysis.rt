@@ -150,7 +150,8 @@ impl Analysis {
 
     /// The module that the text is, with its names bound. None where it has no tree.
     pub(crate) fn module_parts(&self) -> Option<&ModuleParts>
-        ensures { MatchOption result (¬ IsWellTypedModule self.now) (λ m. IsScanOf self.now m.now.module_read.source) }
+        ensures { MatchOption result (¬ IsWellTypedModule self.now)
+            (λ m. IsScanOf self.now m.now.module_read.source) }
     {
         one_scan();
         match &self.found {

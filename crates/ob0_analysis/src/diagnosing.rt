@@ -43,7 +43,8 @@ pub(crate) fn diagnose_module(
     alloc: Global,
     parts: &ModuleParts,
 ) -> Result<Vec<Diagnosis>, AllocError>
-    ensures { IfOk result (λ list. Reports parts.now.module_read.source.text (map complaint_in list.items)) }
+    ensures { IfOk result
+        (λ list. Reports parts.now.module_read.source.text (map complaint_in list.items)) }
 {
     one_scan();
     one_tree();

@@ -126,7 +126,8 @@ fn check_types(
 ) -> Result<ModuleTypes, AllocError>
     requires parsed { IsParsed (parsed_by tokens.now tree.now) }
     requires resolved { IsResolution (resolution_by (parsed_by tokens.now tree.now) bindings.now) }
-    ensures { IfOk result (AreTypesOf (resolution_by (parsed_by tokens.now tree.now) bindings.now)) }
+    ensures { IfOk result
+        (AreTypesOf (resolution_by (parsed_by tokens.now tree.now) bindings.now)) }
 {
     let module = Module::borrowed(tokens, tree);
     let resolved = Resolved::borrowed(&module, bindings);

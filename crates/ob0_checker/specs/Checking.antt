@@ -38,7 +38,9 @@ pub record Follows (w v : Walking) : Type 0 where
   pub same : v.resolved ≡ w.resolved
   pub shapes : (later : List Shape) × (shapes_of v.known ≡ shapes_of w.known ++ later)
   pub longer : length w.known.shapes ≤ length v.known.shapes
-  pub goes_back : (more : List Shadowed) × (v.bound ≡ w.bound ++ more) × ((k : ℕ) → before_all more (seen_object v.known) k ≡ seen_object w.known k)
+  pub goes_back : (more : List Shadowed)
+      × (v.bound ≡ w.bound ++ more)
+      × ((k : ℕ) → before_all more (seen_object v.known) k ≡ seen_object w.known k)
 
 -- declarations give an environment, which agrees with what is then in scope; or they give none, and the walk ends
 abbrev pub Leaves : Option (TypeEnvironment Label) → Option Walking → Type 0
@@ -52,13 +54,22 @@ pub record Declares (w : Walking) (n : ℕ) (given : TypeEnvironment Label → O
   pub next : IfSome r (λ v. v.next ≡ w.next + n)
 
 -- what is bound on the way is put before what was in scope, and before all that was declared
-abbrev pub Grows : Walking → (TypeEnvironment Label → Option (TypeEnvironment Label)) → Walking → Type 0
+abbrev pub Grows : Walking
+    → (TypeEnvironment Label → Option (TypeEnvironment Label))
+    → Walking
+    → Type 0
 Grows w given v = (env : TypeEnvironment Label) → Agrees env w.known
-    → (bound : TypeEnvironment Label) × (given env ≡ Some (bound ++ env)) × ((all : TypeEnvironment Label) → Keeps all w.known → Keeps (bound ++ all) v.known)
+    → (bound : TypeEnvironment Label)
+    × (given env ≡ Some (bound ++ env))
+    × ((all : TypeEnvironment Label) → Keeps all w.known → Keeps (bound ++ all) v.known)
 
 -- all that is bound on the way is put before all that was declared
 abbrev pub KeepsAll : Walking → (TypeEnvironment Label → TypeEnvironment Label) → Walking → Type 0
-KeepsAll w bindings v = (env all : TypeEnvironment Label) → Agrees env w.known → Keeps all w.known → Keeps (bindings env ++ all) v.known
+KeepsAll w bindings v =
+    (env all : TypeEnvironment Label)
+    → Agrees env w.known
+    → Keeps all w.known
+    → Keeps (bindings env ++ all) v.known
 
 -- a walk over what fits or doesn't
 pub record Decides (w : Walking) (n : ℕ) (fits : TypeEnvironment Label → Bool) (r : Option Walking) : Type 0 where
@@ -85,22 +96,35 @@ parameters_of h = parameters_in h.walk.resolved h.walk.known h.parameters
 
 -- parameters are what was declared last after their sections; after the heading it is the procedure
 abbrev pub KeepsParameters : Tables → Heading → Type 0
-KeepsParameters t h = (all : TypeEnvironment Label) → Keeps all t → Keeps (bind_typed (parameters_of h) all) h.walk.known
+KeepsParameters t h =
+    (all : TypeEnvironment Label)
+    → Keeps all t
+    → Keeps (bind_typed (parameters_of h) all) h.walk.known
 
 -- the table has what a procedure and its parameters are declared as
 abbrev pub KeepsHeading : Tables → Label → Heading → Type 0
-KeepsHeading t x h = (all : TypeEnvironment Label) → Keeps all t → Keeps (heading x (parameters_of h) (bind_typed (parameters_of h) all)) h.walk.known
+KeepsHeading t x h =
+    (all : TypeEnvironment Label)
+    → Keeps all t
+    → Keeps (heading x (parameters_of h) (bind_typed (parameters_of h) all)) h.walk.known
 
 -- parameters of one type
 abbrev pub typed_section : Tree Label section → Shape → List (TypedParameter Label)
-typed_section f s = map (λ x. record { name = x; formal = record { mode = section_mode f; shape = s } }) (section_names f)
+typed_section f s =
+    map (λ x. record { name = x; formal = record { mode = section_mode f; shape = s } })
+    (section_names f)
 
 -- what is known after a section: none where its type denotes nothing
-abbrev pub LeavesSection : Heading → Tree Label section → TypeEnvironment Label → Option Heading → Type 0
+abbrev pub LeavesSection : Heading
+    → Tree Label section
+    → TypeEnvironment Label
+    → Option Heading
+    → Type 0
 LeavesSection h f env None = denoted (meanings as_labels env) h.walk.next (section_type f) ≡ None
 LeavesSection h f env (Some g) =
     (s : Shape) × (denoted (meanings as_labels env) h.walk.next (section_type f) ≡ Some s)
-    × Agrees (bind_names (section_names f) (a_variable s) env) g.walk.known × (parameters_of g ≡ parameters_of h ++ typed_section f s)
+    × Agrees (bind_names (section_names f) (a_variable s) env) g.walk.known
+    × (parameters_of g ≡ parameters_of h ++ typed_section f s)
 
 -- a section's parameters are added, in each environment that agrees with what is known
 pub record DeclaresSection (h : Heading) (f : Tree Label section) (r : Option Heading) : Type 0 where
@@ -110,13 +134,19 @@ pub record DeclaresSection (h : Heading) (f : Tree Label section) (r : Option He
 
 -- the sections of a heading, each in the environment of those before it
 pub record DeclaresSections (w : Walking) (fs : Tree Label (items further_section)) (r : Option Heading) : Type 0 where
-  pub leaves : (env : TypeEnvironment Label) → Agrees env w.known → typed_parameters as_labels env w.next fs ≡ option_map parameters_of r
+  pub leaves : (env : TypeEnvironment Label)
+      → Agrees env w.known
+      → typed_parameters as_labels env w.next fs ≡ option_map parameters_of r
   pub follows : IfSome r (λ g. Follows w g.walk)
   pub next : IfSome r (λ g. g.walk.next ≡ w.next + formals_constructors fs)
 
 -- after a heading the procedure is in scope, and its parameters aren't yet
 pub record DeclaresHeading (w : Walking) (p : Tree Label (item procedure)) (r : Option Heading) : Type 0 where
-  pub typed : (env : TypeEnvironment Label) → Agrees env w.known → typed_parameters as_labels env w.next (procedure_formals p) ≡ option_map parameters_of r
-  pub leaves : (env : TypeEnvironment Label) → Agrees env w.known → IfSome r (λ g. Agrees (heading (procedure_name p) (parameters_of g) env) g.walk.known)
+  pub typed : (env : TypeEnvironment Label)
+      → Agrees env w.known
+      → typed_parameters as_labels env w.next (procedure_formals p) ≡ option_map parameters_of r
+  pub leaves : (env : TypeEnvironment Label)
+      → Agrees env w.known
+      → IfSome r (λ g. Agrees (heading (procedure_name p) (parameters_of g) env) g.walk.known)
   pub follows : IfSome r (λ g. Follows w g.walk)
   pub next : IfSome r (λ g. g.walk.next ≡ w.next + formals_constructors (procedure_formals p))

@@ -17,16 +17,24 @@ where_only false o = o
 
 -- what labels mean by the table; in constant expressions constants alone
 abbrev pub meaning_in : Tables → Bool → Typed Label
-meaning_in t only_constants = record { stands_for = λ x. where_only only_constants (label_object t x); written = label_text }
+meaning_in t only_constants =
+    record { stands_for = λ x. where_only only_constants (label_object t x); written = label_text }
 
 -- what names mean where a constant expression is evaluated
 abbrev pub constants_in : Tables → Meanings Label Place (Unit {0})
 constants_in t = constants_only (known_meaning t)
 
 -- the value after one more operand
-abbrev pub value_added : Meanings Label Place (Unit {0}) → Value → Tree Label (item addend) → Option Value
+abbrev pub value_added : Meanings Label Place (Unit {0})
+    → Value
+    → Tree Label (item addend)
+    → Option Value
 value_added meaning x (adds o t) = sum_value o (given_value (evaluate_term meaning [] t)) x
 
 -- the value of a constant after one more factor
-abbrev pub value_multiplied : Meanings Label Place (Unit {0}) → Value → Tree Label (item multiplier) → Option Value
-value_multiplied meaning x (multiplies o f) = product_value o (given_value (evaluate_factor meaning [] f)) x
+abbrev pub value_multiplied : Meanings Label Place (Unit {0})
+    → Value
+    → Tree Label (item multiplier)
+    → Option Value
+value_multiplied meaning x (multiplies o f) =
+    product_value o (given_value (evaluate_factor meaning [] f)) x

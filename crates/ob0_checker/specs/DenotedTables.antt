@@ -25,13 +25,15 @@ pub record Grown (before after : Tables) : Type 0 where
 -- none, or where its own are past the greatest depth together with those around them.
 abbrev pub IsFound : List Shape → ℕ → ℕ → Option Shape → Option TypeId → Type 0
 IsFound shapes around n denotes (Some of) = denotes ≡ Some (type_shape shapes of)
-IsFound shapes around n denotes None = (s : Shape) → denotes ≡ Some s → (0 < n) × (100 < depth s + around)
+IsFound shapes around n denotes None =
+    (s : Shape) → denotes ≡ Some s → (0 < n) × (100 < depth s + around)
 
 -- The type that a text denotes by the table before is in the table after, and each ARRAY and RECORD of the text made one.
 -- Those before the text have made theirs, but for those around it: so many is the ordinal of the text's first.
 pub record Denotes (r : Resolution) (before after : Tables) (around : ℕ) (t : Tree ℕ written_type) (found : Option TypeId) : Type 0 where
   pub grown : Grown before after
-  pub value : IsFound (shapes_of after) around (constructors t) (denoted (known_meaning before) (length before.shapes + around) (in_labels r t)) found
+  pub value : IsFound (shapes_of after) around (constructors t)
+      (denoted (known_meaning before) (length before.shapes + around) (in_labels r t)) found
   pub made : IfSome found (λ of. IsMade (length after.shapes) of)
   pub counted : IfSome found (λ of. length after.shapes ≡ length before.shapes + constructors t)
 
@@ -50,5 +52,7 @@ fields_named r tokens s = with_fields (map label_text (map (label_in r) tokens))
 
 -- names of one type are put after other fields
 pub record AreAdded (r : Resolution) (tokens : List ℕ) (t : TypeId) (before after : List Field) : Type 0 where
-  pub shapes : (shapes : List Shape) → fields_shape shapes after ≡ joined (fields_shape shapes before) (fields_named r tokens (type_shape shapes t))
+  pub shapes : (shapes : List Shape)
+      → fields_shape shapes after
+      ≡ joined (fields_shape shapes before) (fields_named r tokens (type_shape shapes t))
   pub made : (n : ℕ) → All (λ f. IsMade n f.of) before → IsMade n t → All (λ f. IsMade n f.of) after

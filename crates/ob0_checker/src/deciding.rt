@@ -62,8 +62,10 @@ impl<'t> Walk<'t> {
 
     /// A constant is known after its right side.
     fn constant(self, c: &Constant) -> Result<Option<Walk<'t>>, AllocError>
-        ensures declares { IfOk result (Declares self.entry 0 (λ env. declare_constants as_labels env (in_labels self.entry.resolved (more (constant_of c.now) end)))) }
-        ensures grows { IfOk result (λ r. IfSome r (Grows self.entry (λ env. declare_constants as_labels env (in_labels self.entry.resolved (more (constant_of c.now) end))))) }
+        ensures declares { IfOk result (Declares self.entry 0 (λ env. declare_constants as_labels
+            env (in_labels self.entry.resolved (more (constant_of c.now) end)))) }
+        ensures grows { IfOk result (λ r. IfSome r (Grows self.entry (λ env. declare_constants
+            as_labels env (in_labels self.entry.resolved (more (constant_of c.now) end))))) }
     {
         let names = Names {
             known: &self.known,
@@ -78,8 +80,10 @@ impl<'t> Walk<'t> {
     }
 
     fn constants(self, constants: &[Constant]) -> Result<Option<Walk<'t>>, AllocError>
-        ensures declares { IfOk result (Declares self.entry 0 (λ env. declare_constants as_labels env (in_labels self.entry.resolved (items_of constant_of constants.now)))) }
-        ensures grows { IfOk result (λ r. IfSome r (Grows self.entry (λ env. declare_constants as_labels env (in_labels self.entry.resolved (items_of constant_of constants.now))))) }
+        ensures declares { IfOk result (Declares self.entry 0 (λ env. declare_constants as_labels
+            env (in_labels self.entry.resolved (items_of constant_of constants.now)))) }
+        ensures grows { IfOk result (λ r. IfSome r (Grows self.entry (λ env. declare_constants
+            as_labels env (in_labels self.entry.resolved (items_of constant_of constants.now))))) }
     {
         let mut walk = self;
         for c in constants {
@@ -92,8 +96,11 @@ impl<'t> Walk<'t> {
     }
 
     fn constants_of(self, section: &Option<Vec<Constant>>) -> Result<Option<Walk<'t>>, AllocError>
-        ensures declares { IfOk result (Declares self.entry 0 (λ env. declare_constants as_labels env (section_constants (in_labels self.entry.resolved (constants_of section.now))))) }
-        ensures grows { IfOk result (λ r. IfSome r (Grows self.entry (λ env. declare_constants as_labels env (section_constants (in_labels self.entry.resolved (constants_of section.now)))))) }
+        ensures declares { IfOk result (Declares self.entry 0 (λ env. declare_constants as_labels
+            env (section_constants (in_labels self.entry.resolved (constants_of section.now))))) }
+        ensures grows { IfOk result (λ r. IfSome r (Grows self.entry (λ env. declare_constants
+            as_labels env
+            (section_constants (in_labels self.entry.resolved (constants_of section.now)))))) }
     {
         match section {
             None => Ok(Some(self)),
@@ -103,8 +110,12 @@ impl<'t> Walk<'t> {
 
     /// A type is known after its text.
     fn type_declaration(self, d: &TypeDeclaration) -> Result<Option<Walk<'t>>, AllocError>
-        ensures declares { IfOk result (Declares self.entry (constructors (type_of d.now.written)) (λ env. declare_types as_labels env self.entry.next (in_labels self.entry.resolved (more (type_declaration_of d.now) end)))) }
-        ensures grows { IfOk result (λ r. IfSome r (Grows self.entry (λ env. declare_types as_labels env self.entry.next (in_labels self.entry.resolved (more (type_declaration_of d.now) end))))) }
+        ensures declares { IfOk result (Declares self.entry (constructors (type_of d.now.written))
+            (λ env. declare_types as_labels env self.entry.next
+            (in_labels self.entry.resolved (more (type_declaration_of d.now) end)))) }
+        ensures grows { IfOk result (λ r. IfSome r (Grows self.entry (λ env. declare_types as_labels
+            env self.entry.next
+            (in_labels self.entry.resolved (more (type_declaration_of d.now) end))))) }
     {
         let typed = match self.denote(&d.written)? {
             None => return Ok(None),
@@ -115,8 +126,13 @@ impl<'t> Walk<'t> {
     }
 
     fn types(self, types: &[TypeDeclaration]) -> Result<Option<Walk<'t>>, AllocError>
-        ensures declares { IfOk result (Declares self.entry (types_constructors (items_of type_declaration_of types.now)) (λ env. declare_types as_labels env self.entry.next (in_labels self.entry.resolved (items_of type_declaration_of types.now)))) }
-        ensures grows { IfOk result (λ r. IfSome r (Grows self.entry (λ env. declare_types as_labels env self.entry.next (in_labels self.entry.resolved (items_of type_declaration_of types.now))))) }
+        ensures declares { IfOk result (Declares self.entry
+            (types_constructors (items_of type_declaration_of types.now))
+            (λ env. declare_types as_labels env self.entry.next
+            (in_labels self.entry.resolved (items_of type_declaration_of types.now)))) }
+        ensures grows { IfOk result (λ r. IfSome r (Grows self.entry (λ env. declare_types as_labels
+            env self.entry.next
+            (in_labels self.entry.resolved (items_of type_declaration_of types.now))))) }
     {
         let mut walk = self;
         for d in types {
@@ -132,8 +148,13 @@ impl<'t> Walk<'t> {
         self,
         section: &Option<Vec<TypeDeclaration>>,
     ) -> Result<Option<Walk<'t>>, AllocError>
-        ensures declares { IfOk result (Declares self.entry (types_constructors (section_types (types_of section.now))) (λ env. declare_types as_labels env self.entry.next (section_types (in_labels self.entry.resolved (types_of section.now))))) }
-        ensures grows { IfOk result (λ r. IfSome r (Grows self.entry (λ env. declare_types as_labels env self.entry.next (section_types (in_labels self.entry.resolved (types_of section.now)))))) }
+        ensures declares { IfOk result (Declares self.entry
+            (types_constructors (section_types (types_of section.now)))
+            (λ env. declare_types as_labels env self.entry.next
+            (section_types (in_labels self.entry.resolved (types_of section.now))))) }
+        ensures grows { IfOk result (λ r. IfSome r (Grows self.entry (λ env. declare_types as_labels
+            env self.entry.next
+            (section_types (in_labels self.entry.resolved (types_of section.now)))))) }
     {
         match section {
             None => Ok(Some(self)),
@@ -144,8 +165,14 @@ impl<'t> Walk<'t> {
     /// Variables or parameters of one type.
     fn variables_named(self, names: &NameList, of: TypeId) -> Result<Walk<'t>, AllocError>
         requires { IsMade (length self.known.shapes) of }
-        ensures agrees { IfOk result (λ w. (env : TypeEnvironment Label) → Agrees env self.entry.known → Agrees (bind_names (names_listed (in_labels self.entry.resolved (names_of names.now))) (a_variable (type_shape (shapes_of self.entry.known) of)) env) w.known) }
-        ensures keeps { IfOk result (λ w. (all : TypeEnvironment Label) → Keeps all self.entry.known → Keeps (bind_names (names_listed (in_labels self.entry.resolved (names_of names.now))) (a_variable (type_shape (shapes_of self.entry.known) of)) all) w.known) }
+        ensures agrees { IfOk result (λ w. (env : TypeEnvironment Label)
+            → Agrees env self.entry.known
+            → Agrees (bind_names (names_listed (in_labels self.entry.resolved (names_of names.now)))
+            (a_variable (type_shape (shapes_of self.entry.known) of)) env) w.known) }
+        ensures keeps { IfOk result (λ w. (all : TypeEnvironment Label)
+            → Keeps all self.entry.known
+            → Keeps (bind_names (names_listed (in_labels self.entry.resolved (names_of names.now)))
+            (a_variable (type_shape (shapes_of self.entry.known) of)) all) w.known) }
         ensures follows { IfOk result (Follows self.entry) }
         ensures shapes { IfOk result (λ w. w.known.shapes ≡ self.entry.known.shapes) }
         ensures next { IfOk result (λ w. w.next ≡ self.entry.next) }
@@ -158,8 +185,11 @@ impl<'t> Walk<'t> {
     }
 
     fn variables_group(self, v: &Variables) -> Result<Option<Walk<'t>>, AllocError>
-        ensures declares { IfOk result (Declares self.entry (constructors (type_of v.now.written)) (λ env. declare_typed as_labels self.entry.next (in_labels self.entry.resolved (more (variable_of v.now) end)) env)) }
-        ensures grows { IfOk result (λ r. IfSome r (Grows self.entry (λ env. declare_typed as_labels self.entry.next (in_labels self.entry.resolved (more (variable_of v.now) end)) env))) }
+        ensures declares { IfOk result (Declares self.entry (constructors (type_of v.now.written))
+            (λ env. declare_typed as_labels self.entry.next
+            (in_labels self.entry.resolved (more (variable_of v.now) end)) env)) }
+        ensures grows { IfOk result (λ r. IfSome r (Grows self.entry (λ env. declare_typed as_labels
+            self.entry.next (in_labels self.entry.resolved (more (variable_of v.now) end)) env))) }
     {
         let typed = match self.denote(&v.written)? {
             None => return Ok(None),
@@ -170,8 +200,11 @@ impl<'t> Walk<'t> {
     }
 
     fn variables(self, groups: &[Variables]) -> Result<Option<Walk<'t>>, AllocError>
-        ensures declares { IfOk result (Declares self.entry (variables_constructors (items_of variable_of groups.now)) (declare_typed as_labels self.entry.next (in_labels self.entry.resolved (items_of variable_of groups.now)))) }
-        ensures grows { IfOk result (λ r. IfSome r (Grows self.entry (declare_typed as_labels self.entry.next (in_labels self.entry.resolved (items_of variable_of groups.now))))) }
+        ensures declares { IfOk result (Declares self.entry
+            (variables_constructors (items_of variable_of groups.now)) (declare_typed as_labels
+            self.entry.next (in_labels self.entry.resolved (items_of variable_of groups.now)))) }
+        ensures grows { IfOk result (λ r. IfSome r (Grows self.entry (declare_typed as_labels
+            self.entry.next (in_labels self.entry.resolved (items_of variable_of groups.now))))) }
     {
         let mut walk = self;
         for v in groups {
@@ -184,8 +217,13 @@ impl<'t> Walk<'t> {
     }
 
     fn variables_of(self, section: &Option<Vec<Variables>>) -> Result<Option<Walk<'t>>, AllocError>
-        ensures declares { IfOk result (Declares self.entry (variables_constructors (section_variables (variables_of section.now))) (declare_typed as_labels self.entry.next (section_variables (in_labels self.entry.resolved (variables_of section.now))))) }
-        ensures grows { IfOk result (λ r. IfSome r (Grows self.entry (declare_typed as_labels self.entry.next (section_variables (in_labels self.entry.resolved (variables_of section.now)))))) }
+        ensures declares { IfOk result (Declares self.entry
+            (variables_constructors (section_variables (variables_of section.now)))
+            (declare_typed as_labels self.entry.next
+            (section_variables (in_labels self.entry.resolved (variables_of section.now))))) }
+        ensures grows { IfOk result (λ r. IfSome r (Grows self.entry (declare_typed as_labels
+            self.entry.next
+            (section_variables (in_labels self.entry.resolved (variables_of section.now)))))) }
     {
         match section {
             None => Ok(Some(self)),
@@ -195,8 +233,13 @@ impl<'t> Walk<'t> {
 
     /// The constants, types and variables of a block.
     fn declarations(self, b: &Block) -> Result<Option<Walk<'t>>, AllocError>
-        ensures declares { IfOk result (Declares self.entry (types_constructors (block_types (block_of b.now)) + variables_constructors (block_variables (block_of b.now))) (λ env. declare_block as_labels env self.entry.next (in_labels self.entry.resolved (block_of b.now)))) }
-        ensures grows { IfOk result (λ r. IfSome r (Grows self.entry (λ env. declare_block as_labels env self.entry.next (in_labels self.entry.resolved (block_of b.now))))) }
+        ensures declares { IfOk result (Declares self.entry (types_constructors
+            (block_types (block_of b.now))
+            + variables_constructors (block_variables (block_of b.now)))
+            (λ env. declare_block as_labels env self.entry.next
+            (in_labels self.entry.resolved (block_of b.now)))) }
+        ensures grows { IfOk result (λ r. IfSome r (Grows self.entry (λ env. declare_block as_labels
+            env self.entry.next (in_labels self.entry.resolved (block_of b.now))))) }
     {
         let walk = match self.constants_of(&b.constants)? {
             None => return Ok(None),
@@ -211,7 +254,8 @@ impl<'t> Walk<'t> {
 
     /// The sections of formal parameters. Each parameter is in scope of the sections after its own.
     fn sections(self, sections: &[Section]) -> Result<Option<Headed<'t>>, AllocError>
-        ensures declares { IfOk result (DeclaresSections self.entry (in_labels self.entry.resolved (items_of further_section_of sections.now))) }
+        ensures declares { IfOk result (DeclaresSections self.entry
+            (in_labels self.entry.resolved (items_of further_section_of sections.now))) }
         ensures keeps { IfOk result (λ r. IfSome r (KeepsParameters self.entry.known)) }
     {
         let mut headed = Headed {
@@ -228,7 +272,8 @@ impl<'t> Walk<'t> {
     }
 
     fn sections_of(self, formals: &Option<Vec<Section>>) -> Result<Option<Headed<'t>>, AllocError>
-        ensures declares { IfOk result (DeclaresSections self.entry (formal_sections (in_labels self.entry.resolved (formals_of formals.now)))) }
+        ensures declares { IfOk result (DeclaresSections self.entry
+            (formal_sections (in_labels self.entry.resolved (formals_of formals.now)))) }
         ensures keeps { IfOk result (λ r. IfSome r (KeepsParameters self.entry.known)) }
     {
         match formals {
@@ -239,8 +284,10 @@ impl<'t> Walk<'t> {
 
     /// The heading of a procedure, after which its name is in scope, and none of its parameters yet.
     fn heading(self, p: &Procedure) -> Result<Option<Headed<'t>>, AllocError>
-        ensures declares { IfOk result (DeclaresHeading self.entry (in_labels self.entry.resolved (procedure_of p.now))) }
-        ensures keeps { IfOk result (λ r. IfSome r (KeepsHeading self.entry.known (procedure_name (in_labels self.entry.resolved (procedure_of p.now))))) }
+        ensures declares { IfOk result
+            (DeclaresHeading self.entry (in_labels self.entry.resolved (procedure_of p.now))) }
+        ensures keeps { IfOk result (λ r. IfSome r (KeepsHeading self.entry.known
+            (procedure_name (in_labels self.entry.resolved (procedure_of p.now))))) }
     {
         let alloc = self.alloc;
         let outside = self.mark();
@@ -258,8 +305,16 @@ impl<'t> Walk<'t> {
     /// Parameters are variables in their procedure.
     fn parameters(self, parameters: &[Parameter]) -> Result<Walk<'t>, AllocError>
         requires { All (λ p. IsMade (length self.known.shapes) p.formal.of) parameters.now }
-        ensures agrees { IfOk result (λ w. (env : TypeEnvironment Label) → Agrees env self.entry.known → Agrees (bind_typed (parameters_in self.entry.resolved self.entry.known parameters.now) env) w.known) }
-        ensures keeps { IfOk result (λ w. (all : TypeEnvironment Label) → Keeps all self.entry.known → Keeps (bind_typed (parameters_in self.entry.resolved self.entry.known parameters.now) all) w.known) }
+        ensures agrees { IfOk result (λ w. (env : TypeEnvironment Label)
+            → Agrees env self.entry.known
+            → Agrees
+            (bind_typed (parameters_in self.entry.resolved self.entry.known parameters.now) env)
+            w.known) }
+        ensures keeps { IfOk result (λ w. (all : TypeEnvironment Label)
+            → Keeps all self.entry.known
+            → Keeps
+            (bind_typed (parameters_in self.entry.resolved self.entry.known parameters.now) all)
+            w.known) }
         ensures follows { IfOk result (Follows self.entry) }
         ensures next { IfOk result (λ w. w.next ≡ self.entry.next) }
     {
@@ -274,8 +329,12 @@ impl<'t> Walk<'t> {
     /// sight up to its end.
     #[cycle(blocks)]
     fn procedure(self, p: &Procedure) -> Result<Option<Walk<'t>>, AllocError>
-        ensures declares { IfOk result (Declares self.entry (procedure_constructors (procedure_of p.now)) (λ env. declare_procedure as_labels env self.entry.next (in_labels self.entry.resolved (procedure_of p.now)))) }
-        ensures keeps { IfOk result (λ r. IfSome r (KeepsAll self.entry (λ env. procedure_bindings as_labels env self.entry.next (in_labels self.entry.resolved (procedure_of p.now))))) }
+        ensures declares { IfOk result (Declares self.entry
+            (procedure_constructors (procedure_of p.now)) (λ env. declare_procedure as_labels env
+            self.entry.next (in_labels self.entry.resolved (procedure_of p.now)))) }
+        ensures keeps { IfOk result (λ r. IfSome r (KeepsAll self.entry
+            (λ env. procedure_bindings as_labels env self.entry.next
+            (in_labels self.entry.resolved (procedure_of p.now))))) }
     {
         let headed = match self.heading(p)? {
             None => return Ok(None),
@@ -294,8 +353,12 @@ impl<'t> Walk<'t> {
     /// A block: constants, types, variables, procedures, and then its statements.
     #[cycle(blocks)]
     fn block(self, b: &Block) -> Result<Option<Walk<'t>>, AllocError>
-        ensures decides { IfOk result (Decides self.entry (block_constructors (block_of b.now)) (λ env. block_fits as_labels env self.entry.next (in_labels self.entry.resolved (block_of b.now)))) }
-        ensures keeps { IfOk result (λ r. IfSome r (KeepsAll self.entry (λ env. block_bindings as_labels env self.entry.next (in_labels self.entry.resolved (block_of b.now))))) }
+        ensures decides { IfOk result (Decides self.entry (block_constructors (block_of b.now))
+            (λ env. block_fits as_labels env self.entry.next
+            (in_labels self.entry.resolved (block_of b.now)))) }
+        ensures keeps { IfOk result (λ r. IfSome r (KeepsAll self.entry
+            (λ env. block_bindings as_labels env self.entry.next
+            (in_labels self.entry.resolved (block_of b.now))))) }
     {
         let mut walk = match self.declarations(b)? {
             None => return Ok(None),
@@ -315,7 +378,9 @@ impl<'t> Walk<'t> {
     }
 
     fn body_fits(&self, body: &Option<Vec<Statement>>) -> bool
-        ensures { (env : TypeEnvironment Label) → Agrees env self.now.known → result ≡ body_fits as_labels env (in_labels self.now.resolved (body_of body.now)) }
+        ensures { (env : TypeEnvironment Label)
+            → Agrees env self.now.known
+            → result ≡ body_fits as_labels env (in_labels self.now.resolved (body_of body.now)) }
     {
         let names = Names {
             known: &self.known,
@@ -339,8 +404,11 @@ impl<'t> Headed<'t> {
 
     /// Parameters of one type.
     fn section(self, s: &Section) -> Result<Option<Headed<'t>>, AllocError>
-        ensures declares { IfOk result (DeclaresSection self.entry (in_labels self.entry.walk.resolved (section_of s.now))) }
-        ensures keeps { IfOk result (λ r. IfSome r (λ g. (all : TypeEnvironment Label) → Keeps (bind_typed (parameters_of self.entry) all) self.entry.walk.known → Keeps (bind_typed (parameters_of g) all) g.walk.known)) }
+        ensures declares { IfOk result
+            (DeclaresSection self.entry (in_labels self.entry.walk.resolved (section_of s.now))) }
+        ensures keeps { IfOk result (λ r. IfSome r (λ g. (all : TypeEnvironment Label)
+            → Keeps (bind_typed (parameters_of self.entry) all) self.entry.walk.known
+            → Keeps (bind_typed (parameters_of g) all) g.walk.known)) }
     {
         let Headed {
             walk,
@@ -363,7 +431,10 @@ impl<'t> Headed<'t> {
 
 /// Puts parameters of one type after those before them.
 fn list(names: &NameList, formal: Formal, parameters: &mut Vec<Parameter>) -> Result<(), AllocError>
-    ensures { OnOk result (parameters.new.items ≡ parameters.old.items ++ map (λ n. record { name = n; formal = formal }) (names.now.first ∷ names.now.more.items)) }
+    ensures { OnOk result (parameters.new.items
+        ≡ parameters.old.items
+        ++ map (λ n. record { name = n; formal = formal })
+        (names.now.first ∷ names.now.more.items)) }
 {
     parameters.push(Parameter {
         name: names.first,
@@ -391,8 +462,10 @@ fn formals_of(alloc: Global, parameters: &[Parameter]) -> Result<Vec<Formal>, Al
 
 /// What is known of a module that fits. None where it doesn't fit.
 pub fn decide<'t>(alloc: Global, resolved: &'t Resolved<'t>) -> Result<Option<Known>, AllocError>
-    ensures decides { IfOk result (λ r. is_some r ≡ fits_over as_labels (in_labels resolved.now (tree_of resolved.now.module_read))) }
-    ensures declared { IfOk result (λ r. IfSome r (Keeps (module_bindings as_labels (in_labels resolved.now (tree_of resolved.now.module_read))))) }
+    ensures decides { IfOk result (λ r. is_some r
+        ≡ fits_over as_labels (in_labels resolved.now (tree_of resolved.now.module_read))) }
+    ensures declared { IfOk result (λ r. IfSome r (Keeps
+        (module_bindings as_labels (in_labels resolved.now (tree_of resolved.now.module_read))))) }
 {
     let walk = Walk::new(alloc, resolved)?;
     match walk.block(resolved.module().block())? {

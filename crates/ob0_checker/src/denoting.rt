@@ -46,11 +46,15 @@ pub(crate) fn denote<'t>(
     resolved: &Resolved<'t>,
     t: &WrittenType,
 ) -> Result<Option<TypeId>, AllocError>
-    ensures value { IfOk result (λ r. option_map (type_shape (shapes_of known.new)) r ≡ denoted (known_meaning known.old) (length known.old.shapes) (in_labels resolved.now (type_of t.now))) }
+    ensures value { IfOk result (λ r. option_map (type_shape (shapes_of known.new)) r
+        ≡ denoted (known_meaning known.old) (length known.old.shapes)
+        (in_labels resolved.now (type_of t.now))) }
     ensures made { IfOk result (λ r. IfSome r (IsMade (length known.new.shapes))) }
-    ensures counted { IfOk result (λ r. IfSome r (λ of. length known.new.shapes ≡ length known.old.shapes + constructors (type_of t.now))) }
+    ensures counted { IfOk result (λ r. IfSome r
+        (λ of. length known.new.shapes ≡ length known.old.shapes + constructors (type_of t.now))) }
     ensures entries { OnOk result (known.new.entries ≡ known.old.entries) }
-    ensures shapes { OnOk result ((later : List Shape) × (shapes_of known.new ≡ shapes_of known.old ++ later)) }
+    ensures shapes { OnOk result
+        ((later : List Shape) × (shapes_of known.new ≡ shapes_of known.old ++ later)) }
     ensures longer { OnOk result (length known.old.shapes ≤ length known.new.shapes) }
     ensures meaning { OnOk result (known_meaning known.new ≡ known_meaning known.old) }
 {
@@ -78,7 +82,8 @@ fn denote_text<'t>(
 
 /// The ordinal of an ARRAY or RECORD that is in so many others, where it isn't too deep in them.
 fn ordinal_in(known: &Known, around: usize) -> Option<usize>
-    ensures { MatchOption result (100 ≤ around) (λ k. (k ≡ length known.now.shapes + around) × (around < 100)) }
+    ensures { MatchOption result (100 ≤ around)
+        (λ k. (k ≡ length known.now.shapes + around) × (around < 100)) }
 {
     if around < MOST_DEPTH {
         Some(known.types_made() + around)
@@ -88,7 +93,8 @@ fn ordinal_in(known: &Known, around: usize) -> Option<usize>
 }
 
 fn denote_name<'t>(known: &Known, resolved: &Resolved<'t>, name: usize) -> Option<TypeId>
-    ensures { (around : ℕ) → Denotes resolved.now known.now known.now around (named_type name) result }
+    ensures { (around : ℕ)
+        → Denotes resolved.now known.now known.now around (named_type name) result }
 {
     let names = Names {
         known,
@@ -100,7 +106,9 @@ fn denote_name<'t>(known: &Known, resolved: &Resolved<'t>, name: usize) -> Optio
 
 /// How many elements an array has, where its text says a length.
 fn length_of<'t>(known: &Known, resolved: &Resolved<'t>, a: &ArrayType) -> Option<usize>
-    ensures { result ≡ option_and_then array_length (constant_value (known_meaning known.now) (in_labels resolved.now (expression_of a.now.size))) }
+    ensures { result
+        ≡ option_and_then array_length (constant_value (known_meaning known.now)
+        (in_labels resolved.now (expression_of a.now.size))) }
 {
     let names = Names {
         known,
@@ -121,7 +129,8 @@ fn denote_array<'t>(
     around: usize,
     a: &ArrayType,
 ) -> Result<Option<TypeId>, AllocError>
-    ensures { IfOk result (λ r. Denotes resolved.now known.old known.new around (array_in a.now) r) }
+    ensures { IfOk result
+        (λ r. Denotes resolved.now known.old known.new around (array_in a.now) r) }
 {
     let Some(length) = length_of(known, resolved, a) else {
         return Ok(None);
@@ -144,7 +153,8 @@ fn denote_record<'t>(
     around: usize,
     r: &RecordType,
 ) -> Result<Option<TypeId>, AllocError>
-    ensures { IfOk result (λ d. Denotes resolved.now known.old known.new around (record_in r.now) d) }
+    ensures { IfOk result
+        (λ d. Denotes resolved.now known.old known.new around (record_in r.now) d) }
 {
     let Some(ordinal) = ordinal_in(known, around) else {
         return Ok(None);
@@ -175,7 +185,8 @@ fn add_fields(
     of: TypeId,
     fields: &mut Vec<Field>,
 ) -> Result<(), AllocError>
-    ensures { OnOk result (AreAdded resolved.now (list.now.names.first ∷ list.now.names.more.items) of fields.old.items fields.new.items) }
+    ensures { OnOk result (AreAdded resolved.now (list.now.names.first ∷ list.now.names.more.items)
+        of fields.old.items fields.new.items) }
 {
     let names = Names {
         known,

@@ -25,7 +25,9 @@ impl<'a, 't> Names<'a, 't> {
 
     /// The value of a constant expression: it has a type, and its evaluation has no fault.
     pub fn constant_value(&self, e: &Expression) -> Option<Scalar>
-        ensures { option_map scalar_value result ≡ constant_value (known_meaning self.now.known.now) (in_labels self.now.resolved.now (expression_of e.now)) }
+        ensures { option_map scalar_value result
+            ≡ constant_value (known_meaning self.now.known.now)
+            (in_labels self.now.resolved.now (expression_of e.now)) }
     {
         let constants = Names {
             known: self.known,
@@ -40,7 +42,9 @@ impl<'a, 't> Names<'a, 't> {
 
     #[cycle(evaluation)]
     fn evaluate(&self, e: &Expression) -> Option<Scalar>
-        ensures { option_map scalar_value result ≡ given_value (evaluate (constants_in self.now.known.now) [] (in_labels self.now.resolved.now (expression_of e.now))) }
+        ensures { option_map scalar_value result
+            ≡ given_value (evaluate (constants_in self.now.known.now) []
+            (in_labels self.now.resolved.now (expression_of e.now))) }
     {
         let left = self.evaluate_simple(&e.left);
         match &e.compared {
@@ -55,7 +59,9 @@ impl<'a, 't> Names<'a, 't> {
 
     #[cycle(evaluation)]
     fn evaluate_simple(&self, s: &Simple) -> Option<Scalar>
-        ensures { option_map scalar_value result ≡ given_value (evaluate_simple (constants_in self.now.known.now) [] (in_labels self.now.resolved.now (simple_of s.now))) }
+        ensures { option_map scalar_value result
+            ≡ given_value (evaluate_simple (constants_in self.now.known.now) []
+            (in_labels self.now.resolved.now (simple_of s.now))) }
     {
         let mut so_far = with_sign(s.sign, self.evaluate_term(&s.first));
         for addend in &s.more {
@@ -66,7 +72,9 @@ impl<'a, 't> Names<'a, 't> {
 
     #[cycle(evaluation)]
     fn evaluate_term(&self, t: &Term) -> Option<Scalar>
-        ensures { option_map scalar_value result ≡ given_value (evaluate_term (constants_in self.now.known.now) [] (in_labels self.now.resolved.now (term_of t.now))) }
+        ensures { option_map scalar_value result
+            ≡ given_value (evaluate_term (constants_in self.now.known.now) []
+            (in_labels self.now.resolved.now (term_of t.now))) }
     {
         let mut so_far = self.evaluate_factor(&t.first);
         for multiplier in &t.more {
@@ -82,7 +90,9 @@ impl<'a, 't> Names<'a, 't> {
     #[cycle(evaluation)]
     #[tactic(auto, unfolding(ob0_types_rules::specs::Expressions::evaluate))]
     fn evaluate_factor(&self, f: &Factor) -> Option<Scalar>
-        ensures { option_map scalar_value result ≡ given_value (evaluate_factor (constants_in self.now.known.now) [] (in_labels self.now.resolved.now (factor_of f.now))) }
+        ensures { option_map scalar_value result
+            ≡ given_value (evaluate_factor (constants_in self.now.known.now) []
+            (in_labels self.now.resolved.now (factor_of f.now))) }
     {
         match f {
             Factor::Designator(d) => self.evaluate_name(d),
@@ -93,14 +103,17 @@ impl<'a, 't> Names<'a, 't> {
     }
 
     fn evaluate_number(&self, token: usize) -> Option<Scalar>
-        ensures { option_map scalar_value result ≡ Some (values.number (pos (value_at self.now.resolved.now.module_read.source token))) }
+        ensures { option_map scalar_value result
+            ≡ Some (values.number (pos (value_at self.now.resolved.now.module_read.source token))) }
     {
         Some(Scalar::Number(number_at(self.resolved.tokens(), token)))
     }
 
     /// A constant has no parts.
     fn evaluate_name(&self, d: &Designator) -> Option<Scalar>
-        ensures { option_map scalar_value result ≡ given_value (evaluate_factor (constants_in self.now.known.now) [] (in_labels self.now.resolved.now (designator_of d.now))) }
+        ensures { option_map scalar_value result
+            ≡ given_value (evaluate_factor (constants_in self.now.known.now) []
+            (in_labels self.now.resolved.now (designator_of d.now))) }
     {
         let whole = self.constant(d.name);
         if d.selectors.is_empty() { whole } else { None }

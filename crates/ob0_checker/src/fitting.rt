@@ -31,7 +31,9 @@ static WRITE_LN: [Formal; 0] = [];
 
 /// The formal parameters of a standard procedure.
 fn standard_formals(standard: Standard) -> &'static [Formal]
-    ensures { (shapes : List Shape) → Some (map (formal_in shapes) result.now) ≡ signature_of (Some (a_standard (standard_of standard))) }
+    ensures { (shapes : List Shape)
+        → Some (map (formal_in shapes) result.now)
+        ≡ signature_of (Some (a_standard (standard_of standard))) }
 {
     match standard {
         Standard::Read => &READ,
@@ -43,7 +45,9 @@ fn standard_formals(standard: Standard) -> &'static [Formal]
 impl<'a, 't> Names<'a, 't> {
     /// The formal parameters of the procedure that a name means. In a constant expression no name means one.
     pub fn formals(&self, token: usize) -> Option<&'a [Formal]>
-        ensures { option_map (λ fs. map (formal_in (shapes_of self.now.known.now)) fs.now) result ≡ signature_of ((meaning_in self.now.known.now self.now.only_constants).stands_for (label_in self.now.resolved.now token)) }
+        ensures { option_map (λ fs. map (formal_in (shapes_of self.now.known.now)) fs.now) result
+            ≡ signature_of ((meaning_in self.now.known.now self.now.only_constants).stands_for
+            (label_in self.now.resolved.now token)) }
     {
         if self.only_constants {
             return None;
@@ -60,7 +64,9 @@ impl<'a, 't> Names<'a, 't> {
 
     /// The type of what may be assigned to. In a constant expression no name means a variable.
     fn assigned_type(&self, d: &Designator) -> Option<TypeId>
-        ensures { option_map (type_shape (shapes_of self.now.known.now)) result ≡ variable_type (meaning_in self.now.known.now self.now.only_constants) (Some (designator_in self.now.resolved.now d.now)) }
+        ensures { option_map (type_shape (shapes_of self.now.known.now)) result
+            ≡ variable_type (meaning_in self.now.known.now self.now.only_constants)
+            (Some (designator_in self.now.resolved.now d.now)) }
     {
         if self.only_constants {
             None
@@ -71,7 +77,9 @@ impl<'a, 't> Names<'a, 't> {
 
     /// Both are there, and the same type.
     fn agree(&self, left: Option<TypeId>, right: Option<TypeId>) -> bool
-        ensures { result ≡ agree (option_map (type_shape (shapes_of self.now.known.now)) left) (option_map (type_shape (shapes_of self.now.known.now)) right) }
+        ensures { result
+            ≡ agree (option_map (type_shape (shapes_of self.now.known.now)) left)
+            (option_map (type_shape (shapes_of self.now.known.now)) right) }
     {
         match left {
             None => false,
@@ -85,20 +93,27 @@ impl<'a, 't> Names<'a, 't> {
     /// Whether an expression is a condition.
     #[tactic(auto, unfolding(ob0_types_rules::specs::WellTyped::condition_fits))]
     fn condition_fits(&self, e: &Expression) -> bool
-        ensures { result ≡ condition_fits (meaning_in self.now.known.now self.now.only_constants) (in_labels self.now.resolved.now (expression_of e.now)) }
+        ensures { result
+            ≡ condition_fits (meaning_in self.now.known.now self.now.only_constants)
+            (in_labels self.now.resolved.now (expression_of e.now)) }
     {
         self.agree(Some(TypeId::Boolean), self.type_of(e))
     }
 
     #[tactic(auto, unfolding(ob0_types_rules::specs::WellTyped::statement_fits))]
     fn assignment_fits(&self, a: &Assignment) -> bool
-        ensures { result ≡ statement_fits (meaning_in self.now.known.now self.now.only_constants) (in_labels self.now.resolved.now (assignment_of a.now)) }
+        ensures { result
+            ≡ statement_fits (meaning_in self.now.known.now self.now.only_constants)
+            (in_labels self.now.resolved.now (assignment_of a.now)) }
     {
         self.agree(self.assigned_type(&a.target), self.type_of(&a.value))
     }
 
     fn argument_fits(&self, formal: &Formal, e: &Expression) -> bool
-        ensures { result ≡ argument_fits (meaning_in self.now.known.now self.now.only_constants) (formal_in (shapes_of self.now.known.now) formal.now) (in_labels self.now.resolved.now (expression_of e.now)) }
+        ensures { result
+            ≡ argument_fits (meaning_in self.now.known.now self.now.only_constants)
+            (formal_in (shapes_of self.now.known.now) formal.now)
+            (in_labels self.now.resolved.now (expression_of e.now)) }
     {
         if formal.by_place {
             self.agree(Some(formal.of), self.passed_type(e))
@@ -109,7 +124,9 @@ impl<'a, 't> Names<'a, 't> {
 
     /// The type of an argument that is passed by its place.
     fn passed_type(&self, e: &Expression) -> Option<TypeId>
-        ensures { option_map (type_shape (shapes_of self.now.known.now)) result ≡ variable_type (meaning_in self.now.known.now self.now.only_constants) (designated (in_labels self.now.resolved.now (expression_of e.now))) }
+        ensures { option_map (type_shape (shapes_of self.now.known.now)) result
+            ≡ variable_type (meaning_in self.now.known.now self.now.only_constants)
+            (designated (in_labels self.now.resolved.now (expression_of e.now))) }
     {
         match designated(e) {
             None => None,
@@ -118,7 +135,10 @@ impl<'a, 't> Names<'a, 't> {
     }
 
     fn arguments_fit(&self, formals: &[Formal], arguments: &Vec<Expression>) -> bool
-        ensures { result ≡ arguments_fit (meaning_in self.now.known.now self.now.only_constants) (map (formal_in (shapes_of self.now.known.now)) formals.now) (all_in_labels self.now.resolved.now arguments.now.items) }
+        ensures { result
+            ≡ arguments_fit (meaning_in self.now.known.now self.now.only_constants)
+            (map (formal_in (shapes_of self.now.known.now)) formals.now)
+            (all_in_labels self.now.resolved.now arguments.now.items) }
     {
         if formals.len() != arguments.len() {
             return false;
@@ -132,7 +152,9 @@ impl<'a, 't> Names<'a, 't> {
     }
 
     fn call_fits(&self, call: &Call) -> bool
-        ensures { result ≡ statement_fits (meaning_in self.now.known.now self.now.only_constants) (in_labels self.now.resolved.now (call_of call.now)) }
+        ensures { result
+            ≡ statement_fits (meaning_in self.now.known.now self.now.only_constants)
+            (in_labels self.now.resolved.now (call_of call.now)) }
     {
         match self.formals(call.procedure) {
             None => false,
@@ -145,7 +167,9 @@ impl<'a, 't> Names<'a, 't> {
 
     #[cycle(statements)]
     fn statement_fits(&self, s: &Statement) -> bool
-        ensures { result ≡ statement_fits (meaning_in self.now.known.now self.now.only_constants) (in_labels self.now.resolved.now (statement_of s.now)) }
+        ensures { result
+            ≡ statement_fits (meaning_in self.now.known.now self.now.only_constants)
+            (in_labels self.now.resolved.now (statement_of s.now)) }
     {
         match s {
             Statement::Empty => true,
@@ -162,7 +186,9 @@ impl<'a, 't> Names<'a, 't> {
     /// Whether each statement of a sequence fits.
     #[cycle(statements)]
     pub fn sequence_fits(&self, statements: &Vec<Statement>) -> bool
-        ensures { result ≡ sequence_fits (meaning_in self.now.known.now self.now.only_constants) (in_labels self.now.resolved.now (sequence_in statements.now)) }
+        ensures { result
+            ≡ sequence_fits (meaning_in self.now.known.now self.now.only_constants)
+            (in_labels self.now.resolved.now (sequence_in statements.now)) }
     {
         for s in statements {
             if !self.statement_fits(s) {
@@ -174,7 +200,9 @@ impl<'a, 't> Names<'a, 't> {
 
     #[cycle(statements)]
     fn branches_fit(&self, i: &If) -> bool
-        ensures { result ≡ statement_fits (meaning_in self.now.known.now self.now.only_constants) (in_labels self.now.resolved.now (if_of i.now)) }
+        ensures { result
+            ≡ statement_fits (meaning_in self.now.known.now self.now.only_constants)
+            (in_labels self.now.resolved.now (if_of i.now)) }
     {
         if !self.condition_fits(&i.condition) {
             return false;
@@ -193,7 +221,9 @@ impl<'a, 't> Names<'a, 't> {
 
     #[cycle(statements)]
     fn elsifs_fit(&self, parts: &Vec<Elsif>) -> bool
-        ensures { result ≡ elsifs_fit (meaning_in self.now.known.now self.now.only_constants) (in_labels self.now.resolved.now (elsifs_in parts.now)) }
+        ensures { result
+            ≡ elsifs_fit (meaning_in self.now.known.now self.now.only_constants)
+            (in_labels self.now.resolved.now (elsifs_in parts.now)) }
     {
         for part in parts {
             if !self.condition_fits(&part.condition) {

@@ -23,7 +23,9 @@ impl<'a, 't> Names<'a, 't> {
     #[cycle(expressions)]
     #[tactic(auto, unfolding(ob0_types_rules::specs::Typing::type_of, ob0_types_rules::specs::Selected::type_selected))]
     pub fn type_of(&self, e: &Expression) -> Option<TypeId>
-        ensures { option_map (type_shape (shapes_of self.now.known.now)) result ≡ type_of (meaning_in self.now.known.now self.now.only_constants) (in_labels self.now.resolved.now (expression_of e.now)) }
+        ensures { option_map (type_shape (shapes_of self.now.known.now)) result
+            ≡ type_of (meaning_in self.now.known.now self.now.only_constants)
+            (in_labels self.now.resolved.now (expression_of e.now)) }
     {
         let left = self.type_of_simple(&e.left);
         match &e.compared {
@@ -39,7 +41,9 @@ impl<'a, 't> Names<'a, 't> {
     #[cycle(expressions)]
     #[tactic(auto, unfolding(ob0_types_rules::specs::Typing::type_of, ob0_types_rules::specs::Selected::type_selected))]
     fn type_of_simple(&self, s: &Simple) -> Option<TypeId>
-        ensures { option_map (type_shape (shapes_of self.now.known.now)) result ≡ type_of_simple (meaning_in self.now.known.now self.now.only_constants) (in_labels self.now.resolved.now (simple_of s.now)) }
+        ensures { option_map (type_shape (shapes_of self.now.known.now)) result
+            ≡ type_of_simple (meaning_in self.now.known.now self.now.only_constants)
+            (in_labels self.now.resolved.now (simple_of s.now)) }
     {
         let mut so_far = with_sign(s.sign, self.type_of_term(&s.first));
         for addend in &s.more {
@@ -51,7 +55,9 @@ impl<'a, 't> Names<'a, 't> {
     #[cycle(expressions)]
     #[tactic(auto, unfolding(ob0_types_rules::specs::Typing::type_of, ob0_types_rules::specs::Selected::type_selected))]
     fn type_of_term(&self, t: &Term) -> Option<TypeId>
-        ensures { option_map (type_shape (shapes_of self.now.known.now)) result ≡ type_of_term (meaning_in self.now.known.now self.now.only_constants) (in_labels self.now.resolved.now (term_of t.now)) }
+        ensures { option_map (type_shape (shapes_of self.now.known.now)) result
+            ≡ type_of_term (meaning_in self.now.known.now self.now.only_constants)
+            (in_labels self.now.resolved.now (term_of t.now)) }
     {
         let mut so_far = self.type_of_factor(&t.first);
         for multiplier in &t.more {
@@ -67,7 +73,9 @@ impl<'a, 't> Names<'a, 't> {
     #[cycle(expressions)]
     #[tactic(auto, unfolding(ob0_types_rules::specs::Typing::type_of, ob0_types_rules::specs::Selected::type_selected))]
     fn type_of_factor(&self, f: &Factor) -> Option<TypeId>
-        ensures { option_map (type_shape (shapes_of self.now.known.now)) result ≡ type_of_factor (meaning_in self.now.known.now self.now.only_constants) (in_labels self.now.resolved.now (factor_of f.now)) }
+        ensures { option_map (type_shape (shapes_of self.now.known.now)) result
+            ≡ type_of_factor (meaning_in self.now.known.now self.now.only_constants)
+            (in_labels self.now.resolved.now (factor_of f.now)) }
     {
         match f {
             Factor::Designator(d) => self.type_behind(self.value_type(d.name), d),
@@ -81,7 +89,10 @@ impl<'a, 't> Names<'a, 't> {
     #[cycle(expressions)]
     #[tactic(auto, unfolding(ob0_types_rules::specs::Typing::type_of, ob0_types_rules::specs::Selected::type_selected))]
     fn type_behind(&self, base: Option<TypeId>, d: &Designator) -> Option<TypeId>
-        ensures { option_map (type_shape (shapes_of self.now.known.now)) result ≡ option_and_then (λ s. type_at (meaning_in self.now.known.now self.now.only_constants) s (in_labels self.now.resolved.now (selectors_in d.now))) (option_map (type_shape (shapes_of self.now.known.now)) base) }
+        ensures { option_map (type_shape (shapes_of self.now.known.now)) result
+            ≡ option_and_then (λ s. type_at (meaning_in self.now.known.now self.now.only_constants)
+            s (in_labels self.now.resolved.now (selectors_in d.now)))
+            (option_map (type_shape (shapes_of self.now.known.now)) base) }
     {
         let mut at = base;
         for selector in &d.selectors {
@@ -93,7 +104,11 @@ impl<'a, 't> Names<'a, 't> {
     #[cycle(expressions)]
     #[tactic(auto, unfolding(ob0_types_rules::specs::Typing::type_of, ob0_types_rules::specs::Selected::type_selected))]
     fn type_selected(&self, base: Option<TypeId>, s: &Selector) -> Option<TypeId>
-        ensures { option_map (type_shape (shapes_of self.now.known.now)) result ≡ option_and_then (λ s'. type_selected (meaning_in self.now.known.now self.now.only_constants) s' (in_labels self.now.resolved.now (selector_of s.now))) (option_map (type_shape (shapes_of self.now.known.now)) base) }
+        ensures { option_map (type_shape (shapes_of self.now.known.now)) result
+            ≡ option_and_then (λ s'. type_selected
+            (meaning_in self.now.known.now self.now.only_constants) s'
+            (in_labels self.now.resolved.now (selector_of s.now)))
+            (option_map (type_shape (shapes_of self.now.known.now)) base) }
     {
         match s {
             Selector::Field(name) => self.field_of(base, *name),
@@ -102,7 +117,10 @@ impl<'a, 't> Names<'a, 't> {
     }
 
     fn field_of(&self, base: Option<TypeId>, name: usize) -> Option<TypeId>
-        ensures { option_map (type_shape (shapes_of self.now.known.now)) result ≡ option_and_then (λ s. field_type s ((meaning_in self.now.known.now self.now.only_constants).written (label_in self.now.resolved.now name))) (option_map (type_shape (shapes_of self.now.known.now)) base) }
+        ensures { option_map (type_shape (shapes_of self.now.known.now)) result
+            ≡ option_and_then (λ s. field_type s ((meaning_in self.now.known.now
+            self.now.only_constants).written (label_in self.now.resolved.now name)))
+            (option_map (type_shape (shapes_of self.now.known.now)) base) }
     {
         match base {
             None => None,
@@ -111,7 +129,9 @@ impl<'a, 't> Names<'a, 't> {
     }
 
     fn element_of(&self, base: Option<TypeId>, index: Option<TypeId>) -> Option<TypeId>
-        ensures { option_map (type_shape (shapes_of self.now.known.now)) result ≡ both element_type (option_map (type_shape (shapes_of self.now.known.now)) base) (option_map (type_shape (shapes_of self.now.known.now)) index) }
+        ensures { option_map (type_shape (shapes_of self.now.known.now)) result
+            ≡ both element_type (option_map (type_shape (shapes_of self.now.known.now)) base)
+            (option_map (type_shape (shapes_of self.now.known.now)) index) }
     {
         match base {
             None => None,
@@ -130,7 +150,11 @@ impl<'a, 't> Names<'a, 't> {
 
     /// The type of a variable or parameter with its selectors.
     pub fn variable_type(&self, d: &Designator) -> Option<TypeId>
-        ensures { option_map (type_shape (shapes_of self.now.known.now)) result ≡ option_and_then (λ s. type_at (meaning_in self.now.known.now self.now.only_constants) s (in_labels self.now.resolved.now (selectors_in d.now))) (variable_of (label_object self.now.known.now (label_in self.now.resolved.now (out-Designator d.now).name))) }
+        ensures { option_map (type_shape (shapes_of self.now.known.now)) result
+            ≡ option_and_then (λ s. type_at (meaning_in self.now.known.now self.now.only_constants)
+            s (in_labels self.now.resolved.now (selectors_in d.now))) (variable_of
+            (label_object self.now.known.now
+            (label_in self.now.resolved.now (out-Designator d.now).name))) }
     {
         self.type_behind(self.variable(d.name), d)
     }

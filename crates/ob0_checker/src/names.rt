@@ -29,7 +29,8 @@ impl<'a, 't> Names<'a, 't> {
 
     /// What a name means.
     pub fn object(&self, token: usize) -> Option<&'a Object>
-        ensures value { option_and_then (λ o. object_in (shapes_of self.now.known.now) o.now) result ≡ label_object self.now.known.now (label_in self.now.resolved.now token) }
+        ensures value { option_and_then (λ o. object_in (shapes_of self.now.known.now) o.now) result
+            ≡ label_object self.now.known.now (label_in self.now.resolved.now token) }
         ensures made { IfSome result (λ o. ObjectIsMade (length self.now.known.now.shapes) o.now) }
     {
         let ordinal = self.resolved.ordinal_at(token)?;
@@ -38,7 +39,9 @@ impl<'a, 't> Names<'a, 't> {
 
     /// The type of the variable, parameter or constant that a name means.
     pub fn value_type(&self, token: usize) -> Option<TypeId>
-        ensures { option_map (type_shape (shapes_of self.now.known.now)) result ≡ object_type ((meaning_in self.now.known.now self.now.only_constants).stands_for (label_in self.now.resolved.now token)) }
+        ensures { option_map (type_shape (shapes_of self.now.known.now)) result
+            ≡ object_type ((meaning_in self.now.known.now self.now.only_constants).stands_for
+            (label_in self.now.resolved.now token)) }
     {
         match self.object(token)? {
             Object::Variable(of) => { if self.only_constants { None } else { Some(*of) } }
@@ -52,7 +55,8 @@ impl<'a, 't> Names<'a, 't> {
 
     /// The value of the constant that a name means.
     pub fn constant(&self, token: usize) -> Option<Scalar>
-        ensures { option_map scalar_value result ≡ constant_of (label_object self.now.known.now (label_in self.now.resolved.now token)) }
+        ensures { option_map scalar_value result
+            ≡ constant_of (label_object self.now.known.now (label_in self.now.resolved.now token)) }
     {
         match self.object(token)? {
             Object::Constant(value) => Some(*value),
@@ -66,7 +70,9 @@ impl<'a, 't> Names<'a, 't> {
 
     /// The type that a name means.
     pub fn named_type(&self, token: usize) -> Option<TypeId>
-        ensures value { option_map (type_shape (shapes_of self.now.known.now)) result ≡ type_of_name (label_object self.now.known.now (label_in self.now.resolved.now token)) }
+        ensures value { option_map (type_shape (shapes_of self.now.known.now)) result
+            ≡ type_of_name
+            (label_object self.now.known.now (label_in self.now.resolved.now token)) }
         ensures made { IfSome result (λ t. IsMade (length self.now.known.now.shapes) t) }
     {
         match self.object(token)? {
@@ -81,7 +87,8 @@ impl<'a, 't> Names<'a, 't> {
 
     /// The type of the variable or parameter that a name means.
     pub fn variable(&self, token: usize) -> Option<TypeId>
-        ensures { option_map (type_shape (shapes_of self.now.known.now)) result ≡ variable_of (label_object self.now.known.now (label_in self.now.resolved.now token)) }
+        ensures { option_map (type_shape (shapes_of self.now.known.now)) result
+            ≡ variable_of (label_object self.now.known.now (label_in self.now.resolved.now token)) }
     {
         match self.object(token)? {
             Object::Variable(of) => Some(*of),

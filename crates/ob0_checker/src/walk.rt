@@ -77,8 +77,16 @@ impl<'t> Walk<'t> {
     /// Binds the name at a token to what is declared there. A token that declares nothing binds nothing.
     pub(crate) fn bind(self, token: usize, object: Object) -> Result<Walk<'t>, AllocError>
         requires { ObjectIsMade (length self.known.shapes) object }
-        ensures agrees { IfOk result (λ w. (env : TypeEnvironment Label) (o : meaning.Object Shape Signature) → object_in (shapes_of self.entry.known) object ≡ Some o → Agrees env self.entry.known → Agrees ((label_in self.entry.resolved token, o) ∷ env) w.known) }
-        ensures keeps { IfOk result (λ w. (all : TypeEnvironment Label) (o : meaning.Object Shape Signature) → object_in (shapes_of self.entry.known) object ≡ Some o → Keeps all self.entry.known → Keeps ((label_in self.entry.resolved token, o) ∷ all) w.known) }
+        ensures agrees { IfOk result (λ w. (env : TypeEnvironment Label)
+            (o : meaning.Object Shape Signature)
+            → object_in (shapes_of self.entry.known) object ≡ Some o
+            → Agrees env self.entry.known
+            → Agrees ((label_in self.entry.resolved token, o) ∷ env) w.known) }
+        ensures keeps { IfOk result (λ w. (all : TypeEnvironment Label)
+            (o : meaning.Object Shape Signature)
+            → object_in (shapes_of self.entry.known) object ≡ Some o
+            → Keeps all self.entry.known
+            → Keeps ((label_in self.entry.resolved token, o) ∷ all) w.known) }
         ensures shapes { IfOk result (λ w. w.known.shapes ≡ self.entry.known.shapes) }
         ensures follows { IfOk result (λ w. Follows self.entry w) }
         ensures resolved { IfOk result (λ w. w.resolved ≡ self.entry.resolved) }
@@ -116,7 +124,12 @@ impl<'t> Walk<'t> {
 
     /// Puts back what was in scope after so many bindings.
     pub(crate) fn back_to(self, mark: usize) -> Walk<'t>
-        ensures seen { (first more : List Shadowed) → self.entry.bound ≡ first ++ more → mark ≡ length first → (result.bound ≡ first) × ((k : ℕ) → seen_object result.known k ≡ before_all more (seen_object self.entry.known) k) }
+        ensures seen { (first more : List Shadowed)
+            → self.entry.bound ≡ first ++ more
+            → mark ≡ length first
+            → (result.bound ≡ first)
+            × ((k : ℕ)
+            → seen_object result.known k ≡ before_all more (seen_object self.entry.known) k) }
         ensures declared { (k : ℕ) → declared_in result.known k ≡ declared_in self.entry.known k }
         ensures shapes { result.known.shapes ≡ self.entry.known.shapes }
         ensures resolved { result.resolved ≡ self.entry.resolved }
@@ -144,13 +157,23 @@ impl<'t> Walk<'t> {
 
     /// The type that a text denotes. None where it denotes none.
     pub(crate) fn denote(self, t: &WrittenType) -> Result<Option<Typed<'t>>, AllocError>
-        ensures value { IfOk result (λ r. (env : TypeEnvironment Label) → Agrees env self.entry.known → option_map (λ d. type_shape (shapes_of d.walk.known) d.of) r ≡ denoted (meanings as_labels env) self.entry.next (in_labels self.entry.resolved (type_of t.now))) }
-        ensures agrees { IfOk result (λ r. IfSome r (λ d. (env : TypeEnvironment Label) → Agrees env self.entry.known → Agrees env d.walk.known)) }
-        ensures keeps { IfOk result (λ r. IfSome r (λ d. (all : TypeEnvironment Label) → Keeps all self.entry.known → Keeps all d.walk.known)) }
+        ensures value { IfOk result (λ r. (env : TypeEnvironment Label)
+            → Agrees env self.entry.known
+            → option_map (λ d. type_shape (shapes_of d.walk.known) d.of) r
+            ≡ denoted (meanings as_labels env) self.entry.next
+            (in_labels self.entry.resolved (type_of t.now))) }
+        ensures agrees { IfOk result (λ r. IfSome r (λ d. (env : TypeEnvironment Label)
+            → Agrees env self.entry.known
+            → Agrees env d.walk.known)) }
+        ensures keeps { IfOk result (λ r. IfSome r (λ d. (all : TypeEnvironment Label)
+            → Keeps all self.entry.known
+            → Keeps all d.walk.known)) }
         ensures made { IfOk result (λ r. IfSome r (λ d. IsMade (length d.walk.known.shapes) d.of)) }
         ensures follows { IfOk result (λ r. IfSome r (λ d. Follows self.entry d.walk)) }
-        ensures resolved { IfOk result (λ r. IfSome r (λ d. d.walk.resolved ≡ self.entry.resolved)) }
-        ensures next { IfOk result (λ r. IfSome r (λ d. d.walk.next ≡ self.entry.next + constructors (type_of t.now))) }
+        ensures resolved { IfOk result
+            (λ r. IfSome r (λ d. d.walk.resolved ≡ self.entry.resolved)) }
+        ensures next { IfOk result
+            (λ r. IfSome r (λ d. d.walk.next ≡ self.entry.next + constructors (type_of t.now))) }
     {
         let Walk {
             alloc,

@@ -18,6 +18,11 @@ EndsBefore (b ∷ bs) = IsTrue (is_space b)
 -- A text writes numbers: each is a word of its own, and between words is white space: space, tab, CR or LF.
 pub data WritesNumbers : List ℕ → List ℤ → Type 0 where
   nothing : WritesNumbers [] []
-  space : {b : ℕ} {text : List ℕ} {ns : List ℤ} → IsTrue (is_space b) → WritesNumbers text ns → WritesNumbers (b ∷ text) ns
-  number : {text : List ℕ} {ns : List ℤ} (word after : List ℕ) (n : ℤ) → text ≡ word ++ after → WritesNumber word n
+  space : {b : ℕ} {text : List ℕ} {ns : List ℤ}
+      → IsTrue (is_space b)
+      → WritesNumbers text ns
+      → WritesNumbers (b ∷ text) ns
+  number : {text : List ℕ} {ns : List ℤ} (word after : List ℕ) (n : ℤ)
+      → text ≡ word ++ after
+      → WritesNumber word n
       → EndsBefore after → WritesNumbers after ns → WritesNumbers text (n ∷ ns)

@@ -30,7 +30,10 @@ fault_line fault.Memory = codes "fault: Memory\n"
 
 -- L:C: Code: message
 abbrev pub line_at : Position → Complaint → List ℕ
-line_at p c = decimal p.line ++ (codes ":" ++ (decimal p.character ++ (codes ": " ++ (c.code ++ (codes ": " ++ (c.said ++ codes "\n"))))))
+line_at p c =
+    decimal p.line
+    ++ (codes ":"
+    ++ (decimal p.character ++ (codes ": " ++ (c.code ++ (codes ": " ++ (c.said ++ codes "\n"))))))
 
 -- a line for each thing that is reported, at these positions
 abbrev pub lines_at : List Position → List Complaint → List ℕ
@@ -52,7 +55,10 @@ complaint_lines text (c ∷ cs) = complaint_line text c ++ complaint_lines text 
 abbrev pub PrintsFaults : List ℕ → Option (List ℕ) → Option (List ℕ) → Type 0
 PrintsFaults file before after =
     ((max_text < length file) × Appends before after (codes "0:0: TooLong: text too long\n"))
-    ⊎ ((told : List Complaint) × (¬ IsWellTypedModule file) × ReportsFaults file told × Appends before after (complaint_lines file told))
+    ⊎ ((told : List Complaint)
+    × (¬ IsWellTypedModule file)
+    × ReportsFaults file told
+    × Appends before after (complaint_lines file told))
 
 -- ---- runs
 

@@ -21,8 +21,14 @@ pub record PrintsPatched (unit : Unit) (content : List ℕ) (edits : List Edit) 
   pub printed : Appends before after text
 
 -- the edited text is printed, or nothing where the name is refused
-abbrev pub PrintsEdited : Unit → List ℕ → Result (Vec Edit Global) EditRefusal → Option (List ℕ) → Option (List ℕ) → Type 0
-PrintsEdited unit content (Ok edits) before after = PrintsPatched unit content edits.items before after
+abbrev pub PrintsEdited : Unit
+    → List ℕ
+    → Result (Vec Edit Global) EditRefusal
+    → Option (List ℕ)
+    → Option (List ℕ)
+    → Type 0
+PrintsEdited unit content (Ok edits) before after =
+    PrintsPatched unit content edits.items before after
 PrintsEdited unit content (Err refusal) before after = ⊥
 
 -- there are no edits, for a reason
@@ -44,4 +50,5 @@ pub record RefusesName (file : List ℕ) (position : Position) (new : List ℕ) 
 
 -- the name is refused, or it is reported what is wrong with the file
 abbrev pub PrintsNoName : List ℕ → Position → List ℕ → Option (List ℕ) → Option (List ℕ) → Type 0
-PrintsNoName file position new before after = PrintsFaults file before after ⊎ RefusesName file position new before after
+PrintsNoName file position new before after =
+    PrintsFaults file before after ⊎ RefusesName file position new before after

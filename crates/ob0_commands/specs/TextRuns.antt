@@ -36,9 +36,24 @@ pub record PrintsRun (file : List ℕ) (given : Option (List ℕ)) (c t : ℕ) (
   pub printed : Appends before after (output_text r.output)
 
 -- a run that reaches the end of the module's body is printed
-abbrev pub PrintsDone : List ℕ → Option (List ℕ) → ℕ → ℕ → Option (List ℕ) → Option (List ℕ) → Type 0
-PrintsDone file given c t before after = (r : Run) × PrintsRun file given c t before after r × (r.ending ≡ end_in end.Done)
+abbrev pub PrintsDone : List ℕ
+    → Option (List ℕ)
+    → ℕ
+    → ℕ
+    → Option (List ℕ)
+    → Option (List ℕ)
+    → Type 0
+PrintsDone file given c t before after =
+    (r : Run) × PrintsRun file given c t before after r × (r.ending ≡ end_in end.Done)
 
 -- a run that ends otherwise is printed, or what is wrong with the file
-abbrev pub PrintsOther : List ℕ → Option (List ℕ) → ℕ → ℕ → Option (List ℕ) → Option (List ℕ) → Type 0
-PrintsOther file given c t before after = PrintsFaults file before after ⊎ ((r : Run) × PrintsRun file given c t before after r × (r.ending ≢ end_in end.Done))
+abbrev pub PrintsOther : List ℕ
+    → Option (List ℕ)
+    → ℕ
+    → ℕ
+    → Option (List ℕ)
+    → Option (List ℕ)
+    → Type 0
+PrintsOther file given c t before after =
+    PrintsFaults file before after
+    ⊎ ((r : Run) × PrintsRun file given c t before after r × (r.ending ≢ end_in end.Done))

@@ -40,7 +40,9 @@ pub fn check<'f, O: Output>(
     file: &'f [u8],
     out: &mut O,
 ) -> Result<Option<&'f str>, FileFault>
-    ensures found { IfOk result (λ found. MatchOption found (PrintsFaults file.entry.now (O.contents out.old) (O.contents out.new)) (λ text. (text.now ≡ file.entry.now) × Reports file.entry.now [] × (out.new ≡ out.old))) }
+    ensures found { IfOk result (λ found. MatchOption found
+        (PrintsFaults file.entry.now (O.contents out.old) (O.contents out.new))
+        (λ text. (text.now ≡ file.entry.now) × Reports file.entry.now [] × (out.new ≡ out.old))) }
     ensures flushed { IfOk result (λ found. IfNone found (O.is_flushed out.new ≡ true)) }
     ensures fault { IfErr result (StopsPrintingFaults file.entry.now) }
     ensures failed { IfErr result (IsOfOutput (O.has_failed out.new)) }
@@ -58,7 +60,9 @@ pub fn check<'f, O: Output>(
 
 /// The text of a file that isn't too long; else that is printed.
 pub fn text_of<'f, O: Output>(file: &'f [u8], out: &mut O) -> Result<Option<&'f str>, FileFault>
-    ensures found { IfOk result (λ found. MatchOption found ((max_text < length file.entry.now) × Appends (O.contents out.old) (O.contents out.new) (codes "0:0: TooLong: text too long\n")) (λ text. (text.now ≡ file.entry.now) × (out.new ≡ out.old))) }
+    ensures found { IfOk result (λ found. MatchOption found ((max_text < length file.entry.now)
+        × Appends (O.contents out.old) (O.contents out.new) (codes "0:0: TooLong: text too long\n"))
+        (λ text. (text.now ≡ file.entry.now) × (out.new ≡ out.old))) }
     ensures flushed { IfOk result (λ found. IfNone found (O.is_flushed out.new ≡ true)) }
     ensures fault { IfErr result (StopsPrintingFaults file.entry.now) }
     ensures failed { IfErr result (IsOfOutput (O.has_failed out.new)) }
@@ -80,7 +84,8 @@ pub fn print_diagnoses<O: Output>(
     told: &[Diagnosis],
     out: &mut O,
 ) -> Result<(), FileFault>
-    ensures printed { OnOk result (Appends (O.contents out.old) (O.contents out.new) (complaint_lines text.now (map complaint_in told.now))) }
+    ensures printed { OnOk result (Appends (O.contents out.old) (O.contents out.new)
+        (complaint_lines text.now (map complaint_in told.now))) }
     ensures flushed { OnOk result (O.is_flushed out.new ≡ true) }
     ensures fault { IfErr result StopsPrinting }
     ensures failed { IfErr result (IsOfOutput (O.has_failed out.new)) }
@@ -90,7 +95,8 @@ pub fn print_diagnoses<O: Output>(
 
 /// A line for each diagnostic.
 fn lines_of(alloc: Global, text: &str, told: &[Diagnosis]) -> Result<String, AllocError>
-    ensures { IfOk result (λ lines. string_bytes lines ≡ complaint_lines text.now (map complaint_in told.now)) }
+    ensures { IfOk result
+        (λ lines. string_bytes lines ≡ complaint_lines text.now (map complaint_in told.now)) }
 {
     let store = Lines::from_str(alloc, text)?;
     let starts = starts_of(alloc, told)?;
@@ -109,7 +115,8 @@ fn starts_of(alloc: Global, told: &[Diagnosis]) -> Result<Vec<usize>, AllocError
 
 /// A line for each diagnostic, with its position.
 fn lines_at(alloc: Global, told: &[Diagnosis], positions: &[Position]) -> Result<String, AllocError>
-    ensures { IfOk result (λ lines. string_bytes lines ≡ lines_at positions.now (map complaint_in told.now)) }
+    ensures { IfOk result
+        (λ lines. string_bytes lines ≡ lines_at positions.now (map complaint_in told.now)) }
 {
     let mut lines = String::new(alloc);
     for (diagnosis, position) in told.iter().zip(positions) {
@@ -121,7 +128,8 @@ fn lines_at(alloc: Global, told: &[Diagnosis], positions: &[Position]) -> Result
 
 /// The line of a diagnostic at a position.
 fn line_at(alloc: Global, diagnosis: &Diagnosis, position: Position) -> Result<String, AllocError>
-    ensures { IfOk result (λ line. string_bytes line ≡ line_at position (complaint_in diagnosis.now)) }
+    ensures { IfOk result
+        (λ line. string_bytes line ≡ line_at position (complaint_in diagnosis.now)) }
 {
     let (line, character) = (position.line, position.character);
     let code = diagnosis.code;

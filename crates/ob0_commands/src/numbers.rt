@@ -14,7 +14,8 @@ use std::io::Read;
 
 /// Reads the numbers of the input: whole numbers of 32 bits, digits with an optional `-` before them, between white space.
 pub fn read_numbers<R: Read>(alloc: Global, input: &mut R) -> Result<Vec<i32>, FileFault>
-    ensures numbers { IfOk result (λ numbers. IfSome (R.remaining input.old) (λ text. WritesNumbers text numbers.items)) }
+    ensures numbers { IfOk result
+        (λ numbers. IfSome (R.remaining input.old) (λ text. WritesNumbers text numbers.items)) }
     ensures fault { IfErr result (StopsReading faults.Input) }
 {
     let text = read_input(alloc, input)?;
@@ -26,7 +27,8 @@ pub fn read_numbers<R: Read>(alloc: Global, input: &mut R) -> Result<Vec<i32>, F
 
 /// The numbers that a text writes, in their order. None where a word of it writes none.
 fn numbers_in(alloc: Global, text: &[u8]) -> Result<Option<Vec<i32>>, AllocError>
-    ensures { IfOk result (λ found. IfSome found (λ numbers. WritesNumbers text.now numbers.items)) }
+    ensures { IfOk result
+        (λ found. IfSome found (λ numbers. WritesNumbers text.now numbers.items)) }
 {
     let mut numbers = Vec::new(alloc);
     let mut at = 0;

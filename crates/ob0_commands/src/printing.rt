@@ -19,7 +19,8 @@ pub trait Output: Write {
 
     /// Writes all of some bytes, and remembers where that fails.
     fn put_all(&mut self, bytes: &[u8]) -> io::Result<()>
-        ensures bytes { OnOk result (Appends (Self.contents self.old) (Self.contents self.new) bytes.now) }
+        ensures bytes { OnOk result
+            (Appends (Self.contents self.old) (Self.contents self.new) bytes.now) }
         ensures failed { has_failed self.new ≡ (has_failed self.old || is_err result) };
 
     /// Flushes, and remembers whether this succeeded.
@@ -57,7 +58,8 @@ impl<W: Write> Write for Flushed<W> {
 
     fn write(&mut self, buf: &[u8]) -> io::Result<usize>
         ensures bound { WritesAtMost result buf.now }
-        ensures bytes { WriteAppends (W.contents (device_of self.old)) (W.contents (device_of self.new)) result buf.now }
+        ensures bytes { WriteAppends (W.contents (device_of self.old))
+            (W.contents (device_of self.new)) result buf.now }
         ensures flushed { has_flushed self.new ≡ false }
     {
         self.has_flushed = false;

@@ -20,8 +20,10 @@ const PIECE_SIZE: usize = 8192;
 /// Reads a file's bytes, or the first 1,048,577 of them.
 pub fn read_file<R: Read>(alloc: Global, file: &mut R) -> Result<Vec<u8>, FileFault>
     ensures bound { IfOk result (λ bytes. length bytes.items ≤ 1048577) }
-    ensures taken { IfOk result (λ bytes. Consumes (R.remaining file.old) (R.remaining file.new) bytes.items) }
-    ensures end { IfOk result (λ bytes. length bytes.items < 1048577 → IsAtEnd (R.remaining file.new)) }
+    ensures taken { IfOk result
+        (λ bytes. Consumes (R.remaining file.old) (R.remaining file.new) bytes.items) }
+    ensures end { IfOk result
+        (λ bytes. length bytes.items < 1048577 → IsAtEnd (R.remaining file.new)) }
     ensures fault { IfErr result (StopsReading faults.File) }
 {
     read_up_to(alloc, file, MAX_FILE, FileFault::File)
@@ -30,7 +32,8 @@ pub fn read_file<R: Read>(alloc: Global, file: &mut R) -> Result<Vec<u8>, FileFa
 /// Reads the input's bytes, which are at most 16,777,216.
 pub fn read_input<R: Read>(alloc: Global, input: &mut R) -> Result<Vec<u8>, FileFault>
     ensures bound { IfOk result (λ bytes. length bytes.items ≤ 16777216) }
-    ensures taken { IfOk result (λ bytes. Consumes (R.remaining input.old) (R.remaining input.new) bytes.items) }
+    ensures taken { IfOk result
+        (λ bytes. Consumes (R.remaining input.old) (R.remaining input.new) bytes.items) }
     ensures end { IfOk result (λ bytes. IsAtEnd (R.remaining input.new)) }
     ensures fault { IfErr result (StopsReading faults.Input) }
 {
@@ -49,8 +52,10 @@ fn read_up_to<R: Read>(
     fault: FileFault,
 ) -> Result<Vec<u8>, FileFault>
     ensures bound { IfOk result (λ bytes. length bytes.items ≤ most) }
-    ensures taken { IfOk result (λ bytes. Consumes (R.remaining reader.old) (R.remaining reader.new) bytes.items) }
-    ensures end { IfOk result (λ bytes. length bytes.items < most → IsAtEnd (R.remaining reader.new)) }
+    ensures taken { IfOk result
+        (λ bytes. Consumes (R.remaining reader.old) (R.remaining reader.new) bytes.items) }
+    ensures end { IfOk result
+        (λ bytes. length bytes.items < most → IsAtEnd (R.remaining reader.new)) }
     ensures stops { IfErr result (StopsReading fault) }
 {
     let mut bytes = Vec::new(alloc);

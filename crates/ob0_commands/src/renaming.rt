@@ -25,8 +25,10 @@ pub fn rename_text<O: Output, E: Output>(
     out: &mut O,
     err: &mut E,
 ) -> u8
-    ensures renamed { result ≡ 0 → PrintsRenamed file.now position new.now (O.contents out.old) (O.contents out.new) }
-    ensures other { result ≡ 1 → PrintsNoName file.now position new.now (O.contents out.old) (O.contents out.new) }
+    ensures renamed { result ≡ 0
+        → PrintsRenamed file.now position new.now (O.contents out.old) (O.contents out.new) }
+    ensures other { result ≡ 1
+        → PrintsNoName file.now position new.now (O.contents out.old) (O.contents out.new) }
     ensures flushed { result ≡ 0 → O.is_flushed out.new ≡ true }
     ensures handed_on { result ≡ 1 → IsHandedOn (O.is_flushed out.new) out.old out.new }
     ensures statuses { IsStatus result }
@@ -46,10 +48,13 @@ fn rename_file<O: Output, E: Output>(
     out: &mut O,
     err: &mut E,
 ) -> Result<u8, FileFault>
-    ensures renamed { IfOk result (λ status. status ≡ 0 → PrintsRenamed file.now position new.now (O.contents out.old) (O.contents out.new)) }
-    ensures other { IfOk result (λ status. status ≡ 1 → PrintsNoName file.now position new.now (O.contents out.old) (O.contents out.new)) }
+    ensures renamed { IfOk result (λ status. status ≡ 0
+        → PrintsRenamed file.now position new.now (O.contents out.old) (O.contents out.new)) }
+    ensures other { IfOk result (λ status. status ≡ 1
+        → PrintsNoName file.now position new.now (O.contents out.old) (O.contents out.new)) }
     ensures flushed { IfOk result (λ status. status ≡ 0 → O.is_flushed out.new ≡ true) }
-    ensures handed_on { IfOk result (λ status. status ≡ 1 → IsHandedOn (O.is_flushed out.new) out.old out.new) }
+    ensures handed_on { IfOk result
+        (λ status. status ≡ 1 → IsHandedOn (O.is_flushed out.new) out.old out.new) }
     ensures ends { IfOk result (λ status. status ≤ 1) }
     ensures fault { IfErr result (StopsPrintingFaults file.now) }
     ensures failed { IfErr result (IsOfOutput (O.has_failed out.new)) }
@@ -68,10 +73,13 @@ fn rename_in_text<O: Output, E: Output>(
     out: &mut O,
     err: &mut E,
 ) -> Result<u8, FileFault>
-    ensures renamed { IfOk result (λ status. status ≡ 0 → PrintsRenamed text.now position new.now (O.contents out.old) (O.contents out.new)) }
-    ensures other { IfOk result (λ status. status ≡ 1 → PrintsNoName text.now position new.now (O.contents out.old) (O.contents out.new)) }
+    ensures renamed { IfOk result (λ status. status ≡ 0
+        → PrintsRenamed text.now position new.now (O.contents out.old) (O.contents out.new)) }
+    ensures other { IfOk result (λ status. status ≡ 1
+        → PrintsNoName text.now position new.now (O.contents out.old) (O.contents out.new)) }
     ensures flushed { IfOk result (λ status. status ≡ 0 → O.is_flushed out.new ≡ true) }
-    ensures handed_on { IfOk result (λ status. status ≡ 1 → IsHandedOn (O.is_flushed out.new) out.old out.new) }
+    ensures handed_on { IfOk result
+        (λ status. status ≡ 1 → IsHandedOn (O.is_flushed out.new) out.old out.new) }
     ensures ends { IfOk result (λ status. status ≤ 1) }
     ensures fault { IfErr result StopsPrinting }
     ensures failed { IfErr result (IsOfOutput (O.has_failed out.new)) }
@@ -97,7 +105,9 @@ pub fn print_edited<T: TextStore, O: Output, E: Output>(
     out: &mut O,
     err: &mut E,
 ) -> Result<u8, FileFault>
-    ensures edited { IfOk result (λ status. status ≡ 0 → PrintsEdited (T.unit_of store.now) (T.content store.now) edits (O.contents out.old) (O.contents out.new)) }
+    ensures edited { IfOk result (λ status. status ≡ 0
+        → PrintsEdited (T.unit_of store.now) (T.content store.now) edits (O.contents out.old)
+        (O.contents out.new)) }
     ensures refused { IfOk result (λ status. status ≡ 1 → IsRefusal edits × (out.new ≡ out.old)) }
     ensures flushed { IfOk result (λ status. status ≡ 0 → O.is_flushed out.new ≡ true) }
     ensures ends { IfOk result (λ status. status ≤ 1) }

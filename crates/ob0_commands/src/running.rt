@@ -48,8 +48,12 @@ pub fn run_text<R: Read, O: Output, E: Output>(
     out: &mut O,
     err: &mut E,
 ) -> u8
-    ensures done { result ≡ 0 → PrintsDone file.now (R.remaining input.old) calls turns (O.contents out.old) (O.contents out.new) }
-    ensures other { result ≡ 1 → PrintsOther file.now (R.remaining input.old) calls turns (O.contents out.old) (O.contents out.new) }
+    ensures done { result ≡ 0
+        → PrintsDone file.now (R.remaining input.old) calls turns (O.contents out.old)
+        (O.contents out.new) }
+    ensures other { result ≡ 1
+        → PrintsOther file.now (R.remaining input.old) calls turns (O.contents out.old)
+        (O.contents out.new) }
     ensures flushed { result ≤ 1 → O.is_flushed out.new ≡ true }
 {
     match run_file(alloc, file, input, calls, turns, out, err) {
@@ -67,8 +71,12 @@ fn run_file<R: Read, O: Output, E: Output>(
     out: &mut O,
     err: &mut E,
 ) -> Result<u8, FileFault>
-    ensures done { IfOk result (λ status. status ≡ 0 → PrintsDone file.now (R.remaining input.old) calls turns (O.contents out.old) (O.contents out.new)) }
-    ensures other { IfOk result (λ status. status ≡ 1 → PrintsOther file.now (R.remaining input.old) calls turns (O.contents out.old) (O.contents out.new)) }
+    ensures done { IfOk result (λ status. status ≡ 0
+        → PrintsDone file.now (R.remaining input.old) calls turns (O.contents out.old)
+        (O.contents out.new)) }
+    ensures other { IfOk result (λ status. status ≡ 1
+        → PrintsOther file.now (R.remaining input.old) calls turns (O.contents out.old)
+        (O.contents out.new)) }
     ensures flushed { OnOk result (O.is_flushed out.new ≡ true) }
 {
     let Some(text) = text_of(file, out)? else {
@@ -88,7 +96,9 @@ fn lower_text<O: Output>(
     text: &str,
     out: &mut O,
 ) -> Result<Option<Program>, FileFault>
-    ensures found { IfOk result (λ found. MatchOption found (PrintsFaults text.now (O.contents out.old) (O.contents out.new)) (λ program. IsLoweredTo text.now program × (out.new ≡ out.old))) }
+    ensures found { IfOk result (λ found. MatchOption found
+        (PrintsFaults text.now (O.contents out.old) (O.contents out.new))
+        (λ program. IsLoweredTo text.now program × (out.new ≡ out.old))) }
     ensures flushed { IfOk result (λ found. IfNone found (O.is_flushed out.new ≡ true)) }
 {
     let analysis = Analysis::of(alloc, text)?;
@@ -141,7 +151,8 @@ pub fn print_outcome<O: Output, E: Output>(
     out: &mut O,
     err: &mut E,
 ) -> Result<u8, FileFault>
-    ensures printed { OnOk result (Appends (O.contents out.old) (O.contents out.new) (output_text (items_out output.now))) }
+    ensures printed { OnOk result
+        (Appends (O.contents out.old) (O.contents out.new) (output_text (items_out output.now))) }
     ensures flushed { OnOk result (O.is_flushed out.new ≡ true) }
     ensures status { IfOk result (λ status. status ≡ status_at end) }
     ensures fault { IfErr result StopsPrinting }
@@ -169,7 +180,8 @@ fn output_of(alloc: Global, output: &[Item]) -> Result<String, AllocError>
 }
 
 fn push_item(text: &mut String, digits: &mut Buffer, item: Item) -> Result<(), AllocError>
-    ensures { OnOk result (string_bytes text.new ≡ string_bytes text.old ++ written_text (item_of item)) }
+    ensures { OnOk result
+        (string_bytes text.new ≡ string_bytes text.old ++ written_text (item_of item)) }
 {
     match item {
         Item::Number(number) => {

@@ -28,7 +28,8 @@ is_by_place by_place = true
 
 -- a parameter in a hover text
 abbrev pub parameter_hover : Name → Formal → Parameter
-parameter_hover name f = record { by_place = is_by_place f.mode; name = name; of = type_text f.shape }
+parameter_hover name f =
+    record { by_place = is_by_place f.mode; name = name; of = type_text f.shape }
 
 -- the parameters of a procedure, by the names that are declared after its own and by its signature
 abbrev pub parameters_hover : List Name → Signature → List Parameter
@@ -46,12 +47,21 @@ object_hover name behind (a_standard s) = Some (predeclared_text name)
 
 -- the names that are declared after what has this ordinal, in text order
 abbrev pub names_after : Parsed → ℕ → List Name
-names_after m ordinal = map (text_at m.source) (drop (ordinal + 1 - 7) (declaring_only (identifiers role.Declaring (tree_of m))))
+names_after m ordinal =
+    map (text_at m.source)
+    (drop (ordinal + 1 - 7) (declaring_only (identifiers role.Declaring (tree_of m))))
 
 -- the name of a declaration of the text, by what this is bound to
-abbrev pub declaration_hover : Parsed → named.Named → Option (Object Shape Signature) → Option (List ℕ)
-declaration_hover m n object = option_and_then (object_hover (text_at m.source n.token) (names_after m n.ordinal)) object
+abbrev pub declaration_hover : Parsed
+    → named.Named
+    → Option (Object Shape Signature)
+    → Option (List ℕ)
+declaration_hover m n object =
+    option_and_then (object_hover (text_at m.source n.token) (names_after m n.ordinal)) object
 
 -- the predeclared names come before the declarations of the text
 abbrev pub name_hover : Parsed → named.Named → Option (Object Shape Signature) → Option (List ℕ)
-name_hover m n object = if nat_lt n.ordinal 7 then Some (predeclared_text (text_at m.source n.token)) else declaration_hover m n object
+name_hover m n object =
+    if nat_lt n.ordinal 7
+    then Some (predeclared_text (text_at m.source n.token))
+    else declaration_hover m n object

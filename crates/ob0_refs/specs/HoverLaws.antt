@@ -20,14 +20,17 @@ abbrev mutual
   headings (more p rest) = procedure_headings p ++ headings rest
 
   pub procedure_headings : Tree ℕ (item procedure) → List (ℕ × List ℕ)
-  procedure_headings (declares_procedure x fs b closing) = (x, formal_names (formal_sections fs)) ∷ block_headings b
+  procedure_headings (declares_procedure x fs b closing) =
+      (x, formal_names (formal_sections fs)) ∷ block_headings b
 
 -- the first names that are declared after a procedure are those of its parameters
 pub record HasParametersAfter (m : Parsed) (heading : ℕ × List ℕ) : Type 0 where
   pub ordinal : ℕ
-  pub declares : token_declaring (declaring_only (identifiers role.Declaring (tree_of m))) ordinal ≡ Some heading.0
+  pub declares : token_declaring (declaring_only (identifiers role.Declaring (tree_of m))) ordinal
+      ≡ Some heading.0
   pub behind : take (length heading.1) (names_after m ordinal) ≡ map (text_at m.source) heading.1
 
 -- the names declared after each procedure begin with those of its parameters
 abbrev pub ParametersFollow : Type 0
-ParametersFollow = (m : Parsed) → All (HasParametersAfter m) (block_headings (module_block (tree_of m)))
+ParametersFollow =
+    (m : Parsed) → All (HasParametersAfter m) (block_headings (module_block (tree_of m)))

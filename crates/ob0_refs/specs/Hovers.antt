@@ -26,7 +26,8 @@ abbrev pub type_text : Shape → List ℕ
 type_text integer_shape = codes "INTEGER"
 type_text boolean_shape = codes "BOOLEAN"
 type_text (array_shape k n s) = codes "ARRAY " ++ (decimal n ++ (codes " OF " ++ type_text s))
-type_text (record_shape k fs) = codes "RECORD with " ++ (decimal (fields_count fs) ++ codes " fields")
+type_text (record_shape k fs) =
+    codes "RECORD with " ++ (decimal (fields_count fs) ++ codes " fields")
 
 -- CONST c = V
 abbrev pub constant_text : List ℕ → Scalar → List ℕ
@@ -71,7 +72,8 @@ parameters_text (p ∷ ps) = parameter_text p ++ further_text ps
 
 -- PROCEDURE p(a: T; VAR b: T)
 abbrev pub procedure_text : List ℕ → List Parameter → List ℕ
-procedure_text name ps = codes "PROCEDURE " ++ (name ++ (codes "(" ++ (parameters_text ps ++ codes ")")))
+procedure_text name ps =
+    codes "PROCEDURE " ++ (name ++ (codes "(" ++ (parameters_text ps ++ codes ")")))
 
 -- `predeclared N`
 abbrev pub predeclared_text : List ℕ → List ℕ

@@ -13,11 +13,16 @@ use Rattle.ob0_refs.specs.declared.answers.Of.TheVariants as tells
 
 -- the place is on a field: the identifier there has this span, and this is the field of the record
 abbrev pub IsOnField : Resolution → ℕ → Span → ℕ → ℕ → Type 0
-IsOnField r offset span k index = identified_at r offset ≡ Some record { span = span; of = tells.Field k index }
+IsOnField r offset span k index =
+    identified_at r offset ≡ Some record { span = span; of = tells.Field k index }
 
 -- In a well-typed module a field has a definition, where it is declared and where it is selected.
 abbrev pub FieldsAreDefined : Type 0
-FieldsAreDefined = (r : Resolution) (offset k index : ℕ) (span : Span) → IsWellTyped r → IsOnField r offset span k index → is_some (definition_at r offset) ≡ true
+FieldsAreDefined =
+    (r : Resolution) (offset k index : ℕ) (span : Span)
+    → IsWellTyped r
+    → IsOnField r offset span k index
+    → is_some (definition_at r offset) ≡ true
 
 -- A field that is answered at a place is the one that renaming finds there: no name is there, and the references with the
 -- declaration are the identifiers that its renaming writes.
@@ -26,13 +31,21 @@ pub record IsRenamedThere (r : Resolution) (offset : ℕ) (span : Span) (k : ℕ
   pub no_name : name_on r.module_read offset ≡ None
   pub field : field_at r offset ≡ Some (token, k)
   pub place : span_at r.module_read.source token ≡ span
-  pub uses : references_at r offset true ≡ map (span_at r.module_read.source) (field_tokens r k (text_at r.module_read.source token))
+  pub uses : references_at r offset true
+      ≡ map (span_at r.module_read.source) (field_tokens r k (text_at r.module_read.source token))
   pub itself : Contains (references_at r offset true) span
 
 -- where a field is answered, renaming finds that field, and its references are what renaming writes
 abbrev pub FieldsAreRenamedThere : Type 0
-FieldsAreRenamedThere = (r : Resolution) (offset k index : ℕ) (span : Span) → IsOnField r offset span k index → IsRenamedThere r offset span k
+FieldsAreRenamedThere =
+    (r : Resolution) (offset k index : ℕ) (span : Span)
+    → IsOnField r offset span k index
+    → IsRenamedThere r offset span k
 
 -- In a well-typed module a field is shown at each of its places.
 abbrev pub FieldsHaveHovers : Type 0
-FieldsHaveHovers = (r : Resolution) (offset k index : ℕ) (span : Span) → IsWellTyped r → IsOnField r offset span k index → is_some (hover_at_place r offset) ≡ true
+FieldsHaveHovers =
+    (r : Resolution) (offset k index : ℕ) (span : Span)
+    → IsWellTyped r
+    → IsOnField r offset span k index
+    → is_some (hover_at_place r offset) ≡ true

@@ -10,7 +10,9 @@ use Rattle.ob0_scope.specs.NamesAtPlaces.{tokens_bound}
 
 -- where the identifier is that declares what has an ordinal; nowhere for a predeclared name
 abbrev pub declared_at : Parsed → ℕ → Option Span
-declared_at m ordinal = option_map (span_at m.source) (token_declaring (declaring_only (identifiers role.Declaring (tree_of m))) ordinal)
+declared_at m ordinal =
+    option_map (span_at m.source)
+    (token_declaring (declaring_only (identifiers role.Declaring (tree_of m))) ordinal)
 
 -- where a declaration is named, with the identifier that declares it or without
 abbrev pub references_to : Parsed → ℕ → Bool → List Span

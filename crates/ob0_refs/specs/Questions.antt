@@ -37,7 +37,8 @@ name_or_field m None f = option_map (at_field m) f
 
 -- what is at a place
 abbrev pub identified_at : Resolution → ℕ → Option told.At
-identified_at r offset = name_or_field r.module_read (name_on r.module_read offset) (field_at r offset)
+identified_at r offset =
+    name_or_field r.module_read (name_on r.module_read offset) (field_at r offset)
 
 -- where the identifier is that declares a field
 abbrev pub field_declared : Parsed → Identified → Option Span
@@ -61,12 +62,14 @@ without (Some token) tokens = filter (λ other. not (other == token)) tokens
 abbrev pub field_references : Resolution → Identified → Bool → List ℕ
 field_references r x true = field_tokens r x.1 (text_at r.module_read.source x.0)
 field_references r x false =
-    without (declaring_field r.module_read x.1 (text_at r.module_read.source x.0)) (field_tokens r x.1 (text_at r.module_read.source x.0))
+    without (declaring_field r.module_read x.1 (text_at r.module_read.source x.0))
+    (field_tokens r x.1 (text_at r.module_read.source x.0))
 
 -- the identifiers of the field at a place, in text order
 abbrev pub field_named_at : Resolution → Bool → Option Identified → List Span
 field_named_at r include None = []
-field_named_at r include (Some x) = map (span_at r.module_read.source) (field_references r x include)
+field_named_at r include (Some x) =
+    map (span_at r.module_read.source) (field_references r x include)
 
 -- the identifiers of the name at a place, or else of the field
 abbrev pub named_at : Resolution → Bool → Option named.Named → Option Identified → List Span
@@ -75,7 +78,8 @@ named_at r include None f = field_named_at r include f
 
 -- where it is named what is at a place
 abbrev pub references_at : Resolution → ℕ → Bool → List Span
-references_at r offset include = named_at r include (name_on r.module_read offset) (field_at r offset)
+references_at r offset include =
+    named_at r include (name_on r.module_read offset) (field_at r offset)
 
 -- these spans are the references at a place
 abbrev pub AreReferencesAt : Resolution → ℕ → Bool → List Span → Type 0
@@ -88,7 +92,11 @@ or_else None other = other
 
 -- the hover of an identifier of a field: the field's type
 abbrev pub selection_hover : Resolution → Selected ℕ → HoverText
-selection_hover r s = record { span = span_at r.module_read.source s.name; text = field_text (text_at r.module_read.source s.name) (type_text s.shape) }
+selection_hover r s =
+    record {
+      span = span_at r.module_read.source s.name;
+      text = field_text (text_at r.module_read.source s.name) (type_text s.shape);
+    }
 
 -- what is shown of the field at a place, where it is declared and where it is selected
 abbrev pub field_hover : Resolution → ℕ → Option HoverText

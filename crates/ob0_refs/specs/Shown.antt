@@ -16,7 +16,9 @@ pub record HoverText : Type 0 where
 
 -- the hover of a name, by what its declaration binds it to
 abbrev pub hover_of : Parsed → named.Named → Option HoverText
-hover_of m n = option_map (λ text. record { span = span_at m.source n.token; text = text }) (name_hover m n (declared_object (named_tree_of m) n.ordinal))
+hover_of m n =
+    option_map (λ text. record { span = span_at m.source n.token; text = text })
+    (name_hover m n (declared_object (named_tree_of m) n.ordinal))
 
 -- what is shown at a place: nothing where no name is, at a field and at the module's name
 abbrev pub name_hover_at : Parsed → ℕ → Option HoverText

@@ -21,8 +21,10 @@ pub fn captures(
     declaration: usize,
     new: &str,
 ) -> Result<Option<Capture>, AllocError>
-    ensures span { IfOk result (λ found. option_map capture_at found ≡ captured_span names.now.module_read declaration new.now) }
-    ensures free { IfOk result (λ found. found ≡ None ↔ Free (named_tree_of names.now.module_read) declaration new.now) }
+    ensures span { IfOk result (λ found. option_map capture_at found
+        ≡ captured_span names.now.module_read declaration new.now) }
+    ensures free { IfOk result
+        (λ found. found ≡ None ↔ Free (named_tree_of names.now.module_read) declaration new.now) }
 {
     match first_capture(alloc, names, declaration, new)? {
         None => Ok(None),

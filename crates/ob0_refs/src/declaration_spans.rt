@@ -27,7 +27,8 @@ pub fn references_to(
     declaration: usize,
     include: bool,
 ) -> Result<Vec<Span>, AllocError>
-    ensures { IfOk result (λ spans. spans.items ≡ references_to names.now.module_read declaration include) }
+    ensures { IfOk result
+        (λ spans. spans.items ≡ references_to names.now.module_read declaration include) }
 {
     let found = tokens_bound(alloc, names, declaration, include)?;
     spans_of(alloc, names.tokens(), &found)

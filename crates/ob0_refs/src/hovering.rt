@@ -18,7 +18,8 @@ pub(crate) fn hover(
     well_typed: &WellTyped<'_>,
     offset: usize,
 ) -> Result<Option<Hover>, AllocError>
-    ensures { IfOk result (λ h. option_map hover_in h ≡ name_hover_at well_typed.now.module_read offset) }
+    ensures { IfOk result
+        (λ h. option_map hover_in h ≡ name_hover_at well_typed.now.module_read offset) }
 {
     match name_at(well_typed.resolved(), offset) {
         None => Ok(None),

@@ -18,14 +18,18 @@ pub(crate) struct Parameter<'a> {
 
 /// The text of an array type, whose element has this text.
 pub(crate) fn array_text(alloc: Global, length: usize, element: &str) -> Result<String, AllocError>
-    ensures { IfOk result (λ text. (k : ℕ) (s : Shape) → element.now ≡ type_text s → string_bytes text ≡ type_text (array_shape k length s)) }
+    ensures { IfOk result (λ text. (k : ℕ) (s : Shape)
+        → element.now ≡ type_text s
+        → string_bytes text ≡ type_text (array_shape k length s)) }
 {
     format!(in alloc; "ARRAY {length} OF {element}")
 }
 
 /// The text of a record type with so many fields.
 pub(crate) fn record_text(alloc: Global, fields: usize) -> Result<String, AllocError>
-    ensures { IfOk result (λ text. (k : ℕ) (fs : FieldShapes) → fields ≡ fields_count fs → string_bytes text ≡ type_text (record_shape k fs)) }
+    ensures { IfOk result (λ text. (k : ℕ) (fs : FieldShapes)
+        → fields ≡ fields_count fs
+        → string_bytes text ≡ type_text (record_shape k fs)) }
 {
     format!(in alloc; "RECORD with {fields} fields")
 }
@@ -76,7 +80,8 @@ pub(crate) fn procedure_text(
     name: &str,
     parameters: &[Parameter<'_>],
 ) -> Result<String, AllocError>
-    ensures { IfOk result (λ text. string_bytes text ≡ procedure_shown name.now (map parameter_in parameters.now)) }
+    ensures { IfOk result
+        (λ text. string_bytes text ≡ procedure_shown name.now (map parameter_in parameters.now)) }
 {
     let list = parameters_text(alloc, parameters)?;
     let list = list.as_str();
@@ -84,7 +89,8 @@ pub(crate) fn procedure_text(
 }
 
 fn parameters_text(alloc: Global, parameters: &[Parameter<'_>]) -> Result<String, AllocError>
-    ensures { IfOk result (λ text. string_bytes text ≡ parameters_text (map parameter_in parameters.now)) }
+    ensures { IfOk result
+        (λ text. string_bytes text ≡ parameters_text (map parameter_in parameters.now)) }
 {
     let mut text = String::new(alloc);
     let Some((first, others)) = parameters.split_first() else {
@@ -99,7 +105,8 @@ fn parameters_text(alloc: Global, parameters: &[Parameter<'_>]) -> Result<String
 }
 
 fn push_parameter(text: &mut String, parameter: &Parameter<'_>) -> Result<(), AllocError>
-    ensures { OnOk result (string_bytes text.new ≡ string_bytes text.old ++ parameter_text (parameter_in parameter.now)) }
+    ensures { OnOk result (string_bytes text.new
+        ≡ string_bytes text.old ++ parameter_text (parameter_in parameter.now)) }
 {
     text.push_str(by_word(parameter.by_place))?;
     text.push_str(parameter.name)?;

@@ -30,7 +30,8 @@ pub fn name_text(
     names: &Resolved<'_>,
     name: Named,
 ) -> Result<Option<String>, AllocError>
-    ensures { IfOk result (λ r. option_map string_bytes r ≡ name_hover names.now.module_read name (declared_in known.now name.ordinal)) }
+    ensures { IfOk result (λ r. option_map string_bytes r
+        ≡ name_hover names.now.module_read name (declared_in known.now name.ordinal)) }
 {
     if name.ordinal < PREDECLARED {
         let text = predeclared_text(alloc, text_at(names.tokens(), name.token))?;
@@ -49,7 +50,8 @@ fn object_text(
     name: Named,
     object: &Object,
 ) -> Result<Option<String>, AllocError>
-    ensures { IfOk result (λ r. option_map string_bytes r ≡ declaration_hover names.now.module_read name (object_of known.now object.now)) }
+    ensures { IfOk result (λ r. option_map string_bytes r
+        ≡ declaration_hover names.now.module_read name (object_of known.now object.now)) }
 {
     let text = text_at(names.tokens(), name.token);
     match object {
@@ -66,14 +68,16 @@ fn object_text(
 }
 
 fn type_line(alloc: Global, known: &Known, name: &str, of: TypeId) -> Result<String, AllocError>
-    ensures { IfOk result (λ text. string_bytes text ≡ named_type_text name.now (type_text (type_shape (shapes_of known.now) of))) }
+    ensures { IfOk result (λ text. string_bytes text
+        ≡ named_type_text name.now (type_text (type_shape (shapes_of known.now) of))) }
 {
     let of = type_text(alloc, known, of)?;
     named_type_text(alloc, name, of.as_str())
 }
 
 fn variable_line(alloc: Global, known: &Known, name: &str, of: TypeId) -> Result<String, AllocError>
-    ensures { IfOk result (λ text. string_bytes text ≡ variable_text name.now (type_text (type_shape (shapes_of known.now) of))) }
+    ensures { IfOk result (λ text. string_bytes text
+        ≡ variable_text name.now (type_text (type_shape (shapes_of known.now) of))) }
 {
     let of = type_text(alloc, known, of)?;
     variable_text(alloc, name, of.as_str())
@@ -86,7 +90,8 @@ pub fn field_line(
     name: &str,
     of: TypeId,
 ) -> Result<String, AllocError>
-    ensures { IfOk result (λ text. string_bytes text ≡ field_text name.now (type_text (type_shape (shapes_of known.now) of))) }
+    ensures { IfOk result (λ text. string_bytes text
+        ≡ field_text name.now (type_text (type_shape (shapes_of known.now) of))) }
 {
     let of = type_text(alloc, known, of)?;
     let of = of.as_str();
@@ -100,7 +105,10 @@ fn procedure_line(
     name: Named,
     formals: &[Formal],
 ) -> Result<String, AllocError>
-    ensures { IfOk result (λ text. string_bytes text ≡ procedure_text (text_at names.now.module_read.source name.token) (parameters_hover (names_after names.now.module_read name.ordinal) (signature_in known.now formals.now))) }
+    ensures { IfOk result (λ text. string_bytes text
+        ≡ procedure_text (text_at names.now.module_read.source name.token)
+        (parameters_hover (names_after names.now.module_read name.ordinal)
+        (signature_in known.now formals.now))) }
 {
     let behind = declared_after(names, name.ordinal);
     let parameters = parameters_of(alloc, known, names.tokens(), behind, formals)?;
@@ -113,7 +121,9 @@ fn procedure_line(
 
 /// The tokens of the declarations after that with an ordinal.
 fn declared_after<'r>(names: &'r Resolved<'_>, ordinal: usize) -> &'r [usize]
-    ensures { result.now ≡ drop (ordinal + 1 - 7) (declaring_only (identifiers role.Declaring (tree_of names.now.module_read))) }
+    ensures { result.now
+        ≡ drop (ordinal + 1 - 7)
+        (declaring_only (identifiers role.Declaring (tree_of names.now.module_read))) }
 {
     // For the proof: what the contract of this call says.
     let _module = names.module();
@@ -134,7 +144,9 @@ fn parameters_of<'s>(
     behind: &[usize],
     formals: &[Formal],
 ) -> Result<Vec<Parameter<'s>>, AllocError>
-    ensures { IfOk result (λ ps. map parameter_in ps.items ≡ parameters_hover (map (text_at tokens.now) behind.now) (signature_in known.now formals.now)) }
+    ensures { IfOk result (λ ps. map parameter_in ps.items
+        ≡ parameters_hover (map (text_at tokens.now) behind.now)
+        (signature_in known.now formals.now)) }
 {
     let mut found = Vec::new(alloc);
     for (token, formal) in behind.iter().zip(formals) {
@@ -149,7 +161,8 @@ fn parameter_of<'s>(
     name: &'s str,
     formal: Formal,
 ) -> Result<Parameter<'s>, AllocError>
-    ensures { IfOk result (λ p. parameter_in p ≡ parameter_hover name.now (formal_in (shapes_of known.now) formal)) }
+    ensures { IfOk result
+        (λ p. parameter_in p ≡ parameter_hover name.now (formal_in (shapes_of known.now) formal)) }
 {
     Ok(Parameter {
         by_place: formal.by_place,

@@ -13,7 +13,8 @@ use std::alloc::{AllocError, Global};
 /// The text of a type, arrays level by level; a record by the number of its fields.
 #[cycle(types)]
 pub(crate) fn type_text(alloc: Global, known: &Known, of: TypeId) -> Result<String, AllocError>
-    ensures { IfOk result (λ text. string_bytes text ≡ type_text (type_shape (shapes_of known.now) of)) }
+    ensures { IfOk result
+        (λ text. string_bytes text ≡ type_text (type_shape (shapes_of known.now) of)) }
 {
     match known.parts(of) {
         Parts::Integer => String::from_str(alloc, "INTEGER"),
@@ -26,7 +27,9 @@ pub(crate) fn type_text(alloc: Global, known: &Known, of: TypeId) -> Result<Stri
 
 #[cycle(types)]
 fn of_array(alloc: Global, known: &Known, array: ArrayShape) -> Result<String, AllocError>
-    ensures { IfOk result (λ text. string_bytes text ≡ type_text (array_shape array.ordinal array.length (type_shape (shapes_of known.now) array.element))) }
+    ensures { IfOk result (λ text. string_bytes text
+        ≡ type_text
+        (array_shape array.ordinal array.length (type_shape (shapes_of known.now) array.element))) }
 {
     let element = type_text(alloc, known, array.element)?;
     array_text(alloc, array.length, element.as_str())

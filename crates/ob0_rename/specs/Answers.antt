@@ -25,7 +25,8 @@ use Rattle.ob0_rename.specs.Renaming.{NamesDeclaration, MeansField, Renaming, fi
 -- well-typed and has the same runs.
 pub record WritesName (r : Renaming) (tokens : List ℕ) (tree : Tree Name module_text) (edits : List Edit) : Type 0 where
   pub short : length (text_with r tokens) ≤ max_text
-  pub changes : map parts edits ≡ map (edit_at r.unit r.text (module_of r).source.tokens r.new) tokens
+  pub changes : map parts edits
+      ≡ map (edit_at r.unit r.text (module_of r).source.tokens r.new) tokens
   pub after : Scanned
   pub scan : IsScan after
   pub made : patched (width_of r.unit) r.text edits ≡ Some (chars after.text)
@@ -39,16 +40,27 @@ pub record WritesName (r : Renaming) (tokens : List ℕ) (tree : Tree Name modul
 pub record Renames (r : Renaming) (d : ℕ) (edits : List Edit) : Type 0 where
   pub identifier : IsIdentifier r.new
   pub free : Free (tree_of r) d r.new
-  pub writes : WritesName r (tokens_to_rename (module_of r) d r.new) (renamed (tree_of r) d r.new) edits
+  pub writes : WritesName r (tokens_to_rename (module_of r) d r.new) (renamed (tree_of r) d r.new)
+      edits
 
 -- Why the new name is refused to the declaration d: of several reasons the first in this order.
 abbrev pub IsRefusedTo : Renaming → ℕ → EditRefusal → Type 0
 IsRefusedTo r d refusal.NoName = ⊥
 IsRefusedTo r d refusal.Predeclared = ⊥
 IsRefusedTo r d refusal.BadName = ¬ IsIdentifier r.new
-IsRefusedTo r d (refusal.Duplicate range) = IsIdentifier r.new × (first_captured (tree_of r) d r.new ≡ Some at_declaration) × (other_range r d ≡ Some range)
-IsRefusedTo r d (refusal.Captures range) = IsIdentifier r.new × ((k : ℕ) × (first_captured (tree_of r) d r.new ≡ Some (at_occurrence k)) × (occurrence_range r k ≡ Some range))
-IsRefusedTo r d refusal.TooLong = IsIdentifier r.new × Free (tree_of r) d r.new × (max_text < length (text_with r (tokens_to_rename (module_of r) d r.new)))
+IsRefusedTo r d (refusal.Duplicate range) =
+    IsIdentifier r.new
+    × (first_captured (tree_of r) d r.new ≡ Some at_declaration)
+    × (other_range r d ≡ Some range)
+IsRefusedTo r d (refusal.Captures range) =
+    IsIdentifier r.new
+    × ((k : ℕ)
+    × (first_captured (tree_of r) d r.new ≡ Some (at_occurrence k))
+    × (occurrence_range r k ≡ Some range))
+IsRefusedTo r d refusal.TooLong =
+    IsIdentifier r.new
+    × Free (tree_of r) d r.new
+    × (max_text < length (text_with r (tokens_to_rename (module_of r) d r.new)))
 IsRefusedTo r d refusal.TooDeep = ⊥
 IsRefusedTo r d refusal.Shadowed = ⊥
 IsRefusedTo r d refusal.CommentInside = ⊥
@@ -66,16 +78,23 @@ AnswersDeclaration r d (Err why) = (why ≡ refusal.Memory) ⊎ IsRefusedTo r d 
 pub record RenamesField (r : Renaming) (k : ℕ) (f : Name) (edits : List Edit) : Type 0 where
   pub identifier : IsIdentifier r.new
   pub free : FieldFree (tree_of r) k f r.new
-  pub writes : WritesName r (field_tokens_to_rename r.names k f r.new) (field_renamed (tree_of r) k f r.new) edits
+  pub writes : WritesName r (field_tokens_to_rename r.names k f r.new)
+      (field_renamed (tree_of r) k f r.new) edits
 
 -- Why the new name is refused to the field. Only another field of its record conflicts with it.
 abbrev pub IsRefusedToField : Renaming → ℕ → Name → EditRefusal → Type 0
 IsRefusedToField r k f refusal.NoName = ⊥
 IsRefusedToField r k f refusal.Predeclared = ⊥
 IsRefusedToField r k f refusal.BadName = ¬ IsIdentifier r.new
-IsRefusedToField r k f (refusal.Duplicate range) = IsIdentifier r.new × (is_duplicate_field (tree_of r) k f r.new ≡ true) × (other_field_range r k ≡ Some range)
+IsRefusedToField r k f (refusal.Duplicate range) =
+    IsIdentifier r.new
+    × (is_duplicate_field (tree_of r) k f r.new ≡ true)
+    × (other_field_range r k ≡ Some range)
 IsRefusedToField r k f (refusal.Captures range) = ⊥
-IsRefusedToField r k f refusal.TooLong = IsIdentifier r.new × FieldFree (tree_of r) k f r.new × (max_text < length (text_with r (field_tokens_to_rename r.names k f r.new)))
+IsRefusedToField r k f refusal.TooLong =
+    IsIdentifier r.new
+    × FieldFree (tree_of r) k f r.new
+    × (max_text < length (text_with r (field_tokens_to_rename r.names k f r.new)))
 IsRefusedToField r k f refusal.TooDeep = ⊥
 IsRefusedToField r k f refusal.Shadowed = ⊥
 IsRefusedToField r k f refusal.CommentInside = ⊥
@@ -90,7 +109,9 @@ AnswersForField r k f (Err why) = (why ≡ refusal.Memory) ⊎ IsRefusedToField 
 
 -- the new name is refused to the declaration or the field at the place
 abbrev pub IsRefusedToNamed : Renaming → EditRefusal → Type 0
-IsRefusedToNamed r why = ((d : ℕ) × NamesDeclaration r d × IsRefusedTo r d why) ⊎ ((k : ℕ) × ((f : Name) × MeansField r k f × IsRefusedToField r k f why))
+IsRefusedToNamed r why =
+    ((d : ℕ) × NamesDeclaration r d × IsRefusedTo r d why)
+    ⊎ ((k : ℕ) × ((f : Name) × MeansField r k f × IsRefusedToField r k f why))
 
 -- why there is no edit
 abbrev pub IsRefused : Renaming → EditRefusal → Type 0
@@ -107,7 +128,9 @@ IsRefused r refusal.Memory = ⊥
 
 -- edits for the declaration or field that is named at the place
 abbrev pub AreEdits : Renaming → List Edit → Type 0
-AreEdits r edits = ((d : ℕ) × NamesDeclaration r d × Renames r d edits) ⊎ ((k : ℕ) × ((f : Name) × MeansField r k f × RenamesField r k f edits))
+AreEdits r edits =
+    ((d : ℕ) × NamesDeclaration r d × Renames r d edits)
+    ⊎ ((k : ℕ) × ((f : Name) × MeansField r k f × RenamesField r k f edits))
 
 -- edits, or the one refusal, or out of memory
 abbrev pub RenameAnswers : Renaming → Result (Vec Edit Global) EditRefusal → Type 0
@@ -129,5 +152,8 @@ OnlyMemory result = IfErr result (λ why. why ≡ refusal.Memory)
 -- to what has the new name already it isn't refused
 abbrev pub TakesOwnName : Renaming → Result (Vec Edit Global) EditRefusal → Type 0
 TakesOwnName r result =
-    ((d : ℕ) → NamesDeclaration r d → is_declared_as (module_of r) d r.new ≡ true → OnlyMemory result)
+    ((d : ℕ)
+    → NamesDeclaration r d
+    → is_declared_as (module_of r) d r.new ≡ true
+    → OnlyMemory result)
     × ((k : ℕ) (f : Name) → MeansField r k f → r.new ≡ f → OnlyMemory result)

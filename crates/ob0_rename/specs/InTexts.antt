@@ -18,7 +18,8 @@ use Rattle.ob0_rename.specs.Renaming.{Renaming}
 
 -- another name for what is named at a place of a text that is this module
 abbrev pub renaming_of : Unit → List ℕ → Resolution → Position → List ℕ → Renaming
-renaming_of unit text names place new = record { unit = unit; text = text; names = names; place = place; new = new }
+renaming_of unit text names place new =
+    record { unit = unit; text = text; names = names; place = place; new = new }
 
 -- edits, or why there are none
 abbrev pub Settles : Renaming → Result (Vec Edit Global) EditRefusal → Type 0
@@ -41,7 +42,12 @@ pub record IsRefusedIn (unit : Unit) (text : List ℕ) (place : Position) (new :
   pub refused : IsRefused (renaming_of unit text names place new) refusal
 
 -- edits, or why there are none, for a well-typed module alone
-abbrev pub FindsNewName : Unit → List ℕ → Position → List ℕ → Option (Result (Vec Edit Global) EditRefusal) → Type 0
+abbrev pub FindsNewName : Unit
+    → List ℕ
+    → Position
+    → List ℕ
+    → Option (Result (Vec Edit Global) EditRefusal)
+    → Type 0
 FindsNewName unit text place new (Some (Ok edits)) = RenamesIn unit text place new edits.items
 FindsNewName unit text place new (Some (Err refusal)) = IsRefusedIn unit text place new refusal
 FindsNewName unit text place new None = ¬ IsWellTypedModule (utf8 text)

@@ -83,11 +83,14 @@ MeansField r k f = meant r ≡ field_of k f
 
 -- the token that declares what has an ordinal; none for a predeclared name
 abbrev pub declaring_token : read.Parsed → ℕ → Option ℕ
-declaring_token m ordinal = token_declaring (declaring_only (identifiers role.Declaring (read.tree_of m))) ordinal
+declaring_token m ordinal =
+    token_declaring (declaring_only (identifiers role.Declaring (read.tree_of m))) ordinal
 
 -- whether that is written so
 abbrev pub is_declared_as : read.Parsed → ℕ → Name → Bool
-is_declared_as m d new = elim (declaring_token m d) [ Some token ↦ same_name (text_at m.source token) new | None ↦ false ]
+is_declared_as m d new =
+    elim (declaring_token m d)
+    [ Some token ↦ same_name (text_at m.source token) new | None ↦ false ]
 
 -- the tokens of the name, the declaring one and closing names too; none where the new name is the old one
 abbrev pub tokens_to_rename : read.Parsed → ℕ → Name → List ℕ
@@ -109,7 +112,9 @@ token_range r token = range_of (width_of r.unit) r.text (span_at (module_of r).s
 
 -- the range of the other declaration of the block that has the new name
 abbrev pub other_range : Renaming → ℕ → Option Range
-other_range r d = option_map (token_range r) (option_and_then (declaring_token (module_of r)) (namesake (tree_of r) d r.new))
+other_range r d =
+    option_map (token_range r)
+    (option_and_then (declaring_token (module_of r)) (namesake (tree_of r) d r.new))
 
 -- the range of the identifier that declares the field of the record k that has the new name
 abbrev pub other_field_range : Renaming → ℕ → Option Range
@@ -117,4 +122,5 @@ other_field_range r k = option_map (token_range r) (declaring_field (module_of r
 
 -- that of the occurrence with a number, counted from 0 in text order
 abbrev pub occurrence_range : Renaming → ℕ → Option Range
-occurrence_range r k = option_map (token_range r) (slice_get (occurrences (read.tree_of (module_of r))) k)
+occurrence_range r k =
+    option_map (token_range r) (slice_get (occurrences (read.tree_of (module_of r))) k)

@@ -24,12 +24,10 @@ use ob0_types_table::text_at;
 use std::alloc::{AllocError, Global};
 
 /// The field that a place is on: the identifier's token, and the ordinal of the field's record.
-pub(crate) fn field_named_at(
-    well_typed: &WellTyped<'_>,
-    offset: usize,
-) -> Option<(usize, usize)>
+pub(crate) fn field_named_at(well_typed: &WellTyped<'_>, offset: usize) -> Option<(usize, usize)>
     ensures found { result ≡ field_at well_typed.now offset }
-    ensures spelled { IfSome result (λ x. IsIdentifier (text_at well_typed.now.module_read.source x.0)) }
+    ensures spelled { IfSome result
+        (λ x. IsIdentifier (text_at well_typed.now.module_read.source x.0)) }
 {
     // For the proof: what the contract of this call says.
     let _text = well_typed.resolved().tokens().text();
@@ -45,9 +43,19 @@ pub(crate) fn rename_field<T: TextStore>(
     new: &str,
 ) -> Result<Vec<Edit>, EditRefusal>
     requires { T.content store.now ≡ chars well_typed.now.module_read.source.text }
-    ensures answers { (place : positions.Position) → AnswersForField (record { unit = T.unit_of store.now; text = T.content store.now; names = well_typed.now; place = place; new = new.now }) field.1 (text_at well_typed.now.module_read.source field.0) result }
+    ensures answers { (place : positions.Position)
+        → AnswersForField (record {
+          unit = T.unit_of store.now;
+          text = T.content store.now;
+          names = well_typed.now;
+          place = place;
+          new = new.now;
+        }) field.1
+        (text_at well_typed.now.module_read.source field.0) result }
     ensures memory { result ≡ Err refused.Memory → IsIdentifier new.now }
-    ensures own_name { IsIdentifier new.now → new.now ≡ text_at well_typed.now.module_read.source field.0 → OnlyMemory result }
+    ensures own_name { IsIdentifier new.now
+        → new.now ≡ text_at well_typed.now.module_read.source field.0
+        → OnlyMemory result }
 {
     names_replace_names();
     renamed_words_spell();
@@ -74,7 +82,10 @@ pub(crate) fn rename_field<T: TextStore>(
 
 /// The token that declares another field of the record that has the new name.
 fn other_field(well_typed: &WellTyped<'_>, owner: usize, old: &str, new: &str) -> Option<usize>
-    ensures { result ≡ (if same_name new.now old.now then None else declaring_field well_typed.now.module_read owner new.now) }
+    ensures { result
+        ≡ (if same_name new.now old.now
+        then None
+        else declaring_field well_typed.now.module_read owner new.now) }
 {
     if new == old {
         return None;
@@ -90,8 +101,10 @@ fn field_tokens_to_rename(
     old: &str,
     new: &str,
 ) -> Result<Vec<usize>, AllocError>
-    ensures value { IfOk result (λ found. found.items ≡ field_tokens_to_rename well_typed.now owner old.now new.now) }
-    ensures names { IfOk result (λ found. AreNames well_typed.now.module_read.source.tokens 0 found.items) }
+    ensures value { IfOk result
+        (λ found. found.items ≡ field_tokens_to_rename well_typed.now owner old.now new.now) }
+    ensures names { IfOk result
+        (λ found. AreNames well_typed.now.module_read.source.tokens 0 found.items) }
 {
     if new == old {
         return Ok(Vec::new(alloc));

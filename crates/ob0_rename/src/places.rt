@@ -24,8 +24,10 @@ pub(crate) fn tokens_to_rename(
     declaration: usize,
     new: &str,
 ) -> Result<Vec<usize>, AllocError>
-    ensures value { IfOk result (λ found. found.items ≡ tokens_to_rename names.now.module_read declaration new.now) }
-    ensures names { IfOk result (λ found. AreNames names.now.module_read.source.tokens 0 found.items) }
+    ensures value { IfOk result
+        (λ found. found.items ≡ tokens_to_rename names.now.module_read declaration new.now) }
+    ensures names { IfOk result
+        (λ found. AreNames names.now.module_read.source.tokens 0 found.items) }
 {
     if is_declared_as(names, declaration, new) {
         return Ok(Vec::new(alloc));
@@ -57,7 +59,11 @@ fn is_written(tokens: &Tokens, token: usize, name: &str) -> bool
 
 /// The range of a token; the empty one at the text's start where there is none.
 pub(crate) fn token_range<T: TextStore>(store: &T, tokens: &Tokens, token: Option<usize>) -> Range
-    ensures { (index : ℕ) → token ≡ Some index → result ≡ range_of (width_of (T.unit_of store.now)) (T.content store.now) (span_at tokens.now index) }
+    ensures { (index : ℕ)
+        → token ≡ Some index
+        → result
+        ≡ range_of (width_of (T.unit_of store.now)) (T.content store.now)
+        (span_at tokens.now index) }
 {
     match token {
         Some(index) => span_range(store, span_of(tokens, index)),

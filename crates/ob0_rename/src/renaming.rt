@@ -40,9 +40,28 @@ pub fn rename<T: TextStore>(
     new: &str,
 ) -> Result<Vec<Edit>, EditRefusal>
     requires { T.content store.now ≡ chars well_typed.now.module_read.source.text }
-    ensures answers { RenameAnswers (record { unit = T.unit_of store.now; text = T.content store.now; names = well_typed.now; place = place; new = new.now }) result }
-    ensures memory { result ≡ Err refused.Memory → AllocatesOnly (record { unit = T.unit_of store.now; text = T.content store.now; names = well_typed.now; place = place; new = new.now }) }
-    ensures own_name { TakesOwnName (record { unit = T.unit_of store.now; text = T.content store.now; names = well_typed.now; place = place; new = new.now }) result }
+    ensures answers { RenameAnswers (record {
+      unit = T.unit_of store.now;
+      text = T.content store.now;
+      names = well_typed.now;
+      place = place;
+      new = new.now;
+    }) result }
+    ensures memory { result ≡ Err refused.Memory
+        → AllocatesOnly (record {
+          unit = T.unit_of store.now;
+          text = T.content store.now;
+          names = well_typed.now;
+          place = place;
+          new = new.now;
+        }) }
+    ensures own_name { TakesOwnName (record {
+      unit = T.unit_of store.now;
+      text = T.content store.now;
+      names = well_typed.now;
+      place = place;
+      new = new.now;
+    }) result }
 {
     let offset = store.offset(place);
     match name_at(well_typed.resolved(), offset) {
@@ -69,9 +88,17 @@ fn rename_declaration<T: TextStore>(
     new: &str,
 ) -> Result<Vec<Edit>, EditRefusal>
     requires { T.content store.now ≡ chars well_typed.now.module_read.source.text }
-    ensures answers { (place : positions.Position) → AnswersDeclaration (record { unit = T.unit_of store.now; text = T.content store.now; names = well_typed.now; place = place; new = new.now }) declaration result }
+    ensures answers { (place : positions.Position)
+        → AnswersDeclaration (record {
+          unit = T.unit_of store.now;
+          text = T.content store.now;
+          names = well_typed.now;
+          place = place;
+          new = new.now;
+        }) declaration result }
     ensures memory { result ≡ Err refused.Memory → IsIdentifier new.now }
-    ensures own_name { is_declared_as well_typed.now.module_read declaration new.now ≡ true → OnlyMemory result }
+    ensures own_name { is_declared_as well_typed.now.module_read declaration new.now ≡ true
+        → OnlyMemory result }
 {
     names_replace_names();
     renamed_words_spell();

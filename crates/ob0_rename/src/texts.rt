@@ -52,7 +52,8 @@ pub fn rename_in<T: TextStore>(
     new: &str,
 ) -> Result<Option<Result<Vec<Edit>, EditRefusal>>, AllocError>
     requires { T.content store.now ≡ chars analysis.now }
-    ensures { IfOk result (λ found. FindsNewName (T.unit_of store.now) (T.content store.now) place new.now found) }
+    ensures { IfOk result
+        (λ found. FindsNewName (T.unit_of store.now) (T.content store.now) place new.now found) }
 {
     let question = NewName { store, place, new };
     ask(alloc, analysis, &question)

@@ -104,7 +104,9 @@ pub fn execute(
     calls: u32,
     turns: u32,
 ) -> Result<Outcome, AllocError>
-    ensures { (m : Tree Name module_text) → RunsAs m program.now → IfOk result (λ o. run_of o ≡ run m input.now calls turns) }
+    ensures { (m : Tree Name module_text)
+        → RunsAs m program.now
+        → IfOk result (λ o. run_of o ≡ run m input.now calls turns) }
 {
     let room = have_addresses(program.most_cells, calls);
     if !room {
@@ -130,7 +132,8 @@ pub fn run(
     calls: u32,
     turns: u32,
 ) -> Result<Outcome, AllocError>
-    ensures { IfOk result (λ o. run_of o ≡ run (named_tree_of checked.now.module_read) input.now calls turns) }
+    ensures { IfOk result
+        (λ o. run_of o ≡ run (named_tree_of checked.now.module_read) input.now calls turns) }
 {
     let program = lower(alloc, checked)?;
     execute(alloc, &program, input, calls, turns)

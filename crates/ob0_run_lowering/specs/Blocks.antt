@@ -17,7 +17,11 @@ use Rattle.ob0_run_lowering.specs.declared.visible_sites.Frame.{Frame}
 
 -- from an index on, a table has the code of procedures
 abbrev pub Later : List lowered.Procedure → ℕ → List Procedure → Type 0
-Later table n ps = (i : ℕ) (e : Procedure) → n ≤ i → slice_get ps i ≡ Some e → slice_get table i ≡ Some (procedure_of e)
+Later table n ps =
+    (i : ℕ) (e : Procedure)
+    → n ≤ i
+    → slice_get ps i ≡ Some e
+    → slice_get table i ≡ Some (procedure_of e)
 
 -- procedures were added
 abbrev pub Grown : List Procedure → List Procedure → Type 0
@@ -38,15 +42,27 @@ pub record Ready (t : Tables) (sites : List Site) (depth : ℕ) (s : BlockState)
   pub declared_behind : ProceduresDeclared (declared_in t) s.env s.next ps
 
 -- procedures from here on mean their blocks, by the table of procedures
-abbrev pub AllMean : List lowered.Procedure → ℕ → BlockState → lowered.Statements → Tree Label (maybe body) → Tree Label (items procedure) → Type 0
-AllMean table most s code statements ps = ProceduresMean table most as_labels s.env s.placing s.next code statements ps
+abbrev pub AllMean : List lowered.Procedure
+    → ℕ
+    → BlockState
+    → lowered.Statements
+    → Tree Label (maybe body)
+    → Tree Label (items procedure)
+    → Type 0
+AllMean table most s code statements ps =
+    ProceduresMean table most as_labels s.env s.placing s.next code statements ps
 
 -- procedures are lowered, of which some are left: where what is left means what is there, all do, and no activation has more
 -- cells than is known of then
 pub record Goes (t : Tables) (w v : Lowering) (depth : ℕ) (ps left : Tree Label (items procedure)) : Type 0 where
-  pub on : (s : BlockState) (statements : Tree Label (maybe body)) → Ready t w.sight.sites.items depth s statements ps
+  pub on : (s : BlockState) (statements : Tree Label (maybe body))
+      → Ready t w.sight.sites.items depth s statements ps
       → (now : BlockState) × Ready t v.sight.sites.items depth now statements left
-      × ((table : List lowered.Procedure) (most : ℕ) (code : lowered.Statements) → v.most ≤ most → Later table (length w.procedures.items) v.procedures.items → AllMean table most now code statements left → AllMean table most s code statements ps)
+      × ((table : List lowered.Procedure) (most : ℕ) (code : lowered.Statements)
+      → v.most ≤ most
+      → Later table (length w.procedures.items) v.procedures.items
+      → AllMean table most now code statements left
+      → AllMean table most s code statements ps)
   pub most_grows : w.most ≤ v.most
   pub follows : Follows w.sight v.sight
   pub longer : length w.procedures.items ≤ length v.procedures.items
@@ -54,8 +70,16 @@ pub record Goes (t : Tables) (w v : Lowering) (depth : ℕ) (ps left : Tree Labe
 
 -- a block is lowered to its cells and its statements
 pub record LowersBlock (t : Tables) (w v : Lowering) (f : Frame) (b : Tree Label block) (entry : Procedure) : Type 0 where
-  pub means : (env : TypeEnvironment Label) (p : Placed Label) (k : ℕ) → Matches env p.placing → IsFrame w.sight.sites.items f p → block_fits as_labels env k b ≡ true → BlockDeclared (declared_in t) env k b
-      → (table : List lowered.Procedure) (most : ℕ) → v.most ≤ most → Later table (length w.procedures.items) v.procedures.items → BlockMeans table most as_labels (slots_at f.depth) env p k entry.cells (sequence_of entry.body.items) b
+  pub means : (env : TypeEnvironment Label) (p : Placed Label) (k : ℕ)
+      → Matches env p.placing
+      → IsFrame w.sight.sites.items f p
+      → block_fits as_labels env k b ≡ true
+      → BlockDeclared (declared_in t) env k b
+      → (table : List lowered.Procedure) (most : ℕ)
+      → v.most ≤ most
+      → Later table (length w.procedures.items) v.procedures.items
+      → BlockMeans table most as_labels (slots_at f.depth) env p k entry.cells
+      (sequence_of entry.body.items) b
   pub most_grows : w.most ≤ v.most
   pub follows : Follows w.sight v.sight
   pub longer : length w.procedures.items ≤ length v.procedures.items

@@ -28,8 +28,10 @@ pub data Code : Type 0 where
 abbrev pub CodeMeans : Typed Label → (Label → Slot) → Code → Shape → Evaluated Label Value → Type 0
 CodeMeans checked slots (a_number n) integer_shape value = NumberMeans checked slots n value
 CodeMeans checked slots (a_truth t) boolean_shape value = TruthMeans checked slots t value
-CodeMeans checked slots (a_block q n) (array_shape k m s) value = (n ≡ size (array_shape k m s)) × ValueAt checked slots q (array_shape k m s) value
-CodeMeans checked slots (a_block q n) (record_shape k fs) value = (n ≡ size (record_shape k fs)) × ValueAt checked slots q (record_shape k fs) value
+CodeMeans checked slots (a_block q n) (array_shape k m s) value =
+    (n ≡ size (array_shape k m s)) × ValueAt checked slots q (array_shape k m s) value
+CodeMeans checked slots (a_block q n) (record_shape k fs) value =
+    (n ≡ size (record_shape k fs)) × ValueAt checked slots q (record_shape k fs) value
 CodeMeans checked slots _ _ value = ⊥
 
 -- a place, and the type of what is there
@@ -105,11 +107,15 @@ related _ _ _ = no_code
 
 -- a field is a part at its offset
 abbrev pub field_found : Name → FoundPlace → Option FoundPlace
-field_found x f = option_map (λ t. record { place = lowered.part f.place (step_offset f.shape (at_field x)); shape = t }) (field_type f.shape x)
+field_found x f =
+    option_map
+    (λ t. record { place = lowered.part f.place (step_offset f.shape (at_field x)); shape = t })
+    (field_type f.shape x)
 
 -- an element is one of so many, each of so many cells
 abbrev pub element_found : Code → lowered.Place → Shape → Option FoundPlace
-element_found (a_number i) q (array_shape k n s) = Some (record { place = lowered.element q i n (size s); shape = s })
+element_found (a_number i) q (array_shape k n s) =
+    Some (record { place = lowered.element q i n (size s); shape = s })
 element_found _ _ _ = None
 
 -- an element of the array that was found

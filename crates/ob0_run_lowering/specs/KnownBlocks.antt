@@ -17,21 +17,33 @@ Objects = ℕ → Option (Object Shape Signature)
 -- each binding is of an ordinal, and binds it to what its declaration is
 abbrev pub AreDeclared : Objects → TypeEnvironment Label → Type 0
 AreDeclared objects [] = Unit {0}
-AreDeclared objects (b ∷ env) = ((k : ℕ) × (b.0 ≡ declared k) × (objects k ≡ Some b.1)) × AreDeclared objects env
+AreDeclared objects (b ∷ env) =
+    ((k : ℕ) × (b.0 ≡ declared k) × (objects k ≡ Some b.1)) × AreDeclared objects env
 
 -- so do all bindings where a block's procedures and statements are checked, and those of the blocks in it
 abbrev mutual
   pub BlockDeclared : Objects → TypeEnvironment Label → ℕ → Tree Label block → Type 0
   BlockDeclared objects env k (has_body (declares cs ts vs ps) statements) =
-      (inner : TypeEnvironment Label) → declare_block as_labels env k (has_body (declares cs ts vs ps) statements) ≡ Some inner
-      → AreDeclared objects inner × ProceduresDeclared objects inner (after_variables k (has_body (declares cs ts vs ps) statements)) ps
+      (inner : TypeEnvironment Label)
+      → declare_block as_labels env k (has_body (declares cs ts vs ps) statements) ≡ Some inner
+      → AreDeclared objects inner
+      × ProceduresDeclared objects inner
+      (after_variables k (has_body (declares cs ts vs ps) statements)) ps
 
-  pub ProceduresDeclared : Objects → TypeEnvironment Label → ℕ → Tree Label (items procedure) → Type 0
+  pub ProceduresDeclared : Objects
+      → TypeEnvironment Label
+      → ℕ
+      → Tree Label (items procedure)
+      → Type 0
   ProceduresDeclared objects env k end = Unit {0}
   ProceduresDeclared objects env k (more p rest) =
-      (ps : List (TypedParameter Label)) → typed_parameters as_labels env k (procedure_formals p) ≡ Some ps
-      → AreDeclared objects (bind_typed ps (heading (procedure_name p) ps env)) × ProcedureDeclared objects (bind_typed ps (heading (procedure_name p) ps env)) k p
-      × ProceduresDeclared objects (heading (procedure_name p) ps env) (k + procedure_constructors p) rest
+      (ps : List (TypedParameter Label))
+      → typed_parameters as_labels env k (procedure_formals p) ≡ Some ps
+      → AreDeclared objects (bind_typed ps (heading (procedure_name p) ps env))
+      × ProcedureDeclared objects (bind_typed ps (heading (procedure_name p) ps env)) k p
+      × ProceduresDeclared objects (heading (procedure_name p) ps env)
+      (k + procedure_constructors p) rest
 
   pub ProcedureDeclared : Objects → TypeEnvironment Label → ℕ → Tree Label (item procedure) → Type 0
-  ProcedureDeclared objects env k (declares_procedure x fs b closing) = BlockDeclared objects env (k + formals_constructors (formal_sections fs)) b
+  ProcedureDeclared objects env k (declares_procedure x fs b closing) =
+      BlockDeclared objects env (k + formals_constructors (formal_sections fs)) b

@@ -17,20 +17,37 @@ use Rattle.ob0_run_lowering.specs.declared.scene.Scene.{Scene}
 use Rattle.ob0_run_lowering.specs.Scenes.{Sees}
 
 -- for whatever a scene sees, where it fits
-abbrev pub InScene : Scene → (Typed Label → Bool) → (Typed Label → (Label → Slot) → (Label → Target) → Type 0) → Type 0
-InScene scene fits Means = (checked : Typed Label) (slots : Label → Slot) (targets : Label → Target) → Sees scene checked slots targets → IsTrue (fits checked) → Means checked slots targets
+abbrev pub InScene : Scene
+    → (Typed Label → Bool)
+    → (Typed Label → (Label → Slot) → (Label → Target) → Type 0)
+    → Type 0
+InScene scene fits Means =
+    (checked : Typed Label) (slots : Label → Slot) (targets : Label → Target)
+    → Sees scene checked slots targets
+    → IsTrue (fits checked)
+    → Means checked slots targets
 
 -- the code of a condition means it wherever the scene is right
 abbrev pub ConditionLowers : Scene → lowered.Truth → Tree Label expression → Type 0
-ConditionLowers scene t e = InScene scene (λ checked. condition_fits checked e) (λ checked slots targets. TruthMeans checked slots t (value_of_expression e))
+ConditionLowers scene t e =
+    InScene scene (λ checked. condition_fits checked e)
+    (λ checked slots targets. TruthMeans checked slots t (value_of_expression e))
 
 -- the code of arguments means them
-abbrev pub ArgumentsLower : Scene → Signature → List lowered.Argument → List (Tree Label expression) → Type 0
-ArgumentsLower scene signature cs es = InScene scene (λ checked. arguments_fit checked signature es) (λ checked slots targets. ArgumentsMean checked slots signature cs es)
+abbrev pub ArgumentsLower : Scene
+    → Signature
+    → List lowered.Argument
+    → List (Tree Label expression)
+    → Type 0
+ArgumentsLower scene signature cs es =
+    InScene scene (λ checked. arguments_fit checked signature es)
+    (λ checked slots targets. ArgumentsMean checked slots signature cs es)
 
 -- the code of a statement means it
 abbrev pub StatementLowers : Scene → lowered.Statement → Tree Label statement → Type 0
-StatementLowers scene c a = InScene scene (λ checked. statement_fits checked a) (λ checked slots targets. StatementMeans checked slots targets c a)
+StatementLowers scene c a =
+    InScene scene (λ checked. statement_fits checked a)
+    (λ checked slots targets. StatementMeans checked slots targets c a)
 
 -- the arguments of a call, where there are some
 abbrev pub given_in : Option (Vec Expression Global) → List Expression
@@ -44,23 +61,38 @@ CodeLowers scene (Some c) a = StatementLowers scene c a
 
 -- the code of statements means them
 abbrev pub SequenceLowers : Scene → lowered.Statements → Tree Label sequence → Type 0
-SequenceLowers scene cs a = InScene scene (λ checked. sequence_fits checked a) (λ checked slots targets. SequenceMeans checked slots targets cs a)
+SequenceLowers scene cs a =
+    InScene scene (λ checked. sequence_fits checked a)
+    (λ checked slots targets. SequenceMeans checked slots targets cs a)
 
 -- the statements after the first
 abbrev pub FurtherLower : Scene → lowered.Statements → Tree Label (items further_statement) → Type 0
-FurtherLower scene cs rest = InScene scene (λ checked. statements_fit checked rest) (λ checked slots targets. FurtherMean checked slots targets cs rest)
+FurtherLower scene cs rest =
+    InScene scene (λ checked. statements_fit checked rest)
+    (λ checked slots targets. FurtherMean checked slots targets cs rest)
 
 -- the code of an ELSE part means it
 abbrev pub ElseLowers : Scene → lowered.Statements → Tree Label (maybe else_part) → Type 0
-ElseLowers scene cs last = InScene scene (λ checked. else_fits checked last) (λ checked slots targets. ElseMeans checked slots targets cs last)
+ElseLowers scene cs last =
+    InScene scene (λ checked. else_fits checked last)
+    (λ checked slots targets. ElseMeans checked slots targets cs last)
 
 -- the ELSIF parts, and the ELSE part after them
-abbrev pub ElsifsLower : Scene → lowered.Branches → lowered.Statements → Tree Label (items elsif_part) → Tree Label (maybe else_part) → Type 0
+abbrev pub ElsifsLower : Scene
+    → lowered.Branches
+    → lowered.Statements
+    → Tree Label (items elsif_part)
+    → Tree Label (maybe else_part)
+    → Type 0
 ElsifsLower scene bs cs rest last =
-    InScene scene (λ checked. elsifs_fit checked rest && else_fits checked last) (λ checked slots targets. ElsifsMean checked slots targets bs cs rest last)
+    InScene scene (λ checked. elsifs_fit checked rest && else_fits checked last)
+    (λ checked slots targets. ElsifsMean checked slots targets bs cs rest last)
 
 -- the code of a body means it where it is: in each environment and at each placing that the scene sees
 abbrev pub BodyLowers : Scene → lowered.Statements → Tree Label (maybe body) → Type 0
 BodyLowers scene cs b =
-    (env : TypeEnvironment Label) (placing : Placing Label) → Sees scene (meanings as_labels env) (slots_in as_labels placing) (targets_in as_labels placing) → IsTrue (body_fits as_labels env b)
+    (env : TypeEnvironment Label) (placing : Placing Label)
+    → Sees scene (meanings as_labels env) (slots_in as_labels placing)
+    (targets_in as_labels placing)
+    → IsTrue (body_fits as_labels env b)
     → BodyMeans as_labels env placing cs b

@@ -30,22 +30,33 @@ Means checked slots l s value = CodeMeans checked slots (code_of l) s value
 
 -- whatever a scene is right for
 abbrev pub WhereSeen : Scene → (Typed Label → (Label → Slot) → Type 0) → Type 0
-WhereSeen scene P = (checked : Typed Label) (slots : Label → Slot) (targets : Label → Target) → Sees scene checked slots targets → P checked slots
+WhereSeen scene P =
+    (checked : Typed Label) (slots : Label → Slot) (targets : Label → Target)
+    → Sees scene checked slots targets
+    → P checked slots
 
 -- the code of an expression, where it has a type
 abbrev pub Lowers : Scene → Tree ℕ expression → Lowered → Type 0
 Lowers scene e l =
-    WhereSeen scene (λ checked slots. (s : Shape) → type_of checked (in_labels scene.resolved.now e) ≡ Some s → Means checked slots l s (value_of_expression (in_labels scene.resolved.now e)))
+    WhereSeen scene (λ checked slots. (s : Shape)
+    → type_of checked (in_labels scene.resolved.now e) ≡ Some s
+    → Means checked slots l s (value_of_expression (in_labels scene.resolved.now e)))
 
 -- a number means the expression, where that is an INTEGER
 abbrev pub LowersNumber : Scene → Tree ℕ expression → Number → Type 0
 LowersNumber scene e n =
-    WhereSeen scene (λ checked slots. type_of checked (in_labels scene.resolved.now e) ≡ Some integer_shape → NumberMeans checked slots (number_of n) (value_of_expression (in_labels scene.resolved.now e)))
+    WhereSeen scene (λ checked slots. type_of checked (in_labels scene.resolved.now e)
+    ≡ Some integer_shape
+    → NumberMeans checked slots (number_of n)
+    (value_of_expression (in_labels scene.resolved.now e)))
 
 -- a truth value means the expression, where that is a BOOLEAN
 abbrev pub LowersTruth : Scene → Tree ℕ expression → Truth → Type 0
 LowersTruth scene e t =
-    WhereSeen scene (λ checked slots. type_of checked (in_labels scene.resolved.now e) ≡ Some boolean_shape → TruthMeans checked slots (truth_of t) (value_of_expression (in_labels scene.resolved.now e)))
+    WhereSeen scene (λ checked slots. type_of checked (in_labels scene.resolved.now e)
+    ≡ Some boolean_shape
+    → TruthMeans checked slots (truth_of t)
+    (value_of_expression (in_labels scene.resolved.now e)))
 
 -- the place of a variable with its selectors, and its type
 abbrev pub Locates : Scene → ℕ → Tree ℕ (items selector) → TypedPlace → Type 0

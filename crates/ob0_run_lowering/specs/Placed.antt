@@ -45,7 +45,8 @@ LocatesAs depth s (at_target t) = (site_depth s ≤ depth) × (seen_from depth s
 
 -- the table has what is placed
 abbrev pub LocatesAll : List Site → ℕ → Placing Label → Type 0
-LocatesAll sites depth placing = (k : ℕ) → LocatesAs depth (site_at sites k) (found placing (declared k))
+LocatesAll sites depth placing =
+    (k : ℕ) → LocatesAs depth (site_at sites k) (found placing (declared k))
 
 -- variables are placed in slots and procedures at targets
 abbrev pub Suits : Object Shape Signature → Whereabouts → Type 0
@@ -77,27 +78,42 @@ slots_at (suc depth) = held 0
 
 -- where the next variable of an activation is
 abbrev pub IsNextSite : Frame → Site → Type 0
-IsNextSite f s = (site_depth s ≤ f.depth) × (seen_from f.depth s ≡ in_slot (slots_at f.depth f.cells))
+IsNextSite f s =
+    (site_depth s ≤ f.depth) × (seen_from f.depth s ≡ in_slot (slots_at f.depth f.cells))
 
 -- names placed one by one, by their sizes
 abbrev pub place_one : (ℕ → Slot) → (Label → ℕ) → Mode → Label → Placed Label → Placed Label
-place_one at size_of by_value x p = record p { placing = (x, in_slot (at p.cells)) ∷ p.placing; cells = p.cells + size_of x }
-place_one at size_of by_place x p = record p { placing = (x, in_slot (lent 0 p.lent_places)) ∷ p.placing; lent_places = suc p.lent_places }
+place_one at size_of by_value x p =
+    record p { placing = (x, in_slot (at p.cells)) ∷ p.placing; cells = p.cells + size_of x }
+place_one at size_of by_place x p =
+    record p
+    { placing = (x, in_slot (lent 0 p.lent_places)) ∷ p.placing; lent_places = suc p.lent_places }
 
 -- names of one declaration, placed one by one
 abbrev pub place_each : (ℕ → Slot) → (Label → ℕ) → Mode → List Label → Placed Label → Placed Label
 place_each at size_of mode [] p = p
-place_each at size_of mode (x ∷ xs) p = place_each at size_of mode xs (place_one at size_of mode x p)
+place_each at size_of mode (x ∷ xs) p =
+    place_each at size_of mode xs (place_one at size_of mode x p)
 
 -- the variables of a block, placed one by one
-abbrev pub place_groups : (ℕ → Slot) → (Label → ℕ) → Tree Label (items variable) → Placed Label → Placed Label
+abbrev pub place_groups : (ℕ → Slot)
+    → (Label → ℕ)
+    → Tree Label (items variable)
+    → Placed Label
+    → Placed Label
 place_groups at size_of end p = p
-place_groups at size_of (more (declares_variable ns u) gs) p = place_groups at size_of gs (place_each at size_of by_value (names_listed ns) p)
+place_groups at size_of (more (declares_variable ns u) gs) p =
+    place_groups at size_of gs (place_each at size_of by_value (names_listed ns) p)
 
 -- the parameters of a heading, placed one by one
-abbrev pub place_sections : (ℕ → Slot) → (Label → ℕ) → Tree Label (items further_section) → Placed Label → Placed Label
+abbrev pub place_sections : (ℕ → Slot)
+    → (Label → ℕ)
+    → Tree Label (items further_section)
+    → Placed Label
+    → Placed Label
 place_sections at size_of end p = p
-place_sections at size_of (more (then_section f) fs) p = place_sections at size_of fs (place_each at size_of (section_mode f) (section_names f) p)
+place_sections at size_of (more (then_section f) fs) p =
+    place_sections at size_of fs (place_each at size_of (section_mode f) (section_names f) p)
 
 -- what ordinals mean, but for one that means something else
 abbrev pub put_site : ℕ → Site → (ℕ → Site) → ℕ → Site
@@ -128,7 +144,10 @@ pub record Follows (w v : VisibleSites) : Type 0 where
 
 -- what was in scope is in scope again, and nothing more is hidden than was then
 abbrev pub IsRestored : VisibleSites → VisibleSites → VisibleSites → Type 0
-IsRestored w u v = (v.hidden.items ≡ w.hidden.items) × ((k : ℕ) → site_at v.sites.items k ≡ site_at w.sites.items k) × (length v.sites.items ≡ length u.sites.items)
+IsRestored w u v =
+    (v.hidden.items ≡ w.hidden.items)
+    × ((k : ℕ) → site_at v.sites.items k ≡ site_at w.sites.items k)
+    × (length v.sites.items ≡ length u.sites.items)
 
 -- an activation that is laid out so far, as it is placed
 pub record IsFrame (sites : List Site) (f : Frame) (p : Placed Label) : Type 0 where

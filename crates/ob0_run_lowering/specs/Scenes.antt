@@ -22,7 +22,8 @@ seen_from depth site.Nowhere = nowhere
 seen_from depth (site.Module offset) = in_slot (of_module offset)
 seen_from depth (site.Held at offset) = in_slot (held (depth - at) offset)
 seen_from depth (site.Lent at index) = in_slot (lent (depth - at) index)
-seen_from depth (site.Procedure at index) = at_target (record { procedure = index; up = depth - at })
+seen_from depth (site.Procedure at index) =
+    at_target (record { procedure = index; up = depth - at })
 
 -- where the declaration of an ordinal is
 abbrev pub site_at : List Site → ℕ → Site
@@ -48,13 +49,22 @@ object_at t (as_written x) = None
 
 -- the numbers of the text and the constants of the module have 32 bits
 pub record HasSmall (scene : Scene) : Type 0 where
-  pub numbers : (token : ℕ) → machine.fits (pos (value_at scene.resolved.now.module_read.source token)) ≡ true
-  pub constants : (x : Label) (n : ℤ) → object_at scene.types.now x ≡ Some (a_constant (number n)) → machine.fits n ≡ true
+  pub numbers : (token : ℕ)
+      → machine.fits (pos (value_at scene.resolved.now.module_read.source token)) ≡ true
+  pub constants : (x : Label) (n : ℤ)
+      → object_at scene.types.now x ≡ Some (a_constant (number n))
+      → machine.fits n ≡ true
 
 -- A scene is right for what names mean in a body, for the slots of its variables and the targets of its procedures: what is
 -- bound there is what its declaration is, and is where the scene has it.
 pub record Sees (scene : Scene) (checked : Typed Label) (slots : Label → Slot) (targets : Label → Target) : Type 0 where
-  pub bound : (x : Label) (o : Object Shape Signature) → checked.stands_for x ≡ Some o → object_at scene.types.now x ≡ Some o
+  pub bound : (x : Label) (o : Object Shape Signature)
+      → checked.stands_for x ≡ Some o
+      → object_at scene.types.now x ≡ Some o
   pub written : checked.written ≡ label_text
-  pub variables : (x : Label) (s : Shape) → checked.stands_for x ≡ Some (a_variable s) → slots x ≡ slot_at scene x
-  pub procedures : (x : Label) (p : Signature) → checked.stands_for x ≡ Some (a_procedure p) → targets x ≡ target_at scene x
+  pub variables : (x : Label) (s : Shape)
+      → checked.stands_for x ≡ Some (a_variable s)
+      → slots x ≡ slot_at scene x
+  pub procedures : (x : Label) (p : Signature)
+      → checked.stands_for x ≡ Some (a_procedure p)
+      → targets x ≡ target_at scene x

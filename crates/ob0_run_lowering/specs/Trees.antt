@@ -46,24 +46,29 @@ base_found scene x = variable_found (slot_place (slot_at scene x)) (object_at sc
 abbrev mutual
   pub expression_code : Scene → Tree Label expression → Code
   expression_code scene (compares a none) = simple_code scene a
-  expression_code scene (compares a (one (relates r b))) = related r (simple_code scene a) (simple_code scene b)
+  expression_code scene (compares a (one (relates r b))) =
+      related r (simple_code scene a) (simple_code scene b)
 
   pub simple_code : Scene → Tree Label simple → Code
   simple_code scene (sum s t rest) = addends_code scene (signed s (term_code scene t)) rest
 
   pub addends_code : Scene → Code → Tree Label (items addend) → Code
   addends_code scene c end = c
-  addends_code scene c (more (adds o t) rest) = addends_code scene (added o c (term_code scene t)) rest
+  addends_code scene c (more (adds o t) rest) =
+      addends_code scene (added o c (term_code scene t)) rest
 
   pub term_code : Scene → Tree Label term → Code
   term_code scene (product f rest) = multipliers_code scene (factor_code scene f) rest
 
   pub multipliers_code : Scene → Code → Tree Label (items multiplier) → Code
   multipliers_code scene c end = c
-  multipliers_code scene c (more (multiplies o f) rest) = multipliers_code scene (multiplied o c (factor_code scene f)) rest
+  multipliers_code scene c (more (multiplies o f) rest) =
+      multipliers_code scene (multiplied o c (factor_code scene f)) rest
 
   pub factor_code : Scene → Tree Label factor → Code
-  factor_code scene (designator x path) = named_code (constant_of (object_at scene.types.now x)) (selected_place scene (base_found scene x) path)
+  factor_code scene (designator x path) =
+      named_code (constant_of (object_at scene.types.now x))
+      (selected_place scene (base_found scene x) path)
   factor_code scene (integer n) = a_number (lowered.literal (pos n))
   factor_code scene (parenthesised e) = expression_code scene e
   factor_code scene (negation f) = negated (factor_code scene f)
@@ -71,10 +76,15 @@ abbrev mutual
   -- the place at the end of selectors
   pub selected_place : Scene → Option FoundPlace → Tree Label (items selector) → Option FoundPlace
   selected_place scene found end = found
-  selected_place scene found (more (field x) rest) = selected_place scene (option_and_then (field_found (label_text x)) found) rest
-  selected_place scene found (more (index e) rest) = selected_place scene (element_of (expression_code scene e) found) rest
+  selected_place scene found (more (field x) rest) =
+      selected_place scene (option_and_then (field_found (label_text x)) found) rest
+  selected_place scene found (more (index e) rest) =
+      selected_place scene (element_of (expression_code scene e) found) rest
 
 -- one selector more
-abbrev pub selected_once : Scene → Option FoundPlace → Tree Label (item selector) → Option FoundPlace
+abbrev pub selected_once : Scene
+    → Option FoundPlace
+    → Tree Label (item selector)
+    → Option FoundPlace
 selected_once scene found (field x) = option_and_then (field_found (label_text x)) found
 selected_once scene found (index e) = element_of (expression_code scene e) found

@@ -14,7 +14,8 @@ use std::alloc::{AllocError, Global};
 
 /// The code of an assignment of a number.
 fn store_number(alloc: Global, place: Place, n: Number) -> Result<Statement, AllocError>
-    ensures { IfOk result (λ made. statement_of made ≡ machine.stores_number (place_of place) (number_of n)) }
+    ensures { IfOk result
+        (λ made. statement_of made ≡ machine.stores_number (place_of place) (number_of n)) }
 {
     match place {
         Place::Variable(variable) => store_variable(alloc, variable, n),
@@ -24,7 +25,8 @@ fn store_number(alloc: Global, place: Place, n: Number) -> Result<Statement, All
 
 /// The code of an assignment of a number to a variable.
 fn store_variable(alloc: Global, variable: Variable, n: Number) -> Result<Statement, AllocError>
-    ensures { IfOk result (λ made. statement_of made ≡ machine.stores_number (variable_of variable) (number_of n)) }
+    ensures { IfOk result
+        (λ made. statement_of made ≡ machine.stores_number (variable_of variable) (number_of n)) }
 {
     match n {
         Number::Operation(operation) => {
@@ -40,7 +42,8 @@ fn store_operation(
     variable: Variable,
     operation: Operation,
 ) -> Result<Statement, AllocError>
-    ensures { IfOk result (λ made. statement_of made ≡ machine.stores_number (variable_of variable) (operation_of operation)) }
+    ensures { IfOk result (λ made. statement_of made
+        ≡ machine.stores_number (variable_of variable) (operation_of operation)) }
 {
     let Operation { first, link } = operation;
     match first {
@@ -68,7 +71,8 @@ pub(crate) fn assignment(
     scene: &Scene<'_, '_, '_>,
     a: &Assignment,
 ) -> Result<Statement, AllocError>
-    ensures { IfOk result (λ made. StatementLowers scene.now (statement_of made) (in_labels scene.now.resolved.now (assignment_of a.now))) }
+    ensures { IfOk result (λ made. StatementLowers scene.now (statement_of made)
+        (in_labels scene.now.resolved.now (assignment_of a.now))) }
 {
     let target = scene.place(alloc, &a.target)?;
     match scene.expression(alloc, &a.value)? {

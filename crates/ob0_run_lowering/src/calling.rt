@@ -26,7 +26,8 @@ pub(crate) fn call(
     scene: &Scene<'_, '_, '_>,
     c: &Call,
 ) -> Result<Statement, AllocError>
-    ensures { IfOk result (λ made. StatementLowers scene.now (statement_of made) (in_labels scene.now.resolved.now (call_of c.now))) }
+    ensures { IfOk result (λ made. StatementLowers scene.now (statement_of made)
+        (in_labels scene.now.resolved.now (call_of c.now))) }
 {
     match scene.object(c.procedure) {
         None => Ok(Statement::WriteLine),
@@ -53,7 +54,11 @@ fn lower_call(
     c: &Call,
     formals: &[Formal],
 ) -> Result<Statement, AllocError>
-    ensures { IfOk result (λ made. object_at scene.now.types.now (label_in scene.now.resolved.now c.now.procedure) ≡ Some (a_procedure (map (formal_in (shapes_of scene.now.types.now)) formals.now)) → StatementLowers scene.now (statement_of made) (in_labels scene.now.resolved.now (call_of c.now))) }
+    ensures { IfOk result (λ made. object_at scene.now.types.now
+        (label_in scene.now.resolved.now c.now.procedure)
+        ≡ Some (a_procedure (map (formal_in (shapes_of scene.now.types.now)) formals.now))
+        → StatementLowers scene.now (statement_of made)
+        (in_labels scene.now.resolved.now (call_of c.now))) }
 {
     let arguments = arguments(alloc, scene, formals, &c.arguments)?;
     let (procedure, up) = scene.target(c.procedure);
@@ -71,7 +76,9 @@ fn arguments(
     formals: &[Formal],
     given: &Option<Vec<Expression>>,
 ) -> Result<Vec<Argument>, AllocError>
-    ensures { IfOk result (λ made. ArgumentsLower scene.now (map (formal_in (shapes_of scene.now.types.now)) formals.now) (map argument_of made.items) (all_in_labels scene.now.resolved.now (given_in given.now))) }
+    ensures { IfOk result (λ made. ArgumentsLower scene.now
+        (map (formal_in (shapes_of scene.now.types.now)) formals.now) (map argument_of made.items)
+        (all_in_labels scene.now.resolved.now (given_in given.now))) }
 {
     match given {
         None => Ok(Vec::new(alloc)),
@@ -85,7 +92,9 @@ fn all_arguments(
     formals: &[Formal],
     given: &Vec<Expression>,
 ) -> Result<Vec<Argument>, AllocError>
-    ensures { IfOk result (λ made. ArgumentsLower scene.now (map (formal_in (shapes_of scene.now.types.now)) formals.now) (map argument_of made.items) (all_in_labels scene.now.resolved.now given.now.items)) }
+    ensures { IfOk result (λ made. ArgumentsLower scene.now
+        (map (formal_in (shapes_of scene.now.types.now)) formals.now) (map argument_of made.items)
+        (all_in_labels scene.now.resolved.now given.now.items)) }
 {
     let mut made = Vec::new(alloc);
     for (formal, e) in formals.iter().zip(given) {
@@ -112,7 +121,10 @@ fn lower_standard_call(
     standard: Standard,
     given: &Option<Vec<Expression>>,
 ) -> Result<Statement, AllocError>
-    ensures { IfOk result (λ made. (x : Label) → object_at scene.now.types.now x ≡ Some (a_standard (standard_of standard)) → StatementLowers scene.now (statement_of made) (calls x (in_labels scene.now.resolved.now (arguments_of given.now)))) }
+    ensures { IfOk result (λ made. (x : Label)
+        → object_at scene.now.types.now x ≡ Some (a_standard (standard_of standard))
+        → StatementLowers scene.now (statement_of made)
+        (calls x (in_labels scene.now.resolved.now (arguments_of given.now)))) }
 {
     match standard {
         Standard::Read => read(alloc, scene, given),
@@ -126,7 +138,10 @@ fn read(
     scene: &Scene<'_, '_, '_>,
     given: &Option<Vec<Expression>>,
 ) -> Result<Statement, AllocError>
-    ensures { IfOk result (λ made. (x : Label) → object_at scene.now.types.now x ≡ Some (a_standard reads) → StatementLowers scene.now (statement_of made) (calls x (in_labels scene.now.resolved.now (arguments_of given.now)))) }
+    ensures { IfOk result (λ made. (x : Label)
+        → object_at scene.now.types.now x ≡ Some (a_standard reads)
+        → StatementLowers scene.now (statement_of made)
+        (calls x (in_labels scene.now.resolved.now (arguments_of given.now)))) }
 {
     match first(given) {
         None => Ok(Statement::WriteLine),
@@ -142,7 +157,10 @@ fn write(
     scene: &Scene<'_, '_, '_>,
     given: &Option<Vec<Expression>>,
 ) -> Result<Statement, AllocError>
-    ensures { IfOk result (λ made. (x : Label) → object_at scene.now.types.now x ≡ Some (a_standard writes) → StatementLowers scene.now (statement_of made) (calls x (in_labels scene.now.resolved.now (arguments_of given.now)))) }
+    ensures { IfOk result (λ made. (x : Label)
+        → object_at scene.now.types.now x ≡ Some (a_standard writes)
+        → StatementLowers scene.now (statement_of made)
+        (calls x (in_labels scene.now.resolved.now (arguments_of given.now)))) }
 {
     match first(given) {
         None => Ok(Statement::WriteLine),

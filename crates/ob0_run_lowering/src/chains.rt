@@ -11,7 +11,8 @@ use std::alloc::{AllocError, Global};
 
 /// An operator with its right operand.
 fn link(operator: Operator, right: Number) -> Link
-    ensures { (left : machine.Number) → applied result left ≡ machine.operation (operator_of operator) left (number_of right) }
+    ensures { (left : machine.Number)
+        → applied result left ≡ machine.operation (operator_of operator) left (number_of right) }
 {
     match operator {
         Operator::Sum => match right {
@@ -76,7 +77,8 @@ pub(crate) fn operation(
     left: Number,
     right: Number,
 ) -> Result<Number, AllocError>
-    ensures { IfOk result (λ n. number_of n ≡ machine.operation (operator_of operator) (number_of left) (number_of right)) }
+    ensures { IfOk result (λ n. number_of n
+        ≡ machine.operation (operator_of operator) (number_of left) (number_of right)) }
 {
     let link = link(operator, right);
     match left {

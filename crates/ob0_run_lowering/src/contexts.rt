@@ -26,7 +26,8 @@ impl<'g, 'k, 't> LoweringContext<'g, 'k, 't> {
 
     /// The type of what a name declares.
     fn type_of(&self, name: usize) -> Option<TypeId>
-        ensures { option_map (type_shape (shapes_of self.now.types.now)) result ≡ type_declared (object_at self.now.types.now (label_in self.now.resolved.now name)) }
+        ensures { option_map (type_shape (shapes_of self.now.types.now)) result
+            ≡ type_declared (object_at self.now.types.now (label_in self.now.resolved.now name)) }
     {
         let ordinal = self.resolved.ordinal_at(name)?;
         self.types.known().declared_type(ordinal)

@@ -39,7 +39,8 @@ fn constant(value: Scalar) -> Lowered
 impl<'s, 'k, 't> Scene<'s, 'k, 't> {
     /// The type of the variable that a name means.
     fn variable_type(&self, name: usize) -> Option<TypeId>
-        ensures { option_map (type_shape (shapes_of self.now.types.now)) result ≡ variable_of (object_at self.now.types.now (label_in self.now.resolved.now name)) }
+        ensures { option_map (type_shape (shapes_of self.now.types.now)) result
+            ≡ variable_of (object_at self.now.types.now (label_in self.now.resolved.now name)) }
     {
         match self.object(name)? {
             Object::Variable(of) => Some(*of),
@@ -53,7 +54,8 @@ impl<'s, 'k, 't> Scene<'s, 'k, 't> {
 
     /// The value of the constant that a name means.
     fn constant(&self, name: usize) -> Option<Scalar>
-        ensures { option_map scalar_value result ≡ constant_of (object_at self.now.types.now (label_in self.now.resolved.now name)) }
+        ensures { option_map scalar_value result
+            ≡ constant_of (object_at self.now.types.now (label_in self.now.resolved.now name)) }
     {
         match self.object(name)? {
             Object::Constant(value) => Some(*value),
@@ -84,7 +86,8 @@ impl<'s, 'k, 't> Scene<'s, 'k, 't> {
 
     /// The whole of a variable.
     fn base(&self, name: usize) -> Option<TypedPlace>
-        ensures { option_map (found_of (shapes_of self.now.types.now)) result ≡ base_found self.now (label_in self.now.resolved.now name) }
+        ensures { option_map (found_of (shapes_of self.now.types.now)) result
+            ≡ base_found self.now (label_in self.now.resolved.now name) }
     {
         let of = self.variable_type(name)?;
         let place = self.variable(name);
@@ -93,7 +96,9 @@ impl<'s, 'k, 't> Scene<'s, 'k, 't> {
 
     /// What is at a place.
     fn code_at_place(&self, at: TypedPlace) -> Lowered
-        ensures { code_of result ≡ code_at_place (found_of (shapes_of self.now.types.now) at).place (found_of (shapes_of self.now.types.now) at).shape }
+        ensures { code_of result
+            ≡ code_at_place (found_of (shapes_of self.now.types.now) at).place
+            (found_of (shapes_of self.now.types.now) at).shape }
     {
         let TypedPlace { place, of } = at;
         match of {
@@ -106,7 +111,8 @@ impl<'s, 'k, 't> Scene<'s, 'k, 't> {
     }
 
     fn code_at(&self, at: Option<TypedPlace>) -> Lowered
-        ensures { code_of result ≡ code_at (option_map (found_of (shapes_of self.now.types.now)) at) }
+        ensures { code_of result
+            ≡ code_at (option_map (found_of (shapes_of self.now.types.now)) at) }
     {
         match at {
             None => Lowered::Nothing,
@@ -121,7 +127,9 @@ impl<'s, 'k, 't> Scene<'s, 'k, 't> {
         at: TypedPlace,
         name: usize,
     ) -> Result<Option<TypedPlace>, AllocError>
-        ensures { IfOk result (λ o. option_map (found_of (shapes_of self.now.types.now)) o ≡ field_found (label_text (label_in self.now.resolved.now name)) (found_of (shapes_of self.now.types.now) at)) }
+        ensures { IfOk result (λ o. option_map (found_of (shapes_of self.now.types.now)) o
+            ≡ field_found (label_text (label_in self.now.resolved.now name))
+            (found_of (shapes_of self.now.types.now) at)) }
     {
         let TypedPlace { place, of } = at;
         let name = self.written(name);
@@ -142,7 +150,10 @@ impl<'s, 'k, 't> Scene<'s, 'k, 't> {
         at: TypedPlace,
         index: Number,
     ) -> Result<Option<TypedPlace>, AllocError>
-        ensures { IfOk result (λ o. option_map (found_of (shapes_of self.now.types.now)) o ≡ element_found (a_number (number_of index)) (found_of (shapes_of self.now.types.now) at).place (found_of (shapes_of self.now.types.now) at).shape) }
+        ensures { IfOk result (λ o. option_map (found_of (shapes_of self.now.types.now)) o
+            ≡ element_found (a_number (number_of index))
+            (found_of (shapes_of self.now.types.now) at).place
+            (found_of (shapes_of self.now.types.now) at).shape) }
     {
         let TypedPlace { place, of } = at;
         match self.types.known().parts(of) {
@@ -167,7 +178,9 @@ impl<'s, 'k, 't> Scene<'s, 'k, 't> {
         at: Option<TypedPlace>,
         index: Lowered,
     ) -> Result<Option<TypedPlace>, AllocError>
-        ensures { IfOk result (λ o. option_map (found_of (shapes_of self.now.types.now)) o ≡ element_of (code_of index) (option_map (found_of (shapes_of self.now.types.now)) at)) }
+        ensures { IfOk result (λ o. option_map (found_of (shapes_of self.now.types.now)) o
+            ≡ element_of (code_of index)
+            (option_map (found_of (shapes_of self.now.types.now)) at)) }
     {
         match at {
             None => Ok(None),
@@ -186,7 +199,9 @@ impl<'s, 'k, 't> Scene<'s, 'k, 't> {
         at: Option<TypedPlace>,
         name: usize,
     ) -> Result<Option<TypedPlace>, AllocError>
-        ensures { IfOk result (λ o. option_map (found_of (shapes_of self.now.types.now)) o ≡ option_and_then (field_found (label_text (label_in self.now.resolved.now name))) (option_map (found_of (shapes_of self.now.types.now)) at)) }
+        ensures { IfOk result (λ o. option_map (found_of (shapes_of self.now.types.now)) o
+            ≡ option_and_then (field_found (label_text (label_in self.now.resolved.now name)))
+            (option_map (found_of (shapes_of self.now.types.now)) at)) }
     {
         match at {
             None => Ok(None),
@@ -197,7 +212,8 @@ impl<'s, 'k, 't> Scene<'s, 'k, 't> {
     /// The code of an expression.
     #[cycle(lowering)]
     pub(crate) fn lowered(&self, alloc: Global, e: &Expression) -> Result<Lowered, AllocError>
-        ensures { IfOk result (λ l. code_of l ≡ expression_code self.now (in_labels self.now.resolved.now (expression_of e.now))) }
+        ensures { IfOk result (λ l. code_of l
+            ≡ expression_code self.now (in_labels self.now.resolved.now (expression_of e.now))) }
     {
         let left = self.simple(alloc, &e.left)?;
         match &e.compared {
@@ -212,7 +228,8 @@ impl<'s, 'k, 't> Scene<'s, 'k, 't> {
 
     #[cycle(lowering)]
     fn simple(&self, alloc: Global, s: &Simple) -> Result<Lowered, AllocError>
-        ensures { IfOk result (λ l. code_of l ≡ simple_code self.now (in_labels self.now.resolved.now (simple_of s.now))) }
+        ensures { IfOk result (λ l. code_of l
+            ≡ simple_code self.now (in_labels self.now.resolved.now (simple_of s.now))) }
     {
         let first = self.term(alloc, &s.first)?;
         let mut so_far = signed(alloc, s.sign, first)?;
@@ -225,7 +242,8 @@ impl<'s, 'k, 't> Scene<'s, 'k, 't> {
 
     #[cycle(lowering)]
     fn term(&self, alloc: Global, t: &Term) -> Result<Lowered, AllocError>
-        ensures { IfOk result (λ l. code_of l ≡ term_code self.now (in_labels self.now.resolved.now (term_of t.now))) }
+        ensures { IfOk result (λ l. code_of l
+            ≡ term_code self.now (in_labels self.now.resolved.now (term_of t.now))) }
     {
         let mut so_far = self.factor(alloc, &t.first)?;
         for multiplier in &t.more {
@@ -237,7 +255,8 @@ impl<'s, 'k, 't> Scene<'s, 'k, 't> {
 
     #[cycle(lowering)]
     fn factor(&self, alloc: Global, f: &Factor) -> Result<Lowered, AllocError>
-        ensures { IfOk result (λ l. code_of l ≡ factor_code self.now (in_labels self.now.resolved.now (factor_of f.now))) }
+        ensures { IfOk result (λ l. code_of l
+            ≡ factor_code self.now (in_labels self.now.resolved.now (factor_of f.now))) }
     {
         match f {
             Factor::Designator(d) => self.named(alloc, d),
@@ -253,7 +272,8 @@ impl<'s, 'k, 't> Scene<'s, 'k, 't> {
     /// A constant, or what is at a designator's place.
     #[cycle(lowering)]
     fn named(&self, alloc: Global, d: &Designator) -> Result<Lowered, AllocError>
-        ensures { IfOk result (λ l. code_of l ≡ factor_code self.now (in_labels self.now.resolved.now (designator_of d.now))) }
+        ensures { IfOk result (λ l. code_of l
+            ≡ factor_code self.now (in_labels self.now.resolved.now (designator_of d.now))) }
     {
         match self.constant(d.name) {
             Some(value) => Ok(constant(value)),
@@ -271,7 +291,10 @@ impl<'s, 'k, 't> Scene<'s, 'k, 't> {
         alloc: Global,
         d: &Designator,
     ) -> Result<Option<TypedPlace>, AllocError>
-        ensures { IfOk result (λ o. option_map (found_of (shapes_of self.now.types.now)) o ≡ selected_place self.now (base_found self.now (label_in self.now.resolved.now (out-Designator d.now).name)) (in_labels self.now.resolved.now (selectors_in d.now))) }
+        ensures { IfOk result (λ o. option_map (found_of (shapes_of self.now.types.now)) o
+            ≡ selected_place self.now
+            (base_found self.now (label_in self.now.resolved.now (out-Designator d.now).name))
+            (in_labels self.now.resolved.now (selectors_in d.now))) }
     {
         let mut at = self.base(d.name);
         for selector in &d.selectors {
@@ -287,7 +310,9 @@ impl<'s, 'k, 't> Scene<'s, 'k, 't> {
         at: Option<TypedPlace>,
         s: &Selector,
     ) -> Result<Option<TypedPlace>, AllocError>
-        ensures { IfOk result (λ o. option_map (found_of (shapes_of self.now.types.now)) o ≡ selected_once self.now (option_map (found_of (shapes_of self.now.types.now)) at) (in_labels self.now.resolved.now (selector_of s.now))) }
+        ensures { IfOk result (λ o. option_map (found_of (shapes_of self.now.types.now)) o
+            ≡ selected_once self.now (option_map (found_of (shapes_of self.now.types.now)) at)
+            (in_labels self.now.resolved.now (selector_of s.now))) }
     {
         match s {
             Selector::Field(name) => self.field_there(alloc, at, *name),

@@ -47,7 +47,8 @@ fn operated(
     left: Lowered,
     right: Lowered,
 ) -> Result<Lowered, AllocError>
-    ensures { IfOk result (λ l. code_of l ≡ codes.operated (operator_of operator) (code_of left) (code_of right)) }
+    ensures { IfOk result
+        (λ l. code_of l ≡ codes.operated (operator_of operator) (code_of left) (code_of right)) }
 {
     let Some(first) = number_in(left) else {
         return Ok(Lowered::Nothing);
@@ -60,7 +61,8 @@ fn operated(
 }
 
 fn conjunction(alloc: Global, left: Lowered, right: Lowered) -> Result<Lowered, AllocError>
-    ensures { IfOk result (λ l. code_of l ≡ codes.combined machine.both (code_of left) (code_of right)) }
+    ensures { IfOk result
+        (λ l. code_of l ≡ codes.combined machine.both (code_of left) (code_of right)) }
 {
     let Some(first) = truth_in(left) else {
         return Ok(Lowered::Nothing);
@@ -73,7 +75,8 @@ fn conjunction(alloc: Global, left: Lowered, right: Lowered) -> Result<Lowered, 
 }
 
 fn disjunction(alloc: Global, left: Lowered, right: Lowered) -> Result<Lowered, AllocError>
-    ensures { IfOk result (λ l. code_of l ≡ codes.combined machine.either (code_of left) (code_of right)) }
+    ensures { IfOk result
+        (λ l. code_of l ≡ codes.combined machine.either (code_of left) (code_of right)) }
 {
     let Some(first) = truth_in(left) else {
         return Ok(Lowered::Nothing);
@@ -106,7 +109,8 @@ pub(crate) fn multiplied(
     left: Lowered,
     right: Lowered,
 ) -> Result<Lowered, AllocError>
-    ensures { IfOk result (λ l. code_of l ≡ codes.multiplied operator (code_of left) (code_of right)) }
+    ensures { IfOk result
+        (λ l. code_of l ≡ codes.multiplied operator (code_of left) (code_of right)) }
 {
     match operator {
         MultiplyOperator::Multiply => operated(alloc, Operator::Product, left, right),
@@ -188,7 +192,8 @@ fn compared(
     left: Number,
     right: Number,
 ) -> Result<Truth, AllocError>
-    ensures { IfOk result (λ t. truth_of t ≡ machine.related (relation_of relation) (number_of left) (number_of right)) }
+    ensures { IfOk result (λ t. truth_of t
+        ≡ machine.related (relation_of relation) (number_of left) (number_of right)) }
 {
     let operands = Box::new(alloc, Operands { left, right })?;
     Ok(Truth::Related(relation_in(relation), operands))
@@ -201,7 +206,8 @@ fn alike(
     left: Truth,
     right: Truth,
 ) -> Result<Lowered, AllocError>
-    ensures { IfOk result (λ l. code_of l ≡ codes.related relation (codes.a_truth (truth_of left)) (codes.a_truth (truth_of right))) }
+    ensures { IfOk result (λ l. code_of l
+        ≡ codes.related relation (codes.a_truth (truth_of left)) (codes.a_truth (truth_of right))) }
 {
     let truths = Truths { left, right };
     match relation {
@@ -227,7 +233,8 @@ fn compare_numbers(
     left: Number,
     right: Lowered,
 ) -> Result<Lowered, AllocError>
-    ensures { IfOk result (λ l. code_of l ≡ codes.related relation (codes.a_number (number_of left)) (code_of right)) }
+    ensures { IfOk result (λ l. code_of l
+        ≡ codes.related relation (codes.a_number (number_of left)) (code_of right)) }
 {
     let Some(second) = number_in(right) else {
         return Ok(Lowered::Nothing);
@@ -243,7 +250,8 @@ fn compare_truths(
     left: Truth,
     right: Lowered,
 ) -> Result<Lowered, AllocError>
-    ensures { IfOk result (λ l. code_of l ≡ codes.related relation (codes.a_truth (truth_of left)) (code_of right)) }
+    ensures { IfOk result
+        (λ l. code_of l ≡ codes.related relation (codes.a_truth (truth_of left)) (code_of right)) }
 {
     let Some(second) = truth_in(right) else {
         return Ok(Lowered::Nothing);

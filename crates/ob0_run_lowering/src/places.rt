@@ -25,7 +25,8 @@ pub(crate) fn element(
     length: usize,
     stride: usize,
 ) -> Result<Place, AllocError>
-    ensures { IfOk result (λ p. place_of p ≡ machine.element (place_of array) (number_of index) length stride) }
+    ensures { IfOk result
+        (λ p. place_of p ≡ machine.element (place_of array) (number_of index) length stride) }
 {
     match array {
         Place::Variable(array) => variable_element(alloc, array, index, length, stride),
@@ -41,7 +42,8 @@ fn variable_element(
     length: usize,
     stride: usize,
 ) -> Result<Place, AllocError>
-    ensures { IfOk result (λ p. place_of p ≡ machine.element (variable_of array) (number_of index) length stride) }
+    ensures { IfOk result
+        (λ p. place_of p ≡ machine.element (variable_of array) (number_of index) length stride) }
 {
     match index {
         Number::Variable(index) => {
@@ -64,7 +66,8 @@ fn any_element(
     length: usize,
     stride: usize,
 ) -> Result<Place, AllocError>
-    ensures { IfOk result (λ p. place_of p ≡ machine.element (place_of array) (number_of index) length stride) }
+    ensures { IfOk result
+        (λ p. place_of p ≡ machine.element (place_of array) (number_of index) length stride) }
 {
     let element = Element {
         array,

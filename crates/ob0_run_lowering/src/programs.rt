@@ -60,7 +60,8 @@ impl Lowering {
 
     /// Keeps the code of a procedure at its index.
     fn keep(&mut self, index: usize, entry: code::Procedure)
-        ensures procedures { self.new.procedures.items ≡ slice_set self.old.procedures.items index entry }
+        ensures procedures { self.new.procedures.items
+            ≡ slice_set self.old.procedures.items index entry }
         ensures sight { self.new.sight ≡ self.old.sight }
         ensures most { self.new.most ≡ self.old.most }
     {
@@ -77,10 +78,14 @@ impl Lowering {
         name: usize,
     ) -> Result<usize, AllocError>
         ensures index { IfOk result (λ i. i ≡ length self.old.procedures.items) }
-        ensures sites { IfOk result (λ i. (k : ℕ) → site_at self.new.sight.sites.items k ≡ put_at (ordinal_in ground.now.resolved.now.ordinals name) (site.Procedure depth i) (site_at self.old.sight.sites.items) k) }
+        ensures sites { IfOk result (λ i. (k : ℕ)
+            → site_at self.new.sight.sites.items k
+            ≡ put_at (ordinal_in ground.now.resolved.now.ordinals name) (site.Procedure depth i)
+            (site_at self.old.sight.sites.items) k) }
         ensures follows { IfOk result (λ i. Follows self.old.sight self.new.sight) }
         ensures most { IfOk result (λ i. self.new.most ≡ self.old.most) }
-        ensures pushed { IfOk result (λ i. (e : code.Procedure) × (self.new.procedures.items ≡ self.old.procedures.items ++ e ∷ [])) }
+        ensures pushed { IfOk result (λ i. (e : code.Procedure)
+            × (self.new.procedures.items ≡ self.old.procedures.items ++ e ∷ [])) }
     {
         let index = self.procedures.len();
         let ordinal = ground.resolved.ordinal_at(name);
@@ -101,7 +106,9 @@ impl Lowering {
         depth: usize,
         p: &Procedure,
     ) -> Result<(), AllocError>
-        ensures { OnOk result ((rest : Tree Label (items procedure)) → Goes ground.now.types.now self.old self.new depth (more (in_labels ground.now.resolved.now (procedure_of p.now)) rest) rest) }
+        ensures { OnOk result ((rest : Tree Label (items procedure))
+            → Goes ground.now.types.now self.old self.new depth
+            (more (in_labels ground.now.resolved.now (procedure_of p.now)) rest) rest) }
     {
         let Some(inside) = depth.checked_add(1) else {
             return Err(AllocError);
@@ -128,7 +135,8 @@ impl Lowering {
         frame: Frame,
         b: &Block,
     ) -> Result<code::Procedure, AllocError>
-        ensures { IfOk result (LowersBlock ground.now.types.now self.old self.new frame (in_labels ground.now.resolved.now (block_of b.now))) }
+        ensures { IfOk result (LowersBlock ground.now.types.now self.old self.new frame
+            (in_labels ground.now.resolved.now (block_of b.now))) }
     {
         let own = self.sight.variables(ground, frame, &b.variables)?;
         self.most = greater(self.most, own.cells);
@@ -159,7 +167,11 @@ pub fn lower<'t>(
     resolved: &Resolved<'t>,
     known: &Known,
 ) -> Result<Program, AllocError>
-    ensures { IfOk result (λ made. WellTyped (named_tree_of resolved.now.module_read) → ((k : ℕ) → declared_in known.now k ≡ declared_object (named_tree_of resolved.now.module_read) k) → ProgramMeans made.most_cells as_labels (numbered (named_tree_of resolved.now.module_read)) (program_of made.code)) }
+    ensures { IfOk result (λ made. WellTyped (named_tree_of resolved.now.module_read)
+        → ((k : ℕ)
+        → declared_in known.now k ≡ declared_object (named_tree_of resolved.now.module_read) k)
+        → ProgramMeans made.most_cells as_labels (numbered (named_tree_of resolved.now.module_read))
+        (program_of made.code)) }
 {
     let types = Types::new(alloc, known)?;
     let ground = LoweringContext {

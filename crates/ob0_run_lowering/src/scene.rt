@@ -45,7 +45,8 @@ impl<'s, 'k, 't> Scene<'s, 'k, 't> {
 
     /// What the declaration of a name is.
     pub fn object(&self, name: usize) -> Option<&'k Object>
-        ensures { option_and_then (λ o. object_in (shapes_of self.now.types.now) o.now) result ≡ object_at self.now.types.now (label_in self.now.resolved.now name) }
+        ensures { option_and_then (λ o. object_in (shapes_of self.now.types.now) o.now) result
+            ≡ object_at self.now.types.now (label_in self.now.resolved.now name) }
     {
         let ordinal = self.resolved.ordinal_at(name)?;
         self.types.known().object(ordinal)
@@ -53,7 +54,8 @@ impl<'s, 'k, 't> Scene<'s, 'k, 't> {
 
     /// Where the declaration of a name is.
     fn site(&self, name: usize) -> Site
-        ensures { seen_from self.now.depth result ≡ whereabouts self.now (label_in self.now.resolved.now name) }
+        ensures { seen_from self.now.depth result
+            ≡ whereabouts self.now (label_in self.now.resolved.now name) }
     {
         match self.resolved.ordinal_at(name) {
             None => Site::Nowhere,
@@ -66,7 +68,8 @@ impl<'s, 'k, 't> Scene<'s, 'k, 't> {
 
     /// Which procedure a name means: its index, and how many levels out it is declared.
     pub fn target(&self, name: usize) -> (usize, usize)
-        ensures { record { procedure = result.0; up = result.1 } ≡ target_at self.now (label_in self.now.resolved.now name) }
+        ensures { record { procedure = result.0; up = result.1 }
+            ≡ target_at self.now (label_in self.now.resolved.now name) }
     {
         match self.site(name) {
             Site::Procedure(at, index) => (index, self.depth.saturating_sub(at)),
@@ -79,7 +82,8 @@ impl<'s, 'k, 't> Scene<'s, 'k, 't> {
 
     /// Where a variable is.
     pub(crate) fn variable(&self, name: usize) -> Place
-        ensures { place_of result ≡ slot_place (slot_at self.now (label_in self.now.resolved.now name)) }
+        ensures { place_of result
+            ≡ slot_place (slot_at self.now (label_in self.now.resolved.now name)) }
     {
         match self.site(name) {
             Site::Module(offset) => Place::Variable(Variable::Module(offset)),

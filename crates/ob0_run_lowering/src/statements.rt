@@ -20,7 +20,8 @@ pub fn body(
     scene: &Scene<'_, '_, '_>,
     statements: &Option<Vec<Statement>>,
 ) -> Result<Vec<code::Statement>, AllocError>
-    ensures { IfOk result (λ made. BodyLowers scene.now (sequence_of made.items) (in_labels scene.now.resolved.now (body_of statements.now))) }
+    ensures { IfOk result (λ made. BodyLowers scene.now (sequence_of made.items)
+        (in_labels scene.now.resolved.now (body_of statements.now))) }
 {
     match statements {
         None => Ok(Vec::new(alloc)),
@@ -48,7 +49,8 @@ fn statement(
     scene: &Scene<'_, '_, '_>,
     s: &Statement,
 ) -> Result<Option<code::Statement>, AllocError>
-    ensures { IfOk result (λ made. CodeLowers scene.now (option_map statement_of made) (in_labels scene.now.resolved.now (view.statement_of s.now))) }
+    ensures { IfOk result (λ made. CodeLowers scene.now (option_map statement_of made)
+        (in_labels scene.now.resolved.now (view.statement_of s.now))) }
 {
     match s {
         Statement::Empty => Ok(None),
@@ -75,7 +77,8 @@ fn sequence(
     scene: &Scene<'_, '_, '_>,
     statements: &Vec<Statement>,
 ) -> Result<Vec<code::Statement>, AllocError>
-    ensures { IfOk result (λ made. SequenceLowers scene.now (sequence_of made.items) (in_labels scene.now.resolved.now (sequence_in statements.now))) }
+    ensures { IfOk result (λ made. SequenceLowers scene.now (sequence_of made.items)
+        (in_labels scene.now.resolved.now (sequence_in statements.now))) }
 {
     let mut made = Vec::new(alloc);
     for s in statements {
@@ -88,7 +91,8 @@ fn sequence(
 /// The code of IF with its ELSIF and ELSE parts.
 #[cycle(statements)]
 fn branches(alloc: Global, scene: &Scene<'_, '_, '_>, i: &If) -> Result<code::Statement, AllocError>
-    ensures { IfOk result (λ made. StatementLowers scene.now (statement_of made) (in_labels scene.now.resolved.now (if_of i.now))) }
+    ensures { IfOk result (λ made. StatementLowers scene.now (statement_of made)
+        (in_labels scene.now.resolved.now (if_of i.now))) }
 {
     let mut branches = Vec::new(alloc);
     let first = scene.truth(alloc, &i.condition)?;

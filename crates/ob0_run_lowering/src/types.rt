@@ -59,7 +59,9 @@ fn times(count: usize, cells: usize) -> Result<usize, AllocError>
 
 /// The cells of the array at a place of the table.
 fn array_cells(layouts: &[Layout], place: usize) -> usize
-    ensures { (shapes : List values.Shape) → LayOut shapes layouts.now → result ≡ size (only_array (slice_index_or shapes place no_shape)) }
+    ensures { (shapes : List values.Shape)
+        → LayOut shapes layouts.now
+        → result ≡ size (only_array (slice_index_or shapes place no_shape)) }
 {
     match layouts.get(place) {
         None => 0,
@@ -72,7 +74,9 @@ fn array_cells(layouts: &[Layout], place: usize) -> usize
 
 /// The record at a place of the table.
 fn record_at(layouts: &[Layout], place: usize) -> Option<&RecordLayout>
-    ensures { (shapes : List values.Shape) → LayOut shapes layouts.now → RecordAt result (only_record (slice_index_or shapes place no_shape)) }
+    ensures { (shapes : List values.Shape)
+        → LayOut shapes layouts.now
+        → RecordAt result (only_record (slice_index_or shapes place no_shape)) }
 {
     match layouts.get(place) {
         None => None,
@@ -84,7 +88,9 @@ fn record_at(layouts: &[Layout], place: usize) -> Option<&RecordLayout>
 }
 
 fn record_cells(layouts: &[Layout], place: usize) -> usize
-    ensures { (shapes : List values.Shape) → LayOut shapes layouts.now → result ≡ size (only_record (slice_index_or shapes place no_shape)) }
+    ensures { (shapes : List values.Shape)
+        → LayOut shapes layouts.now
+        → result ≡ size (only_record (slice_index_or shapes place no_shape)) }
 {
     match record_at(layouts, place) {
         None => 0,
@@ -94,7 +100,9 @@ fn record_cells(layouts: &[Layout], place: usize) -> usize
 
 /// How many cells a type has, by the types that were laid out so far.
 fn size_in(layouts: &[Layout], of: TypeId) -> usize
-    ensures { (shapes : List values.Shape) → LayOut shapes layouts.now → result ≡ size (type_shape shapes of) }
+    ensures { (shapes : List values.Shape)
+        → LayOut shapes layouts.now
+        → result ≡ size (type_shape shapes of) }
 {
     match of {
         TypeId::Integer => 1,
@@ -107,7 +115,9 @@ fn size_in(layouts: &[Layout], of: TypeId) -> usize
 
 /// The fields of a record one after the other.
 fn laid_out(alloc: Global, layouts: &[Layout], fields: &[Field]) -> Result<RecordLayout, AllocError>
-    ensures { (shapes : List values.Shape) → LayOut shapes layouts.now → IfOk result (AreLaidOut (fields_shape shapes fields.now)) }
+    ensures { (shapes : List values.Shape)
+        → LayOut shapes layouts.now
+        → IfOk result (AreLaidOut (fields_shape shapes fields.now)) }
 {
     let mut offsets = Vec::new(alloc);
     let mut cells = 0;
@@ -120,7 +130,9 @@ fn laid_out(alloc: Global, layouts: &[Layout], fields: &[Field]) -> Result<Recor
 
 /// An entry of the table, by those before it.
 fn entry(alloc: Global, layouts: &[Layout], shape: &TypeEntry) -> Result<Layout, AllocError>
-    ensures { (shapes : List values.Shape) → LayOut shapes layouts.now → IfOk result (HasLayout (made_shape shapes shape.now)) }
+    ensures { (shapes : List values.Shape)
+        → LayOut shapes layouts.now
+        → IfOk result (HasLayout (made_shape shapes shape.now)) }
 {
     match shape {
         TypeEntry::Array(array) => {
@@ -136,7 +148,9 @@ fn entry(alloc: Global, layouts: &[Layout], shape: &TypeEntry) -> Result<Layout,
 
 /// The constant of an ordinal has 32 bits.
 fn constant_is_small(known: &Known, ordinal: usize)
-    ensures { (n : ℤ) → declared_in known.now ordinal ≡ Some (a_constant (values.number n)) → machine.fits n ≡ true }
+    ensures { (n : ℤ)
+        → declared_in known.now ordinal ≡ Some (a_constant (values.number n))
+        → machine.fits n ≡ true }
 {
     match known.constant(ordinal) {
         None => {}
@@ -149,7 +163,9 @@ fn constant_is_small(known: &Known, ordinal: usize)
 
 /// The constants of a module have 32 bits.
 fn constants_are_small(known: &Known)
-    ensures { (k : ℕ) (n : ℤ) → declared_in known.now k ≡ Some (a_constant (values.number n)) → machine.fits n ≡ true }
+    ensures { (k : ℕ) (n : ℤ)
+        → declared_in known.now k ≡ Some (a_constant (values.number n))
+        → machine.fits n ≡ true }
 {
     for ordinal in 0..known.count() {
         constant_is_small(known, ordinal);
@@ -191,7 +207,9 @@ impl<'k> Types<'k> {
     /// What is known of the module. Its constants have 32 bits.
     pub fn known(&self) -> &'k Known
         ensures value { result.now ≡ self.now }
-        ensures small { (k : ℕ) (n : ℤ) → declared_in self.now k ≡ Some (a_constant (values.number n)) → machine.fits n ≡ true }
+        ensures small { (k : ℕ) (n : ℤ)
+            → declared_in self.now k ≡ Some (a_constant (values.number n))
+            → machine.fits n ≡ true }
     {
         self.known
     }
@@ -222,7 +240,10 @@ fn offset_at(offsets: &[usize], index: usize) -> usize
 
 /// Where a field begins that was found, or all of them end.
 fn record_offset(laid: &RecordLayout, field: Option<FieldOf>) -> usize
-    ensures { (k : ℕ) (fs : values.FieldShapes) (x : Name) → AreLaidOut fs laid.now → field ≡ field_selected (values.record_shape k fs) x → result ≡ field_offset fs x }
+    ensures { (k : ℕ) (fs : values.FieldShapes) (x : Name)
+        → AreLaidOut fs laid.now
+        → field ≡ field_selected (values.record_shape k fs) x
+        → result ≡ field_offset fs x }
 {
     match field {
         None => laid.cells,
@@ -231,7 +252,8 @@ fn record_offset(laid: &RecordLayout, field: Option<FieldOf>) -> usize
 }
 
 fn offset_in(known: &Known, layouts: &[Layout], of: TypeId, name: &str) -> usize
-    ensures { LayOut (shapes_of known.now) layouts.now → result ≡ step_offset (type_shape (shapes_of known.now) of) (values.at_field name.now) }
+    ensures { LayOut (shapes_of known.now) layouts.now
+        → result ≡ step_offset (type_shape (shapes_of known.now) of) (values.at_field name.now) }
 {
     match of {
         TypeId::Record(place) => match record_at(layouts, place) {

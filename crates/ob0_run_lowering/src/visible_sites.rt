@@ -45,7 +45,8 @@ fn next_site(frame: Frame) -> Site
 impl Frame {
     /// The frame with `size` cells more. None where these cells have no addresses: no allocation has room for them.
     fn with(self, size: usize) -> Option<Frame>
-        ensures { MatchOption result (2 ^ 64 ≤ self.cells + size) (λ f. f ≡ record self { cells = self.cells + size }) }
+        ensures { MatchOption result (2 ^ 64 ≤ self.cells + size)
+            (λ f. f ≡ record self { cells = self.cells + size }) }
     {
         let cells = self.cells.checked_add(size)?;
         Some(Frame {
@@ -77,7 +78,8 @@ impl VisibleSites {
 
     /// Makes room for an ordinal.
     fn reach(&mut self, ordinal: usize) -> Result<(), AllocError>
-        ensures same { OnOk result ((k : ℕ) → site_at self.new.sites.items k ≡ site_at self.old.sites.items k) }
+        ensures same { OnOk result
+            ((k : ℕ) → site_at self.new.sites.items k ≡ site_at self.old.sites.items k) }
         ensures hidden { OnOk result (self.new.hidden.items ≡ self.old.hidden.items) }
         ensures longer { OnOk result (length self.old.sites.items ≤ length self.new.sites.items) }
         ensures room { OnOk result (suc ordinal ≤ length self.new.sites.items) }
@@ -110,7 +112,9 @@ impl VisibleSites {
 
     /// Brings a declaration in scope.
     fn bind_ordinal(&mut self, ordinal: usize, site: Site) -> Result<(), AllocError>
-        ensures sites { OnOk result ((k : ℕ) → site_at self.new.sites.items k ≡ put_at (Some ordinal) site (site_at self.old.sites.items) k) }
+        ensures sites { OnOk result ((k : ℕ)
+            → site_at self.new.sites.items k
+            ≡ put_at (Some ordinal) site (site_at self.old.sites.items) k) }
         ensures follows { OnOk result (Follows self.old self.new) }
     {
         self.reach(ordinal)?;
@@ -122,7 +126,9 @@ impl VisibleSites {
 
     /// Brings what a name declares in scope. A name without an ordinal declares nothing.
     pub(crate) fn bind(&mut self, ordinal: Option<usize>, site: Site) -> Result<(), AllocError>
-        ensures sites { OnOk result ((k : ℕ) → site_at self.new.sites.items k ≡ put_at ordinal site (site_at self.old.sites.items) k) }
+        ensures sites { OnOk result ((k : ℕ)
+            → site_at self.new.sites.items k
+            ≡ put_at ordinal site (site_at self.old.sites.items) k) }
         ensures follows { OnOk result (Follows self.old self.new) }
     {
         match ordinal {
@@ -140,7 +146,10 @@ impl VisibleSites {
 
     /// Goes back to what was in scope when so much was hidden.
     pub(crate) fn back_to(&mut self, mark: usize)
-        ensures { (w : VisibleSites) → Follows w self.old → mark ≡ length w.hidden.items → IsRestored w self.old self.new }
+        ensures { (w : VisibleSites)
+            → Follows w self.old
+            → mark ≡ length w.hidden.items
+            → IsRestored w self.old self.new }
     {
         while self.hidden.len() > mark {
             match self.hidden.pop() {
@@ -158,7 +167,9 @@ impl VisibleSites {
         by_place: bool,
         name: usize,
     ) -> Result<Frame, AllocError>
-        ensures { IfOk result (Places self.old self.new frame (place_one (slots_at frame.depth) (declared_size ground.now.types.now) (mode_of by_place) (label_in ground.now.resolved.now name))) }
+        ensures { IfOk result (Places self.old self.new frame (place_one (slots_at frame.depth)
+            (declared_size ground.now.types.now) (mode_of by_place)
+            (label_in ground.now.resolved.now name))) }
     {
         let ordinal = ground.resolved.ordinal_at(name);
         if by_place {
@@ -187,7 +198,9 @@ impl VisibleSites {
         by_place: bool,
         names: &NameList,
     ) -> Result<Frame, AllocError>
-        ensures { IfOk result (Places self.old self.new frame (place_each (slots_at frame.depth) (declared_size ground.now.types.now) (mode_of by_place) (names_listed (in_labels ground.now.resolved.now (names_of names.now))))) }
+        ensures { IfOk result (Places self.old self.new frame (place_each (slots_at frame.depth)
+            (declared_size ground.now.types.now) (mode_of by_place)
+            (names_listed (in_labels ground.now.resolved.now (names_of names.now))))) }
     {
         let mut now = self.place(ground, frame, by_place, names.first)?;
         for name in &names.more {
@@ -202,7 +215,9 @@ impl VisibleSites {
         frame: Frame,
         groups: &[Variables],
     ) -> Result<Frame, AllocError>
-        ensures { IfOk result (Places self.old self.new frame (placed.place_groups (slots_at frame.depth) (declared_size ground.now.types.now) (in_labels ground.now.resolved.now (items_of variable_of groups.now)))) }
+        ensures { IfOk result (Places self.old self.new frame (placed.place_groups
+            (slots_at frame.depth) (declared_size ground.now.types.now)
+            (in_labels ground.now.resolved.now (items_of variable_of groups.now)))) }
     {
         let mut now = frame;
         for group in groups {
@@ -218,7 +233,9 @@ impl VisibleSites {
         frame: Frame,
         section: &Option<Vec<Variables>>,
     ) -> Result<Frame, AllocError>
-        ensures { IfOk result (Places self.old self.new frame (placed.place_groups (slots_at frame.depth) (declared_size ground.now.types.now) (section_variables (in_labels ground.now.resolved.now (variables_of section.now))))) }
+        ensures { IfOk result (Places self.old self.new frame (placed.place_groups
+            (slots_at frame.depth) (declared_size ground.now.types.now)
+            (section_variables (in_labels ground.now.resolved.now (variables_of section.now))))) }
     {
         match section {
             None => self.place_groups(ground, frame, &[]),
@@ -232,7 +249,9 @@ impl VisibleSites {
         frame: Frame,
         sections: &[Section],
     ) -> Result<Frame, AllocError>
-        ensures { IfOk result (Places self.old self.new frame (placed.place_sections (slots_at frame.depth) (declared_size ground.now.types.now) (in_labels ground.now.resolved.now (items_of further_section_of sections.now)))) }
+        ensures { IfOk result (Places self.old self.new frame (placed.place_sections
+            (slots_at frame.depth) (declared_size ground.now.types.now)
+            (in_labels ground.now.resolved.now (items_of further_section_of sections.now)))) }
     {
         let mut now = frame;
         for section in sections {
@@ -248,7 +267,9 @@ impl VisibleSites {
         frame: Frame,
         formals: &Option<Vec<Section>>,
     ) -> Result<Frame, AllocError>
-        ensures { IfOk result (Places self.old self.new frame (placed.place_sections (slots_at frame.depth) (declared_size ground.now.types.now) (formal_sections (in_labels ground.now.resolved.now (formals_of formals.now))))) }
+        ensures { IfOk result (Places self.old self.new frame (placed.place_sections
+            (slots_at frame.depth) (declared_size ground.now.types.now)
+            (formal_sections (in_labels ground.now.resolved.now (formals_of formals.now))))) }
     {
         match formals {
             None => self.place_sections(ground, frame, &[]),

@@ -42,7 +42,8 @@ forward address offset = (address + offset) % 2 ^ 64
 
 -- an element of an array is there for an index from 0 on and below the length
 abbrev pub element_at : ℕ → ℕ → ℕ → ℤ → Outcome ℕ
-element_at address length stride (pos i) = if nat_lt i length then gives (forward address (i * stride)) else ends Index
+element_at address length stride (pos i) =
+    if nat_lt i length then gives (forward address (i * stride)) else ends Index
 element_at address length stride (negsuc i) = ends Index
 
 -- the value of isn't there 0
@@ -130,6 +131,9 @@ truth ls cells (flag p) = address ls cells p >>= (λ a. gives (is_true (cell_at 
 truth ls cells (negation t) = truth ls cells t >>= (λ a. gives (not a))
 truth ls cells (both t u) = truth ls cells t >>= (λ a. if a then truth ls cells u else gives false)
 truth ls cells (either t u) = truth ls cells t >>= (λ a. if a then gives true else truth ls cells u)
-truth ls cells (related r m n) = number ls cells m >>= (λ a. number ls cells n >>= (λ b. gives (compare r a b)))
-truth ls cells (same t u) = truth ls cells t >>= (λ a. truth ls cells u >>= (λ b. gives (alike a b)))
-truth ls cells (different t u) = truth ls cells t >>= (λ a. truth ls cells u >>= (λ b. gives (not (alike a b))))
+truth ls cells (related r m n) =
+    number ls cells m >>= (λ a. number ls cells n >>= (λ b. gives (compare r a b)))
+truth ls cells (same t u) =
+    truth ls cells t >>= (λ a. truth ls cells u >>= (λ b. gives (alike a b)))
+truth ls cells (different t u) =
+    truth ls cells t >>= (λ a. truth ls cells u >>= (λ b. gives (not (alike a b))))

@@ -58,7 +58,8 @@ zeros n = replicate n (pos 0)
 
 -- so many cells from an address on, 0 where they aren't there
 abbrev pub block_at : List ℤ → (from n : ℕ) → List ℤ
-block_at cells from n = if nat_le (from + n) (length cells) then take n (drop from cells) else zeros n
+block_at cells from n =
+    if nat_le (from + n) (length cells) then take n (drop from cells) else zeros n
 
 -- `Read` takes the next number of the input, or ends with InputEnd
 abbrev pub read_number : State → ℕ → List ℤ → Progress
@@ -76,10 +77,13 @@ pass_cells p more = record p { cells = p.cells ++ more }
 
 -- an argument is passed: a VAR parameter's address, or cells
 abbrev pub pass : Levels → Argument → Passed → Outcome Passed
-pass ls (by_place p) done = address ls done.cells p >>= (λ a. gives record done { addresses = done.addresses ++ a ∷ [] })
+pass ls (by_place p) done =
+    address ls done.cells p >>= (λ a. gives record done { addresses = done.addresses ++ a ∷ [] })
 pass ls (by_number n) done = number ls done.cells n >>= (λ a. gives (pass_cells done (a ∷ [])))
-pass ls (by_truth t) done = truth ls done.cells t >>= (λ a. gives (pass_cells done (as_cell a ∷ [])))
-pass ls (by_block p n) done = address ls done.cells p >>= (λ a. gives (pass_cells done (block_at done.cells a n)))
+pass ls (by_truth t) done =
+    truth ls done.cells t >>= (λ a. gives (pass_cells done (as_cell a ∷ [])))
+pass ls (by_block p n) done =
+    address ls done.cells p >>= (λ a. gives (pass_cells done (block_at done.cells a n)))
 
 -- arguments are evaluated and passed from left to right
 abbrev pub pass_all : Levels → List Argument → Passed → Outcome Passed
@@ -88,15 +92,18 @@ pass_all ls (a ∷ as_given) done = pass ls a done >>= pass_all ls as_given
 
 -- a loop evaluates its condition; where it is TRUE and t turns were made, it ends with TurnBound; else one more turn is made
 abbrev pub turns : ℕ → (State → Outcome Bool) → (State → Progress) → State → Progress
-turns zero condition statements s = choose s (condition s) (λ s'. stopped TurnBound s'.output) running
+turns zero condition statements s =
+    choose s (condition s) (λ s'. stopped TurnBound s'.output) running
 turns (suc t) condition statements s =
-    choose s (condition s) (λ s'. continue_with (statements s') (turns t condition statements)) running
+    choose s (condition s) (λ s'. continue_with (statements s') (turns t condition statements))
+    running
 
 -- REPEAT makes a turn and then evaluates its condition: TRUE ends the statement; FALSE ends it with TurnBound where no more
 -- turns may be made, t more after this one; else one more turn is made
 abbrev pub turns_until : ℕ → (State → Outcome Bool) → (State → Progress) → State → Progress
 turns_until zero condition turn s =
-    continue_with (turn s) (λ s'. choose s' (condition s') running (λ s''. stopped TurnBound s''.output))
+    continue_with (turn s)
+    (λ s'. choose s' (condition s') running (λ s''. stopped TurnBound s''.output))
 turns_until (suc t) condition turn s =
     continue_with (turn s) (λ s'. choose s' (condition s') running (turns_until t condition turn))
 
@@ -112,29 +119,38 @@ entered ls base up p = record { base = base; addresses = p.addresses } ∷ drop 
 unfoldable mutual
   pub execute : Calls → ℕ → Levels → Statement → State → Progress
   execute enter t ls (stores_number p n) s =
-      use_in s (address ls s.cells p) (λ a. use_in s (number ls s.cells n) (λ v. running (store_at s a v)))
+      use_in s (address ls s.cells p)
+      (λ a. use_in s (number ls s.cells n) (λ v. running (store_at s a v)))
   execute enter t ls (stores_truth p u) s =
-      use_in s (address ls s.cells p) (λ a. use_in s (truth ls s.cells u) (λ v. running (store_at s a (as_cell v))))
+      use_in s (address ls s.cells p)
+      (λ a. use_in s (truth ls s.cells u) (λ v. running (store_at s a (as_cell v))))
   execute enter t ls (copies p q n) s =
-      use_in s (address ls s.cells p) (λ to. use_in s (address ls s.cells q) (λ from. running record s { cells = copied s.cells to from n }))
+      use_in s (address ls s.cells p) (λ to. use_in s (address ls s.cells q)
+      (λ from. running record s { cells = copied s.cells to from n }))
   execute enter t ls (reads p) s = use_in s (address ls s.cells p) (λ a. read_number s a s.input)
-  execute enter t ls (writes n) s = use_in s (number ls s.cells n) (λ v. running (append_output s (number_out v)))
+  execute enter t ls (writes n) s =
+      use_in s (number ls s.cells n) (λ v. running (append_output s (number_out v)))
   execute enter t ls writes_line s = running (append_output s line_out)
-  execute enter t ls (chooses bs otherwise) s = execute_branches enter t ls bs (execute_all enter t ls otherwise) s
-  execute enter t ls (while_loop c body) s = turns t (λ s'. truth ls s'.cells c) (execute_all enter t ls body) s
-  execute enter t ls (repeat_loop body c) s = turns_until (t - 1) (λ s'. truth ls s'.cells c) (execute_all enter t ls body) s
+  execute enter t ls (chooses bs otherwise) s =
+      execute_branches enter t ls bs (execute_all enter t ls otherwise) s
+  execute enter t ls (while_loop c body) s =
+      turns t (λ s'. truth ls s'.cells c) (execute_all enter t ls body) s
+  execute enter t ls (repeat_loop body c) s =
+      turns_until (t - 1) (λ s'. truth ls s'.cells c) (execute_all enter t ls body) s
   execute enter t ls (calls k up args) s =
       use_in s (pass_all ls args record { cells = s.cells; addresses = [] })
       (λ p. enter k (entered ls (length s.cells) up p) record s { cells = p.cells })
 
   pub execute_all : Calls → ℕ → Levels → Statements → State → Progress
   execute_all enter t ls no_statement s = running s
-  execute_all enter t ls (before a rest) s = continue_with (execute enter t ls a s) (execute_all enter t ls rest)
+  execute_all enter t ls (before a rest) s =
+      continue_with (execute enter t ls a s) (execute_all enter t ls rest)
 
   pub execute_branches : Calls → ℕ → Levels → Branches → (State → Progress) → State → Progress
   execute_branches enter t ls no_branch otherwise s = otherwise s
   execute_branches enter t ls (branch c body rest) otherwise s =
-      choose s (truth ls s.cells c) (execute_all enter t ls body) (execute_branches enter t ls rest otherwise)
+      choose s (truth ls s.cells c) (execute_all enter t ls body)
+      (execute_branches enter t ls rest otherwise)
 
 -- a call that returns drops its cells: the first n stay
 abbrev pub drop_variables : ℕ → Progress → Progress
@@ -145,13 +161,16 @@ drop_variables n (stopped e out) = stopped e out
 unfoldable pub activate : Calls → ℕ → Levels → Option Procedure → State → Progress
 unfolding execute_all
 activate enter t ls None s = running s
-activate enter t ls (Some p) s = execute_all enter t ls p.body record s { cells = s.cells ++ zeros p.cells }
+activate enter t ls (Some p) s =
+    execute_all enter t ls p.body record s { cells = s.cells ++ zeros p.cells }
 
 -- calls, of which c more may be open
 unfoldable pub call : List Procedure → ℕ → ℕ → Calls
 unfolding activate
 call procedures zero t k ls s = stopped CallBound s.output
-call procedures (suc c) t k ls s = drop_variables (innermost ls).base (activate (call procedures c t) t ls (slice_get procedures k) s)
+call procedures (suc c) t k ls s =
+    drop_variables (innermost ls).base
+    (activate (call procedures c t) t ls (slice_get procedures k) s)
 
 -- the output and the end of a run
 pub record Run : Type 0 where
@@ -171,4 +190,5 @@ outermost = record { base = 0; addresses = [] } ∷ []
 unfoldable pub run : Program → List ℤ → ℕ → ℕ → Run
 unfolding execute_all call
 run program input c t =
-    finished (execute_all (call program.procedures c t) t outermost program.body record { cells = zeros program.cells; input = input; output = [] })
+    finished (execute_all (call program.procedures c t) t outermost program.body record
+    { cells = zeros program.cells; input = input; output = [] })

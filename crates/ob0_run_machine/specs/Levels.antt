@@ -9,7 +9,8 @@ use Rattle.ob0_run_machine.specs.Evaluation.{Levels}
 
 abbrev mutual
   pub levels_of : code.Level → Levels
-  levels_of (code.Level' base addresses enclosing) = record { base = base; addresses = addresses.now } ∷ levels_after enclosing
+  levels_of (code.Level' base addresses enclosing) =
+      record { base = base; addresses = addresses.now } ∷ levels_after enclosing
 
   pub levels_after : code.Held-Level-enclosing → Levels
   levels_after code.None' = []

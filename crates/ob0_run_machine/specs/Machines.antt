@@ -31,7 +31,8 @@ items_out = map item_of
 
 -- the state of a machine
 abbrev pub state_of : Machine → State
-state_of m = record { cells = m.cells.items; input = m.input.now; output = items_out m.output.items }
+state_of m =
+    record { cells = m.cells.items; input = m.input.now; output = items_out m.output.items }
 
 -- a step that takes no memory goes on in the state that it leaves, or ends the run with what was output
 abbrev pub moved : Result (Unit {0}) Ending → Machine → Progress
@@ -51,7 +52,8 @@ Post = MutBor Machine → ℕ → Bor level.Level → Result (Unit {0}) Stop →
 -- calls do what `enters` says
 abbrev pub Performs : Post → Calls → Type 0
 Performs post enters =
-    (at : MutBor Machine) (k : ℕ) (l : Bor level.Level) (r : Result (Unit {0}) Stop) (after : MutBor Machine)
+    (at : MutBor Machine) (k : ℕ) (l : Bor level.Level) (r : Result (Unit {0}) Stop)
+    (after : MutBor Machine)
     → post at k l r after → MachineSteps r after.now (enters k (levels_of l.now) (state_of at.now))
 
 -- what a part of a program does, by what calls do
@@ -68,7 +70,9 @@ executed_all t ls as_listed enters s = execute_all enters t ls as_listed s
 
 -- a step of the machine does what `doing` says, where calls do what they say
 pub record MachineDoes (post : Post) (r : Result (Unit {0}) Stop) (m m' : Machine) (doing : Doing) : Type 0 where
-  pub as_defined : (enters : Calls) → Performs post enters → MachineSteps r m' (doing enters (state_of m))
+  pub as_defined : (enters : Calls)
+      → Performs post enters
+      → MachineSteps r m' (doing enters (state_of m))
 
 -- what was passed, on top of what was there
 abbrev pub passed_in : List ℤ → List ℕ → Passed
@@ -76,7 +80,8 @@ passed_in cells addresses = record { cells = cells; addresses = addresses }
 
 -- a procedure, declared so many levels out, is entered in an activation with this base and these addresses
 abbrev pub entering : ℕ → ℕ → Levels → ℕ → List ℕ → Doing
-entering k up ls base addresses enters s = enters k (entered ls base up (passed_in s.cells addresses)) s
+entering k up ls base addresses enters s =
+    enters k (entered ls base up (passed_in s.cells addresses)) s
 
 -- an argument is passed, or it ends the run; it is out of memory only where an allocation has failed
 abbrev pub Passes : Result (Unit {0}) Stop → Memory → List ℤ → List ℕ → Outcome Passed → Type 0
@@ -89,5 +94,14 @@ abbrev pub activated : Option Procedure → ℕ → Levels → Doing
 activated o t ls enters s = activate enters t ls o s
 
 -- a call, of which c may be open, does what it does in the program
-abbrev pub Enters : Result (Unit {0}) Stop → Machine → Machine → Program → ℕ → ℕ → ℕ → level.Level → Type 0
-Enters r m m' program c t k l = MachineSteps r m' (call (program_of program).procedures c t k (levels_of l) (state_of m))
+abbrev pub Enters : Result (Unit {0}) Stop
+    → Machine
+    → Machine
+    → Program
+    → ℕ
+    → ℕ
+    → ℕ
+    → level.Level
+    → Type 0
+Enters r m m' program c t k l =
+    MachineSteps r m' (call (program_of program).procedures c t k (levels_of l) (state_of m))

@@ -49,7 +49,8 @@ variable_of (variable.Module offset) = lowered.in_module offset
 variable_of (variable.Here offset) = lowered.here offset
 
 abbrev pub row_of : Row → lowered.Place
-row_of r = lowered.element (variable_of r.array) (lowered.cell (variable_of r.index)) r.length r.stride
+row_of r =
+    lowered.element (variable_of r.array) (lowered.cell (variable_of r.index)) r.length r.stride
 
 abbrev mutual
   pub place_of : Place → lowered.Place
@@ -57,7 +58,8 @@ abbrev mutual
   place_of (place.Row r) = row_of r.value
   place_of (place.Outside up offset) = lowered.outside up offset
   place_of (place.Passed up index) = lowered.passed up index
-  place_of (place.Element' pointer array index length stride) = lowered.element (place_of array) (number_of index) length stride
+  place_of (place.Element' pointer array index length stride) =
+      lowered.element (place_of array) (number_of index) length stride
   place_of (place.Part' pointer p offset) = lowered.part (place_of p) offset
 
   pub number_of : Number → lowered.Number
@@ -77,19 +79,27 @@ abbrev mutual
   -- an operation on a number
   pub applied : Link → lowered.Number → lowered.Number
   applied (link.SumLiteral n) left = lowered.operation lowered.sum left (lowered.literal n)
-  applied (link.SumVariable v) left = lowered.operation lowered.sum left (lowered.cell (variable_of v))
+  applied (link.SumVariable v) left =
+      lowered.operation lowered.sum left (lowered.cell (variable_of v))
   applied (link.Sum n) left = lowered.operation lowered.sum left (number_of n)
-  applied (link.DifferenceLiteral n) left = lowered.operation lowered.difference left (lowered.literal n)
-  applied (link.DifferenceVariable v) left = lowered.operation lowered.difference left (lowered.cell (variable_of v))
+  applied (link.DifferenceLiteral n) left =
+      lowered.operation lowered.difference left (lowered.literal n)
+  applied (link.DifferenceVariable v) left =
+      lowered.operation lowered.difference left (lowered.cell (variable_of v))
   applied (link.Difference n) left = lowered.operation lowered.difference left (number_of n)
   applied (link.ProductLiteral n) left = lowered.operation lowered.product left (lowered.literal n)
-  applied (link.ProductVariable v) left = lowered.operation lowered.product left (lowered.cell (variable_of v))
+  applied (link.ProductVariable v) left =
+      lowered.operation lowered.product left (lowered.cell (variable_of v))
   applied (link.Product n) left = lowered.operation lowered.product left (number_of n)
-  applied (link.QuotientLiteral n) left = lowered.operation lowered.quotient left (lowered.literal n)
-  applied (link.QuotientVariable v) left = lowered.operation lowered.quotient left (lowered.cell (variable_of v))
+  applied (link.QuotientLiteral n) left =
+      lowered.operation lowered.quotient left (lowered.literal n)
+  applied (link.QuotientVariable v) left =
+      lowered.operation lowered.quotient left (lowered.cell (variable_of v))
   applied (link.Quotient n) left = lowered.operation lowered.quotient left (number_of n)
-  applied (link.RemainderLiteral n) left = lowered.operation lowered.remainder left (lowered.literal n)
-  applied (link.RemainderVariable v) left = lowered.operation lowered.remainder left (lowered.cell (variable_of v))
+  applied (link.RemainderLiteral n) left =
+      lowered.operation lowered.remainder left (lowered.literal n)
+  applied (link.RemainderVariable v) left =
+      lowered.operation lowered.remainder left (lowered.cell (variable_of v))
   applied (link.Remainder n) left = lowered.operation lowered.remainder left (number_of n)
 
   -- operations in a row
@@ -99,7 +109,9 @@ abbrev mutual
 
 -- the same by the fields of a node
 abbrev pub element_of : Element → lowered.Place
-element_of e = lowered.element (place_of (out-Element e).array) (number_of (out-Element e).index) (out-Element e).length (out-Element e).stride
+element_of e =
+    lowered.element (place_of (out-Element e).array) (number_of (out-Element e).index)
+    (out-Element e).length (out-Element e).stride
 
 -- an operation of the code
 abbrev pub operation_of : Operation → lowered.Number
@@ -138,7 +150,8 @@ abbrev mutual
   truth_of (truth.Any' pointer first shape row) = any_of row (truth_of first)
   truth_of (truth.Related r o) = related_by r o.value
   truth_of (truth.Same' pointer left right) = lowered.same (truth_of left) (truth_of right)
-  truth_of (truth.Different' pointer left right) = lowered.different (truth_of left) (truth_of right)
+  truth_of (truth.Different' pointer left right) =
+      lowered.different (truth_of left) (truth_of right)
 
   pub all_of : {n : _} → truth.Row_of-Truth n → lowered.Truth → lowered.Truth
   all_of truth.end_of-Truth left = left
@@ -181,7 +194,8 @@ abbrev mutual
   pub statement_of : Statement → lowered.Statement
   statement_of (statement.StoreNumber p n) = lowered.stores_number (place_of p) (number_of n)
   statement_of (statement.StoreVariable v n) = lowered.stores_number (variable_of v) (number_of n)
-  statement_of (statement.Update v l) = lowered.stores_number (variable_of v) (applied l (lowered.cell (variable_of v)))
+  statement_of (statement.Update v l) =
+      lowered.stores_number (variable_of v) (applied l (lowered.cell (variable_of v)))
   statement_of (statement.StoreTruth p t) = lowered.stores_truth (place_of p) (truth_of t)
   statement_of (statement.Copy p q n) = lowered.copies (place_of p) (place_of q) n
   statement_of (statement.Read p) = lowered.reads (place_of p)
@@ -189,19 +203,23 @@ abbrev mutual
   statement_of statement.WriteLine = lowered.writes_line
   statement_of (statement.If i) = if_of i
   statement_of (statement.While' c shape row) = lowered.while_loop (truth_of c) (statements_of row)
-  statement_of (statement.Repeat' shape row c) = lowered.repeat_loop (statements_of row) (truth_of c)
+  statement_of (statement.Repeat' shape row c) =
+      lowered.repeat_loop (statements_of row) (truth_of c)
   statement_of (statement.Call c) = call_of c
 
   pub if_of : if_statement.If → lowered.Statement
-  if_of (if_statement.If' shape branches shape' otherwise) = lowered.chooses (branches_of branches) (statements_of otherwise)
+  if_of (if_statement.If' shape branches shape' otherwise) =
+      lowered.chooses (branches_of branches) (statements_of otherwise)
 
   pub statements_of : {n : _} → statement.Row_of-Statement n → lowered.Statements
   statements_of statement.end_of-Statement = lowered.no_statement
-  statements_of (statement.more_of-Statement s row) = lowered.before (statement_of s) (statements_of row)
+  statements_of (statement.more_of-Statement s row) =
+      lowered.before (statement_of s) (statements_of row)
 
   pub branches_of : {n : _} → if_statement.Row_of-Branch n → lowered.Branches
   branches_of if_statement.end_of-Branch = lowered.no_branch
-  branches_of (if_statement.more_of-Branch c shape body row) = lowered.branch (truth_of c) (statements_of body) (branches_of row)
+  branches_of (if_statement.more_of-Branch c shape body row) =
+      lowered.branch (truth_of c) (statements_of body) (branches_of row)
 
 -- the same of a `Vec`'s elements
 abbrev pub sequence_of : List Statement → lowered.Statements
@@ -219,7 +237,8 @@ repeat_of r = lowered.repeat_loop (sequence_of r.body.items) (truth_of r.conditi
 -- the branches of an IF of the code
 abbrev pub all_branches : List Branch → lowered.Branches
 all_branches [] = lowered.no_branch
-all_branches (b ∷ bs) = lowered.branch (truth_of b.condition) (sequence_of b.body.items) (all_branches bs)
+all_branches (b ∷ bs) =
+    lowered.branch (truth_of b.condition) (sequence_of b.body.items) (all_branches bs)
 
 -- a procedure of the code
 abbrev pub procedure_of : procedure.Procedure → lowered.Procedure
@@ -227,8 +246,15 @@ procedure_of p = record { cells = p.cells; body = sequence_of p.body.items }
 
 -- a program of the code
 abbrev pub program_of : program.Program → lowered.Program
-program_of p = record { cells = p.cells; body = sequence_of p.body.items; procedures = map procedure_of p.procedures.items }
+program_of p =
+    record {
+      cells = p.cells;
+      body = sequence_of p.body.items;
+      procedures = map procedure_of p.procedures.items;
+    }
 
 -- an IF of the code
 abbrev pub branches_in : if_statement.If → lowered.Statement
-branches_in i = lowered.chooses (all_branches (if_statement.out-If i).branches.items) (sequence_of (if_statement.out-If i).otherwise.items)
+branches_in i =
+    lowered.chooses (all_branches (if_statement.out-If i).branches.items)
+    (sequence_of (if_statement.out-If i).otherwise.items)

@@ -15,7 +15,8 @@ use crate::statements::sequence;
 /// The procedure at an index.
 #[inline(always)]
 fn procedure_at<'p>(procedures: &'p [Procedure], procedure: usize) -> Option<&'p Procedure>
-    ensures { option_map (λ p. procedure_of p.now) result ≡ slice_get (map procedure_of procedures.now) procedure }
+    ensures { option_map (λ p. procedure_of p.now) result
+        ≡ slice_get (map procedure_of procedures.now) procedure }
 {
     if procedure >= procedures.len() {
         return None;
@@ -32,7 +33,9 @@ fn activate<F: Fn(&mut Machine<'_>, usize, &Level<'_>) -> Result<(), Stop>>(
     enter: &F,
 ) -> Result<(), Stop>
     requires { F.IsAlwaysCallable enter.now }
-    ensures { MachineDoes (F.post enter.now) result machine.old machine.new (activated (option_map (λ p. procedure_of p.now) procedure.entry) turns (levels_of level.now)) }
+    ensures { MachineDoes (F.post enter.now) result machine.old machine.new
+        (activated (option_map (λ p. procedure_of p.now) procedure.entry) turns
+        (levels_of level.now)) }
 {
     match procedure {
         None => Ok(()),
@@ -47,7 +50,9 @@ fn activate<F: Fn(&mut Machine<'_>, usize, &Level<'_>) -> Result<(), Stop>>(
 
 /// Gives up the cells of an activation.
 fn drop_variables(machine: &mut Machine<'_>, level: &Level<'_>)
-    ensures { state_of machine.new ≡ record (state_of machine.old) { cells = take (innermost (levels_of level.now)).base machine.old.cells.items } }
+    ensures { state_of machine.new
+        ≡ record (state_of machine.old)
+        { cells = take (innermost (levels_of level.now)).base machine.old.cells.items } }
 {
     machine.cells.truncate(level.base);
 }
@@ -68,7 +73,8 @@ pub(crate) fn call(
     }
     let left = calls - 1;
     let enter = |machine: &mut Machine<'_>, procedure: usize, level: &Level<'_>|
-        ensures { Enters result machine.old machine.new program.entry.now left turns procedure level.now }
+        ensures { Enters result machine.old machine.new program.entry.now left turns procedure
+            level.now }
     { call(program, left, turns, machine, procedure, level) };
     let called = procedure_at(program.procedures.as_slice(), procedure);
     activate(called, level, turns, machine, &enter)?;

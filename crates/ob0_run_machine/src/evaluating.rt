@@ -34,7 +34,8 @@ pub(crate) fn cell_at(cells: &[i32], address: usize) -> i32
 /// The address of a variable.
 #[inline(always)]
 pub(crate) fn variable_at(variable: Variable, level: &Level<'_>) -> usize
-    ensures { (cells : List ℤ) → address (levels_of level.now) cells (variable_of variable) ≡ gives result }
+    ensures { (cells : List ℤ)
+        → address (levels_of level.now) cells (variable_of variable) ≡ gives result }
 {
     match variable {
         Variable::Module(offset) => offset,
@@ -45,7 +46,8 @@ pub(crate) fn variable_at(variable: Variable, level: &Level<'_>) -> usize
 /// What a variable holds.
 #[inline(always)]
 fn value_of(variable: Variable, level: &Level<'_>, cells: &[i32]) -> i32
-    ensures { number (levels_of level.now) cells.now (lowered.cell (variable_of variable)) ≡ gives result }
+    ensures { number (levels_of level.now) cells.now (lowered.cell (variable_of variable))
+        ≡ gives result }
 {
     cell_at(cells, variable_at(variable, level))
 }
@@ -63,7 +65,8 @@ fn row(row: &Row, level: &Level<'_>, cells: &[i32]) -> Result<usize, Ending>
 #[inline(always)]
 #[cycle(evaluation)]
 pub(crate) fn locate(place: &Place, level: &Level<'_>, cells: &[i32]) -> Result<usize, Ending>
-    ensures { outcome_of_result result ≡ address (levels_of level.now) cells.now (place_of place.now) }
+    ensures { outcome_of_result result
+        ≡ address (levels_of level.now) cells.now (place_of place.now) }
 {
     match place {
         Place::Variable(variable) => Ok(variable_at(*variable, level)),
@@ -87,7 +90,8 @@ fn element(e: &Element, level: &Level<'_>, cells: &[i32]) -> Evaluated<usize>
 #[inline(always)]
 #[cycle(evaluation)]
 fn indexed(e: &Element, level: &Level<'_>, cells: &[i32]) -> Result<usize, Ending>
-    ensures { outcome_of_result result ≡ address (levels_of level.now) cells.now (element_of e.now) }
+    ensures { outcome_of_result result
+        ≡ address (levels_of level.now) cells.now (element_of e.now) }
 {
     let a = locate(&e.array, level, cells)?;
     let i = evaluate_number(&e.index, level, cells)?;
@@ -98,7 +102,8 @@ fn indexed(e: &Element, level: &Level<'_>, cells: &[i32]) -> Result<usize, Endin
 #[inline(never)]
 #[cycle(evaluation)]
 fn part(whole: &Place, offset: usize, level: &Level<'_>, cells: &[i32]) -> Evaluated<usize>
-    ensures { outcome_of result ≡ address (levels_of level.now) cells.now (lowered.part (place_of whole.now) offset) }
+    ensures { outcome_of result
+        ≡ address (levels_of level.now) cells.now (lowered.part (place_of whole.now) offset) }
 {
     match locate(whole, level, cells) {
         Ok(a) => Evaluated::Value(forward(a, offset)),
@@ -145,7 +150,8 @@ fn evaluate_first(n: &First, level: &Level<'_>, cells: &[i32]) -> Result<i32, En
 #[inline(never)]
 #[cycle(evaluation)]
 fn opposite(operand: &Number, level: &Level<'_>, cells: &[i32]) -> Evaluated<i32>
-    ensures { outcome_of result ≡ number (levels_of level.now) cells.now (lowered.negative (number_of operand.now)) }
+    ensures { outcome_of result
+        ≡ number (levels_of level.now) cells.now (lowered.negative (number_of operand.now)) }
 {
     match evaluate_number(operand, level, cells) {
         Ok(a) => flat(negative(a)),
@@ -233,7 +239,9 @@ pub(crate) fn evaluate_update(
     level: &Level<'_>,
     cells: &[i32],
 ) -> Result<i32, Ending>
-    ensures { outcome_of_result result ≡ number (levels_of level.now) cells.now (applied link.now (lowered.cell (variable_of variable))) }
+    ensures { outcome_of_result result
+        ≡ number (levels_of level.now) cells.now
+        (applied link.now (lowered.cell (variable_of variable))) }
 {
     let left = value_of(variable, level, cells);
     apply(link, left, level, cells)
@@ -300,7 +308,8 @@ fn compare_operands(
     level: &Level<'_>,
     cells: &[i32],
 ) -> Result<bool, Ending>
-    ensures { outcome_of_result result ≡ truth (levels_of level.now) cells.now (related_by relation operands.now) }
+    ensures { outcome_of_result result
+        ≡ truth (levels_of level.now) cells.now (related_by relation operands.now) }
 {
     let left = evaluate_number(&operands.left, level, cells)?;
     let right = evaluate_number(&operands.right, level, cells)?;
@@ -309,7 +318,9 @@ fn compare_operands(
 
 #[cycle(truths)]
 fn both(operands: &Truths, level: &Level<'_>, cells: &[i32]) -> Result<bool, Ending>
-    ensures { outcome_of_result result ≡ truth (levels_of level.now) cells.now (lowered.both (truth_of (out-Truths operands.now).left) (truth_of (out-Truths operands.now).right)) }
+    ensures { outcome_of_result result
+        ≡ truth (levels_of level.now) cells.now (lowered.both
+        (truth_of (out-Truths operands.now).left) (truth_of (out-Truths operands.now).right)) }
 {
     if truth(&operands.left, level, cells)? {
         truth(&operands.right, level, cells)
@@ -320,7 +331,9 @@ fn both(operands: &Truths, level: &Level<'_>, cells: &[i32]) -> Result<bool, End
 
 #[cycle(truths)]
 fn either(operands: &Truths, level: &Level<'_>, cells: &[i32]) -> Result<bool, Ending>
-    ensures { outcome_of_result result ≡ truth (levels_of level.now) cells.now (lowered.either (truth_of (out-Truths operands.now).left) (truth_of (out-Truths operands.now).right)) }
+    ensures { outcome_of_result result
+        ≡ truth (levels_of level.now) cells.now (lowered.either
+        (truth_of (out-Truths operands.now).left) (truth_of (out-Truths operands.now).right)) }
 {
     if truth(&operands.left, level, cells)? {
         Ok(true)
@@ -331,7 +344,9 @@ fn either(operands: &Truths, level: &Level<'_>, cells: &[i32]) -> Result<bool, E
 
 #[cycle(truths)]
 fn same(operands: &Truths, level: &Level<'_>, cells: &[i32]) -> Result<bool, Ending>
-    ensures { outcome_of_result result ≡ truth (levels_of level.now) cells.now (lowered.same (truth_of (out-Truths operands.now).left) (truth_of (out-Truths operands.now).right)) }
+    ensures { outcome_of_result result
+        ≡ truth (levels_of level.now) cells.now (lowered.same
+        (truth_of (out-Truths operands.now).left) (truth_of (out-Truths operands.now).right)) }
 {
     let left = truth(&operands.left, level, cells)?;
     let right = truth(&operands.right, level, cells)?;
@@ -340,7 +355,9 @@ fn same(operands: &Truths, level: &Level<'_>, cells: &[i32]) -> Result<bool, End
 
 #[cycle(truths)]
 fn different(operands: &Truths, level: &Level<'_>, cells: &[i32]) -> Result<bool, Ending>
-    ensures { outcome_of_result result ≡ truth (levels_of level.now) cells.now (lowered.different (truth_of (out-Truths operands.now).left) (truth_of (out-Truths operands.now).right)) }
+    ensures { outcome_of_result result
+        ≡ truth (levels_of level.now) cells.now (lowered.different
+        (truth_of (out-Truths operands.now).left) (truth_of (out-Truths operands.now).right)) }
 {
     let left = truth(&operands.left, level, cells)?;
     let right = truth(&operands.right, level, cells)?;
@@ -350,7 +367,8 @@ fn different(operands: &Truths, level: &Level<'_>, cells: &[i32]) -> Result<bool
 /// `&` between many: from the first FALSE on nothing is evaluated.
 #[cycle(truths)]
 fn all(several: &Several, level: &Level<'_>, cells: &[i32]) -> Result<bool, Ending>
-    ensures { outcome_of_result result ≡ truth (levels_of level.now) cells.now (all_in several.now) }
+    ensures { outcome_of_result result
+        ≡ truth (levels_of level.now) cells.now (all_in several.now) }
 {
     let mut left = truth(&several.first, level, cells)?;
     for t in &several.rest {
@@ -362,7 +380,8 @@ fn all(several: &Several, level: &Level<'_>, cells: &[i32]) -> Result<bool, Endi
 #[inline(always)]
 #[cycle(truths)]
 fn and(left: bool, t: &Truth, level: &Level<'_>, cells: &[i32]) -> Result<bool, Ending>
-    ensures { outcome_of_result result ≡ (if left then truth (levels_of level.now) cells.now (truth_of t.now) else gives false) }
+    ensures { outcome_of_result result
+        ≡ (if left then truth (levels_of level.now) cells.now (truth_of t.now) else gives false) }
 {
     if left {
         truth(t, level, cells)
@@ -374,7 +393,8 @@ fn and(left: bool, t: &Truth, level: &Level<'_>, cells: &[i32]) -> Result<bool, 
 /// `OR` between many: from the first TRUE on nothing is evaluated.
 #[cycle(truths)]
 fn any(several: &Several, level: &Level<'_>, cells: &[i32]) -> Result<bool, Ending>
-    ensures { outcome_of_result result ≡ truth (levels_of level.now) cells.now (any_in several.now) }
+    ensures { outcome_of_result result
+        ≡ truth (levels_of level.now) cells.now (any_in several.now) }
 {
     let mut left = truth(&several.first, level, cells)?;
     for t in &several.rest {
@@ -386,7 +406,8 @@ fn any(several: &Several, level: &Level<'_>, cells: &[i32]) -> Result<bool, Endi
 #[inline(always)]
 #[cycle(truths)]
 fn or(left: bool, t: &Truth, level: &Level<'_>, cells: &[i32]) -> Result<bool, Ending>
-    ensures { outcome_of_result result ≡ (if left then gives true else truth (levels_of level.now) cells.now (truth_of t.now)) }
+    ensures { outcome_of_result result
+        ≡ (if left then gives true else truth (levels_of level.now) cells.now (truth_of t.now)) }
 {
     if left {
         Ok(true)

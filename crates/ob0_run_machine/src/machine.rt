@@ -60,7 +60,8 @@ impl<'i> Machine<'i> {
 
     /// Takes the next number of the input.
     pub(crate) fn read_number(&mut self, address: usize) -> Result<(), Ending>
-        ensures { moved result self.new ≡ read_number (state_of self.old) address (state_of self.old).input }
+        ensures { moved result self.new
+            ≡ read_number (state_of self.old) address (state_of self.old).input }
     {
         match self.input {
             [] => Err(Ending::InputEnd),
@@ -73,7 +74,8 @@ impl<'i> Machine<'i> {
     }
 
     pub(crate) fn append_output(&mut self, item: Item) -> Result<(), AllocError>
-        ensures appended { OnOk result (state_of self.new ≡ append_output (state_of self.old) (item_of item)) }
+        ensures appended { OnOk result
+            (state_of self.new ≡ append_output (state_of self.old) (item_of item)) }
         ensures failed { OnErr result (has_failed self.new.memory ≡ true) }
     {
         self.memory.push(&mut self.output, item)

@@ -68,7 +68,8 @@ impl Memory {
         from: usize,
         count: usize,
     ) -> Result<(), AllocError>
-        ensures items { OnOk result (cells.new.items ≡ cells.old.items ++ block_at cells.old.items from count) }
+        ensures items { OnOk result
+            (cells.new.items ≡ cells.old.items ++ block_at cells.old.items from count) }
         ensures failed { OnErr result (has_failed self.new ≡ true) }
     {
         let length = cells.len();

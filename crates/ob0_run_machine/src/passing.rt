@@ -22,7 +22,9 @@ fn pass(
     cells: &mut Vec<i32>,
     addresses: &mut Addresses,
 ) -> Result<(), Stop>
-    ensures { Passes result memory.new cells.new.items (addresses_in addresses.new) (pass (levels_of level.now) (argument_of argument.now) (passed_in cells.old.items (addresses_in addresses.old))) }
+    ensures { Passes result memory.new cells.new.items (addresses_in addresses.new)
+        (pass (levels_of level.now) (argument_of argument.now)
+        (passed_in cells.old.items (addresses_in addresses.old))) }
 {
     match argument {
         Argument::Place(place) => {
@@ -53,7 +55,9 @@ pub(crate) fn pass_all(
     cells: &mut Vec<i32>,
     addresses: &mut Addresses,
 ) -> Result<(), Stop>
-    ensures { Passes result memory.new cells.new.items (addresses_in addresses.new) (pass_all (levels_of level.now) (map argument_of arguments.now) (passed_in cells.old.items (addresses_in addresses.old))) }
+    ensures { Passes result memory.new cells.new.items (addresses_in addresses.new)
+        (pass_all (levels_of level.now) (map argument_of arguments.now)
+        (passed_in cells.old.items (addresses_in addresses.old))) }
 {
     for argument in arguments {
         pass(memory, argument, level, cells, addresses)?;

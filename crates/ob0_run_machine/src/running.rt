@@ -32,7 +32,8 @@ pub struct Outcome {
 
 /// The statements of a program.
 fn execute(program: &Program, calls: u32, turns: u32, machine: &mut Machine<'_>) -> Result<(), Stop>
-    ensures { MachineSteps result machine.new (block_run (program_of program.now) calls turns (state_of machine.old)) }
+    ensures { MachineSteps result machine.new
+        (block_run (program_of program.now) calls turns (state_of machine.old)) }
 {
     let level = Level {
         base: 0,

@@ -26,7 +26,10 @@ fn store_number(
     level: &Level<'_>,
     machine: &mut Machine<'_>,
 ) -> Result<(), Ending>
-    ensures { (enters : Calls) (t : ℕ) → moved result machine.new ≡ execute enters t (levels_of level.now) (lowered.stores_number (place_of place.now) (number_of n.now)) (state_of machine.old) }
+    ensures { (enters : Calls) (t : ℕ)
+        → moved result machine.new
+        ≡ execute enters t (levels_of level.now)
+        (lowered.stores_number (place_of place.now) (number_of n.now)) (state_of machine.old) }
 {
     let a = locate(place, level, machine.cells.as_slice())?;
     let v = evaluate_number(n, level, machine.cells.as_slice())?;
@@ -43,7 +46,10 @@ fn store_variable(
     level: &Level<'_>,
     machine: &mut Machine<'_>,
 ) -> Result<(), Ending>
-    ensures { (enters : Calls) (t : ℕ) → moved result machine.new ≡ execute enters t (levels_of level.now) (lowered.stores_number (variable_of variable) (number_of n.now)) (state_of machine.old) }
+    ensures { (enters : Calls) (t : ℕ)
+        → moved result machine.new
+        ≡ execute enters t (levels_of level.now)
+        (lowered.stores_number (variable_of variable) (number_of n.now)) (state_of machine.old) }
 {
     let v = evaluate_number(n, level, machine.cells.as_slice())?;
     store(&mut machine.cells, variable_at(variable, level), v);
@@ -59,7 +65,10 @@ fn update(
     level: &Level<'_>,
     machine: &mut Machine<'_>,
 ) -> Result<(), Ending>
-    ensures { (enters : Calls) (t : ℕ) → moved result machine.new ≡ execute enters t (levels_of level.now) (lowered.stores_number (variable_of variable) (applied link.now (lowered.cell (variable_of variable)))) (state_of machine.old) }
+    ensures { (enters : Calls) (t : ℕ)
+        → moved result machine.new
+        ≡ execute enters t (levels_of level.now) (lowered.stores_number (variable_of variable)
+        (applied link.now (lowered.cell (variable_of variable)))) (state_of machine.old) }
 {
     let v = evaluate_update(variable, link, level, machine.cells.as_slice())?;
     store(&mut machine.cells, variable_at(variable, level), v);
@@ -74,7 +83,10 @@ fn store_truth(
     level: &Level<'_>,
     machine: &mut Machine<'_>,
 ) -> Result<(), Ending>
-    ensures { (enters : Calls) (turns : ℕ) → moved result machine.new ≡ execute enters turns (levels_of level.now) (lowered.stores_truth (place_of place.now) (truth_of t.now)) (state_of machine.old) }
+    ensures { (enters : Calls) (turns : ℕ)
+        → moved result machine.new
+        ≡ execute enters turns (levels_of level.now)
+        (lowered.stores_truth (place_of place.now) (truth_of t.now)) (state_of machine.old) }
 {
     let a = locate(place, level, machine.cells.as_slice())?;
     let v = evaluate_truth(t, level, machine.cells.as_slice())?;
@@ -90,7 +102,10 @@ fn copy_block(
     level: &Level<'_>,
     machine: &mut Machine<'_>,
 ) -> Result<(), Ending>
-    ensures { (enters : Calls) (t : ℕ) → moved result machine.new ≡ execute enters t (levels_of level.now) (lowered.copies (place_of to.now) (place_of from.now) count) (state_of machine.old) }
+    ensures { (enters : Calls) (t : ℕ)
+        → moved result machine.new
+        ≡ execute enters t (levels_of level.now)
+        (lowered.copies (place_of to.now) (place_of from.now) count) (state_of machine.old) }
 {
     let a = locate(to, level, machine.cells.as_slice())?;
     let b = locate(from, level, machine.cells.as_slice())?;
@@ -100,7 +115,10 @@ fn copy_block(
 
 #[tactic(auto, unfolding(crate::specs::Execution::execute))]
 fn read(place: &Place, level: &Level<'_>, machine: &mut Machine<'_>) -> Result<(), Ending>
-    ensures { (enters : Calls) (t : ℕ) → moved result machine.new ≡ execute enters t (levels_of level.now) (lowered.reads (place_of place.now)) (state_of machine.old) }
+    ensures { (enters : Calls) (t : ℕ)
+        → moved result machine.new
+        ≡ execute enters t (levels_of level.now) (lowered.reads (place_of place.now))
+        (state_of machine.old) }
 {
     let a = locate(place, level, machine.cells.as_slice())?;
     machine.read_number(a)
@@ -108,7 +126,9 @@ fn read(place: &Place, level: &Level<'_>, machine: &mut Machine<'_>) -> Result<(
 
 #[tactic(auto, unfolding(crate::specs::Execution::execute))]
 fn write(n: &Number, level: &Level<'_>, machine: &mut Machine<'_>) -> Result<(), Stop>
-    ensures { (enters : Calls) (t : ℕ) → MachineSteps result machine.new (execute enters t (levels_of level.now) (lowered.writes (number_of n.now)) (state_of machine.old)) }
+    ensures { (enters : Calls) (t : ℕ)
+        → MachineSteps result machine.new (execute enters t (levels_of level.now)
+        (lowered.writes (number_of n.now)) (state_of machine.old)) }
 {
     let v = evaluate_number(n, level, machine.cells.as_slice())?;
     machine.append_output(Item::Number(v))?;
@@ -117,7 +137,9 @@ fn write(n: &Number, level: &Level<'_>, machine: &mut Machine<'_>) -> Result<(),
 
 #[tactic(auto, unfolding(crate::specs::Execution::execute))]
 fn write_line(level: &Level<'_>, machine: &mut Machine<'_>) -> Result<(), Stop>
-    ensures { (enters : Calls) (t : ℕ) → MachineSteps result machine.new (execute enters t (levels_of level.now) lowered.writes_line (state_of machine.old)) }
+    ensures { (enters : Calls) (t : ℕ)
+        → MachineSteps result machine.new
+        (execute enters t (levels_of level.now) lowered.writes_line (state_of machine.old)) }
 {
     machine.append_output(Item::Line)?;
     Ok(())
@@ -134,7 +156,8 @@ fn run_body<F: Fn(&mut Machine<'_>, usize, &Level<'_>) -> Result<(), Stop>>(
     enter: &F,
 ) -> Result<(), Stop>
     requires { F.IsAlwaysCallable enter.now }
-    ensures { MachineDoes (F.post enter.now) result machine.old machine.new (entering c.now.procedure c.now.up (levels_of level.now) base addresses.now) }
+    ensures { MachineDoes (F.post enter.now) result machine.old machine.new
+        (entering c.now.procedure c.now.up (levels_of level.now) base addresses.now) }
 {
     let entered = Level {
         base,
@@ -153,7 +176,9 @@ fn run_call<F: Fn(&mut Machine<'_>, usize, &Level<'_>) -> Result<(), Stop>>(
     enter: &F,
 ) -> Result<(), Stop>
     requires { F.IsAlwaysCallable enter.now }
-    ensures { (t : ℕ) → MachineDoes (F.post enter.now) result machine.old machine.new (executed t (levels_of level.now) (call_of c.now)) }
+    ensures { (t : ℕ)
+        → MachineDoes (F.post enter.now) result machine.old machine.new
+        (executed t (levels_of level.now) (call_of c.now)) }
 {
     let base = machine.size();
     let mut addresses = Addresses::Empty;
@@ -179,7 +204,8 @@ fn evaluate_condition(
     level: &Level<'_>,
     machine: &Machine<'_>,
 ) -> Result<bool, Ending>
-    ensures { outcome_of_result result ≡ truth (levels_of level.now) machine.now.cells.items (truth_of condition.now) }
+    ensures { outcome_of_result result
+        ≡ truth (levels_of level.now) machine.now.cells.items (truth_of condition.now) }
 {
     evaluate_truth(condition, level, machine.cells.as_slice())
 }
@@ -194,7 +220,8 @@ fn statement<F: Fn(&mut Machine<'_>, usize, &Level<'_>) -> Result<(), Stop>>(
     enter: &F,
 ) -> Result<(), Stop>
     requires { F.IsAlwaysCallable enter.now }
-    ensures { MachineDoes (F.post enter.now) result machine.old machine.new (executed turns (levels_of level.now) (statement_of s.now)) }
+    ensures { MachineDoes (F.post enter.now) result machine.old machine.new
+        (executed turns (levels_of level.now) (statement_of s.now)) }
 {
     match s {
         Statement::StoreNumber(place, n) => Ok(store_number(place, n, level, machine)?),
@@ -222,7 +249,8 @@ pub(crate) fn sequence<F: Fn(&mut Machine<'_>, usize, &Level<'_>) -> Result<(), 
     enter: &F,
 ) -> Result<(), Stop>
     requires { F.IsAlwaysCallable enter.now }
-    ensures { MachineDoes (F.post enter.now) result machine.old machine.new (executed_all turns (levels_of level.now) (sequence_of statements.now)) }
+    ensures { MachineDoes (F.post enter.now) result machine.old machine.new
+        (executed_all turns (levels_of level.now) (sequence_of statements.now)) }
 {
     for s in statements {
         statement(s, level, turns, machine, enter)?;
@@ -241,7 +269,8 @@ fn branches<F: Fn(&mut Machine<'_>, usize, &Level<'_>) -> Result<(), Stop>>(
     enter: &F,
 ) -> Result<(), Stop>
     requires { F.IsAlwaysCallable enter.now }
-    ensures { MachineDoes (F.post enter.now) result machine.old machine.new (executed turns (levels_of level.now) (branches_in i.now)) }
+    ensures { MachineDoes (F.post enter.now) result machine.old machine.new
+        (executed turns (levels_of level.now) (branches_in i.now)) }
 {
     for branch in &i.branches {
         if evaluate_condition(&branch.condition, level, machine)? {
@@ -262,7 +291,8 @@ fn run_loop<F: Fn(&mut Machine<'_>, usize, &Level<'_>) -> Result<(), Stop>>(
     enter: &F,
 ) -> Result<(), Stop>
     requires { F.IsAlwaysCallable enter.now }
-    ensures { MachineDoes (F.post enter.now) result machine.old machine.new (executed turns (levels_of level.now) (while_of w.now)) }
+    ensures { MachineDoes (F.post enter.now) result machine.old machine.new
+        (executed turns (levels_of level.now) (while_of w.now)) }
 {
     let mut left = turns;
     loop {
@@ -288,7 +318,8 @@ fn until<F: Fn(&mut Machine<'_>, usize, &Level<'_>) -> Result<(), Stop>>(
     enter: &F,
 ) -> Result<(), Stop>
     requires { F.IsAlwaysCallable enter.now }
-    ensures { MachineDoes (F.post enter.now) result machine.old machine.new (executed turns (levels_of level.now) (repeat_of r.now)) }
+    ensures { MachineDoes (F.post enter.now) result machine.old machine.new
+        (executed turns (levels_of level.now) (repeat_of r.now)) }
 {
     let mut further = turns.saturating_sub(1);
     loop {

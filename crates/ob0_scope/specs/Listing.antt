@@ -25,11 +25,13 @@ is_name_on offset t = is_identifier t.kind && is_on offset t.span
 -- each token has a byte, and begins where the one before it ends or after that
 abbrev pub AreApart : ℕ → List Token → Type 0
 AreApart from [] = Unit {0}
-AreApart from (t ∷ ts) = (from ≤ t.span.start) × ((t.span.start < t.span.end) × AreApart t.span.end ts)
+AreApart from (t ∷ ts) =
+    (from ≤ t.span.start) × ((t.span.start < t.span.end) × AreApart t.span.end ts)
 
 -- an identifier has this ordinal, and isn't the declaring one unless that is asked for
 abbrev pub is_listed : List (Option ℕ) → Bool → ℕ → Role × ℕ → Bool
-is_listed ordinals include d x = same_ordinal (ordinal_in ordinals x.1) d && (include || not (is_declaring x.0))
+is_listed ordinals include d x =
+    same_ordinal (ordinal_in ordinals x.1) d && (include || not (is_declaring x.0))
 
 -- the identifiers of a declaration by the table, with or without the declaring one
 abbrev pub tokens_listed : List (Option ℕ) → Bool → ℕ → List (Role × ℕ) → List ℕ

@@ -123,4 +123,11 @@ leave_block = visit.leave_block
 
 -- before the first identifier
 abbrev pub started : Writing → Visit
-started writing = record { writing = writing; scope = predeclared_scope as_names; declarations = []; uses = []; marks = [] }
+started writing =
+    record {
+      writing = writing;
+      scope = predeclared_scope as_names;
+      declarations = [];
+      uses = [];
+      marks = [];
+    }

@@ -21,7 +21,8 @@ BoundIdentifier = (Role × ℕ) × Label
 
 -- the identifiers of a module, in text order
 abbrev pub bound_identifiers : Parsed → List BoundIdentifier
-bound_identifiers m = zip (identifiers role.Declaring (tree_of m)) (leaves (numbered (named_tree_of m)))
+bound_identifiers m =
+    zip (identifiers role.Declaring (tree_of m)) (leaves (numbered (named_tree_of m)))
 
 -- the identifier that a place is on
 abbrev pub identifier_on : Parsed → ℕ → Option BoundIdentifier
@@ -59,4 +60,7 @@ is_among i (x ∷ xs) = i == x || is_among i xs
 -- The module in which d has a new name is the one that has this name at these tokens, and nothing else changed.
 abbrev pub IsRenamedAt : Parsed → ℕ → List ℕ → Type 0
 IsRenamedAt m d tokens =
-    (new : Name) → renamed (named_tree_of m) d new ≡ mapped (λ i. if is_among i tokens then new else text_at m.source i) (value_at m.source) (tree_of m)
+    (new : Name)
+    → renamed (named_tree_of m) d new
+    ≡ mapped (λ i. if is_among i tokens then new else text_at m.source i) (value_at m.source)
+    (tree_of m)

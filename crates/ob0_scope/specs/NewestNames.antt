@@ -18,16 +18,21 @@ place_of (e ∷ es) x = if same_name x e.name.now then Some 0 else option_map su
 
 -- a name has another newest binding, and the others have those that they had
 abbrev pub IsRenewed : List Entry → List Entry → Name → Option ℕ → Type 0
-IsRenewed before after x newest = (y : Name) → newest_in after y ≡ (if same_name x y then newest else newest_in before y)
+IsRenewed before after x newest =
+    (y : Name) → newest_in after y ≡ (if same_name x y then newest else newest_in before y)
 
 -- The map has each name's place, and no name is twice.
 pub record ArePlaces (places : BTreeMap Key ℕ) (entries : List Entry) : Type 0 where
   pub placed : (x : Name) → get_by (compare_name x) places ≡ place_of entries x
-  pub distinct : (i : ℕ) (d : Entry) → i < length entries → place_of entries (slice_index_or entries i d).name.now ≡ Some i
+  pub distinct : (i : ℕ) (d : Entry)
+      → i < length entries
+      → place_of entries (slice_index_or entries i d).name.now ≡ Some i
 
 -- a name has the place after all others, and the others keep theirs
 abbrev pub IsAdded : List Entry → List Entry → Name → Type 0
-IsAdded before after x = (y : Name) → place_of after y ≡ (if same_name x y then Some (length before) else place_of before y)
+IsAdded before after x =
+    (y : Name)
+    → place_of after y ≡ (if same_name x y then Some (length before) else place_of before y)
 
 -- each name keeps its place
 abbrev pub KeepsPlaces : List Entry → List Entry → Type 0

@@ -17,12 +17,15 @@ use Rattle.ob0_scope.specs.Written.{Writing, name_at}
 -- the newest of these declarations that has the name and isn't d
 abbrev pub other_named : Scope Name → ℕ → Name → Option ℕ
 other_named [] d new = None
-other_named (b ∷ own) d new = if same_name b.0 new && not (b.1 == d) then Some b.1 else other_named own d new
+other_named (b ∷ own) d new =
+    if same_name b.0 new && not (b.1 == d) then Some b.1 else other_named own d new
 
 -- another declaration of a block that has the name
 abbrev pub namesake_in : List (Scope Name) → ℕ → Name → Option ℕ
 namesake_in [] d new = None
-namesake_in (own ∷ others) d new = option_or (if declares_ordinal own d then other_named own d new else None) (namesake_in others d new)
+namesake_in (own ∷ others) d new =
+    option_or (if declares_ordinal own d then other_named own d new else None)
+    (namesake_in others d new)
 
 -- the declaration of d's block, other than d, that has the name; of several the last
 abbrev pub namesake : Tree Name module_text → ℕ → Name → Option ℕ
@@ -48,10 +51,12 @@ is_bound_alike (Some j) (Some k) = j == k
 
 -- a resolved text in which one declaration has a new name
 abbrev pub renamed_in : Resolution → ℕ → Name → Writing
-renamed_in r d new = record { source = r.module_read.source; ordinals = r.ordinals; declaration = Some d; new = new }
+renamed_in r d new =
+    record { source = r.module_read.source; ordinals = r.ordinals; declaration = Some d; new = new }
 
 -- The table of ordinals gives the numbered tree of the module in which d has the new name.
 abbrev pub IsRenumbering : Resolution → ℕ → Name → List (Option ℕ) → Type 0
 IsRenumbering r d new ordinals =
     numbered (renamed (named_tree_of r.module_read) d new)
-    ≡ mapped (λ i. as_label as_names (ordinal_in ordinals i) (name_at (renamed_in r d new) i)) (value_at r.module_read.source) (tree_of r.module_read)
+    ≡ mapped (λ i. as_label as_names (ordinal_in ordinals i) (name_at (renamed_in r d new) i))
+    (value_at r.module_read.source) (tree_of r.module_read)

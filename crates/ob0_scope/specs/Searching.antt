@@ -44,11 +44,14 @@ other_among s is = if list_any (is_sought s) is then last_other s None is else N
 abbrev mutual
   pub found_in_block : Sought → List ℕ → Tree ℕ block → Option ℕ
   found_in_block s own (has_body (declares cs ts vs ps) statements) =
-      option_or (other_among s (own ++ block_names (has_body (declares cs ts vs ps) statements))) (found_in_procedures s ps)
+      option_or (other_among s (own ++ block_names (has_body (declares cs ts vs ps) statements)))
+      (found_in_procedures s ps)
 
   pub found_in_procedures : Sought → Tree ℕ (items procedure) → Option ℕ
   found_in_procedures s end = None
-  found_in_procedures s (more p rest) = option_or (found_in_procedure s p) (found_in_procedures s rest)
+  found_in_procedures s (more p rest) =
+      option_or (found_in_procedure s p) (found_in_procedures s rest)
 
   pub found_in_procedure : Sought → Tree ℕ (item procedure) → Option ℕ
-  found_in_procedure s (declares_procedure x fs b closing) = found_in_block s (formal_names (formal_sections fs)) b
+  found_in_procedure s (declares_procedure x fs b closing) =
+      found_in_block s (formal_names (formal_sections fs)) b

@@ -126,4 +126,11 @@ leave_block = visit.leave_block
 
 -- before the first identifier
 abbrev pub started : Writing → Visit
-started writing = record { writing = writing; scope = predeclared_scope as_names; declarations = []; uses = []; marks = replicate (length writing.source.tokens) None }
+started writing =
+    record {
+      writing = writing;
+      scope = predeclared_scope as_names;
+      declarations = [];
+      uses = [];
+      marks = replicate (length writing.source.tokens) None;
+    }

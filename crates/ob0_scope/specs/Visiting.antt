@@ -24,7 +24,11 @@ visible i ordinal v = record v { scope = (name_at v.writing i, ordinal) ∷ v.sc
 
 -- the names of the declarations from this one on are visible
 abbrev pub visible_from : {M : Type 0} → ℕ → Visit M → Visit M
-visible_from first v = record v { scope = declare_names (7 + first) (map (name_at v.writing) (drop first v.declarations)) v.scope }
+visible_from first v =
+    record v {
+      scope
+          = declare_names (7 + first) (map (name_at v.writing) (drop first v.declarations)) v.scope;
+    }
 
 -- only so many bindings are left
 abbrev pub left_to : {M : Type 0} → ℕ → Visit M → Visit M
@@ -46,7 +50,11 @@ module _ {M : Type 0} (put : ℕ → Option ℕ → M → M) where
 
   -- a declaring name has the next ordinal
   abbrev pub numbered_at : ℕ → Visit M → Visit M
-  numbered_at i v = record v { declarations = v.declarations ++ (i ∷ []); marks = put i (Some (7 + length v.declarations)) v.marks }
+  numbered_at i v =
+      record v {
+        declarations = v.declarations ++ (i ∷ []);
+        marks = put i (Some (7 + length v.declarations)) v.marks;
+      }
 
   abbrev pub numbered_all : List ℕ → Visit M → Visit M
   numbered_all [] v = v
@@ -54,7 +62,11 @@ module _ {M : Type 0} (put : ℕ → Option ℕ → M → M) where
 
   -- an identifier in a part that declares nothing
   abbrev pub found : Role → ℕ → Visit M → Visit M
-  found role.LookedUp i v = record v { uses = v.uses ++ (i ∷ []); marks = put i (ordinal_of as_names v.scope (name_at v.writing i)) v.marks }
+  found role.LookedUp i v =
+      record v {
+        uses = v.uses ++ (i ∷ []);
+        marks = put i (ordinal_of as_names v.scope (name_at v.writing i)) v.marks;
+      }
   found role.Declaring i v = marked i None v
   found role.ClosingName i v = marked i None v
   found role.FieldName i v = marked i None v
@@ -70,7 +82,8 @@ module _ {M : Type 0} (put : ℕ → Option ℕ → M → M) where
 
   -- a declaration's names are visible after it
   abbrev pub visit_constant : Tree ℕ (item constant) → Visit M → Visit M
-  visit_constant (declares_constant x e) v = visible_from (length v.declarations) (used e (numbered_at x v))
+  visit_constant (declares_constant x e) v =
+      visible_from (length v.declarations) (used e (numbered_at x v))
 
   abbrev pub visit_constants : Tree ℕ (items constant) → Visit M → Visit M
   visit_constants end v = v
@@ -84,15 +97,18 @@ module _ {M : Type 0} (put : ℕ → Option ℕ → M → M) where
   visit_types (more t ts) v = visit_types ts (visit_type t v)
 
   abbrev pub visit_variable : Tree ℕ (item variable) → Visit M → Visit M
-  visit_variable (declares_variable ns t) v = visible_from (length v.declarations) (used t (numbered_all (names_listed ns) v))
+  visit_variable (declares_variable ns t) v =
+      visible_from (length v.declarations) (used t (numbered_all (names_listed ns) v))
 
   abbrev pub visit_variables : Tree ℕ (items variable) → Visit M → Visit M
   visit_variables end v = v
   visit_variables (more g gs) v = visit_variables gs (visit_variable g v)
 
   abbrev pub visit_section : Tree ℕ section → Visit M → Visit M
-  visit_section (value_section ns t) v = visible_from (length v.declarations) (used t (numbered_all (names_listed ns) v))
-  visit_section (variable_section ns t) v = visible_from (length v.declarations) (used t (numbered_all (names_listed ns) v))
+  visit_section (value_section ns t) v =
+      visible_from (length v.declarations) (used t (numbered_all (names_listed ns) v))
+  visit_section (variable_section ns t) v =
+      visible_from (length v.declarations) (used t (numbered_all (names_listed ns) v))
 
   abbrev pub visit_sections : Tree ℕ (items further_section) → Visit M → Visit M
   visit_sections end v = v
@@ -118,7 +134,8 @@ module _ {M : Type 0} (put : ℕ → Option ℕ → M → M) where
   abbrev mutual
     pub visit_block : Tree ℕ block → Visit M → Visit M
     visit_block (has_body (declares cs ts vs ps) statements) v =
-        used statements (visit_procedures ps (visit_variable_section vs (visit_type_section ts (visit_constant_section cs v))))
+        used statements (visit_procedures ps
+        (visit_variable_section vs (visit_type_section ts (visit_constant_section cs v))))
 
     pub visit_procedures : Tree ℕ (items procedure) → Visit M → Visit M
     visit_procedures end v = v

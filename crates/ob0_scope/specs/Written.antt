@@ -23,7 +23,8 @@ is_renamed (Some d) ordinal = same_ordinal ordinal d
 
 -- how a token is written
 abbrev pub name_at : Writing → ℕ → Name
-name_at w i = if is_renamed w.declaration (ordinal_in w.ordinals i) then w.new else text_at w.source i
+name_at w i =
+    if is_renamed w.declaration (ordinal_in w.ordinals i) then w.new else text_at w.source i
 
 -- each as in the text
 abbrev pub as_in : Scanned → Writing

@@ -38,9 +38,12 @@ pub fn captures(
     declaration: usize,
     new: &str,
 ) -> Result<Option<FirstCapture>, AllocError>
-    ensures first { IfOk result (λ found. option_map place_of found ≡ first_captured (named_tree_of names.now.module_read) declaration new.now) }
-    ensures other { IfOk result (λ found. other_of found ≡ namesake (named_tree_of names.now.module_read) declaration new.now) }
-    ensures free { IfOk result (λ found. found ≡ None ↔ Free (named_tree_of names.now.module_read) declaration new.now) }
+    ensures first { IfOk result (λ found. option_map place_of found
+        ≡ first_captured (named_tree_of names.now.module_read) declaration new.now) }
+    ensures other { IfOk result (λ found. other_of found
+        ≡ namesake (named_tree_of names.now.module_read) declaration new.now) }
+    ensures free { IfOk result
+        (λ found. found ≡ None ↔ Free (named_tree_of names.now.module_read) declaration new.now) }
 {
     match namesake(alloc, names, declaration, new)? {
         Some(other) => Ok(Some(FirstCapture::Duplicate(other))),
@@ -55,7 +58,10 @@ fn first_capture(
     declaration: usize,
     new: &str,
 ) -> Result<Option<FirstCapture>, AllocError>
-    ensures { IfOk result (λ found. found ≡ option_map Occurrence (first_difference (bindings (renamed (named_tree_of names.now.module_read) declaration new.now)) (bindings (named_tree_of names.now.module_read)))) }
+    ensures { IfOk result (λ found. found
+        ≡ option_map Occurrence (first_difference
+        (bindings (renamed (named_tree_of names.now.module_read) declaration new.now))
+        (bindings (named_tree_of names.now.module_read)))) }
 {
     let ordinals = renumber(alloc, names, declaration, new)?;
     match first_changed(names, &ordinals) {
@@ -66,7 +72,10 @@ fn first_capture(
 
 /// The number of the first occurrence to which a table gives another ordinal.
 fn first_changed(names: &Resolved, ordinals: &[Option<usize>]) -> Option<usize>
-    ensures { result ≡ position_from (λ token. not (is_bound_alike (ordinal_in ordinals.now token) (ordinal_in names.now.ordinals token))) 0 names.now.uses }
+    ensures { result
+        ≡ position_from (λ token. not
+        (is_bound_alike (ordinal_in ordinals.now token) (ordinal_in names.now.ordinals token))) 0
+        names.now.uses }
 {
     names.occurrences().iter().position(|token| !is_bound_alike(
         ordinal_at(ordinals, *token),
@@ -93,7 +102,8 @@ fn namesake(
     declaration: usize,
     new: &str,
 ) -> Result<Option<usize>, AllocError>
-    ensures { IfOk result (λ other. other ≡ namesake (named_tree_of names.now.module_read) declaration new.now) }
+    ensures { IfOk result
+        (λ other. other ≡ namesake (named_tree_of names.now.module_read) declaration new.now) }
 {
     let sought = Sought {
         tokens: names.tokens(),
@@ -157,7 +167,8 @@ impl<'t> Sought<'t> {
     /// Searches a block, with the tokens of the parameters that are declared in it.
     #[cycle(blocks)]
     fn block(&self, alloc: Global, own: Vec<usize>, b: &Block) -> Result<Option<usize>, AllocError>
-        ensures { IfOk result (λ other. other ≡ found_in_block self.now own.items (block_of b.now)) }
+        ensures { IfOk result
+            (λ other. other ≡ found_in_block self.now own.items (block_of b.now)) }
     {
         let mut tokens = own;
         add_block(&mut tokens, b)?;

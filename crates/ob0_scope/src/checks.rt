@@ -76,7 +76,8 @@ fn add_fields(out: &mut Vec<usize>, group: &Fields) -> Result<(), AllocError>
 }
 
 fn add_constants(out: &mut Vec<usize>, section: &Option<Vec<Constant>>) -> Result<(), AllocError>
-    ensures { OnOk result (out.new.items ≡ out.old.items ++ constant_names (section_constants (constants_of section.now))) }
+    ensures { OnOk result (out.new.items
+        ≡ out.old.items ++ constant_names (section_constants (constants_of section.now))) }
 {
     if let Some(constants) = section {
         for c in constants {
@@ -87,7 +88,8 @@ fn add_constants(out: &mut Vec<usize>, section: &Option<Vec<Constant>>) -> Resul
 }
 
 fn add_types(out: &mut Vec<usize>, section: &Option<Vec<TypeDeclaration>>) -> Result<(), AllocError>
-    ensures { OnOk result (out.new.items ≡ out.old.items ++ named_types (section_types (types_of section.now))) }
+    ensures { OnOk result
+        (out.new.items ≡ out.old.items ++ named_types (section_types (types_of section.now))) }
 {
     if let Some(types) = section {
         for t in types {
@@ -98,7 +100,8 @@ fn add_types(out: &mut Vec<usize>, section: &Option<Vec<TypeDeclaration>>) -> Re
 }
 
 fn add_variables(out: &mut Vec<usize>, section: &Option<Vec<Variables>>) -> Result<(), AllocError>
-    ensures { OnOk result (out.new.items ≡ out.old.items ++ variable_names (section_variables (variables_of section.now))) }
+    ensures { OnOk result (out.new.items
+        ≡ out.old.items ++ variable_names (section_variables (variables_of section.now))) }
 {
     if let Some(variables) = section {
         for v in variables {
@@ -112,7 +115,8 @@ pub(crate) fn add_formals(
     out: &mut Vec<usize>,
     formals: &Option<Vec<Section>>,
 ) -> Result<(), AllocError>
-    ensures { OnOk result (out.new.items ≡ out.old.items ++ formal_names (formal_sections (formals_of formals.now))) }
+    ensures { OnOk result
+        (out.new.items ≡ out.old.items ++ formal_names (formal_sections (formals_of formals.now))) }
 {
     if let Some(sections) = formals {
         for s in sections {
@@ -123,7 +127,8 @@ pub(crate) fn add_formals(
 }
 
 fn add_procedures(out: &mut Vec<usize>, procedures: &[Procedure]) -> Result<(), AllocError>
-    ensures { OnOk result (out.new.items ≡ out.old.items ++ procedure_names (items_of procedure_of procedures.now)) }
+    ensures { OnOk result
+        (out.new.items ≡ out.old.items ++ procedure_names (items_of procedure_of procedures.now)) }
 {
     for p in procedures {
         out.push(p.name)?;
@@ -227,7 +232,8 @@ impl Checks {
         tokens: &Tokens,
         section: &Option<Vec<TypeDeclaration>>,
     ) -> Result<(), AllocError>
-        ensures { OnOk result (self.new ≡ self.old ++ types_twice tokens.now (section_types (types_of section.now))) }
+        ensures { OnOk result
+            (self.new ≡ self.old ++ types_twice tokens.now (section_types (types_of section.now))) }
     {
         if let Some(types) = section {
             for t in types {
@@ -242,7 +248,9 @@ impl Checks {
         tokens: &Tokens,
         section: &Option<Vec<Variables>>,
     ) -> Result<(), AllocError>
-        ensures { OnOk result (self.new ≡ self.old ++ variables_twice tokens.now (section_variables (variables_of section.now))) }
+        ensures { OnOk result (self.new
+            ≡ self.old
+            ++ variables_twice tokens.now (section_variables (variables_of section.now))) }
     {
         if let Some(variables) = section {
             for v in variables {
@@ -253,7 +261,8 @@ impl Checks {
     }
 
     fn formals(&mut self, tokens: &Tokens, formals: &Option<Vec<Section>>) -> Result<(), AllocError>
-        ensures { OnOk result (self.new ≡ self.old ++ formals_twice tokens.now (formal_sections (formals_of formals.now))) }
+        ensures { OnOk result (self.new
+            ≡ self.old ++ formals_twice tokens.now (formal_sections (formals_of formals.now))) }
     {
         if let Some(sections) = formals {
             for s in sections {
@@ -265,7 +274,8 @@ impl Checks {
 
     #[cycle(blocks)]
     fn procedure(&mut self, tokens: &Tokens, p: &Procedure) -> Result<(), AllocError>
-        ensures { OnOk result (self.new ≡ self.old ++ procedure_twice tokens.now (procedure_of p.now)) }
+        ensures { OnOk result
+            (self.new ≡ self.old ++ procedure_twice tokens.now (procedure_of p.now)) }
     {
         self.closing(tokens, p.name, p.closing)?;
         self.formals(tokens, &p.formals)?;
@@ -277,7 +287,8 @@ impl Checks {
     /// A block, with the names of the parameters that are declared in it.
     #[cycle(blocks)]
     fn block(&mut self, tokens: &Tokens, own: Vec<usize>, b: &Block) -> Result<(), AllocError>
-        ensures { OnOk result (self.new ≡ self.old ++ block_twice tokens.now own.items (block_of b.now)) }
+        ensures { OnOk result
+            (self.new ≡ self.old ++ block_twice tokens.now own.items (block_of b.now)) }
     {
         let mut names = own;
         add_constants(&mut names, &b.constants)?;

@@ -16,7 +16,8 @@ use std::alloc::{AllocError, Global};
 /// For each occurrence of a module, in text order, the ordinal of the declaration to which `name` would be bound in its
 /// place. None where nothing would bind it.
 pub fn seen(alloc: Global, names: &Resolved, name: &str) -> Result<Vec<Option<usize>>, AllocError>
-    ensures { IfOk result (λ found. found.items ≡ ordinals_seen (named_tree_of names.now.module_read) name.now) }
+    ensures { IfOk result
+        (λ found. found.items ≡ ordinals_seen (named_tree_of names.now.module_read) name.now) }
 {
     let ordinals = ordinals_in_place(alloc, names, name)?;
     ordinals_of(alloc, &ordinals, names.occurrences())
@@ -28,7 +29,8 @@ fn ordinals_in_place(
     names: &Resolved,
     name: &str,
 ) -> Result<Vec<Option<usize>>, AllocError>
-    ensures { IfOk result (λ ordinals. map (ordinal_in ordinals.items) names.now.uses ≡ ordinals_seen (named_tree_of names.now.module_read) name.now) }
+    ensures { IfOk result (λ ordinals. map (ordinal_in ordinals.items) names.now.uses
+        ≡ ordinals_seen (named_tree_of names.now.module_read) name.now) }
 {
     let sought = occurring(alloc, names)?;
     let writing = Writing {
@@ -44,7 +46,9 @@ fn ordinals_in_place(
 
 /// A table that has 0 at each occurrence, and nothing at the other tokens.
 fn occurring(alloc: Global, names: &Resolved) -> Result<Vec<Option<usize>>, AllocError>
-    ensures { IfOk result (λ t. t.items ≡ with_marks (replicate (length names.now.module_read.source.tokens) None) (map first_at names.now.uses)) }
+    ensures { IfOk result (λ t. t.items
+        ≡ with_marks (replicate (length names.now.module_read.source.tokens) None)
+        (map first_at names.now.uses)) }
 {
     let mut table = vec![in alloc; None; names.tokens().tokens().len()]?;
     for token in names.occurrences() {

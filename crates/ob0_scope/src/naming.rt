@@ -46,7 +46,8 @@ pub fn tokens_bound(
     declaration: usize,
     include: bool,
 ) -> Result<Vec<usize>, AllocError>
-    ensures { IfOk result (λ found. found.items ≡ tokens_bound names.now.module_read declaration include) }
+    ensures { IfOk result
+        (λ found. found.items ≡ tokens_bound names.now.module_read declaration include) }
 {
     let identifiers = names.module().identifiers(alloc)?;
     tokens_of(alloc, names, declaration, include, &identifiers)
@@ -59,10 +60,14 @@ pub fn renamed_tokens(
     names: &Resolved,
     declaration: usize,
 ) -> Result<Vec<usize>, AllocError>
-    ensures bound { IfOk result (λ found. found.items ≡ tokens_bound names.now.module_read declaration true) }
-    ensures ascend { IfOk result (λ found. Ascending 0 found.items (length names.now.module_read.source.tokens)) }
-    ensures stand { IfOk result (λ found. AreIdentifiers names.now.module_read.source.tokens found.items) }
-    ensures renamed { IfOk result (λ found. IsRenamedAt names.now.module_read declaration found.items) }
+    ensures bound { IfOk result
+        (λ found. found.items ≡ tokens_bound names.now.module_read declaration true) }
+    ensures ascend { IfOk result
+        (λ found. Ascending 0 found.items (length names.now.module_read.source.tokens)) }
+    ensures stand { IfOk result
+        (λ found. AreIdentifiers names.now.module_read.source.tokens found.items) }
+    ensures renamed { IfOk result
+        (λ found. IsRenamedAt names.now.module_read declaration found.items) }
 {
     // For the proof: what the contract of this call says.
     let _ = names.module();
@@ -77,7 +82,8 @@ fn tokens_of(
     include: bool,
     identifiers: &[(Role, usize)],
 ) -> Result<Vec<usize>, AllocError>
-    ensures { IfOk result (λ found. found.items ≡ tokens_listed names.now.ordinals include declaration identifiers.now) }
+    ensures { IfOk result (λ found. found.items
+        ≡ tokens_listed names.now.ordinals include declaration identifiers.now) }
 {
     let mut found = Vec::new(alloc);
     for (role, token) in identifiers {
@@ -134,7 +140,9 @@ fn first_on(tokens: &[Token], offset: usize) -> Option<usize>
 /// How many tokens end before a place.
 fn ended_before(tokens: &[Token], offset: usize) -> usize
     ensures bound { result ≤ length tokens.now }
-    ensures point { IsNonDecreasingBy (λ (t : token.Token). t.span.end) tokens.now → IsPartitionPoint (λ (t : token.Token). nat_lt t.span.end offset ≡ true) (λ (t : token.Token). nat_lt t.span.end offset ≡ false) tokens.now result }
+    ensures point { IsNonDecreasingBy (λ (t : token.Token). t.span.end) tokens.now
+        → IsPartitionPoint (λ (t : token.Token). nat_lt t.span.end offset ≡ true)
+        (λ (t : token.Token). nat_lt t.span.end offset ≡ false) tokens.now result }
 {
     tokens.partition_point(|token| token.span.end < offset)
 }

@@ -56,7 +56,8 @@ fn ordinal_at_index(index: usize) -> usize
 
 /// The predeclared names, visible, and the new name that a declaration has.
 fn predeclared<'t>(alloc: Global, new: &'t str) -> Result<Visible<'t>, AllocError>
-    ensures { IfOk result (λ v. v ≡ record { new_name = new.entry.now; scope = predeclared_scope as_names }) }
+    ensures { IfOk result
+        (λ v. v ≡ record { new_name = new.entry.now; scope = predeclared_scope as_names }) }
 {
     let mut visible = Visible::new(alloc, new)?;
     visible.declare("INTEGER", 0)?;
@@ -181,14 +182,16 @@ impl<'t> Numbering<'t> {
 
     /// Whether an identifier has the new name.
     fn is_renamed(&self, token: usize) -> bool
-        ensures { result ≡ is_renamed self.now.writing.declaration (ordinal_in self.now.writing.ordinals token) }
+        ensures { result
+            ≡ is_renamed self.now.writing.declaration (ordinal_in self.now.writing.ordinals token) }
     {
         is_renamed(self.declaration, ordinal_at(self.ordinals, token))
     }
 
     /// The ordinal of the declaration to which the name at a token is bound.
     fn ordinal_bound(&mut self, token: usize) -> Option<usize>
-        ensures found { result ≡ ordinal_of as_names self.old.scope (name_at self.old.writing token) }
+        ensures found { result
+            ≡ ordinal_of as_names self.old.scope (name_at self.old.writing token) }
         ensures same { self.new ≡ self.old }
     {
         if self.is_renamed(token) {
@@ -322,7 +325,8 @@ impl<'t> Numbering<'t> {
     }
 
     fn constants(&mut self, section: &Option<Vec<Constant>>) -> Result<(), AllocError>
-        ensures { OnOk result (self.new ≡ visit_constant_section (constants_of section.now) self.old) }
+        ensures { OnOk result
+            (self.new ≡ visit_constant_section (constants_of section.now) self.old) }
     {
         if let Some(constants) = section {
             for c in constants {
@@ -344,7 +348,8 @@ impl<'t> Numbering<'t> {
     }
 
     fn variable_section(&mut self, section: &Option<Vec<Variables>>) -> Result<(), AllocError>
-        ensures { OnOk result (self.new ≡ visit_variable_section (variables_of section.now) self.old) }
+        ensures { OnOk result
+            (self.new ≡ visit_variable_section (variables_of section.now) self.old) }
     {
         if let Some(variables) = section {
             for v in variables {

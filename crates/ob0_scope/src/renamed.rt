@@ -21,7 +21,9 @@ pub fn resolve_renamed(
     declaration: usize,
     new: &str,
 ) -> Result<Vec<Option<usize>>, AllocError>
-    ensures { IfOk result (λ bound. bound.items ≡ map label_ordinal (bindings (renamed (named_tree_of names.now.module_read) declaration new.now))) }
+    ensures { IfOk result (λ bound. bound.items
+        ≡ map label_ordinal
+        (bindings (renamed (named_tree_of names.now.module_read) declaration new.now))) }
 {
     let ordinals = renumber(alloc, names, declaration, new)?;
     ordinals_of(alloc, &ordinals, names.occurrences())
@@ -34,7 +36,8 @@ pub(crate) fn renumber(
     declaration: usize,
     new: &str,
 ) -> Result<Vec<Option<usize>>, AllocError>
-    ensures renumbered { IfOk result (λ ordinals. IsRenumbering names.now declaration new.now ordinals.items) }
+    ensures renumbered { IfOk result
+        (λ ordinals. IsRenumbering names.now declaration new.now ordinals.items) }
     ensures resolved { IsResolution names.now }
 {
     let writing = Writing {

@@ -14,7 +14,8 @@ pub(crate) fn undeclared(
     ordinals: &[Option<usize>],
     occurrences: &[usize],
 ) -> Result<(), AllocError>
-    ensures { OnOk result (faults.new.items ≡ faults.old.items ++ undeclared_at tokens.now ordinals.now occurrences.now) }
+    ensures { OnOk result (faults.new.items
+        ≡ faults.old.items ++ undeclared_at tokens.now ordinals.now occurrences.now) }
 {
     for token in occurrences {
         if ordinal_at(ordinals, *token).is_none() {

@@ -79,14 +79,16 @@ impl<'t> Visible<'t> {
 
     /// Binds the new name.
     pub(crate) fn declare_new(&mut self, ordinal: usize) -> Result<(), AllocError>
-        ensures { OnOk result (self.new ≡ with_scope self.old ((self.old.new_name, ordinal) ∷ self.old.scope)) }
+        ensures { OnOk result
+            (self.new ≡ with_scope self.old ((self.old.new_name, ordinal) ∷ self.old.scope)) }
     {
         self.declare(self.new_name, ordinal)
     }
 
     /// Binds a name; what it was bound to before is hidden.
     pub(crate) fn declare(&mut self, name: &'t str, ordinal: usize) -> Result<(), AllocError>
-        ensures { OnOk result (self.new ≡ with_scope self.old ((name.entry.now, ordinal) ∷ self.old.scope)) }
+        ensures { OnOk result
+            (self.new ≡ with_scope self.old ((name.entry.now, ordinal) ∷ self.old.scope)) }
     {
         self.bindings.reserve(1)?;
         let hidden = self.newest.put(name, self.bindings.len())?;
@@ -100,7 +102,8 @@ impl<'t> Visible<'t> {
 
     /// Gives up the newest bindings until so many are left.
     pub(crate) fn leave_to(&mut self, len: usize)
-        ensures { self.new ≡ with_scope self.old (drop (length self.old.scope - len) self.old.scope) }
+        ensures { self.new
+            ≡ with_scope self.old (drop (length self.old.scope - len) self.old.scope) }
     {
         for _left in 0..self.len().saturating_sub(len) {
             self.leave();

@@ -49,4 +49,6 @@ is_row_at token s = s.token == token
 -- The rows, by the table of declarations: at each token the first identifier there.
 abbrev pub AreRowsBy : Tables → Resolution → List Selection → Type 0
 AreRowsBy t r rows =
-    (token : ℕ) → option_map (selection_in (shapes_of t)) (find (is_row_at token) rows) ≡ find (is_at token) (rows_over (declared_in t) r)
+    (token : ℕ)
+    → option_map (selection_in (shapes_of t)) (find (is_row_at token) rows)
+    ≡ find (is_at token) (rows_over (declared_in t) r)

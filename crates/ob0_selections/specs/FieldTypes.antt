@@ -17,10 +17,15 @@ first_listed (listed x rest) = x
 -- the field that a name selects, where there is a type to select from
 abbrev pub field_named : {N P : Type 0} → Meanings N Shape P → Option Shape → N → List (Selected N)
 field_named m None x = []
-field_named m (Some t) x = selection_of x (field_selected t (m.written x)) (field_type t (m.written x))
+field_named m (Some t) x =
+    selection_of x (field_selected t (m.written x)) (field_type t (m.written x))
 
 -- names of one declaration as fields of a record's type
-abbrev pub fields_named : {N P : Type 0} → Meanings N Shape P → Option Shape → List N → List (Selected N)
+abbrev pub fields_named : {N P : Type 0}
+    → Meanings N Shape P
+    → Option Shape
+    → List N
+    → List (Selected N)
 fields_named m t [] = []
 fields_named m t (x ∷ xs) = field_named m t x ++ fields_named m t xs
 
@@ -34,7 +39,11 @@ type_of_elements t = option_and_then (λ a. element_type a integer_shape) t
 
 -- All fields that are declared in a tree, each with its type. Where the tree is a type or a part of one, `t` is the type
 -- that it is in; names that are declared together have one type.
-abbrev pub typed_fields : {N P : Type 0} {s : Sort} → Meanings N Shape P → Option Shape → Tree N s → List (Selected N)
+abbrev pub typed_fields : {N P : Type 0} {s : Sort}
+    → Meanings N Shape P
+    → Option Shape
+    → Tree N s
+    → List (Selected N)
 typed_fields m t none = []
 typed_fields m t (one part) = typed_fields m t part
 typed_fields m t end = []
@@ -43,19 +52,24 @@ typed_fields m t (named_type name) = []
 typed_fields m t (array_type size of) = typed_fields m (type_of_elements t) of
 typed_fields m t (record_type first others) = typed_fields m t first ++ typed_fields m t others
 typed_fields m t no_fields = []
-typed_fields m t (some_fields ns of) = fields_named m t (names_listed ns) ++ typed_fields m (type_named m t (first_listed ns)) of
+typed_fields m t (some_fields ns of) =
+    fields_named m t (names_listed ns) ++ typed_fields m (type_named m t (first_listed ns)) of
 typed_fields m t (then_fields f) = typed_fields m t f
 typed_fields m t no_formals = []
 typed_fields m t (some_formals first others) = typed_fields m t first ++ typed_fields m t others
-typed_fields m t (value_section ns of) = typed_fields m (type_declared (m.stands_for (first_listed ns))) of
-typed_fields m t (variable_section ns of) = typed_fields m (type_declared (m.stands_for (first_listed ns))) of
+typed_fields m t (value_section ns of) =
+    typed_fields m (type_declared (m.stands_for (first_listed ns))) of
+typed_fields m t (variable_section ns of) =
+    typed_fields m (type_declared (m.stands_for (first_listed ns))) of
 typed_fields m t (then_section s) = typed_fields m t s
 typed_fields m t (declares_type name of) = typed_fields m (type_declared (m.stands_for name)) of
 typed_fields m t (declares_types ts) = typed_fields m t ts
-typed_fields m t (declares_variable ns of) = typed_fields m (type_declared (m.stands_for (first_listed ns))) of
+typed_fields m t (declares_variable ns of) =
+    typed_fields m (type_declared (m.stands_for (first_listed ns))) of
 typed_fields m t (declares_variables vs) = typed_fields m t vs
 typed_fields m t (declares_procedure name fs b closing) = typed_fields m t fs ++ typed_fields m t b
-typed_fields m t (declares cs ts vs ps) = typed_fields m t ts ++ (typed_fields m t vs ++ typed_fields m t ps)
+typed_fields m t (declares cs ts vs ps) =
+    typed_fields m t ts ++ (typed_fields m t vs ++ typed_fields m t ps)
 typed_fields m t (has_body ds b) = typed_fields m t ds
 typed_fields m t (is_module name b closing) = typed_fields m t b
 typed_fields m t (compares left compared) = []

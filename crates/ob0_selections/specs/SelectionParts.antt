@@ -24,6 +24,10 @@ abbrev pub found_in : Selecting → List Selection → List (Selected ℕ)
 found_in s found = map (selection_in (shapes_of s.known.now)) found
 
 -- what a selector selects, where there is a type to select from
-abbrev pub selected_from : {N P : Type 0} → Meanings N Shape P → Option Shape → Tree N (item selector) → List (Selected N)
+abbrev pub selected_from : {N P : Type 0}
+    → Meanings N Shape P
+    → Option Shape
+    → Tree N (item selector)
+    → List (Selected N)
 selected_from m None a = []
 selected_from m (Some s) a = selected_by m s a

@@ -12,7 +12,11 @@ use Rattle.ob0_types_rules.specs.WellTyped.{Signature}
 use Rattle.ob0_values.specs.Values.{Shape, integer_shape}
 
 -- the type after a selector; every index is an INTEGER
-abbrev pub type_after : {N P : Type 0} → Meanings N Shape P → Shape → Tree N (item selector) → Option Shape
+abbrev pub type_after : {N P : Type 0}
+    → Meanings N Shape P
+    → Shape
+    → Tree N (item selector)
+    → Option Shape
 type_after m s (field x) = field_type s (m.written x)
 type_after m s (index e) = element_type s integer_shape
 
@@ -33,18 +37,31 @@ selection_of x (Some f) None = []
 selection_of x (Some f) (Some t) = record { name = x; selects = f; shape = t } ∷ []
 
 -- what a selector selects of a value of a type
-abbrev pub selected_by : {N P : Type 0} → Meanings N Shape P → Shape → Tree N (item selector) → List (Selected N)
-selected_by m s (field x) = selection_of x (field_selected s (m.written x)) (field_type s (m.written x))
+abbrev pub selected_by : {N P : Type 0}
+    → Meanings N Shape P
+    → Shape
+    → Tree N (item selector)
+    → List (Selected N)
+selected_by m s (field x) =
+    selection_of x (field_selected s (m.written x)) (field_type s (m.written x))
 selected_by m s (index e) = []
 
 -- what the selectors of a designator select, of a value of a type and its parts in turn
-abbrev pub path_selections : {N P : Type 0} → Meanings N Shape P → Option Shape → Tree N (items selector) → List (Selected N)
+abbrev pub path_selections : {N P : Type 0}
+    → Meanings N Shape P
+    → Option Shape
+    → Tree N (items selector)
+    → List (Selected N)
 path_selections m None path = []
 path_selections m (Some s) end = []
-path_selections m (Some s) (more a rest) = selected_by m s a ++ path_selections m (type_after m s a) rest
+path_selections m (Some s) (more a rest) =
+    selected_by m s a ++ path_selections m (type_after m s a) rest
 
 -- all selections in a tree: those of each designator, before those within its indexes
-abbrev pub selections : {N P : Type 0} {s : Sort} → Meanings N Shape P → Tree N s → List (Selected N)
+abbrev pub selections : {N P : Type 0} {s : Sort}
+    → Meanings N Shape P
+    → Tree N s
+    → List (Selected N)
 selections m none = []
 selections m (one t) = selections m t
 selections m end = []
@@ -55,16 +72,20 @@ selections m (sum sign first terms) = selections m first ++ selections m terms
 selections m (adds operator t) = selections m t
 selections m (product first factors) = selections m first ++ selections m factors
 selections m (multiplies operator f) = selections m f
-selections m (designator name selectors) = path_selections m (object_type (m.stands_for name)) selectors ++ selections m selectors
+selections m (designator name selectors) =
+    path_selections m (object_type (m.stands_for name)) selectors ++ selections m selectors
 selections m (integer n) = []
 selections m (parenthesised e) = selections m e
 selections m (negation f) = selections m f
 selections m (field name) = []
 selections m (index e) = selections m e
 selections m empty = []
-selections m (assigns name selectors e) = (path_selections m (object_type (m.stands_for name)) selectors ++ selections m selectors) ++ selections m e
+selections m (assigns name selectors e) =
+    (path_selections m (object_type (m.stands_for name)) selectors ++ selections m selectors)
+    ++ selections m e
 selections m (calls name args) = selections m args
-selections m (branches condition s elsifs rest) = selections m condition ++ (selections m s ++ (selections m elsifs ++ selections m rest))
+selections m (branches condition s elsifs rest) =
+    selections m condition ++ (selections m s ++ (selections m elsifs ++ selections m rest))
 selections m (while_loop condition s) = selections m condition ++ selections m s
 selections m (repeat_loop s condition) = selections m s ++ selections m condition
 selections m no_arguments = []
@@ -94,11 +115,19 @@ selections m (declares_types ts) = selections m ts
 selections m (declares_variable ns t) = selections m t
 selections m (declares_variables vs) = selections m vs
 selections m (declares_procedure name fs b closing) = selections m fs ++ selections m b
-selections m (declares cs ts vs ps) = selections m cs ++ (selections m ts ++ (selections m vs ++ selections m ps))
+selections m (declares cs ts vs ps) =
+    selections m cs ++ (selections m ts ++ (selections m vs ++ selections m ps))
 selections m (begins s) = selections m s
 selections m (has_body ds b) = selections m ds ++ selections m b
 selections m (is_module name b closing) = selections m b
 
 -- What the names at tokens mean. Each is bound to one declaration, and means what that declares.
-abbrev pub token_meaning : (ℕ → Option (Object Shape Signature)) → Resolution → Meanings ℕ Shape Signature
-token_meaning objects r = record { stands_for = λ token. option_and_then objects (ordinal_in r.ordinals token); written = λ token. text_at r.module_read.source token }
+abbrev pub token_meaning : (ℕ → Option (Object Shape Signature))
+    → Resolution
+    → Meanings ℕ Shape Signature
+token_meaning objects r =
+    record {
+      stands_for
+          = λ token. option_and_then objects (ordinal_in r.ordinals token);
+      written = λ token. text_at r.module_read.source token;
+    }

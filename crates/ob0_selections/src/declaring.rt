@@ -28,7 +28,8 @@ pub(crate) fn declared_by<'a, 't>(
     known: &'a Known,
     resolved: &'a Resolved<'t>,
 ) -> Result<Vec<Selection>, AllocError>
-    ensures { IfOk result (λ found. map (selection_in (shapes_of known.now)) found.items ≡ typed_over (declared_in known.now) resolved.now) }
+    ensures { IfOk result (λ found. map (selection_in (shapes_of known.now)) found.items
+        ≡ typed_over (declared_in known.now) resolved.now) }
 {
     let walk = Declaring { known, resolved };
     let mut found = Vec::new(alloc);
@@ -43,7 +44,10 @@ fn remember(
     field: Option<FieldOf>,
     of: Option<TypeId>,
 ) -> Result<(), AllocError>
-    ensures { IfOk result (λ _. (shapes : List Shape) → map (selection_in shapes) found.new.items ≡ map (selection_in shapes) found.old.items ++ selection_of token field (option_map (type_shape shapes) of)) }
+    ensures { IfOk result (λ _. (shapes : List Shape)
+        → map (selection_in shapes) found.new.items
+        ≡ map (selection_in shapes) found.old.items
+        ++ selection_of token field (option_map (type_shape shapes) of)) }
 {
     match field {
         None => Ok(()),
@@ -82,7 +86,8 @@ impl<'a, 't> Declaring<'a, 't> {
 
     /// The type of the field with a name.
     fn field(&self, of: Option<TypeId>, name: usize) -> Option<TypeId>
-        ensures { type_in self.now result ≡ type_named (meaning_in self.now) (type_in self.now of) name }
+        ensures { type_in self.now result
+            ≡ type_named (meaning_in self.now) (type_in self.now of) name }
     {
         self.known.field(of?, text_at(self.resolved.tokens(), name))
     }
@@ -94,7 +99,9 @@ impl<'a, 't> Declaring<'a, 't> {
         of: Option<TypeId>,
         name: usize,
     ) -> Result<(), AllocError>
-        ensures { IfOk result (λ _. typed_in self.now found.new.items ≡ typed_in self.now found.old.items ++ field_named (meaning_in self.now) (type_in self.now of) name) }
+        ensures { IfOk result (λ _. typed_in self.now found.new.items
+            ≡ typed_in self.now found.old.items
+            ++ field_named (meaning_in self.now) (type_in self.now of) name) }
     {
         match of {
             None => Ok(()),
@@ -116,7 +123,10 @@ impl<'a, 't> Declaring<'a, 't> {
         of: Option<TypeId>,
         ns: &Names,
     ) -> Result<(), AllocError>
-        ensures { IfOk result (λ _. typed_in self.now found.new.items ≡ typed_in self.now found.old.items ++ fields_named (meaning_in self.now) (type_in self.now of) (names_listed (names_of ns.now))) }
+        ensures { IfOk result (λ _. typed_in self.now found.new.items
+            ≡ typed_in self.now found.old.items
+            ++ fields_named (meaning_in self.now) (type_in self.now of)
+            (names_listed (names_of ns.now))) }
     {
         self.name(found, of, ns.first)?;
         for name in &ns.more {
@@ -133,7 +143,9 @@ impl<'a, 't> Declaring<'a, 't> {
         of: Option<TypeId>,
         t: &WrittenType,
     ) -> Result<(), AllocError>
-        ensures { IfOk result (λ _. typed_in self.now found.new.items ≡ typed_in self.now found.old.items ++ typed_fields (meaning_in self.now) (type_in self.now of) (type_of t.now)) }
+        ensures { IfOk result (λ _. typed_in self.now found.new.items
+            ≡ typed_in self.now found.old.items
+            ++ typed_fields (meaning_in self.now) (type_in self.now of) (type_of t.now)) }
     {
         match t {
             WrittenType::Named(_) => Ok(()),
@@ -149,7 +161,9 @@ impl<'a, 't> Declaring<'a, 't> {
         of: Option<TypeId>,
         r: &RecordType,
     ) -> Result<(), AllocError>
-        ensures { IfOk result (λ _. typed_in self.now found.new.items ≡ typed_in self.now found.old.items ++ typed_fields (meaning_in self.now) (type_in self.now of) (record_in r.now)) }
+        ensures { IfOk result (λ _. typed_in self.now found.new.items
+            ≡ typed_in self.now found.old.items
+            ++ typed_fields (meaning_in self.now) (type_in self.now of) (record_in r.now)) }
     {
         for group in &r.groups {
             self.fields(found, of, group)?;
@@ -164,7 +178,9 @@ impl<'a, 't> Declaring<'a, 't> {
         of: Option<TypeId>,
         f: &Fields,
     ) -> Result<(), AllocError>
-        ensures { IfOk result (λ _. typed_in self.now found.new.items ≡ typed_in self.now found.old.items ++ typed_fields (meaning_in self.now) (type_in self.now of) (fields_of f.now)) }
+        ensures { IfOk result (λ _. typed_in self.now found.new.items
+            ≡ typed_in self.now found.old.items
+            ++ typed_fields (meaning_in self.now) (type_in self.now of) (fields_of f.now)) }
     {
         match f {
             Fields::Empty => Ok(()),
@@ -177,7 +193,9 @@ impl<'a, 't> Declaring<'a, 't> {
     }
 
     fn section(&self, found: &mut Vec<Selection>, s: &Section) -> Result<(), AllocError>
-        ensures { IfOk result (λ _. typed_in self.now found.new.items ≡ typed_in self.now found.old.items ++ typed_fields (meaning_in self.now) None (section_of s.now)) }
+        ensures { IfOk result (λ _. typed_in self.now found.new.items
+            ≡ typed_in self.now found.old.items
+            ++ typed_fields (meaning_in self.now) None (section_of s.now)) }
     {
         self.written_type(found, self.declared(s.names.first), &s.written)
     }
@@ -187,7 +205,9 @@ impl<'a, 't> Declaring<'a, 't> {
         found: &mut Vec<Selection>,
         sections: &Option<Vec<Section>>,
     ) -> Result<(), AllocError>
-        ensures { IfOk result (λ _. typed_in self.now found.new.items ≡ typed_in self.now found.old.items ++ typed_fields (meaning_in self.now) None (formals_of sections.now)) }
+        ensures { IfOk result (λ _. typed_in self.now found.new.items
+            ≡ typed_in self.now found.old.items
+            ++ typed_fields (meaning_in self.now) None (formals_of sections.now)) }
     {
         let Some(sections) = sections else {
             return Ok(());
@@ -203,7 +223,9 @@ impl<'a, 't> Declaring<'a, 't> {
         found: &mut Vec<Selection>,
         declared: &Option<Vec<TypeDeclaration>>,
     ) -> Result<(), AllocError>
-        ensures { IfOk result (λ _. typed_in self.now found.new.items ≡ typed_in self.now found.old.items ++ typed_fields (meaning_in self.now) None (types_of declared.now)) }
+        ensures { IfOk result (λ _. typed_in self.now found.new.items
+            ≡ typed_in self.now found.old.items
+            ++ typed_fields (meaning_in self.now) None (types_of declared.now)) }
     {
         let Some(declared) = declared else {
             return Ok(());
@@ -219,7 +241,9 @@ impl<'a, 't> Declaring<'a, 't> {
         found: &mut Vec<Selection>,
         declared: &Option<Vec<Variables>>,
     ) -> Result<(), AllocError>
-        ensures { IfOk result (λ _. typed_in self.now found.new.items ≡ typed_in self.now found.old.items ++ typed_fields (meaning_in self.now) None (variables_of declared.now)) }
+        ensures { IfOk result (λ _. typed_in self.now found.new.items
+            ≡ typed_in self.now found.old.items
+            ++ typed_fields (meaning_in self.now) None (variables_of declared.now)) }
     {
         let Some(declared) = declared else {
             return Ok(());
@@ -233,7 +257,9 @@ impl<'a, 't> Declaring<'a, 't> {
     /// What is declared in a block.
     #[cycle(blocks)]
     fn block(&self, found: &mut Vec<Selection>, b: &Block) -> Result<(), AllocError>
-        ensures { IfOk result (λ _. typed_in self.now found.new.items ≡ typed_in self.now found.old.items ++ typed_fields (meaning_in self.now) None (block_of b.now)) }
+        ensures { IfOk result (λ _. typed_in self.now found.new.items
+            ≡ typed_in self.now found.old.items
+            ++ typed_fields (meaning_in self.now) None (block_of b.now)) }
     {
         self.types(found, &b.types)?;
         self.variables(found, &b.variables)?;
@@ -245,7 +271,9 @@ impl<'a, 't> Declaring<'a, 't> {
 
     #[cycle(blocks)]
     fn procedure(&self, found: &mut Vec<Selection>, p: &Procedure) -> Result<(), AllocError>
-        ensures { IfOk result (λ _. typed_in self.now found.new.items ≡ typed_in self.now found.old.items ++ typed_fields (meaning_in self.now) None (procedure_of p.now)) }
+        ensures { IfOk result (λ _. typed_in self.now found.new.items
+            ≡ typed_in self.now found.old.items
+            ++ typed_fields (meaning_in self.now) None (procedure_of p.now)) }
     {
         self.formals(found, &p.formals)?;
         self.block(found, &p.block)?;

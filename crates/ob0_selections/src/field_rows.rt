@@ -67,7 +67,8 @@ impl FieldRows {
 
 /// The row of a token among rows in the order of their tokens. It is found by halving.
 fn row_at(rows: &[Selection], token: usize) -> Option<Selection>
-    ensures { IsNonDecreasingBy (λ (s : row.Selection). s.token) rows.now → result ≡ find (is_row_at token) rows.now }
+    ensures { IsNonDecreasingBy (λ (s : row.Selection). s.token) rows.now
+        → result ≡ find (is_row_at token) rows.now }
 {
     match rows.get(rows_before(rows, token)) {
         Some(row) => if_at(*row, token),
@@ -78,7 +79,9 @@ fn row_at(rows: &[Selection], token: usize) -> Option<Selection>
 /// How many rows are before a token.
 fn rows_before(rows: &[Selection], token: usize) -> usize
     ensures bound { result ≤ length rows.now }
-    ensures point { IsNonDecreasingBy (λ (s : row.Selection). s.token) rows.now → IsPartitionPoint (λ (s : row.Selection). nat_lt s.token token ≡ true) (λ (s : row.Selection). nat_lt s.token token ≡ false) rows.now result }
+    ensures point { IsNonDecreasingBy (λ (s : row.Selection). s.token) rows.now
+        → IsPartitionPoint (λ (s : row.Selection). nat_lt s.token token ≡ true)
+        (λ (s : row.Selection). nat_lt s.token token ≡ false) rows.now result }
 {
     rows.partition_point(|row| row.token < token)
 }

@@ -39,7 +39,10 @@ fn remember(
     field: Option<FieldOf>,
     of: Option<TypeId>,
 ) -> Result<(), AllocError>
-    ensures { IfOk result (λ _. (shapes : List Shape) → map (selection_in shapes) found.new.items ≡ map (selection_in shapes) found.old.items ++ selection_of token field (option_map (type_shape shapes) of)) }
+    ensures { IfOk result (λ _. (shapes : List Shape)
+        → map (selection_in shapes) found.new.items
+        ≡ map (selection_in shapes) found.old.items
+        ++ selection_of token field (option_map (type_shape shapes) of)) }
 {
     match field {
         None => Ok(()),
@@ -63,7 +66,8 @@ pub(crate) struct Selecting<'a, 't> {
 impl<'a, 't> Selecting<'a, 't> {
     /// The type of the variable, parameter or constant that the name at a token is bound to.
     fn value_type(&self, token: usize) -> Option<TypeId>
-        ensures { option_map (type_shape (shapes_of self.now.known.now)) result ≡ object_type ((meaning_in self.now).stands_for token) }
+        ensures { option_map (type_shape (shapes_of self.now.known.now)) result
+            ≡ object_type ((meaning_in self.now).stands_for token) }
     {
         let ordinal = self.resolved.ordinal_at(token)?;
         match self.known.object(ordinal)? {
@@ -83,8 +87,15 @@ impl<'a, 't> Selecting<'a, 't> {
         base: TypeId,
         name: usize,
     ) -> Result<Option<TypeId>, AllocError>
-        ensures found { IfOk result (λ _. found_in self.now found.new.items ≡ found_in self.now found.old.items ++ selection_of name (field_selected (type_shape (shapes_of self.now.known.now) base) ((meaning_in self.now).written name)) (field_type (type_shape (shapes_of self.now.known.now) base) ((meaning_in self.now).written name))) }
-        ensures behind { IfOk result (λ t. option_map (type_shape (shapes_of self.now.known.now)) t ≡ field_type (type_shape (shapes_of self.now.known.now) base) ((meaning_in self.now).written name)) }
+        ensures found { IfOk result (λ _. found_in self.now found.new.items
+            ≡ found_in self.now found.old.items
+            ++ selection_of name (field_selected (type_shape (shapes_of self.now.known.now) base)
+            ((meaning_in self.now).written name)) (field_type
+            (type_shape (shapes_of self.now.known.now) base)
+            ((meaning_in self.now).written name))) }
+        ensures behind { IfOk result (λ t. option_map (type_shape (shapes_of self.now.known.now)) t
+            ≡ field_type (type_shape (shapes_of self.now.known.now) base)
+            ((meaning_in self.now).written name)) }
     {
         let text = text_at(self.resolved.tokens(), name);
         let behind = self.known.field(base, text);
@@ -99,8 +110,13 @@ impl<'a, 't> Selecting<'a, 't> {
         base: Option<TypeId>,
         s: &Selector,
     ) -> Result<Option<TypeId>, AllocError>
-        ensures found { IfOk result (λ _. found_in self.now found.new.items ≡ found_in self.now found.old.items ++ selected_from (meaning_in self.now) (option_map (type_shape (shapes_of self.now.known.now)) base) (selector_of s.now)) }
-        ensures behind { IfOk result (λ t. option_map (type_shape (shapes_of self.now.known.now)) t ≡ option_and_then (λ z. type_after (meaning_in self.now) z (selector_of s.now)) (option_map (type_shape (shapes_of self.now.known.now)) base)) }
+        ensures found { IfOk result (λ _. found_in self.now found.new.items
+            ≡ found_in self.now found.old.items
+            ++ selected_from (meaning_in self.now)
+            (option_map (type_shape (shapes_of self.now.known.now)) base) (selector_of s.now)) }
+        ensures behind { IfOk result (λ t. option_map (type_shape (shapes_of self.now.known.now)) t
+            ≡ option_and_then (λ z. type_after (meaning_in self.now) z (selector_of s.now))
+            (option_map (type_shape (shapes_of self.now.known.now)) base)) }
     {
         match base {
             None => Ok(None),
@@ -113,7 +129,11 @@ impl<'a, 't> Selecting<'a, 't> {
 
     /// What the selectors of a designator select.
     fn path(&self, found: &mut Selections, d: &Designator) -> Result<(), AllocError>
-        ensures { IfOk result (λ _. found_in self.now found.new.items ≡ found_in self.now found.old.items ++ path_selections (meaning_in self.now) (object_type ((meaning_in self.now).stands_for (out-Designator d.now).name)) (selectors_in d.now)) }
+        ensures { IfOk result (λ _. found_in self.now found.new.items
+            ≡ found_in self.now found.old.items
+            ++ path_selections (meaning_in self.now)
+            (object_type ((meaning_in self.now).stands_for (out-Designator d.now).name))
+            (selectors_in d.now)) }
     {
         let mut at = self.value_type(d.name);
         for s in &d.selectors {
@@ -125,7 +145,9 @@ impl<'a, 't> Selecting<'a, 't> {
     /// What is selected in an expression.
     #[cycle(expressions)]
     fn expression(&self, found: &mut Selections, e: &Expression) -> Result<(), AllocError>
-        ensures { IfOk result (λ _. found_in self.now found.new.items ≡ found_in self.now found.old.items ++ selections (meaning_in self.now) (expression_of e.now)) }
+        ensures { IfOk result (λ _. found_in self.now found.new.items
+            ≡ found_in self.now found.old.items
+            ++ selections (meaning_in self.now) (expression_of e.now)) }
     {
         self.simple(found, &e.left)?;
         if let Some(compared) = &e.compared {
@@ -136,7 +158,9 @@ impl<'a, 't> Selecting<'a, 't> {
 
     #[cycle(expressions)]
     fn simple(&self, found: &mut Selections, s: &Simple) -> Result<(), AllocError>
-        ensures { IfOk result (λ _. found_in self.now found.new.items ≡ found_in self.now found.old.items ++ selections (meaning_in self.now) (simple_of s.now)) }
+        ensures { IfOk result (λ _. found_in self.now found.new.items
+            ≡ found_in self.now found.old.items
+            ++ selections (meaning_in self.now) (simple_of s.now)) }
     {
         self.term(found, &s.first)?;
         for addend in &s.more {
@@ -147,7 +171,9 @@ impl<'a, 't> Selecting<'a, 't> {
 
     #[cycle(expressions)]
     fn term(&self, found: &mut Selections, t: &Term) -> Result<(), AllocError>
-        ensures { IfOk result (λ _. found_in self.now found.new.items ≡ found_in self.now found.old.items ++ selections (meaning_in self.now) (term_of t.now)) }
+        ensures { IfOk result (λ _. found_in self.now found.new.items
+            ≡ found_in self.now found.old.items
+            ++ selections (meaning_in self.now) (term_of t.now)) }
     {
         self.factor(found, &t.first)?;
         for multiplier in &t.more {
@@ -158,7 +184,9 @@ impl<'a, 't> Selecting<'a, 't> {
 
     #[cycle(expressions)]
     fn factor(&self, found: &mut Selections, f: &Factor) -> Result<(), AllocError>
-        ensures { IfOk result (λ _. found_in self.now found.new.items ≡ found_in self.now found.old.items ++ selections (meaning_in self.now) (factor_of f.now)) }
+        ensures { IfOk result (λ _. found_in self.now found.new.items
+            ≡ found_in self.now found.old.items
+            ++ selections (meaning_in self.now) (factor_of f.now)) }
     {
         match f {
             Factor::Designator(d) => self.designator(found, d),
@@ -170,7 +198,9 @@ impl<'a, 't> Selecting<'a, 't> {
 
     #[cycle(expressions)]
     fn designator(&self, found: &mut Selections, d: &Designator) -> Result<(), AllocError>
-        ensures { IfOk result (λ _. found_in self.now found.new.items ≡ found_in self.now found.old.items ++ selections (meaning_in self.now) (designator_of d.now)) }
+        ensures { IfOk result (λ _. found_in self.now found.new.items
+            ≡ found_in self.now found.old.items
+            ++ selections (meaning_in self.now) (designator_of d.now)) }
     {
         self.path(found, d)?;
         for s in &d.selectors {
@@ -181,7 +211,9 @@ impl<'a, 't> Selecting<'a, 't> {
 
     #[cycle(expressions)]
     fn selector(&self, found: &mut Selections, s: &Selector) -> Result<(), AllocError>
-        ensures { IfOk result (λ _. found_in self.now found.new.items ≡ found_in self.now found.old.items ++ selections (meaning_in self.now) (selector_of s.now)) }
+        ensures { IfOk result (λ _. found_in self.now found.new.items
+            ≡ found_in self.now found.old.items
+            ++ selections (meaning_in self.now) (selector_of s.now)) }
     {
         match s {
             Selector::Field(_) => Ok(()),
@@ -190,14 +222,18 @@ impl<'a, 't> Selecting<'a, 't> {
     }
 
     fn assignment(&self, found: &mut Selections, a: &Assignment) -> Result<(), AllocError>
-        ensures { IfOk result (λ _. found_in self.now found.new.items ≡ found_in self.now found.old.items ++ selections (meaning_in self.now) (assignment_of a.now)) }
+        ensures { IfOk result (λ _. found_in self.now found.new.items
+            ≡ found_in self.now found.old.items
+            ++ selections (meaning_in self.now) (assignment_of a.now)) }
     {
         self.designator(found, &a.target)?;
         self.expression(found, &a.value)
     }
 
     fn call(&self, found: &mut Selections, c: &Call) -> Result<(), AllocError>
-        ensures { IfOk result (λ _. found_in self.now found.new.items ≡ found_in self.now found.old.items ++ selections (meaning_in self.now) (call_of c.now)) }
+        ensures { IfOk result (λ _. found_in self.now found.new.items
+            ≡ found_in self.now found.old.items
+            ++ selections (meaning_in self.now) (call_of c.now)) }
     {
         if let Some(given) = &c.arguments {
             self.arguments(found, given)?;
@@ -206,7 +242,9 @@ impl<'a, 't> Selecting<'a, 't> {
     }
 
     fn arguments(&self, found: &mut Selections, given: &Vec<Expression>) -> Result<(), AllocError>
-        ensures { IfOk result (λ _. found_in self.now found.new.items ≡ found_in self.now found.old.items ++ selections (meaning_in self.now) (arguments_in given.now)) }
+        ensures { IfOk result (λ _. found_in self.now found.new.items
+            ≡ found_in self.now found.old.items
+            ++ selections (meaning_in self.now) (arguments_in given.now)) }
     {
         for e in given {
             self.expression(found, e)?;
@@ -220,7 +258,9 @@ impl<'a, 't> Selecting<'a, 't> {
         found: &mut Selections,
         statements: &Vec<Statement>,
     ) -> Result<(), AllocError>
-        ensures { IfOk result (λ _. found_in self.now found.new.items ≡ found_in self.now found.old.items ++ selections (meaning_in self.now) (sequence_in statements.now)) }
+        ensures { IfOk result (λ _. found_in self.now found.new.items
+            ≡ found_in self.now found.old.items
+            ++ selections (meaning_in self.now) (sequence_in statements.now)) }
     {
         for s in statements {
             self.statement(found, s)?;
@@ -230,7 +270,9 @@ impl<'a, 't> Selecting<'a, 't> {
 
     #[cycle(statements)]
     fn statement(&self, found: &mut Selections, s: &Statement) -> Result<(), AllocError>
-        ensures { IfOk result (λ _. found_in self.now found.new.items ≡ found_in self.now found.old.items ++ selections (meaning_in self.now) (statement_of s.now)) }
+        ensures { IfOk result (λ _. found_in self.now found.new.items
+            ≡ found_in self.now found.old.items
+            ++ selections (meaning_in self.now) (statement_of s.now)) }
     {
         match s {
             Statement::Empty => Ok(()),
@@ -250,7 +292,8 @@ impl<'a, 't> Selecting<'a, 't> {
 
     #[cycle(statements)]
     fn branches(&self, found: &mut Selections, i: &If) -> Result<(), AllocError>
-        ensures { IfOk result (λ _. found_in self.now found.new.items ≡ found_in self.now found.old.items ++ selections (meaning_in self.now) (if_of i.now)) }
+        ensures { IfOk result (λ _. found_in self.now found.new.items
+            ≡ found_in self.now found.old.items ++ selections (meaning_in self.now) (if_of i.now)) }
     {
         self.expression(found, &i.condition)?;
         self.sequence(found, &i.then)?;
@@ -263,7 +306,9 @@ impl<'a, 't> Selecting<'a, 't> {
 
     #[cycle(statements)]
     fn elsifs(&self, found: &mut Selections, parts: &Vec<Elsif>) -> Result<(), AllocError>
-        ensures { IfOk result (λ _. found_in self.now found.new.items ≡ found_in self.now found.old.items ++ selections (meaning_in self.now) (elsifs_in parts.now)) }
+        ensures { IfOk result (λ _. found_in self.now found.new.items
+            ≡ found_in self.now found.old.items
+            ++ selections (meaning_in self.now) (elsifs_in parts.now)) }
     {
         for e in parts {
             self.expression(found, &e.condition)?;
@@ -275,7 +320,9 @@ impl<'a, 't> Selecting<'a, 't> {
     /// What is selected in a type as it is written.
     #[cycle(types)]
     fn written_type(&self, found: &mut Selections, t: &WrittenType) -> Result<(), AllocError>
-        ensures { IfOk result (λ _. found_in self.now found.new.items ≡ found_in self.now found.old.items ++ selections (meaning_in self.now) (type_of t.now)) }
+        ensures { IfOk result (λ _. found_in self.now found.new.items
+            ≡ found_in self.now found.old.items
+            ++ selections (meaning_in self.now) (type_of t.now)) }
     {
         match t {
             WrittenType::Named(_) => Ok(()),
@@ -289,7 +336,9 @@ impl<'a, 't> Selecting<'a, 't> {
 
     #[cycle(types)]
     fn record(&self, found: &mut Selections, r: &RecordType) -> Result<(), AllocError>
-        ensures { IfOk result (λ _. found_in self.now found.new.items ≡ found_in self.now found.old.items ++ selections (meaning_in self.now) (record_in r.now)) }
+        ensures { IfOk result (λ _. found_in self.now found.new.items
+            ≡ found_in self.now found.old.items
+            ++ selections (meaning_in self.now) (record_in r.now)) }
     {
         for group in &r.groups {
             self.fields(found, group)?;
@@ -299,7 +348,9 @@ impl<'a, 't> Selecting<'a, 't> {
 
     #[cycle(types)]
     fn fields(&self, found: &mut Selections, f: &Fields) -> Result<(), AllocError>
-        ensures { IfOk result (λ _. found_in self.now found.new.items ≡ found_in self.now found.old.items ++ selections (meaning_in self.now) (fields_of f.now)) }
+        ensures { IfOk result (λ _. found_in self.now found.new.items
+            ≡ found_in self.now found.old.items
+            ++ selections (meaning_in self.now) (fields_of f.now)) }
     {
         match f {
             Fields::Empty => Ok(()),
@@ -308,7 +359,9 @@ impl<'a, 't> Selecting<'a, 't> {
     }
 
     fn section(&self, found: &mut Selections, s: &Section) -> Result<(), AllocError>
-        ensures { IfOk result (λ _. found_in self.now found.new.items ≡ found_in self.now found.old.items ++ selections (meaning_in self.now) (section_of s.now)) }
+        ensures { IfOk result (λ _. found_in self.now found.new.items
+            ≡ found_in self.now found.old.items
+            ++ selections (meaning_in self.now) (section_of s.now)) }
     {
         self.written_type(found, &s.written)
     }
@@ -318,7 +371,9 @@ impl<'a, 't> Selecting<'a, 't> {
         found: &mut Selections,
         sections: &Option<Vec<Section>>,
     ) -> Result<(), AllocError>
-        ensures { IfOk result (λ _. found_in self.now found.new.items ≡ found_in self.now found.old.items ++ selections (meaning_in self.now) (formals_of sections.now)) }
+        ensures { IfOk result (λ _. found_in self.now found.new.items
+            ≡ found_in self.now found.old.items
+            ++ selections (meaning_in self.now) (formals_of sections.now)) }
     {
         let Some(sections) = sections else {
             return Ok(());
@@ -334,7 +389,9 @@ impl<'a, 't> Selecting<'a, 't> {
         found: &mut Selections,
         declared: &Option<Vec<Constant>>,
     ) -> Result<(), AllocError>
-        ensures { IfOk result (λ _. found_in self.now found.new.items ≡ found_in self.now found.old.items ++ selections (meaning_in self.now) (constants_of declared.now)) }
+        ensures { IfOk result (λ _. found_in self.now found.new.items
+            ≡ found_in self.now found.old.items
+            ++ selections (meaning_in self.now) (constants_of declared.now)) }
     {
         let Some(declared) = declared else {
             return Ok(());
@@ -350,7 +407,9 @@ impl<'a, 't> Selecting<'a, 't> {
         found: &mut Selections,
         declared: &Option<Vec<TypeDeclaration>>,
     ) -> Result<(), AllocError>
-        ensures { IfOk result (λ _. found_in self.now found.new.items ≡ found_in self.now found.old.items ++ selections (meaning_in self.now) (types_of declared.now)) }
+        ensures { IfOk result (λ _. found_in self.now found.new.items
+            ≡ found_in self.now found.old.items
+            ++ selections (meaning_in self.now) (types_of declared.now)) }
     {
         let Some(declared) = declared else {
             return Ok(());
@@ -366,7 +425,9 @@ impl<'a, 't> Selecting<'a, 't> {
         found: &mut Selections,
         declared: &Option<Vec<Variables>>,
     ) -> Result<(), AllocError>
-        ensures { IfOk result (λ _. found_in self.now found.new.items ≡ found_in self.now found.old.items ++ selections (meaning_in self.now) (variables_of declared.now)) }
+        ensures { IfOk result (λ _. found_in self.now found.new.items
+            ≡ found_in self.now found.old.items
+            ++ selections (meaning_in self.now) (variables_of declared.now)) }
     {
         let Some(declared) = declared else {
             return Ok(());
@@ -383,7 +444,9 @@ impl<'a, 't> Selecting<'a, 't> {
         found: &mut Selections,
         statements: &Option<Vec<Statement>>,
     ) -> Result<(), AllocError>
-        ensures { IfOk result (λ _. found_in self.now found.new.items ≡ found_in self.now found.old.items ++ selections (meaning_in self.now) (body_of statements.now)) }
+        ensures { IfOk result (λ _. found_in self.now found.new.items
+            ≡ found_in self.now found.old.items
+            ++ selections (meaning_in self.now) (body_of statements.now)) }
     {
         match statements {
             Some(statements) => self.sequence(found, statements),
@@ -393,7 +456,9 @@ impl<'a, 't> Selecting<'a, 't> {
 
     #[cycle(blocks)]
     pub(crate) fn block(&self, found: &mut Selections, b: &Block) -> Result<(), AllocError>
-        ensures { IfOk result (λ _. found_in self.now found.new.items ≡ found_in self.now found.old.items ++ selections (meaning_in self.now) (block_of b.now)) }
+        ensures { IfOk result (λ _. found_in self.now found.new.items
+            ≡ found_in self.now found.old.items
+            ++ selections (meaning_in self.now) (block_of b.now)) }
     {
         self.constants(found, &b.constants)?;
         self.types(found, &b.types)?;
@@ -406,7 +471,9 @@ impl<'a, 't> Selecting<'a, 't> {
 
     #[cycle(blocks)]
     fn procedure(&self, found: &mut Selections, p: &Procedure) -> Result<(), AllocError>
-        ensures { IfOk result (λ _. found_in self.now found.new.items ≡ found_in self.now found.old.items ++ selections (meaning_in self.now) (procedure_of p.now)) }
+        ensures { IfOk result (λ _. found_in self.now found.new.items
+            ≡ found_in self.now found.old.items
+            ++ selections (meaning_in self.now) (procedure_of p.now)) }
     {
         self.formals(found, &p.formals)?;
         self.block(found, &p.block)?;

@@ -17,7 +17,9 @@ pub(crate) fn add_selections<'a, 't>(
     known: &'a Known,
     resolved: &'a Resolved<'t>,
 ) -> Result<(), AllocError>
-    ensures { IfOk result (λ _. map (selection_in (shapes_of known.now)) found.new.items ≡ map (selection_in (shapes_of known.now)) found.old.items ++ selected_over (declared_in known.now) resolved.now) }
+    ensures { IfOk result (λ _. map (selection_in (shapes_of known.now)) found.new.items
+        ≡ map (selection_in (shapes_of known.now)) found.old.items
+        ++ selected_over (declared_in known.now) resolved.now) }
 {
     let walk = Selecting { known, resolved };
     walk.block(found, resolved.module().block())

@@ -38,11 +38,20 @@ pub record ActionsAsked : Type 0 where
 
 -- a request for code actions of the code
 abbrev pub actions_asked : ActionsRequest → ActionsAsked
-actions_asked r = record { id = id_data r.id.now; client = r.client; uri = r.uri.now; version = r.version; range = r.range; only = kinds_seen r.only.now }
+actions_asked r =
+    record {
+      id = id_data r.id.now;
+      client = r.client;
+      uri = r.uri.now;
+      version = r.version;
+      range = r.range;
+      only = kinds_seen r.only.now;
+    }
 
 -- inlining is of this kind
 abbrev pub is_of_kind : List ℕ → Bool
-is_of_kind kind = bytes_eq kind [] || bytes_eq kind (codes "refactor") || bytes_eq kind (codes "refactor.inline")
+is_of_kind kind =
+    bytes_eq kind [] || bytes_eq kind (codes "refactor") || bytes_eq kind (codes "refactor.inline")
 
 -- where kinds are named, inlining is of one of them
 abbrev pub allows_inlining : Option (List (List ℕ)) → Bool
@@ -55,7 +64,8 @@ wants_inlining asked = asked.client.takes_literal_actions && allows_inlining ask
 
 -- the place in bytes at which actions work: the start of the range, and the end of one that is swapped
 abbrev pub place_of : Unit → List ℕ → Range → ℕ
-place_of unit text range = min (offset_of (width_of unit) text range.start) (offset_of (width_of unit) text range.end)
+place_of unit text range =
+    min (offset_of (width_of unit) text range.start) (offset_of (width_of unit) text range.end)
 
 -- ---- what is offered
 
@@ -71,7 +81,8 @@ Offers how unit text offset None = IsNotInlinedIn how unit text offset
 
 -- what is offered at a place of a text, if it is a well-typed module
 abbrev pub FindsInlinings : Unit → List ℕ → ℕ → Option Inlinings → Type 0
-FindsInlinings unit text offset (Some found) = Offers Here unit text offset found.here × Offers Everywhere unit text offset found.everywhere
+FindsInlinings unit text offset (Some found) =
+    Offers Here unit text offset found.here × Offers Everywhere unit text offset found.everywhere
 FindsInlinings unit text offset None = ¬ IsWellTypedModule (utf8 text)
 
 -- ---- the message
@@ -83,7 +94,8 @@ title Everywhere = codes "Inline everywhere"
 
 -- the action, with the edits in the form that the client takes
 abbrev pub action_of : ActionsAsked → Inlining → List Edit → Data
-action_of asked how edits = action_value (workspace_edit asked.client asked.uri asked.version edits) (title how)
+action_of asked how edits =
+    action_value (workspace_edit asked.client asked.uri asked.version edits) (title how)
 
 -- an action, where its edit isn't refused
 abbrev pub action_values : ActionsAsked → Inlining → Option (Vec Edit Global) → List Data
@@ -92,16 +104,20 @@ action_values asked how None = []
 
 -- inlining here precedes inlining everywhere
 abbrev pub actions_value : ActionsAsked → Option (Vec Edit Global) → Option (Vec Edit Global) → Data
-actions_value asked here everywhere = array (items_of (action_values asked Here here ++ action_values asked Everywhere everywhere))
+actions_value asked here everywhere =
+    array (items_of (action_values asked Here here ++ action_values asked Everywhere everywhere))
 
 -- These actions are offered, as a list; none to a client that wants none, and none of a text that isn't a well-typed module.
 abbrev pub ListsActions : Unit → ActionsAsked → List ℕ → Data → Type 0
 ListsActions unit asked text value =
     ((here : Option (Vec Edit Global)) × (everywhere : Option (Vec Edit Global)) × (wants_inlining asked ≡ true)
-    × Offers Here unit text (place_of unit text asked.range) here × Offers Everywhere unit text (place_of unit text asked.range) everywhere
+    × Offers Here unit text (place_of unit text asked.range) here
+    × Offers Everywhere unit text (place_of unit text asked.range) everywhere
     × (value ≡ actions_value asked here everywhere))
-    ⊎ (((wants_inlining asked ≡ false) ⊎ ¬ IsWellTypedModule (utf8 text)) × (value ≡ array no_items))
+    ⊎ (((wants_inlining asked ≡ false) ⊎ ¬ IsWellTypedModule (utf8 text))
+    × (value ≡ array no_items))
 
 -- this message answers the request, where positions are counted in the unit and the document has the text
 abbrev pub AnswersActions : Unit → ActionsAsked → List ℕ → Data → Type 0
-AnswersActions unit asked text message = (value : Data) × ListsActions unit asked text value × (message ≡ result_message asked.id value)
+AnswersActions unit asked text message =
+    (value : Data) × ListsActions unit asked text value × (message ≡ result_message asked.id value)

@@ -23,6 +23,8 @@ Formats unit indent text (Err refusal) = (refusal ≡ TooLong) × IsTooLongLaidO
 -- this message answers a request with this id to lay out a text
 abbrev pub AnswersFormatting : Unit → Data → Indent → List ℕ → Data → Type 0
 AnswersFormatting unit id indent text message =
-    ((edits : List Edit) × LaysOut unit indent text edits × (message ≡ result_message id (edits_value edits)))
+    ((edits : List Edit)
+    × LaysOut unit indent text edits
+    × (message ≡ result_message id (edits_value edits)))
     ⊎ ((IsTooLongLaidOut indent text × (message ≡ edit_refused id (refusal_text TooLong)))
     ⊎ (¬ IsWellTypedModule (utf8 text) × (message ≡ edit_refused id (codes "ill-typed"))))

@@ -26,7 +26,14 @@ pub record RenameAsked : Type 0 where
 
 -- a request for a rename of the code
 abbrev pub asked_of : RenameRequest → RenameAsked
-asked_of r = record { id = id_data r.id.now; client = r.client; at = at_seen r.place.now; version = r.version; new = r.new.now }
+asked_of r =
+    record {
+      id = id_data r.id.now;
+      client = r.client;
+      at = at_seen r.place.now;
+      version = r.version;
+      new = r.new.now;
+    }
 
 -- the edits as they are answered to the client
 abbrev pub edits_for_client : RenameAsked → List Edit → Data
@@ -35,6 +42,8 @@ edits_for_client asked edits = workspace_edit asked.client asked.at.uri asked.ve
 -- this message answers the request, where positions are counted in the unit and the document has the text
 abbrev pub AnswersRenaming : Unit → RenameAsked → List ℕ → Data → Type 0
 AnswersRenaming unit asked text message =
-    ((edits : List Edit) × RenamesIn unit text asked.at.position asked.new edits × (message ≡ result_message asked.id (edits_for_client asked edits)))
+    ((edits : List Edit)
+    × RenamesIn unit text asked.at.position asked.new edits
+    × (message ≡ result_message asked.id (edits_for_client asked edits)))
     ⊎ (((refusal : EditRefusal) × IsRefusedIn unit text asked.at.position asked.new refusal × (message ≡ edit_refused asked.id (refusal_text refusal)))
     ⊎ (¬ IsWellTypedModule (utf8 text) × (message ≡ edit_refused asked.id (codes "ill-typed"))))

@@ -77,7 +77,8 @@ fn inlinings_in<T: TextStore>(
     range: Range,
 ) -> Result<Option<Inlinings>, AllocError>
     requires { T.content store.now ≡ chars analysis.now }
-    ensures { IfOk result (λ found. FindsInlinings (T.unit_of store.now) (T.content store.now) (place_in (T.unit_of store.now) (T.content store.now) range) found) }
+    ensures { IfOk result (λ found. FindsInlinings (T.unit_of store.now) (T.content store.now)
+        (place_in (T.unit_of store.now) (T.content store.now) range) found) }
 {
     let place = place_of(store, range);
     ask(alloc, analysis, &InlinedAt { store, place })
@@ -85,7 +86,8 @@ fn inlinings_in<T: TextStore>(
 
 /// The start of a range, and the end of one that is swapped.
 fn place_of<T: TextStore>(store: &T, range: Range) -> Position
-    ensures { offset_of (width_of (T.unit_of store.now)) (T.content store.now) result ≡ place_in (T.unit_of store.now) (T.content store.now) range }
+    ensures { offset_of (width_of (T.unit_of store.now)) (T.content store.now) result
+        ≡ place_in (T.unit_of store.now) (T.content store.now) range }
 {
     if store.offset(range.start) <= store.offset(range.end) {
         range.start
@@ -114,7 +116,10 @@ pub fn code_actions<T: TextStore>(
     request: &ActionsRequest<'_>,
 ) -> Result<Vec<u8>, AllocError>
     requires { T.content store.now ≡ chars analysis.now }
-    ensures { IfOk result (λ bytes. (message : Data) × AnswersActions (T.unit_of store.now) (actions_asked request.now) (T.content store.now) message × Writes message bytes.items) }
+    ensures { IfOk result (λ bytes. (message : Data)
+        × AnswersActions (T.unit_of store.now) (actions_asked request.now) (T.content store.now)
+        message
+        × Writes message bytes.items) }
 {
     if !wants_inlining(request) {
         return no_actions(alloc, request.id);
@@ -126,7 +131,8 @@ pub fn code_actions<T: TextStore>(
 }
 
 fn no_actions(alloc: Global, id: &Id) -> Result<Vec<u8>, AllocError>
-    ensures { IfOk result (λ bytes. Writes (result_message (id_data id.now) (array no_items)) bytes.items) }
+    ensures { IfOk result
+        (λ bytes. Writes (result_message (id_data id.now) (array no_items)) bytes.items) }
 {
     result(alloc, id, Value::Array(Vec::new(alloc)))
 }
@@ -191,7 +197,8 @@ impl<'a> Written for Actions<'a> {
 
 /// Writes a comma where both are offered.
 fn write_between(out: &mut Vec<u8>, found: &Inlinings) -> Result<(), AllocError>
-    ensures { OnOk result (out.new.items ≡ out.old.items ++ comma_if (is_some found.now.here && is_some found.now.everywhere)) }
+    ensures { OnOk result (out.new.items
+        ≡ out.old.items ++ comma_if (is_some found.now.here && is_some found.now.everywhere)) }
 {
     let both = found.here.is_some() && found.everywhere.is_some();
     write_comma(out, both)
@@ -203,7 +210,9 @@ fn list_actions(
     request: &ActionsRequest<'_>,
     found: &Inlinings,
 ) -> Result<Vec<u8>, AllocError>
-    ensures { IfOk result (λ bytes. Writes (result_message (id_data request.now.id.now) (actions_value (actions_asked request.now) found.now.here found.now.everywhere)) bytes.items) }
+    ensures { IfOk result (λ bytes. Writes (result_message (id_data request.now.id.now)
+        (actions_value (actions_asked request.now) found.now.here found.now.everywhere))
+        bytes.items) }
 {
     result_of(alloc, request.id, &Actions { request, found })
 }
@@ -215,7 +224,8 @@ fn write_offered(
     how: Inlining,
     edits: &Option<Vec<Edit>>,
 ) -> Result<(), AllocError>
-    ensures { OnOk result (AppendsEach false (action_values (actions_asked request.now) how edits.now) out.old.items out.new.items) }
+    ensures { OnOk result (AppendsEach false
+        (action_values (actions_asked request.now) how edits.now) out.old.items out.new.items) }
 {
     match edits {
         Some(edits) => write_inlining(out, request, how, edits.as_slice()),
@@ -230,7 +240,8 @@ fn write_inlining(
     how: Inlining,
     edits: &[Edit],
 ) -> Result<(), AllocError>
-    ensures { OnOk result (AppendsEach false (action_of (actions_asked request.now) how edits.now ∷ []) out.old.items out.new.items) }
+    ensures { OnOk result (AppendsEach false
+        (action_of (actions_asked request.now) how edits.now ∷ []) out.old.items out.new.items) }
 {
     let edits = DocumentEdits {
         client: request.client,

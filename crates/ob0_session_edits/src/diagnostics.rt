@@ -23,7 +23,9 @@ pub fn diagnostics<T: TextStore>(
     analysis: &Analysis,
 ) -> Result<Vec<Value>, AllocError>
     requires { T.content store.now ≡ chars analysis.now }
-    ensures { IfOk result (λ list. (ds : List Diagnostic) × Diagnoses (T.unit_of store.now) (T.content store.now) ds × DiagnosticsAre ds list.items) }
+    ensures { IfOk result (λ list. (ds : List Diagnostic)
+        × Diagnoses (T.unit_of store.now) (T.content store.now) ds
+        × DiagnosticsAre ds list.items) }
 {
     let told = analysis.diagnoses(alloc)?;
     all_diagnostics(alloc, store, told.as_slice())
@@ -35,7 +37,9 @@ fn all_diagnostics<T: TextStore>(
     store: &T,
     told: &[Diagnosis],
 ) -> Result<Vec<Value>, AllocError>
-    ensures { IfOk result (λ list. DiagnosticsAre (map (λ d. diagnostic_of (T.unit_of store.now) (T.content store.now) (complaint_in d)) told.now) list.items) }
+    ensures { IfOk result (λ list. DiagnosticsAre (map
+        (λ d. diagnostic_of (T.unit_of store.now) (T.content store.now) (complaint_in d)) told.now)
+        list.items) }
 {
     let offsets = offsets_of(alloc, told)?;
     let positions = store.positions(alloc, offsets.as_slice())?;
@@ -61,8 +65,11 @@ fn list_diagnostics<T: TextStore>(
     positions: &[Position],
     told: &[Diagnosis],
 ) -> Result<Vec<Value>, AllocError>
-    requires { positions.now ≡ map (position_of (width_of (T.unit_of store.now)) (T.content store.now)) offsets.now }
-    ensures { IfOk result (λ list. DiagnosticsAre (map (λ d. diagnostic_of (T.unit_of store.now) (T.content store.now) (complaint_in d)) told.now) list.items) }
+    requires { positions.now
+        ≡ map (position_of (width_of (T.unit_of store.now)) (T.content store.now)) offsets.now }
+    ensures { IfOk result (λ list. DiagnosticsAre (map
+        (λ d. diagnostic_of (T.unit_of store.now) (T.content store.now) (complaint_in d)) told.now)
+        list.items) }
 {
     let mut list = Vec::new(alloc);
     for diagnosis in told {
@@ -80,7 +87,8 @@ fn position_at<T: TextStore>(
     positions: &[Position],
     offset: usize,
 ) -> Position
-    requires { positions.now ≡ map (position_of (width_of (T.unit_of store.now)) (T.content store.now)) offsets.now }
+    requires { positions.now
+        ≡ map (position_of (width_of (T.unit_of store.now)) (T.content store.now)) offsets.now }
     ensures { result ≡ position_of (width_of (T.unit_of store.now)) (T.content store.now) offset }
 {
     match offsets.binary_search(&offset) {

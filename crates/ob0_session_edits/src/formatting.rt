@@ -61,7 +61,10 @@ pub fn format_document<T: TextStore>(
     indent: Indent,
 ) -> Result<Vec<u8>, AllocError>
     requires { T.content store.now ≡ chars analysis.now }
-    ensures { IfOk result (λ bytes. (message : Data) × AnswersFormatting (T.unit_of store.now) (id_data id.now) indent (T.content store.now) message × Writes message bytes.items) }
+    ensures { IfOk result (λ bytes. (message : Data)
+        × AnswersFormatting (T.unit_of store.now) (id_data id.now) indent (T.content store.now)
+        message
+        × Writes message bytes.items) }
 {
     match ask(alloc, analysis, &Formatting { store, indent })? {
         Some(outcome) => match outcome {

@@ -34,7 +34,9 @@ pub fn rename_symbol<T: TextStore>(
     request: &RenameRequest<'_>,
 ) -> Result<Vec<u8>, AllocError>
     requires { T.content store.now ≡ chars analysis.now }
-    ensures { IfOk result (λ bytes. (message : Data) × AnswersRenaming (T.unit_of store.now) (asked_of request.now) (T.content store.now) message × Writes message bytes.items) }
+    ensures { IfOk result (λ bytes. (message : Data)
+        × AnswersRenaming (T.unit_of store.now) (asked_of request.now) (T.content store.now) message
+        × Writes message bytes.items) }
 {
     let id = request.id;
     let place = request.place;
@@ -53,7 +55,8 @@ fn edits_answer(
     request: &RenameRequest<'_>,
     edits: &[Edit],
 ) -> Result<Vec<u8>, AllocError>
-    ensures { IfOk result (λ bytes. Writes (result_message (id_data request.now.id.now) (edits_for_client (asked_of request.now) edits.now)) bytes.items) }
+    ensures { IfOk result (λ bytes. Writes (result_message (id_data request.now.id.now)
+        (edits_for_client (asked_of request.now) edits.now)) bytes.items) }
 {
     let edits = DocumentEdits {
         client: request.client,

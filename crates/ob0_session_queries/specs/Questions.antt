@@ -33,13 +33,15 @@ can_be_renamed (tells.Field ordinal index) span = Some span
 
 -- the name or field itself that is there, where it can be renamed
 abbrev pub renamable_in : Resolution → ℕ → Option Span
-renamable_in names offset = option_and_then (λ (a : told.At). can_be_renamed a.of a.span) (identified_at names offset)
+renamable_in names offset =
+    option_and_then (λ (a : told.At). can_be_renamed a.of a.span) (identified_at names offset)
 
 -- ---- as values, at positions of a unit: the unit, the uri and the characters of the text
 
 -- the range of a span of the text
 abbrev pub range_at : Unit → List ℕ → Span → Data
-range_at unit text span = let range = range_of (width_of unit) text span in range_value range.start range.end
+range_at unit text span =
+    let range = range_of (width_of unit) text span in range_value range.start range.end
 
 -- the location of a span of the text
 abbrev pub location_at : Unit → List ℕ → List ℕ → Span → Data
@@ -61,14 +63,22 @@ place_in unit text at = offset_of (width_of unit) text at.position
 -- all the references and no others, in text order
 abbrev pub AnswersReferences : Unit → List ℕ → At → Bool → Resolution → Data → Type 0
 AnswersReferences unit text at include names value =
-    (spans : List Span) × AreReferencesAt names (place_in unit text at) include spans × (value ≡ array (items_of (map (location_at unit at.uri text) spans)))
+    (spans : List Span)
+    × AreReferencesAt names (place_in unit text at) include spans
+    × (value ≡ array (items_of (map (location_at unit at.uri text) spans)))
 
 -- this value answers the question about a well-typed module
 abbrev pub AnswersIn : Unit → List ℕ → At → NameQuestion → Resolution → Data → Type 0
-AnswersIn unit text at Hover names value = value ≡ or_null (option_map (hover_at unit text) (hover_at_place names (place_in unit text at)))
-AnswersIn unit text at Definition names value = value ≡ or_null (option_map (location_at unit at.uri text) (definition_at names (place_in unit text at)))
-AnswersIn unit text at (References include) names value = AnswersReferences unit text at include names value
-AnswersIn unit text at PrepareRename names value = value ≡ or_null (option_map (range_at unit text) (renamable_in names (place_in unit text at)))
+AnswersIn unit text at Hover names value =
+    value ≡ or_null (option_map (hover_at unit text) (hover_at_place names (place_in unit text at)))
+AnswersIn unit text at Definition names value =
+    value
+    ≡ or_null
+    (option_map (location_at unit at.uri text) (definition_at names (place_in unit text at)))
+AnswersIn unit text at (References include) names value =
+    AnswersReferences unit text at include names value
+AnswersIn unit text at PrepareRename names value =
+    value ≡ or_null (option_map (range_at unit text) (renamable_in names (place_in unit text at)))
 
 -- the answer about every other text
 abbrev pub no_answer : NameQuestion → Data
@@ -82,5 +92,7 @@ no_answer PrepareRename = null
 -- this value answers a question about what is at a position of a text
 abbrev pub AnswersName : Unit → List ℕ → At → NameQuestion → Data → Type 0
 AnswersName unit text at question value =
-    ((names : Resolution) × IsModuleIn (utf8 text) names × AnswersIn unit text at question names value)
+    ((names : Resolution)
+    × IsModuleIn (utf8 text) names
+    × AnswersIn unit text at question names value)
     ⊎ (¬ IsWellTypedModule (utf8 text) × (value ≡ no_answer question))

@@ -63,11 +63,7 @@ impl Question for DefinitionAt {
 
     ghost answers = { λ q names found. found ≡ definition_at names q.offset };
 
-    fn answer(
-        &self,
-        _alloc: Global,
-        module: &WellTyped<'_>,
-    ) -> Result<Option<Span>, AllocError> {
+    fn answer(&self, _alloc: Global, module: &WellTyped<'_>) -> Result<Option<Span>, AllocError> {
         Ok(definition(module, self.offset))
     }
 }
@@ -100,11 +96,7 @@ impl Question for RenamableAt {
 
     ghost answers = { λ q names found. found ≡ renamable_in names q.offset };
 
-    fn answer(
-        &self,
-        _alloc: Global,
-        module: &WellTyped<'_>,
-    ) -> Result<Option<Span>, AllocError> {
+    fn answer(&self, _alloc: Global, module: &WellTyped<'_>) -> Result<Option<Span>, AllocError> {
         match at(module, self.offset) {
             Some(name) => Ok(renamable(name.of, name.span)),
             None => Ok(None),
@@ -160,7 +152,8 @@ fn name_hover_value<T: TextStore>(
     place: &DocumentPosition,
 ) -> Result<Value, AllocError>
     requires { T.content store.now ≡ chars analysis.now }
-    ensures { IfOk result (λ v. AnswersName (T.unit_of store.now) (T.content store.now) (at_seen place.now) Hover (view v)) }
+    ensures { IfOk result (λ v. AnswersName (T.unit_of store.now) (T.content store.now)
+        (at_seen place.now) Hover (view v)) }
 {
     let offset = store.offset(place.position);
     match ask(alloc, analysis, &HoverAt { offset })? {
@@ -176,7 +169,8 @@ fn definition_value<T: TextStore>(
     place: &DocumentPosition,
 ) -> Result<Value, AllocError>
     requires { T.content store.now ≡ chars analysis.now }
-    ensures { IfOk result (λ v. AnswersName (T.unit_of store.now) (T.content store.now) (at_seen place.now) Definition (view v)) }
+    ensures { IfOk result (λ v. AnswersName (T.unit_of store.now) (T.content store.now)
+        (at_seen place.now) Definition (view v)) }
 {
     let offset = store.offset(place.position);
     match ask(alloc, analysis, &DefinitionAt { offset })? {
@@ -217,7 +211,8 @@ fn renamable_value<T: TextStore>(
     place: &DocumentPosition,
 ) -> Result<Value, AllocError>
     requires { T.content store.now ≡ chars analysis.now }
-    ensures { IfOk result (λ v. AnswersName (T.unit_of store.now) (T.content store.now) (at_seen place.now) PrepareRename (view v)) }
+    ensures { IfOk result (λ v. AnswersName (T.unit_of store.now) (T.content store.now)
+        (at_seen place.now) PrepareRename (view v)) }
 {
     let offset = store.offset(place.position);
     match ask(alloc, analysis, &RenamableAt { offset })? {
@@ -231,7 +226,9 @@ fn hover_or_null<T: TextStore>(
     store: &T,
     found: Option<ob0_refs::Hover>,
 ) -> Result<Value, AllocError>
-    ensures { IfOk result (λ v. view v ≡ or_null (option_map (hover_at (T.unit_of store.now) (T.content store.now)) (option_map hover_in found))) }
+    ensures { IfOk result (λ v. view v
+        ≡ or_null (option_map (hover_at (T.unit_of store.now) (T.content store.now))
+        (option_map hover_in found))) }
 {
     match found {
         Some(shown) => hover_value(
@@ -249,7 +246,9 @@ fn location_or_null<T: TextStore>(
     uri: &str,
     found: Option<Span>,
 ) -> Result<Value, AllocError>
-    ensures { IfOk result (λ v. view v ≡ or_null (option_map (location_at (T.unit_of store.now) uri.now (T.content store.now)) found)) }
+    ensures { IfOk result (λ v. view v
+        ≡ or_null
+        (option_map (location_at (T.unit_of store.now) uri.now (T.content store.now)) found)) }
 {
     match found {
         Some(span) => location_value(alloc, uri, span_value(alloc, store, span)?),
@@ -262,7 +261,8 @@ fn range_or_null<T: TextStore>(
     store: &T,
     found: Option<Span>,
 ) -> Result<Value, AllocError>
-    ensures { IfOk result (λ v. view v ≡ or_null (option_map (range_at (T.unit_of store.now) (T.content store.now)) found)) }
+    ensures { IfOk result (λ v. view v
+        ≡ or_null (option_map (range_at (T.unit_of store.now) (T.content store.now)) found)) }
 {
     match found {
         Some(span) => span_value(alloc, store, span),
@@ -272,7 +272,8 @@ fn range_or_null<T: TextStore>(
 
 /// The range of a span.
 fn span_value<T: TextStore>(alloc: Global, store: &T, span: Span) -> Result<Value, AllocError>
-    ensures { IfOk result (λ v. view v ≡ range_at (T.unit_of store.now) (T.content store.now) span) }
+    ensures { IfOk result
+        (λ v. view v ≡ range_at (T.unit_of store.now) (T.content store.now) span) }
 {
     range_value(alloc, store.position(span.start), store.position(span.end))
 }
@@ -285,7 +286,10 @@ fn locations<T: TextStore>(
     uri: &str,
     spans: &[Span],
 ) -> Result<Vec<u8>, AllocError>
-    ensures { IfOk result (λ bytes. Writes (result_message (id_data id.now) (array (items_of (map (location_at (T.unit_of store.now) uri.now (T.content store.now)) spans.now)))) bytes.items) }
+    ensures { IfOk result (λ bytes. Writes (result_message (id_data id.now)
+        (array (items_of
+        (map (location_at (T.unit_of store.now) uri.now (T.content store.now)) spans.now))))
+        bytes.items) }
 {
     let ranges = ranges(alloc, store, spans)?;
     let ranges = ranges.as_slice();

@@ -25,7 +25,9 @@ line_starts text = starts_from 0 (lines text)
 unfoldable pub starts_after : ℕ → List ℕ → List ℕ → List ℕ
 starts_after at [] next = []
 starts_after at (b ∷ bs) next =
-    if ends_line b (bs ++ next) then at ∷ starts_after (suc at) bs next else starts_after (suc at) bs next
+    if ends_line b (bs ++ next)
+    then at ∷ starts_after (suc at) bs next
+    else starts_after (suc at) bs next
 
 -- each number of a list is below a bound, or from it on
 abbrev pub AllUnder : ℕ → List ℕ → Type 0
@@ -49,7 +51,8 @@ pub record TextInUnit : Type 0 where
 -- the code of a text with its unit
 abbrev pub text_code : Coded TextInUnit
 text_code =
-    code_by (List ℕ × Unit) (coded× (coded_list coded_ℕ) unit_code) (λ t. (t.text, t.unit)) (λ p. record { text = p.0; unit = p.1 }) (λ t. refl)
+    code_by (List ℕ × Unit) (coded× (coded_list coded_ℕ) unit_code) (λ t. (t.text, t.unit))
+    (λ p. record { text = p.0; unit = p.1 }) (λ t. refl)
 
 -- Starts, of which the later ones are kept as distances from the end of a text of this length,
 -- the last of them first

@@ -12,11 +12,13 @@ at line character = record { line = line; character = character }
 
 -- the position that is p counted from a line and character on
 abbrev pub counted_from : ℕ → ℕ → Position → Position
-counted_from line character p = if p.line == 0 then at line (character + p.character) else at (line + p.line) p.character
+counted_from line character p =
+    if p.line == 0 then at line (character + p.character) else at (line + p.line) p.character
 
 -- what is left of a position after a line and character
 abbrev pub left_of : ℕ → ℕ → Position → Position
-left_of line character p = if p.line == line then at 0 (p.character - character) else at (p.line - line) p.character
+left_of line character p =
+    if p.line == line then at 0 (p.character - character) else at (p.line - line) p.character
 
 -- a position is q or comes after it
 abbrev pub IsFrom : Position → Position → Type 0
@@ -34,7 +36,10 @@ pub record IsCounted (width : ℕ → ℕ) (text rest : List ℕ) (offset line c
   pub rest_is : IsRest text rest offset
   pub lines_fit : line + length rest ≤ length text
   pub characters_fit : character + length rest ≤ length text
-  pub same : (o : ℕ) → offset ≤ o → counted_from line character (position_of width (chars rest) (o - offset)) ≡ position_of width (chars text) o
+  pub same : (o : ℕ)
+      → offset ≤ o
+      → counted_from line character (position_of width (chars rest) (o - offset))
+      ≡ position_of width (chars text) o
 
 -- positions of later offsets are counted on from this place
 abbrev pub IsPlace : (ℕ → ℕ) → List ℕ → PassState → Type 0
@@ -44,8 +49,12 @@ IsPlace width text p = IsCounted width text (drop p.offset text) p.offset p.line
 pub record IsSought (width : ℕ → ℕ) (text : List ℕ) (sought : Position) (rest : List ℕ) (offset line character : ℕ) : Type 0 where
   pub rest_is : IsRest text rest offset
   pub not_past : IsFrom (at line character) sought
-  pub same : (p : Position) → IsFrom sought p → offset + byte_len (before width (chars rest) (left_of line character p)) ≡ byte_len (before width (chars text) p)
+  pub same : (p : Position)
+      → IsFrom sought p
+      → offset + byte_len (before width (chars rest) (left_of line character p))
+      ≡ byte_len (before width (chars text) p)
 
 -- a position, and each later one, is found from this place on
 abbrev pub IsPlaceBefore : (ℕ → ℕ) → List ℕ → Position → PassState → Type 0
-IsPlaceBefore width text sought p = IsSought width text sought (drop p.offset text) p.offset p.line p.character
+IsPlaceBefore width text sought p =
+    IsSought width text sought (drop p.offset text) p.offset p.line p.character

@@ -12,7 +12,8 @@ EndsNoLine c = (c == LF || c == CR) ≡ false
 
 -- the units of UTF-16 that are counted at a byte: one at the first byte of each character, and another where the character has four
 abbrev pub utf16_units_at : ℕ → ℕ
-utf16_units_at b = (if nat_lt b 0x80 || nat_le 0xC0 b then 1 else 0) + (if nat_le 0xF0 b then 1 else 0)
+utf16_units_at b =
+    (if nat_lt b 0x80 || nat_le 0xC0 b then 1 else 0) + (if nat_le 0xF0 b then 1 else 0)
 
 -- characters that end no line, and have so many units
 pub record AreOfALine (width : ℕ → ℕ) (cs : List ℕ) (units : ℕ) : Type 0 where

@@ -58,7 +58,8 @@ pub fn position_in(text: &str, table: &LineTable, unit: Unit, offset: usize) -> 
 /// Line `k` with its ending.
 pub fn line_in<'a>(text: &'a str, table: &LineTable, k: usize) -> Option<&'a str>
     requires { HasLines text.now table.now }
-    ensures { option_map (λ line. chars line.now) result ≡ option_map with_ending (slice_get (lines (chars text.now)) k) }
+    ensures { option_map (λ line. chars line.now) result
+        ≡ option_map with_ending (slice_get (lines (chars text.now)) k) }
 {
     if k >= table.count() {
         return None;

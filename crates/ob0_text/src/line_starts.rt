@@ -27,7 +27,8 @@ pub fn starts_in_change(
 ) -> Result<Vec<usize>, AllocError>
     requires from { from ≤ length text.now }
     requires to { to ≤ length text.now }
-    ensures { IfOk result (λ starts. starts.items ≡ starts_after from (slice_index (LF ∷ text.now) from ∷ new.now) (drop to text.now)) }
+    ensures { IfOk result (λ starts. starts.items
+        ≡ starts_after from (slice_index (LF ∷ text.now) from ∷ new.now) (drop to text.now)) }
 {
     let bytes = text.as_bytes();
     let mut starts = Vec::new(alloc);
@@ -63,7 +64,8 @@ fn add_starts(
     behind: &[u8],
 ) -> Result<(), AllocError>
     requires { from + length bytes.now < 2 ^ 64 }
-    ensures { OnOk result (starts.new.items ≡ starts.old.items ++ starts_after from (before ∷ bytes.now) behind.now) }
+    ensures { OnOk result
+        (starts.new.items ≡ starts.old.items ++ starts_after from (before ∷ bytes.now) behind.now) }
 {
     let mut last = before;
     let mut at = from;

@@ -40,7 +40,8 @@ impl Model for Lines {
 impl Lines {
     /// Line `k`, counted from 0, with its ending. The last line alone has none.
     pub fn line(&self, k: usize) -> Option<&str>
-        ensures { option_map (λ line. chars line.now) result ≡ option_map with_ending (slice_get (lines self.now.text) k) }
+        ensures { option_map (λ line. chars line.now) result
+            ≡ option_map with_ending (slice_get (lines self.now.text) k) }
     {
         line_in(self.text.as_str(), &self.table, k)
     }

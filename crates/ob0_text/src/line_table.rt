@@ -91,7 +91,8 @@ impl LineTable {
         requires start { IsCharBoundary (string_bytes text.old) from }
         requires end { IsCharBoundary (string_bytes text.old) to }
         ensures table { HasLines (string_bytes text.new) self.new }
-        ensures ok { OnOk result (string_bytes text.new ≡ (take from (string_bytes text.old) ++ new.now) ++ drop to (string_bytes text.old)) }
+        ensures ok { OnOk result (string_bytes text.new
+            ≡ (take from (string_bytes text.old) ++ new.now) ++ drop to (string_bytes text.old)) }
         ensures err { OnErr result (string_bytes text.new ≡ string_bytes text.old) }
     {
         let kept = self.starts_before(from);
@@ -117,7 +118,8 @@ fn move_left(
     count: usize,
 ) -> Result<(), AllocError>
     requires { AllUnder (len + 1) (starts_in len front.old.items back.old.items) }
-    ensures same { starts_in len front.new.items back.new.items ≡ starts_in len front.old.items back.old.items }
+    ensures same { starts_in len front.new.items back.new.items
+        ≡ starts_in len front.old.items back.old.items }
     ensures left { OnOk result (length front.new.items ≡ min count (length front.old.items)) }
 {
     let gone = front.len().saturating_sub(count);
@@ -138,8 +140,11 @@ fn move_right(
     len: usize,
     count: usize,
 ) -> Result<(), AllocError>
-    ensures same { starts_in len front.new.items back.new.items ≡ starts_in len front.old.items back.old.items }
-    ensures left { OnOk result (length front.old.items ≤ count → count ≤ length (starts_in len front.old.items back.old.items) → length front.new.items ≡ count) }
+    ensures same { starts_in len front.new.items back.new.items
+        ≡ starts_in len front.old.items back.old.items }
+    ensures left { OnOk result (length front.old.items ≤ count
+        → count ≤ length (starts_in len front.old.items back.old.items)
+        → length front.new.items ≡ count) }
 {
     let added = count.saturating_sub(front.len());
     front.reserve(added)?;

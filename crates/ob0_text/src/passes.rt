@@ -32,7 +32,8 @@ pub fn positions_of(
     unit: Unit,
     offsets: &[usize],
 ) -> Result<Vec<Position>, AllocError>
-    ensures { IfOk result (λ positions. positions.items ≡ map (position_of (width_of unit) (chars text.now)) offsets.now) }
+    ensures { IfOk result (λ positions. positions.items
+        ≡ map (position_of (width_of unit) (chars text.now)) offsets.now) }
 {
     let mut positions = Vec::new(alloc);
     let mut place = START;
@@ -53,7 +54,8 @@ pub fn offsets_of(
     unit: Unit,
     positions: &[Position],
 ) -> Result<Vec<usize>, AllocError>
-    ensures { IfOk result (λ offsets. offsets.items ≡ map (offset_of (width_of unit) (chars text.now)) positions.now) }
+    ensures { IfOk result (λ offsets. offsets.items
+        ≡ map (offset_of (width_of unit) (chars text.now)) positions.now) }
 {
     let mut offsets = Vec::new(alloc);
     let mut place = START;
@@ -129,7 +131,8 @@ pub fn onward_to_offset(text: &str, unit: Unit, from: PassState, offset: usize) 
     requires behind { from.offset ≤ offset }
     ensures place { IsPlace (width_of unit) text.now result }
     ensures within { result.offset ≤ offset }
-    ensures position { at result.line result.character ≡ position_of (width_of unit) (chars text.now) offset }
+    ensures position { at result.line result.character
+        ≡ position_of (width_of unit) (chars text.now) offset }
 {
     let from = past_stretches_to(text, unit, from, offset);
     let mut place = past_ascii(text, unit, from, offset);
@@ -199,7 +202,8 @@ fn past_char(text: &str, unit: Unit, place: PassState, offset: usize) -> Option<
     requires behind { place.offset ≤ offset }
     ensures next { IfSome result (λ p. IsPlace (width_of unit) text.now p) }
     ensures onward { IfSome result (λ p. (place.offset < p.offset) × (p.offset ≤ offset)) }
-    ensures last { result ≡ None → at place.line place.character ≡ position_of (width_of unit) (chars text.now) offset }
+    ensures last { result ≡ None
+        → at place.line place.character ≡ position_of (width_of unit) (chars text.now) offset }
 {
     if offset <= place.offset {
         return None;
@@ -277,7 +281,8 @@ fn stretch_before(text: &str, unit: Unit, place: PassState, position: Position) 
     requires { IsCharBoundary text.now place.offset }
     ensures is { IfSome result (λ s. IsStretch (width_of unit) text.now place.offset s) }
     ensures line { IfSome result (λ s. place.line ≡ position.line) }
-    ensures fits { IfSome result (λ s. place.character + (s.end - place.offset) ≤ position.character) }
+    ensures fits { IfSome result
+        (λ s. place.character + (s.end - place.offset) ≤ position.character) }
 {
     if place.line != position.line || position.character < place.character {
         return None;

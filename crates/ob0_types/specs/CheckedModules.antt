@@ -41,7 +41,8 @@ pub record IsChecked (c : CheckedModule) : Type 0 where
 
 -- these are the faults of a module that was checked, whatever is known of it
 abbrev pub AreCheckedFaults : Resolution → List Fault → Type 0
-AreCheckedFaults names faults = (known : Option Tables) × IsChecked (record { names = names; faults = faults; known = known })
+AreCheckedFaults names faults =
+    (known : Option Tables) × IsChecked (record { names = names; faults = faults; known = known })
 
 -- a module with what was found of its types
 abbrev pub checked_by : Resolution → ModuleTypes → CheckedModule

@@ -19,7 +19,9 @@ row_of r token = find (is_at token) (field_rows r)
 
 -- the rows, by a table of types, have what each identifier of a field is
 abbrev pub AreRowsOf : Resolution → Tables → List Selection → Type 0
-AreRowsOf r t rows = All (λ x. option_map (selection_in (shapes_of t)) (find (is_row_at x.0) rows) ≡ row_of r x.0) (field_identifiers r)
+AreRowsOf r t rows =
+    All (λ x. option_map (selection_in (shapes_of t)) (find (is_row_at x.0) rows) ≡ row_of r x.0)
+    (field_identifiers r)
 
 -- where a module has no field, no rows are made
 abbrev pub AreRowsBeside : Listed → Tables → Resolution → List Selection → Type 0

@@ -165,7 +165,8 @@ fn known_rows<'t>(
     known: &Option<Known>,
     fields: &FieldList,
 ) -> Result<FieldRows, AllocError>
-    ensures { IfOk result (λ rows. IfSome known.now (λ t. AreRowsBeside fields.now t resolved.now rows)) }
+    ensures { IfOk result
+        (λ rows. IfSome known.now (λ t. AreRowsBeside fields.now t resolved.now rows)) }
 {
     match known {
         None => Ok(FieldRows::none(alloc)),
@@ -194,9 +195,11 @@ fn faults_of<'t>(
     resolved: &'t Resolved<'t>,
     fits: bool,
 ) -> Result<Vec<Fault>, AllocError>
-    ensures none { IfOk result (λ faults. (faults.items ≡ []) ↔ (faults_found fits resolved.now ≡ [])) }
+    ensures none { IfOk result
+        (λ faults. (faults.items ≡ []) ↔ (faults_found fits resolved.now ≡ [])) }
     ensures few { IfOk result (λ faults. length faults.items ≤ 100) }
-    ensures first { IfOk result (λ faults. AreFirstOf (faults_found fits resolved.now) faults.items) }
+    ensures first { IfOk result
+        (λ faults. AreFirstOf (faults_found fits resolved.now) faults.items) }
 {
     let mut faults = of_types(alloc, resolved, fits)?;
     add_declarations(&mut faults, resolved.faults())?;
@@ -221,7 +224,8 @@ fn of_types<'t>(
 
 /// Adds names that are declared twice, and closing names that differ.
 fn add_declarations(faults: &mut Vec<Fault>, scopes: &[Fault]) -> Result<(), AllocError>
-    ensures { OnOk result (faults.new.items ≡ faults.old.items ++ filter is_of_declarations scopes.now) }
+    ensures { OnOk result
+        (faults.new.items ≡ faults.old.items ++ filter is_of_declarations scopes.now) }
 {
     for fault in scopes {
         if is_of_declarations(fault) {
@@ -357,7 +361,9 @@ impl<'t> WellTyped<'t> {
 
     /// What the identifier of a field at a token is.
     pub(crate) fn field_row(&self, token: usize) -> Option<FieldRow<'t>>
-        ensures { (k : ℕ) → Contains (field_identifiers self.now) (token, k) → option_map row_in result ≡ row_of self.now token }
+        ensures { (k : ℕ)
+            → Contains (field_identifiers self.now) (token, k)
+            → option_map row_in result ≡ row_of self.now token }
     {
         match self.rows.at(token) {
             None => None,
@@ -375,7 +381,8 @@ impl<'t> WellTyped<'t> {
     /// The value of a constant that a CONST section declares, by its ordinal. None for every other declaration, TRUE and
     /// FALSE among them.
     pub fn constant(&self, declaration: usize) -> Option<Scalar>
-        ensures { option_map scalar_value result ≡ value_of_constant (named_tree_of self.now.module_read) declaration }
+        ensures { option_map scalar_value result
+            ≡ value_of_constant (named_tree_of self.now.module_read) declaration }
     {
         // For the proof: what the contract of this call says.
         let _module = self.resolved();
@@ -390,7 +397,8 @@ impl<'t> WellTyped<'t> {
     /// The type of a declaration, by its ordinal: of a type, of a variable or parameter, and of a constant. None for a
     /// procedure, and for a number that no declaration has.
     pub fn shape(&self, declaration: usize) -> Option<Shape<'t>>
-        ensures { option_map shape_of result ≡ type_declared (declared_object (named_tree_of self.now.module_read) declaration) }
+        ensures { option_map shape_of result
+            ≡ type_declared (declared_object (named_tree_of self.now.module_read) declaration) }
     {
         let known = self.known();
         let of = known.declared_type(declaration)?;

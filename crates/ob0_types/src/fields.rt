@@ -12,7 +12,8 @@ use std::alloc::{AllocError, Global};
 /// ordinal of the field's record.
 pub fn field_at(well_typed: &WellTyped<'_>, offset: usize) -> Option<(usize, usize)>
     ensures value { result ≡ field_at well_typed.now offset }
-    ensures stand { IfSome result (λ x. IsIdentifierToken well_typed.now.module_read.source.tokens x.0) }
+    ensures stand { IfSome result
+        (λ x. IsIdentifierToken well_typed.now.module_read.source.tokens x.0) }
 {
     let names = well_typed.resolved();
     well_typed.fields().at(names.tokens(), offset)
@@ -35,9 +36,12 @@ pub fn field_tokens(
     owner: usize,
     name: &str,
 ) -> Result<Vec<usize>, AllocError>
-    ensures value { IfOk result (λ tokens. tokens.items ≡ field_tokens well_typed.now owner name.now) }
-    ensures ascend { IfOk result (λ tokens. Ascending 0 tokens.items (length well_typed.now.module_read.source.tokens)) }
-    ensures stand { IfOk result (λ tokens. AreIdentifiers well_typed.now.module_read.source.tokens tokens.items) }
+    ensures value { IfOk result
+        (λ tokens. tokens.items ≡ field_tokens well_typed.now owner name.now) }
+    ensures ascend { IfOk result
+        (λ tokens. Ascending 0 tokens.items (length well_typed.now.module_read.source.tokens)) }
+    ensures stand { IfOk result
+        (λ tokens. AreIdentifiers well_typed.now.module_read.source.tokens tokens.items) }
 {
     let names = well_typed.resolved();
     let tokens = well_typed

@@ -29,7 +29,10 @@ is_field source k x found = (found.1 == k) && same_name (text_at source found.0)
 -- the tokens of that field among some identifiers of fields
 abbrev pub tokens_among : Scanned → ℕ → Name → List (ℕ × ℕ) → List ℕ
 tokens_among source k x [] = []
-tokens_among source k x (found ∷ rest) = if is_field source k x found then found.0 ∷ tokens_among source k x rest else tokens_among source k x rest
+tokens_among source k x (found ∷ rest) =
+    if is_field source k x found
+    then found.0 ∷ tokens_among source k x rest
+    else tokens_among source k x rest
 
 -- all tokens of the field x of the record k
 abbrev pub field_tokens : Resolution → ℕ → Name → List ℕ
@@ -38,7 +41,8 @@ field_tokens r k x = tokens_among r.module_read.source k x (field_identifiers r)
 -- the first identifier of a field that a place is on, in it or at its end
 abbrev pub field_on : Scanned → ℕ → List (ℕ × ℕ) → Option (ℕ × ℕ)
 field_on source offset [] = None
-field_on source offset (x ∷ xs) = if is_on offset (span_at source x.0) then Some x else field_on source offset xs
+field_on source offset (x ∷ xs) =
+    if is_on offset (span_at source x.0) then Some x else field_on source offset xs
 
 -- the tokens of identifiers
 abbrev pub firsts : List (ℕ × ℕ) → List ℕ
@@ -64,11 +68,13 @@ abbrev mutual
 
   pub declared_in_procedures : ℕ → Tree ℕ (items procedure) → List (ℕ × ℕ)
   declared_in_procedures k end = []
-  declared_in_procedures k (more p rest) = declared_in_procedure k p ++ declared_in_procedures (k + procedure_constructors p) rest
+  declared_in_procedures k (more p rest) =
+      declared_in_procedure k p ++ declared_in_procedures (k + procedure_constructors p) rest
 
   pub declared_in_procedure : ℕ → Tree ℕ (item procedure) → List (ℕ × ℕ)
   declared_in_procedure k (declares_procedure x fs b closing) =
-      marked_sections k (formal_sections fs) ++ declared_in (after_formals k (declares_procedure x fs b closing)) b
+      marked_sections k (formal_sections fs)
+      ++ declared_in (after_formals k (declares_procedure x fs b closing)) b
 
 -- all fields that a module declares
 abbrev pub declared_fields : Parsed → List (ℕ × ℕ)
@@ -86,31 +92,42 @@ declaring_field m k x = first (tokens_among m.source k x (declared_fields m))
 -- the tokens that declare the fields of the record k among some
 abbrev pub record_tokens : ℕ → List (ℕ × ℕ) → List ℕ
 record_tokens k [] = []
-record_tokens k (found ∷ rest) = if found.1 == k then found.0 ∷ record_tokens k rest else record_tokens k rest
+record_tokens k (found ∷ rest) =
+    if found.1 == k then found.0 ∷ record_tokens k rest else record_tokens k rest
 
 -- the place of the field x among the fields of the record k, counted from 0
 abbrev pub field_place : Parsed → ℕ → Name → Option ℕ
-field_place m k x = position_from (λ token. same_name (text_at m.source token) x) 0 (record_tokens k (declared_fields m))
+field_place m k x =
+    position_from (λ token. same_name (text_at m.source token) x) 0
+    (record_tokens k (declared_fields m))
 
 -- ---- laws
 
 -- In a well-typed module the field f of the record k is called `new` where the new name is at the tokens of that field.
 abbrev pub RenamedAtTokens : Type 0
 RenamedAtTokens =
-    (r : Resolution) (k : ℕ) (f new : Name) → IsResolution r → WellTyped (named_tree_of r.module_read)
+    (r : Resolution) (k : ℕ) (f new : Name)
+    → IsResolution r
+    → WellTyped (named_tree_of r.module_read)
     → field_renamed (named_tree_of r.module_read) k f new
-    ≡ mapped (λ i. if list_any (λ token. i == token) (field_tokens r k f) then new else text_at r.module_read.source i) (value_at r.module_read.source) (tree_of r.module_read)
+    ≡ mapped (λ i. if list_any (λ token. i == token) (field_tokens r k f)
+    then new
+    else text_at r.module_read.source i) (value_at r.module_read.source) (tree_of r.module_read)
 
 -- Another field of a record has the name where that is another name, and a token declares a field of it.
 abbrev pub DuplicateByToken : Type 0
 DuplicateByToken =
-    (m : Parsed) (k : ℕ) (f new : Name) → is_duplicate_field (named_tree_of m) k f new ≡ (not (same_name new f) && is_some (declaring_field m k new))
+    (m : Parsed) (k : ℕ) (f new : Name)
+    → is_duplicate_field (named_tree_of m) k f new
+    ≡ (not (same_name new f) && is_some (declaring_field m k new))
 
 -- In a well-typed module each identifier that declares or selects a field is of a field that its record declares.
 abbrev pub FieldsDeclared : Type 0
 FieldsDeclared =
     (r : Resolution) → IsResolution r → WellTyped (named_tree_of r.module_read)
-    → All (λ x. is_some (declaring_field r.module_read x.1 (text_at r.module_read.source x.0)) ≡ true) (field_identifiers r)
+    → All
+    (λ x. is_some (declaring_field r.module_read x.1 (text_at r.module_read.source x.0)) ≡ true)
+    (field_identifiers r)
 
 -- the tokens of the identifiers that are written as fields, where a record is declared or a field is selected
 abbrev pub written_fields : List (Role × ℕ) → List ℕ
@@ -125,4 +142,5 @@ written_fields ((role.ModuleName, token) ∷ rest) = written_fields rest
 abbrev pub FieldsListed : Type 0
 FieldsListed =
     (r : Resolution) → IsResolution r → WellTyped (named_tree_of r.module_read)
-    → map (λ x. x.0) (field_identifiers r) ≡ written_fields (identifiers role.Declaring (tree_of r.module_read))
+    → map (λ x. x.0) (field_identifiers r)
+    ≡ written_fields (identifiers role.Declaring (tree_of r.module_read))

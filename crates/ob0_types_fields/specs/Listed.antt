@@ -20,7 +20,9 @@ beside declared all = if length declared == 0 then [] else all
 abbrev pub listed_by : Tables → Resolution → Listed
 listed_by t r = record {
   declared = declared_fields r.module_read;
-  all = beside (declared_fields r.module_read) (marked_module (token_objects (declared_in t) r) (tree_of r.module_read));
+  all =
+      beside (declared_fields r.module_read)
+      (marked_module (token_objects (declared_in t) r) (tree_of r.module_read));
 }
 
 -- they are the fields of a module

@@ -27,7 +27,11 @@ abbrev pub unowned : {s : Sort} → Tree ℕ s → List (ℕ × Option ℕ)
 unowned t = unowned_among (identifiers role.Declaring t)
 
 -- the type after one more selector
-abbrev pub passed : {P : Type 0} {i : Item} → Meanings ℕ Shape P → Option Shape → Tree ℕ (item i) → Option Shape
+abbrev pub passed : {P : Type 0} {i : Item}
+    → Meanings ℕ Shape P
+    → Option Shape
+    → Tree ℕ (item i)
+    → Option Shape
 passed m s (field x) = option_and_then (λ t. field_type t (m.written x)) s
 passed m s (index e) = option_and_then (λ t. element_type t integer_shape) s
 passed m s _ = s
@@ -38,7 +42,11 @@ owner None x = None
 owner (Some s) x = option_map (λ f. f.ordinal) (field_selected s x)
 
 -- the identifiers of a part of a statement; s is the type before the selectors
-abbrev pub owned : {P : Type 0} {s : Sort} → Meanings ℕ Shape P → Option Shape → Tree ℕ s → List (ℕ × Option ℕ)
+abbrev pub owned : {P : Type 0} {s : Sort}
+    → Meanings ℕ Shape P
+    → Option Shape
+    → Tree ℕ s
+    → List (ℕ × Option ℕ)
 owned m s none = []
 owned m s (one a) = owned m None a
 owned m s end = []
@@ -56,9 +64,11 @@ owned m s (negation a) = owned m None a
 owned m s (field a) = (a, owner s (m.written a)) ∷ []
 owned m s (index a) = owned m None a
 owned m s empty = []
-owned m s (assigns a b c) = (a, None) ∷ (owned m (object_type (m.stands_for a)) b ++ (owned m None c))
+owned m s (assigns a b c) =
+    (a, None) ∷ (owned m (object_type (m.stands_for a)) b ++ (owned m None c))
 owned m s (calls a b) = (a, None) ∷ (owned m None b)
-owned m s (branches a b c d) = owned m None a ++ (owned m None b ++ (owned m None c ++ (owned m None d)))
+owned m s (branches a b c d) =
+    owned m None a ++ (owned m None b ++ (owned m None c ++ (owned m None d)))
 owned m s (while_loop a b) = owned m None a ++ (owned m None b)
 owned m s (repeat_loop a b) = owned m None a ++ (owned m None b)
 owned m s no_arguments = []
@@ -76,7 +86,8 @@ abbrev mutual
   pub owned_type : ℕ → Tree ℕ written_type → List (ℕ × Option ℕ)
   owned_type k (named_type x) = (x, None) ∷ []
   owned_type k (array_type e t) = unowned e ++ owned_type (suc k) t
-  owned_type k (record_type g rest) = owned_group k (suc k) g ++ owned_groups k (suc k + group_constructors g) rest
+  owned_type k (record_type g rest) =
+      owned_group k (suc k) g ++ owned_groups k (suc k + group_constructors g) rest
 
   pub owned_group : ℕ → ℕ → Tree ℕ fields → List (ℕ × Option ℕ)
   owned_group r k no_fields = []
@@ -84,12 +95,14 @@ abbrev mutual
 
   pub owned_groups : ℕ → ℕ → Tree ℕ (items further_fields) → List (ℕ × Option ℕ)
   owned_groups r k end = []
-  owned_groups r k (more (then_fields g) rest) = owned_group r k g ++ owned_groups r (k + group_constructors g) rest
+  owned_groups r k (more (then_fields g) rest) =
+      owned_group r k g ++ owned_groups r (k + group_constructors g) rest
 
 -- the identifiers of declarations of types
 abbrev pub owned_types : ℕ → Tree ℕ (items type_name) → List (ℕ × Option ℕ)
 owned_types k end = []
-owned_types k (more (declares_type x u) ds) = (x, None) ∷ (owned_type k u ++ owned_types (k + constructors u) ds)
+owned_types k (more (declares_type x u) ds) =
+    (x, None) ∷ (owned_type k u ++ owned_types (k + constructors u) ds)
 
 -- the identifiers of a TYPE section
 abbrev pub owned_type_section : ℕ → Tree ℕ (maybe type_names) → List (ℕ × Option ℕ)
@@ -99,7 +112,8 @@ owned_type_section k (one (declares_types ts)) = owned_types k ts
 -- the identifiers of variables
 abbrev pub owned_variables : ℕ → Tree ℕ (items variable) → List (ℕ × Option ℕ)
 owned_variables k end = []
-owned_variables k (more (declares_variable ns u) gs) = (unowned ns ++ owned_type k u) ++ owned_variables (k + constructors u) gs
+owned_variables k (more (declares_variable ns u) gs) =
+    (unowned ns ++ owned_type k u) ++ owned_variables (k + constructors u) gs
 
 -- the identifiers of a VAR section
 abbrev pub owned_variable_section : ℕ → Tree ℕ (maybe variables) → List (ℕ × Option ℕ)
@@ -114,13 +128,15 @@ owned_section k (variable_section ns u) = unowned ns ++ owned_type k u
 -- the identifiers of further sections
 abbrev pub owned_sections : ℕ → Tree ℕ (items further_section) → List (ℕ × Option ℕ)
 owned_sections k end = []
-owned_sections k (more (then_section f) fs) = owned_section k f ++ owned_sections (k + constructors (section_type f)) fs
+owned_sections k (more (then_section f) fs) =
+    owned_section k f ++ owned_sections (k + constructors (section_type f)) fs
 
 -- the identifiers of formal parameters
 abbrev pub owned_formals : ℕ → Tree ℕ (maybe formals) → List (ℕ × Option ℕ)
 owned_formals k none = []
 owned_formals k (one no_formals) = []
-owned_formals k (one (some_formals f fs)) = owned_section k f ++ owned_sections (k + constructors (section_type f)) fs
+owned_formals k (one (some_formals f fs)) =
+    owned_section k f ++ owned_sections (k + constructors (section_type f)) fs
 
 abbrev mutual
   pub owned_block : {P : Type 0} → Meanings ℕ Shape P → ℕ → Tree ℕ block → List (ℕ × Option ℕ)
@@ -129,25 +145,49 @@ abbrev mutual
       ++ owned_procedures m (after_variables k (has_body (declares cs ts vs ps) statements)) ps)))
       ++ owned m None statements
 
-  pub owned_procedures : {P : Type 0} → Meanings ℕ Shape P → ℕ → Tree ℕ (items procedure) → List (ℕ × Option ℕ)
+  pub owned_procedures : {P : Type 0}
+      → Meanings ℕ Shape P
+      → ℕ
+      → Tree ℕ (items procedure)
+      → List (ℕ × Option ℕ)
   owned_procedures m k end = []
-  owned_procedures m k (more p rest) = owned_procedure m k p ++ owned_procedures m (k + procedure_constructors p) rest
+  owned_procedures m k (more p rest) =
+      owned_procedure m k p ++ owned_procedures m (k + procedure_constructors p) rest
 
-  pub owned_procedure : {P : Type 0} → Meanings ℕ Shape P → ℕ → Tree ℕ (item procedure) → List (ℕ × Option ℕ)
+  pub owned_procedure : {P : Type 0}
+      → Meanings ℕ Shape P
+      → ℕ
+      → Tree ℕ (item procedure)
+      → List (ℕ × Option ℕ)
   owned_procedure m k (declares_procedure x fs b closing) =
-      (x, None) ∷ (owned_formals k fs ++ (owned_block m (after_formals k (declares_procedure x fs b closing)) b ++ ((closing, None) ∷ [])))
+      (x, None)
+      ∷ (owned_formals k fs
+      ++ (owned_block m (after_formals k (declares_procedure x fs b closing)) b
+      ++ ((closing, None) ∷ [])))
 
 -- the identifiers of a module, each with the ordinal of the record whose field it is
-abbrev pub owned_module : {P : Type 0} → Meanings ℕ Shape P → Tree ℕ module_text → List (ℕ × Option ℕ)
+abbrev pub owned_module : {P : Type 0}
+    → Meanings ℕ Shape P
+    → Tree ℕ module_text
+    → List (ℕ × Option ℕ)
 owned_module m (is_module x b closing) = (x, None) ∷ (owned_block m 0 b ++ ((closing, None) ∷ []))
 
 -- What the names at tokens mean: each is bound to one declaration, and means what that declares.
-abbrev pub token_objects : (ℕ → Option (Object Shape Signature)) → Resolution → Meanings ℕ Shape Signature
-token_objects objects r = record { stands_for = λ token. option_and_then objects (ordinal_in r.ordinals token); written = λ token. text_at r.module_read.source token }
+abbrev pub token_objects : (ℕ → Option (Object Shape Signature))
+    → Resolution
+    → Meanings ℕ Shape Signature
+token_objects objects r =
+    record {
+      stands_for
+          = λ token. option_and_then objects (ordinal_in r.ordinals token);
+      written = λ token. text_at r.module_read.source token;
+    }
 
 -- each identifier of a module with the ordinal of the record whose field it is
 abbrev pub owned_tokens : Resolution → List (ℕ × Option ℕ)
-owned_tokens r = owned_module (token_objects (declared_object (named_tree_of r.module_read)) r) (tree_of r.module_read)
+owned_tokens r =
+    owned_module (token_objects (declared_object (named_tree_of r.module_read)) r)
+    (tree_of r.module_read)
 
 -- a table has at each token what is listed
 abbrev pub HasOwners : (ℕ → Option ℕ) → List (ℕ × Option ℕ) → Type 0
@@ -157,7 +197,12 @@ HasOwners table (x ∷ xs) = (table x.0 ≡ x.1) × HasOwners table xs
 -- In a well-typed module a table that has the listed owners at its tokens is a table of owners: what names mean in the
 -- environment at each place is what their declarations are.
 abbrev pub OwnersByDeclaration : Type 0
-OwnersByDeclaration = (r : Resolution) (owners : List (Option ℕ)) → IsResolution r → WellTyped (named_tree_of r.module_read) → HasOwners (ordinal_in owners) (owned_tokens r) → AreOwners r.module_read owners
+OwnersByDeclaration =
+    (r : Resolution) (owners : List (Option ℕ))
+    → IsResolution r
+    → WellTyped (named_tree_of r.module_read)
+    → HasOwners (ordinal_in owners) (owned_tokens r)
+    → AreOwners r.module_read owners
 
 -- those that are fields, each with the ordinal of its record
 abbrev pub fields_among : List (ℕ × Option ℕ) → List (ℕ × ℕ)
@@ -172,7 +217,12 @@ with_fields_at table (f ∷ fs) = with_fields_at (set table f.0 (Some f.1)) fs
 
 -- In a well-typed module the empty table, one entry a token, with its fields written into it is a table of owners.
 abbrev pub OwnersOfFields : Type 0
-OwnersOfFields = (r : Resolution) → IsResolution r → WellTyped (named_tree_of r.module_read) → AreOwners r.module_read (with_fields_at (replicate (length r.module_read.source.tokens) None) (fields_among (owned_tokens r)))
+OwnersOfFields =
+    (r : Resolution)
+    → IsResolution r
+    → WellTyped (named_tree_of r.module_read)
+    → AreOwners r.module_read (with_fields_at (replicate (length r.module_read.source.tokens) None)
+    (fields_among (owned_tokens r)))
 
 -- ---- the fields alone, as a walk finds them
 
@@ -217,17 +267,25 @@ abbrev mutual
   marked m t = []
 
   -- those of a designator's selectors, of a value of a type and its parts in turn
-  pub marked_path : {P : Type 0} → Meanings ℕ Shape P → Option Shape → Tree ℕ (items selector) → List (ℕ × ℕ)
+  pub marked_path : {P : Type 0}
+      → Meanings ℕ Shape P
+      → Option Shape
+      → Tree ℕ (items selector)
+      → List (ℕ × ℕ)
   marked_path m s end = []
-  marked_path m s (more (field x) rest) = mark x (owner s (m.written x)) ++ marked_path m (option_and_then (λ t. field_type t (m.written x)) s) rest
-  marked_path m s (more (index e) rest) = marked m e ++ marked_path m (option_and_then (λ t. element_type t integer_shape) s) rest
+  marked_path m s (more (field x) rest) =
+      mark x (owner s (m.written x))
+      ++ marked_path m (option_and_then (λ t. field_type t (m.written x)) s) rest
+  marked_path m s (more (index e) rest) =
+      marked m e ++ marked_path m (option_and_then (λ t. element_type t integer_shape) s) rest
 
 -- the fields that a type's text declares; k is the ordinal of its first ARRAY or RECORD, and r that of the group's record
 abbrev mutual
   pub marked_type : ℕ → Tree ℕ written_type → List (ℕ × ℕ)
   marked_type k (named_type x) = []
   marked_type k (array_type e t) = marked_type (suc k) t
-  marked_type k (record_type g rest) = marked_group k (suc k) g ++ marked_groups k (suc k + group_constructors g) rest
+  marked_type k (record_type g rest) =
+      marked_group k (suc k) g ++ marked_groups k (suc k + group_constructors g) rest
 
   pub marked_group : ℕ → ℕ → Tree ℕ fields → List (ℕ × ℕ)
   marked_group r k no_fields = []
@@ -235,22 +293,26 @@ abbrev mutual
 
   pub marked_groups : ℕ → ℕ → Tree ℕ (items further_fields) → List (ℕ × ℕ)
   marked_groups r k end = []
-  marked_groups r k (more (then_fields g) rest) = marked_group r k g ++ marked_groups r (k + group_constructors g) rest
+  marked_groups r k (more (then_fields g) rest) =
+      marked_group r k g ++ marked_groups r (k + group_constructors g) rest
 
 -- the fields that are declared in declarations of types
 abbrev pub marked_types : ℕ → Tree ℕ (items type_name) → List (ℕ × ℕ)
 marked_types k end = []
-marked_types k (more (declares_type x u) ds) = marked_type k u ++ marked_types (k + constructors u) ds
+marked_types k (more (declares_type x u) ds) =
+    marked_type k u ++ marked_types (k + constructors u) ds
 
 -- the fields that are declared with variables
 abbrev pub marked_variables : ℕ → Tree ℕ (items variable) → List (ℕ × ℕ)
 marked_variables k end = []
-marked_variables k (more (declares_variable ns u) gs) = marked_type k u ++ marked_variables (k + constructors u) gs
+marked_variables k (more (declares_variable ns u) gs) =
+    marked_type k u ++ marked_variables (k + constructors u) gs
 
 -- the fields that are declared with parameters
 abbrev pub marked_sections : ℕ → Tree ℕ (items further_section) → List (ℕ × ℕ)
 marked_sections k end = []
-marked_sections k (more (then_section f) fs) = marked_type k (section_type f) ++ marked_sections (k + constructors (section_type f)) fs
+marked_sections k (more (then_section f) fs) =
+    marked_type k (section_type f) ++ marked_sections (k + constructors (section_type f)) fs
 
 abbrev mutual
   pub marked_block : {P : Type 0} → Meanings ℕ Shape P → ℕ → Tree ℕ block → List (ℕ × ℕ)
@@ -259,12 +321,23 @@ abbrev mutual
       ++ marked_procedures m (after_variables k (has_body (declares cs ts vs ps) statements)) ps))
       ++ marked m statements
 
-  pub marked_procedures : {P : Type 0} → Meanings ℕ Shape P → ℕ → Tree ℕ (items procedure) → List (ℕ × ℕ)
+  pub marked_procedures : {P : Type 0}
+      → Meanings ℕ Shape P
+      → ℕ
+      → Tree ℕ (items procedure)
+      → List (ℕ × ℕ)
   marked_procedures m k end = []
-  marked_procedures m k (more p rest) = marked_procedure m k p ++ marked_procedures m (k + procedure_constructors p) rest
+  marked_procedures m k (more p rest) =
+      marked_procedure m k p ++ marked_procedures m (k + procedure_constructors p) rest
 
-  pub marked_procedure : {P : Type 0} → Meanings ℕ Shape P → ℕ → Tree ℕ (item procedure) → List (ℕ × ℕ)
-  marked_procedure m k (declares_procedure x fs b closing) = marked_sections k (formal_sections fs) ++ marked_block m (after_formals k (declares_procedure x fs b closing)) b
+  pub marked_procedure : {P : Type 0}
+      → Meanings ℕ Shape P
+      → ℕ
+      → Tree ℕ (item procedure)
+      → List (ℕ × ℕ)
+  marked_procedure m k (declares_procedure x fs b closing) =
+      marked_sections k (formal_sections fs)
+      ++ marked_block m (after_formals k (declares_procedure x fs b closing)) b
 
 -- the fields of a module, each with the ordinal of its record
 abbrev pub marked_module : {P : Type 0} → Meanings ℕ Shape P → Tree ℕ module_text → List (ℕ × ℕ)
@@ -272,4 +345,8 @@ marked_module m (is_module x b closing) = marked_block m 0 b
 
 -- The walk finds just the fields among a module's identifiers.
 abbrev pub MarkedFields : Type 0
-MarkedFields = (r : Resolution) → fields_among (owned_tokens r) ≡ marked_module (token_objects (declared_object (named_tree_of r.module_read)) r) (tree_of r.module_read)
+MarkedFields =
+    (r : Resolution)
+    → fields_among (owned_tokens r)
+    ≡ marked_module (token_objects (declared_object (named_tree_of r.module_read)) r)
+    (tree_of r.module_read)

@@ -14,6 +14,10 @@ abbrev pub meaning_in : Owning → Meanings ℕ Shape Signature
 meaning_in w = token_objects (declared_in w.known.now) w.resolved.now
 
 -- the fields that one selector selects
-abbrev pub marked_at : {P : Type 0} → Meanings ℕ Shape P → Option Shape → Tree ℕ (item selector) → List (ℕ × ℕ)
+abbrev pub marked_at : {P : Type 0}
+    → Meanings ℕ Shape P
+    → Option Shape
+    → Tree ℕ (item selector)
+    → List (ℕ × ℕ)
 marked_at m s (field x) = mark x (owner s (m.written x))
 marked_at m s (index e) = marked m e

@@ -12,7 +12,8 @@ use std::alloc::AllocError;
 
 /// Notes the names of a group's fields with the ordinal of their record.
 fn names(found: &mut Vec<(usize, usize)>, owner: usize, listed: &Names) -> Result<(), AllocError>
-    ensures { IfOk result (λ _. found.new.items ≡ found.old.items ++ map (λ x. (x, owner)) (names_listed (names_of listed.now))) }
+    ensures { IfOk result (λ _. found.new.items
+        ≡ found.old.items ++ map (λ x. (x, owner)) (names_listed (names_of listed.now))) }
 {
     found.push((listed.first, owner))?;
     for name in &listed.more {
@@ -29,8 +30,10 @@ pub(crate) fn written_type(
     made: &mut Vec<usize>,
     t: &WrittenType,
 ) -> Result<(), AllocError>
-    ensures found { IfOk result (λ _. found.new.items ≡ found.old.items ++ marked_type (length made.old.items) (type_of t.now)) }
-    ensures made { IfOk result (λ _. length made.new.items ≡ length made.old.items + constructors (type_of t.now)) }
+    ensures found { IfOk result (λ _. found.new.items
+        ≡ found.old.items ++ marked_type (length made.old.items) (type_of t.now)) }
+    ensures made { IfOk result
+        (λ _. length made.new.items ≡ length made.old.items + constructors (type_of t.now)) }
 {
     match t {
         WrittenType::Named(_) => Ok(()),
@@ -48,8 +51,10 @@ fn record(
     made: &mut Vec<usize>,
     r: &RecordType,
 ) -> Result<(), AllocError>
-    ensures found { IfOk result (λ _. found.new.items ≡ found.old.items ++ marked_type (length made.old.items) (record_in r.now)) }
-    ensures made { IfOk result (λ _. length made.new.items ≡ length made.old.items + constructors (record_in r.now)) }
+    ensures found { IfOk result (λ _. found.new.items
+        ≡ found.old.items ++ marked_type (length made.old.items) (record_in r.now)) }
+    ensures made { IfOk result
+        (λ _. length made.new.items ≡ length made.old.items + constructors (record_in r.now)) }
 {
     let ordinal = made.len();
     made.push(r.token)?;
@@ -66,8 +71,10 @@ fn fields(
     owner: usize,
     f: &Fields,
 ) -> Result<(), AllocError>
-    ensures found { IfOk result (λ _. found.new.items ≡ found.old.items ++ marked_group owner (length made.old.items) (fields_of f.now)) }
-    ensures made { IfOk result (λ _. length made.new.items ≡ length made.old.items + group_constructors (fields_of f.now)) }
+    ensures found { IfOk result (λ _. found.new.items
+        ≡ found.old.items ++ marked_group owner (length made.old.items) (fields_of f.now)) }
+    ensures made { IfOk result (λ _. length made.new.items
+        ≡ length made.old.items + group_constructors (fields_of f.now)) }
 {
     match f {
         Fields::Empty => Ok(()),
@@ -84,8 +91,11 @@ pub(crate) fn types(
     made: &mut Vec<usize>,
     listed: &Option<Vec<TypeDeclaration>>,
 ) -> Result<(), AllocError>
-    ensures found { IfOk result (λ _. found.new.items ≡ found.old.items ++ marked_types (length made.old.items) (section_types (types_of listed.now))) }
-    ensures made { IfOk result (λ _. length made.new.items ≡ length made.old.items + types_constructors (section_types (types_of listed.now))) }
+    ensures found { IfOk result (λ _. found.new.items
+        ≡ found.old.items
+        ++ marked_types (length made.old.items) (section_types (types_of listed.now))) }
+    ensures made { IfOk result (λ _. length made.new.items
+        ≡ length made.old.items + types_constructors (section_types (types_of listed.now))) }
 {
     let Some(listed) = listed else {
         return Ok(());
@@ -102,8 +112,12 @@ pub(crate) fn variables(
     made: &mut Vec<usize>,
     listed: &Option<Vec<Variables>>,
 ) -> Result<(), AllocError>
-    ensures found { IfOk result (λ _. found.new.items ≡ found.old.items ++ marked_variables (length made.old.items) (section_variables (variables_of listed.now))) }
-    ensures made { IfOk result (λ _. length made.new.items ≡ length made.old.items + variables_constructors (section_variables (variables_of listed.now))) }
+    ensures found { IfOk result (λ _. found.new.items
+        ≡ found.old.items
+        ++ marked_variables (length made.old.items) (section_variables (variables_of listed.now))) }
+    ensures made { IfOk result (λ _. length made.new.items
+        ≡ length made.old.items
+        + variables_constructors (section_variables (variables_of listed.now))) }
 {
     let Some(listed) = listed else {
         return Ok(());
@@ -120,8 +134,11 @@ pub(crate) fn formals(
     made: &mut Vec<usize>,
     listed: &Option<Vec<Section>>,
 ) -> Result<(), AllocError>
-    ensures found { IfOk result (λ _. found.new.items ≡ found.old.items ++ marked_sections (length made.old.items) (formal_sections (formals_of listed.now))) }
-    ensures made { IfOk result (λ _. length made.new.items ≡ length made.old.items + formals_constructors (formal_sections (formals_of listed.now))) }
+    ensures found { IfOk result (λ _. found.new.items
+        ≡ found.old.items
+        ++ marked_sections (length made.old.items) (formal_sections (formals_of listed.now))) }
+    ensures made { IfOk result (λ _. length made.new.items
+        ≡ length made.old.items + formals_constructors (formal_sections (formals_of listed.now))) }
 {
     let Some(listed) = listed else {
         return Ok(());

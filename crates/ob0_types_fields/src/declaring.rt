@@ -16,8 +16,10 @@ pub(crate) fn block(
     made: &mut Vec<usize>,
     b: &Block,
 ) -> Result<(), AllocError>
-    ensures found { IfOk result (λ _. found.new.items ≡ found.old.items ++ declared_in (length made.old.items) (block_of b.now)) }
-    ensures made { IfOk result (λ _. length made.new.items ≡ length made.old.items + block_constructors (block_of b.now)) }
+    ensures found { IfOk result (λ _. found.new.items
+        ≡ found.old.items ++ declared_in (length made.old.items) (block_of b.now)) }
+    ensures made { IfOk result
+        (λ _. length made.new.items ≡ length made.old.items + block_constructors (block_of b.now)) }
 {
     types(found, made, &b.types)?;
     variables(found, made, &b.variables)?;
@@ -33,8 +35,10 @@ fn procedure(
     made: &mut Vec<usize>,
     p: &Procedure,
 ) -> Result<(), AllocError>
-    ensures found { IfOk result (λ _. found.new.items ≡ found.old.items ++ declared_in_procedure (length made.old.items) (procedure_of p.now)) }
-    ensures made { IfOk result (λ _. length made.new.items ≡ length made.old.items + procedure_constructors (procedure_of p.now)) }
+    ensures found { IfOk result (λ _. found.new.items
+        ≡ found.old.items ++ declared_in_procedure (length made.old.items) (procedure_of p.now)) }
+    ensures made { IfOk result (λ _. length made.new.items
+        ≡ length made.old.items + procedure_constructors (procedure_of p.now)) }
 {
     formals(found, made, &p.formals)?;
     block(found, made, &p.block)

@@ -70,7 +70,8 @@ impl FieldList {
     /// The field that a place is on, where it lies in an identifier of the field or at its end: the identifier's token, and
     /// the ordinal of the field's record. The tokens are those of the text that the fields are in.
     pub fn at(&self, tokens: &Tokens, offset: usize) -> Option<(usize, usize)>
-        ensures { AreInTextOrder tokens.now self.now.all → result ≡ field_on tokens.now offset self.now.all }
+        ensures { AreInTextOrder tokens.now self.now.all
+            → result ≡ field_on tokens.now offset self.now.all }
     {
         field_on(tokens, offset, &self.all)
     }
@@ -83,7 +84,8 @@ impl FieldList {
         owner: usize,
         name: &str,
     ) -> Result<Vec<usize>, AllocError>
-        ensures { IfOk result (λ found. found.items ≡ tokens_among tokens.now owner name.now self.now.all) }
+        ensures { IfOk result
+            (λ found. found.items ≡ tokens_among tokens.now owner name.now self.now.all) }
     {
         tokens_among(alloc, tokens, &self.all, owner, name)
     }
@@ -97,7 +99,9 @@ impl FieldList {
 
     /// The place of the field of this name among the fields of a record, counted from 0.
     pub fn place(&self, tokens: &Tokens, owner: usize, name: &str) -> Option<usize>
-        ensures { result ≡ position_from (λ token. same_name (text_at tokens.now token) name.now) 0 (record_tokens owner self.now.declared) }
+        ensures { result
+            ≡ position_from (λ token. same_name (text_at tokens.now token) name.now) 0
+            (record_tokens owner self.now.declared) }
     {
         place_among(tokens, &self.declared, owner, name)
     }
@@ -120,7 +124,9 @@ fn fields_beside<'a, 't>(
     resolved: &'a Resolved<'t>,
     declared: &[(usize, usize)],
 ) -> Result<Fields, AllocError>
-    ensures { IfOk result (λ found. found.items ≡ beside declared.now (marked_module (token_objects (declared_in known.now) resolved.now) (tree_of resolved.now.module_read))) }
+    ensures { IfOk result (λ found. found.items
+        ≡ beside declared.now (marked_module (token_objects (declared_in known.now) resolved.now)
+        (tree_of resolved.now.module_read))) }
 {
     if declared.is_empty() {
         Ok(Vec::new(alloc))
@@ -135,7 +141,9 @@ fn found_fields<'a, 't>(
     known: &'a Known,
     resolved: &'a Resolved<'t>,
 ) -> Result<Fields, AllocError>
-    ensures { IfOk result (λ found. found.items ≡ marked_module (token_objects (declared_in known.now) resolved.now) (tree_of resolved.now.module_read)) }
+    ensures { IfOk result (λ found. found.items
+        ≡ marked_module (token_objects (declared_in known.now) resolved.now)
+        (tree_of resolved.now.module_read)) }
 {
     let walk = Owning { known, resolved };
     let mut found = Vec::new(alloc);

@@ -34,7 +34,8 @@ pub(crate) struct Owning<'a, 't> {
 impl<'a, 't> Owning<'a, 't> {
     /// The type of the variable, parameter or constant that the name at a token is bound to.
     fn value_type(&self, token: usize) -> Option<TypeId>
-        ensures { option_map (type_shape (shapes_of self.now.known.now)) result ≡ object_type ((meaning_in self.now).stands_for token) }
+        ensures { option_map (type_shape (shapes_of self.now.known.now)) result
+            ≡ object_type ((meaning_in self.now).stands_for token) }
     {
         let ordinal = self.resolved.ordinal_at(token)?;
         match self.known.object(ordinal)? {
@@ -54,8 +55,13 @@ impl<'a, 't> Owning<'a, 't> {
         base: Option<TypeId>,
         name: usize,
     ) -> Result<Option<TypeId>, AllocError>
-        ensures found { IfOk result (λ _. found.new.items ≡ found.old.items ++ mark name (owner (option_map (type_shape (shapes_of self.now.known.now)) base) ((meaning_in self.now).written name))) }
-        ensures behind { IfOk result (λ t. option_map (type_shape (shapes_of self.now.known.now)) t ≡ option_and_then (λ z. field_type z ((meaning_in self.now).written name)) (option_map (type_shape (shapes_of self.now.known.now)) base)) }
+        ensures found { IfOk result (λ _. found.new.items
+            ≡ found.old.items
+            ++ mark name (owner (option_map (type_shape (shapes_of self.now.known.now)) base)
+            ((meaning_in self.now).written name))) }
+        ensures behind { IfOk result (λ t. option_map (type_shape (shapes_of self.now.known.now)) t
+            ≡ option_and_then (λ z. field_type z ((meaning_in self.now).written name))
+            (option_map (type_shape (shapes_of self.now.known.now)) base)) }
     {
         let Some(base) = base else {
             return Ok(None);
@@ -69,7 +75,9 @@ impl<'a, 't> Owning<'a, 't> {
 
     /// The type of an array's elements.
     fn element(&self, base: Option<TypeId>) -> Option<TypeId>
-        ensures { option_map (type_shape (shapes_of self.now.known.now)) result ≡ option_and_then (λ z. element_type z integer_shape) (option_map (type_shape (shapes_of self.now.known.now)) base) }
+        ensures { option_map (type_shape (shapes_of self.now.known.now)) result
+            ≡ option_and_then (λ z. element_type z integer_shape)
+            (option_map (type_shape (shapes_of self.now.known.now)) base) }
     {
         match base {
             None => None,
@@ -80,7 +88,8 @@ impl<'a, 't> Owning<'a, 't> {
     /// What is selected in an expression.
     #[cycle(expressions)]
     fn expression(&self, found: &mut Fields, e: &Expression) -> Result<(), AllocError>
-        ensures { IfOk result (λ _. found.new.items ≡ found.old.items ++ marked (meaning_in self.now) (expression_of e.now)) }
+        ensures { IfOk result (λ _. found.new.items
+            ≡ found.old.items ++ marked (meaning_in self.now) (expression_of e.now)) }
     {
         self.simple(found, &e.left)?;
         if let Some(compared) = &e.compared {
@@ -91,7 +100,8 @@ impl<'a, 't> Owning<'a, 't> {
 
     #[cycle(expressions)]
     fn simple(&self, found: &mut Fields, s: &Simple) -> Result<(), AllocError>
-        ensures { IfOk result (λ _. found.new.items ≡ found.old.items ++ marked (meaning_in self.now) (simple_of s.now)) }
+        ensures { IfOk result (λ _. found.new.items
+            ≡ found.old.items ++ marked (meaning_in self.now) (simple_of s.now)) }
     {
         self.term(found, &s.first)?;
         for addend in &s.more {
@@ -102,7 +112,8 @@ impl<'a, 't> Owning<'a, 't> {
 
     #[cycle(expressions)]
     fn term(&self, found: &mut Fields, t: &Term) -> Result<(), AllocError>
-        ensures { IfOk result (λ _. found.new.items ≡ found.old.items ++ marked (meaning_in self.now) (term_of t.now)) }
+        ensures { IfOk result (λ _. found.new.items
+            ≡ found.old.items ++ marked (meaning_in self.now) (term_of t.now)) }
     {
         self.factor(found, &t.first)?;
         for multiplier in &t.more {
@@ -113,7 +124,8 @@ impl<'a, 't> Owning<'a, 't> {
 
     #[cycle(expressions)]
     fn factor(&self, found: &mut Fields, f: &Factor) -> Result<(), AllocError>
-        ensures { IfOk result (λ _. found.new.items ≡ found.old.items ++ marked (meaning_in self.now) (factor_of f.now)) }
+        ensures { IfOk result (λ _. found.new.items
+            ≡ found.old.items ++ marked (meaning_in self.now) (factor_of f.now)) }
     {
         match f {
             Factor::Designator(d) => self.designator(found, d),
@@ -125,7 +137,8 @@ impl<'a, 't> Owning<'a, 't> {
 
     #[cycle(expressions)]
     fn designator(&self, found: &mut Fields, d: &Designator) -> Result<(), AllocError>
-        ensures { IfOk result (λ _. found.new.items ≡ found.old.items ++ marked (meaning_in self.now) (designator_of d.now)) }
+        ensures { IfOk result (λ _. found.new.items
+            ≡ found.old.items ++ marked (meaning_in self.now) (designator_of d.now)) }
     {
         let mut at = self.value_type(d.name);
         for s in &d.selectors {
@@ -142,8 +155,13 @@ impl<'a, 't> Owning<'a, 't> {
         base: Option<TypeId>,
         s: &Selector,
     ) -> Result<Option<TypeId>, AllocError>
-        ensures found { IfOk result (λ _. found.new.items ≡ found.old.items ++ marked_at (meaning_in self.now) (option_map (type_shape (shapes_of self.now.known.now)) base) (selector_of s.now)) }
-        ensures behind { IfOk result (λ t. option_map (type_shape (shapes_of self.now.known.now)) t ≡ passed (meaning_in self.now) (option_map (type_shape (shapes_of self.now.known.now)) base) (selector_of s.now)) }
+        ensures found { IfOk result (λ _. found.new.items
+            ≡ found.old.items
+            ++ marked_at (meaning_in self.now)
+            (option_map (type_shape (shapes_of self.now.known.now)) base) (selector_of s.now)) }
+        ensures behind { IfOk result (λ t. option_map (type_shape (shapes_of self.now.known.now)) t
+            ≡ passed (meaning_in self.now)
+            (option_map (type_shape (shapes_of self.now.known.now)) base) (selector_of s.now)) }
     {
         match s {
             Selector::Field(name) => self.select(found, base, *name),
@@ -155,14 +173,16 @@ impl<'a, 't> Owning<'a, 't> {
     }
 
     fn assignment(&self, found: &mut Fields, a: &Assignment) -> Result<(), AllocError>
-        ensures { IfOk result (λ _. found.new.items ≡ found.old.items ++ marked (meaning_in self.now) (assignment_of a.now)) }
+        ensures { IfOk result (λ _. found.new.items
+            ≡ found.old.items ++ marked (meaning_in self.now) (assignment_of a.now)) }
     {
         self.designator(found, &a.target)?;
         self.expression(found, &a.value)
     }
 
     fn call(&self, found: &mut Fields, c: &Call) -> Result<(), AllocError>
-        ensures { IfOk result (λ _. found.new.items ≡ found.old.items ++ marked (meaning_in self.now) (call_of c.now)) }
+        ensures { IfOk result (λ _. found.new.items
+            ≡ found.old.items ++ marked (meaning_in self.now) (call_of c.now)) }
     {
         if let Some(given) = &c.arguments {
             self.arguments(found, given)?;
@@ -171,7 +191,8 @@ impl<'a, 't> Owning<'a, 't> {
     }
 
     fn arguments(&self, found: &mut Fields, given: &Vec<Expression>) -> Result<(), AllocError>
-        ensures { IfOk result (λ _. found.new.items ≡ found.old.items ++ marked (meaning_in self.now) (arguments_in given.now)) }
+        ensures { IfOk result (λ _. found.new.items
+            ≡ found.old.items ++ marked (meaning_in self.now) (arguments_in given.now)) }
     {
         for e in given {
             self.expression(found, e)?;
@@ -181,7 +202,8 @@ impl<'a, 't> Owning<'a, 't> {
 
     #[cycle(statements)]
     fn sequence(&self, found: &mut Fields, statements: &Vec<Statement>) -> Result<(), AllocError>
-        ensures { IfOk result (λ _. found.new.items ≡ found.old.items ++ marked (meaning_in self.now) (sequence_in statements.now)) }
+        ensures { IfOk result (λ _. found.new.items
+            ≡ found.old.items ++ marked (meaning_in self.now) (sequence_in statements.now)) }
     {
         for s in statements {
             self.statement(found, s)?;
@@ -191,7 +213,8 @@ impl<'a, 't> Owning<'a, 't> {
 
     #[cycle(statements)]
     fn statement(&self, found: &mut Fields, s: &Statement) -> Result<(), AllocError>
-        ensures { IfOk result (λ _. found.new.items ≡ found.old.items ++ marked (meaning_in self.now) (statement_of s.now)) }
+        ensures { IfOk result (λ _. found.new.items
+            ≡ found.old.items ++ marked (meaning_in self.now) (statement_of s.now)) }
     {
         match s {
             Statement::Empty => Ok(()),
@@ -211,7 +234,8 @@ impl<'a, 't> Owning<'a, 't> {
 
     #[cycle(statements)]
     fn branches(&self, found: &mut Fields, i: &If) -> Result<(), AllocError>
-        ensures { IfOk result (λ _. found.new.items ≡ found.old.items ++ marked (meaning_in self.now) (if_of i.now)) }
+        ensures { IfOk result
+            (λ _. found.new.items ≡ found.old.items ++ marked (meaning_in self.now) (if_of i.now)) }
     {
         self.expression(found, &i.condition)?;
         self.sequence(found, &i.then)?;
@@ -224,7 +248,8 @@ impl<'a, 't> Owning<'a, 't> {
 
     #[cycle(statements)]
     fn elsifs(&self, found: &mut Fields, parts: &Vec<Elsif>) -> Result<(), AllocError>
-        ensures { IfOk result (λ _. found.new.items ≡ found.old.items ++ marked (meaning_in self.now) (elsifs_in parts.now)) }
+        ensures { IfOk result (λ _. found.new.items
+            ≡ found.old.items ++ marked (meaning_in self.now) (elsifs_in parts.now)) }
     {
         for e in parts {
             self.expression(found, &e.condition)?;
@@ -238,7 +263,8 @@ impl<'a, 't> Owning<'a, 't> {
         found: &mut Fields,
         statements: &Option<Vec<Statement>>,
     ) -> Result<(), AllocError>
-        ensures { IfOk result (λ _. found.new.items ≡ found.old.items ++ marked (meaning_in self.now) (body_of statements.now)) }
+        ensures { IfOk result (λ _. found.new.items
+            ≡ found.old.items ++ marked (meaning_in self.now) (body_of statements.now)) }
     {
         match statements {
             Some(statements) => self.sequence(found, statements),
@@ -255,8 +281,11 @@ impl<'a, 't> Owning<'a, 't> {
         made: &mut Vec<usize>,
         b: &Block,
     ) -> Result<(), AllocError>
-        ensures found { IfOk result (λ _. found.new.items ≡ found.old.items ++ marked_block (meaning_in self.now) (length made.old.items) (block_of b.now)) }
-        ensures made { IfOk result (λ _. length made.new.items ≡ length made.old.items + block_constructors (block_of b.now)) }
+        ensures found { IfOk result (λ _. found.new.items
+            ≡ found.old.items
+            ++ marked_block (meaning_in self.now) (length made.old.items) (block_of b.now)) }
+        ensures made { IfOk result (λ _. length made.new.items
+            ≡ length made.old.items + block_constructors (block_of b.now)) }
     {
         types(found, made, &b.types)?;
         variables(found, made, &b.variables)?;
@@ -273,8 +302,12 @@ impl<'a, 't> Owning<'a, 't> {
         made: &mut Vec<usize>,
         p: &Procedure,
     ) -> Result<(), AllocError>
-        ensures found { IfOk result (λ _. found.new.items ≡ found.old.items ++ marked_procedure (meaning_in self.now) (length made.old.items) (procedure_of p.now)) }
-        ensures made { IfOk result (λ _. length made.new.items ≡ length made.old.items + procedure_constructors (procedure_of p.now)) }
+        ensures found { IfOk result (λ _. found.new.items
+            ≡ found.old.items
+            ++ marked_procedure (meaning_in self.now) (length made.old.items)
+            (procedure_of p.now)) }
+        ensures made { IfOk result (λ _. length made.new.items
+            ≡ length made.old.items + procedure_constructors (procedure_of p.now)) }
     {
         formals(found, made, &p.formals)?;
         self.block(found, made, &p.block)

@@ -34,7 +34,9 @@ pub(crate) fn field_on(
 /// How many identifiers end before a place.
 fn ended_before(tokens: &Tokens, offset: usize, found: &[(usize, usize)]) -> usize
     ensures bound { result ≤ length found.now }
-    ensures point { IsNonDecreasingBy (λ x. (span_at tokens.now x.0).end) found.now → IsPartitionPoint (λ x. nat_lt (span_at tokens.now x.0).end offset ≡ true) (λ x. nat_lt (span_at tokens.now x.0).end offset ≡ false) found.now result }
+    ensures point { IsNonDecreasingBy (λ x. (span_at tokens.now x.0).end) found.now
+        → IsPartitionPoint (λ x. nat_lt (span_at tokens.now x.0).end offset ≡ true)
+        (λ x. nat_lt (span_at tokens.now x.0).end offset ≡ false) found.now result }
 {
     found.partition_point(|field| token_span(tokens, field.0).end < offset)
 }
@@ -63,7 +65,9 @@ pub(crate) fn place_among(
     owner: usize,
     name: &str,
 ) -> Option<usize>
-    ensures { result ≡ position_from (λ token. same_name (text_at tokens.now token) name.now) 0 (record_tokens owner fields.now) }
+    ensures { result
+        ≡ position_from (λ token. same_name (text_at tokens.now token) name.now) 0
+        (record_tokens owner fields.now) }
 {
     let mut place = 0;
     for field in fields {
@@ -91,7 +95,8 @@ pub(crate) fn tokens_among(
     owner: usize,
     name: &str,
 ) -> Result<Vec<usize>, AllocError>
-    ensures { IfOk result (λ found. found.items ≡ tokens_among tokens.now owner name.now fields.now) }
+    ensures { IfOk result
+        (λ found. found.items ≡ tokens_among tokens.now owner name.now fields.now) }
 {
     let mut found = Vec::new(alloc);
     for field in fields {

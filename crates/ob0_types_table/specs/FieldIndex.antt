@@ -10,7 +10,10 @@ use Rattle.ob0_types_table.specs.declared.known.Field.{Field}
 -- the first field of a name among fields from place k on
 abbrev pub first_from : ℕ → List Field → Name → Option First
 first_from k [] x = None
-first_from k (f ∷ fs) x = if same_name x (string_bytes f.name) then Some (record { place = k; of = f.of }) else first_from (suc k) fs x
+first_from k (f ∷ fs) x =
+    if same_name x (string_bytes f.name)
+    then Some (record { place = k; of = f.of })
+    else first_from (suc k) fs x
 
 -- a map has the first field of each name among fields from a place on
 pub record IsIndexFrom (map : BTreeMap (String Global) First) (k : ℕ) (fields : List Field) : Type 0 where

@@ -60,7 +60,8 @@ seen_in t k = option_and_then (seen_entry (shapes_of t)) (slice_get t.entries k)
 
 -- what was declared last at an ordinal, in scope or not
 abbrev pub declared_in : Tables → ℕ → Option (Object Shape Signature)
-declared_in t k = option_and_then (λ (e : Entry). object_in (shapes_of t) e.object) (slice_get t.entries k)
+declared_in t k =
+    option_and_then (λ (e : Entry). object_in (shapes_of t) e.object) (slice_get t.entries k)
 
 -- what is declared at an ordinal, where it is in scope
 abbrev pub seen_object : Tables → ℕ → Option declaration.Object
@@ -75,7 +76,10 @@ abbrev pub CanBePutBack : Tables → Shadowed → Type 0
 CanBePutBack t s = (s.ordinal < length t.entries) × IfSome s.before (ObjectIsMade (length t.shapes))
 
 -- what was in scope before bindings, of which the first is the oldest
-abbrev pub before_all : List Shadowed → (ℕ → Option declaration.Object) → ℕ → Option declaration.Object
+abbrev pub before_all : List Shadowed
+    → (ℕ → Option declaration.Object)
+    → ℕ
+    → Option declaration.Object
 before_all [] seen = seen
 before_all (s ∷ later) seen = put_at s.ordinal s.before (before_all later seen)
 
@@ -96,6 +100,13 @@ visible_entry o = record { object = o; sight = sight.Last }
 abbrev pub predeclared : Tables
 predeclared = record {
   shapes = [];
-  entries = visible_entry (kind.Named type.Integer) ∷ visible_entry (kind.Named type.Boolean) ∷ visible_entry (kind.Constant (scalar.Truth true)) ∷ visible_entry (kind.Constant (scalar.Truth false))
-      ∷ visible_entry (kind.Standard standards.Read) ∷ visible_entry (kind.Standard standards.Write) ∷ visible_entry (kind.Standard standards.WriteLn) ∷ [];
+  entries =
+      visible_entry (kind.Named type.Integer)
+      ∷ visible_entry (kind.Named type.Boolean)
+      ∷ visible_entry (kind.Constant (scalar.Truth true))
+      ∷ visible_entry (kind.Constant (scalar.Truth false))
+      ∷ visible_entry (kind.Standard standards.Read)
+      ∷ visible_entry (kind.Standard standards.Write)
+      ∷ visible_entry (kind.Standard standards.WriteLn)
+      ∷ [];
 }

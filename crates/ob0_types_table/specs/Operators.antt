@@ -8,8 +8,11 @@ use Rattle.ob0_values.specs.Values.{Value, add, add_is_settled, multiply, multip
 
 -- an operation, which needs no right operand where the left one settles it
 abbrev pub sum_value : AddOperator → Option Value → Value → Option Value
-sum_value o right x = cond (add_is_settled o x) (Some x) (option_and_then (λ y. given_value (add o x y)) right)
+sum_value o right x =
+    cond (add_is_settled o x) (Some x) (option_and_then (λ y. given_value (add o x y)) right)
 
 -- the value of a product, where a left operand that settles it is enough
 abbrev pub product_value : MultiplyOperator → Option Value → Value → Option Value
-product_value o right x = cond (multiply_is_settled o x) (Some x) (option_and_then (λ y. given_value (multiply o x y)) right)
+product_value o right x =
+    cond (multiply_is_settled o x) (Some x)
+    (option_and_then (λ y. given_value (multiply o x y)) right)

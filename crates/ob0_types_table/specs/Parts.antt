@@ -23,8 +23,10 @@ parts_shape shapes parts.Faulty = no_shape
 abbrev pub PartsAreCounted : List Shape → Parts → Type 0
 PartsAreCounted shapes parts.Integer = Unit {0}
 PartsAreCounted shapes parts.Boolean = Unit {0}
-PartsAreCounted shapes (parts.Array a) = CountsParts (made.Array a) (made_shape shapes (made.Array a))
-PartsAreCounted shapes (parts.Record r) = CountsParts (made.Record r.now) (made_shape shapes (made.Record r.now))
+PartsAreCounted shapes (parts.Array a) =
+    CountsParts (made.Array a) (made_shape shapes (made.Array a))
+PartsAreCounted shapes (parts.Record r) =
+    CountsParts (made.Record r.now) (made_shape shapes (made.Record r.now))
 PartsAreCounted shapes parts.Faulty = Unit {0}
 
 -- an ARRAY of the text made this entry

@@ -42,7 +42,8 @@ type_shape shapes type.Unknown = no_shape
 -- the fields of a record, in order
 abbrev pub fields_shape : List Shape → List Field → FieldShapes
 fields_shape shapes [] = no_field_shape
-fields_shape shapes (f ∷ fs) = next_field_shape (string_bytes f.name) (type_shape shapes f.of) (fields_shape shapes fs)
+fields_shape shapes (f ∷ fs) =
+    next_field_shape (string_bytes f.name) (type_shape shapes f.of) (fields_shape shapes fs)
 
 -- an entry of the table of shapes, over the shapes made before it
 abbrev pub made_shape : List Shape → code.TypeEntry → Shape
@@ -78,7 +79,8 @@ pub record IsEntry (shapes : List Shape) (m : code.TypeEntry) : Type 0 where
 -- each entry is made of those before it
 abbrev pub AreMadeInOrder : List Shape → List code.TypeEntry → Type 0
 AreMadeInOrder known [] = Unit {0}
-AreMadeInOrder known (m ∷ ms) = IsEntry known m × AreMadeInOrder (known ++ made_shape known m ∷ []) ms
+AreMadeInOrder known (m ∷ ms) =
+    IsEntry known m × AreMadeInOrder (known ++ made_shape known m ∷ []) ms
 
 -- what a declaration is
 abbrev pub mode_of : Bool → Mode

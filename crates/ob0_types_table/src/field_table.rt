@@ -78,7 +78,9 @@ impl FieldTable {
 
     /// The type of the first field of this name.
     pub(crate) fn find(&self, name: &str) -> Option<TypeId>
-        ensures { (shapes : List shape.Shape) → option_map (type_shape shapes) result ≡ shape_of_field (fields_shape shapes self.now) name.now }
+        ensures { (shapes : List shape.Shape)
+            → option_map (type_shape shapes) result
+            ≡ shape_of_field (fields_shape shapes self.now) name.now }
     {
         match self.first_of.get(name) {
             None => None,
@@ -88,7 +90,8 @@ impl FieldTable {
 
     /// The place of the first field of this name.
     pub fn place(&self, name: &str) -> Option<usize>
-        ensures { (shapes : List shape.Shape) → result ≡ place_of_field (fields_shape shapes self.now) name.now }
+        ensures { (shapes : List shape.Shape)
+            → result ≡ place_of_field (fields_shape shapes self.now) name.now }
     {
         match self.first_of.get(name) {
             None => None,

@@ -120,7 +120,10 @@ pub struct Known {
 impl RecordShape {
     /// The first field of this name.
     fn field_of(&self, name: &str) -> Option<FieldOf>
-        ensures { (shapes : List shape.Shape) → result ≡ field_selected (shape.record_shape self.now.ordinal (fields_shape shapes self.now.fields)) name.now }
+        ensures { (shapes : List shape.Shape)
+            → result
+            ≡ field_selected
+            (shape.record_shape self.now.ordinal (fields_shape shapes self.now.fields)) name.now }
     {
         match self.fields.place(name) {
             None => None,
@@ -182,7 +185,8 @@ impl Known {
     fn declare(&mut self, object: Object) -> Result<(), AllocError>
         requires { ObjectIsMade (length self.old.shapes) object }
         ensures shapes { OnOk result (self.new.shapes ≡ self.old.shapes) }
-        ensures entries { OnOk result (self.new.entries ≡ self.old.entries ++ record { object = object; sight = sight.Last } ∷ []) }
+        ensures entries { OnOk result (self.new.entries
+            ≡ self.old.entries ++ record { object = object; sight = sight.Last } ∷ []) }
     {
         self.entries.push(Entry {
             object,
@@ -194,7 +198,10 @@ impl Known {
     /// Makes room for the next ordinal, out of scope.
     fn reserve(&mut self) -> Result<(), AllocError>
         ensures shapes { OnOk result (self.new.shapes ≡ self.old.shapes) }
-        ensures entries { OnOk result (self.new.entries ≡ self.old.entries ++ record { object = kind.FaultyConstant; sight = sight.Nothing } ∷ []) }
+        ensures entries { OnOk result (self.new.entries
+            ≡ self.old.entries
+            ++ record { object = kind.FaultyConstant; sight = sight.Nothing }
+            ∷ []) }
     {
         self.entries.push(Entry {
             object: Object::FaultyConstant,
@@ -207,7 +214,8 @@ impl Known {
     pub fn define(&mut self, ordinal: usize, object: Object)
         requires { ObjectIsMade (length self.old.shapes) object }
         ensures shapes { self.new.shapes ≡ self.old.shapes }
-        ensures entries { self.new.entries ≡ slice_set self.old.entries ordinal (record { object = object; sight = sight.Last }) }
+        ensures entries { self.new.entries
+            ≡ slice_set self.old.entries ordinal (record { object = object; sight = sight.Last }) }
     {
         if ordinal < self.entries.len() {
             self.entries[ordinal] = Entry {
@@ -236,8 +244,11 @@ impl Known {
         requires made { ObjectIsMade (length self.old.shapes) object }
         requires room { ordinal < length self.old.entries }
         ensures shapes { self.new.shapes ≡ self.old.shapes }
-        ensures seen { (k : ℕ) → seen_object self.new k ≡ put_at ordinal (Some object) (seen_object self.old) k }
-        ensures declared { (k : ℕ) → declared_in self.new k ≡ put_at ordinal (object_in (shapes_of self.old) object) (declared_in self.old) k }
+        ensures seen { (k : ℕ)
+            → seen_object self.new k ≡ put_at ordinal (Some object) (seen_object self.old) k }
+        ensures declared { (k : ℕ)
+            → declared_in self.new k
+            ≡ put_at ordinal (object_in (shapes_of self.old) object) (declared_in self.old) k }
         ensures before { result ≡ seen_object self.old ordinal }
         ensures made { IfSome result (ObjectIsMade (length self.old.shapes)) }
         ensures long { length self.new.entries ≡ length self.old.entries }
@@ -259,8 +270,11 @@ impl Known {
     pub fn bind(&mut self, ordinal: usize, object: Object) -> Result<Option<Object>, AllocError>
         requires { ObjectIsMade (length self.old.shapes) object }
         ensures shapes { OnOk result (self.new.shapes ≡ self.old.shapes) }
-        ensures seen { OnOk result ((k : ℕ) → seen_object self.new k ≡ put_at ordinal (Some object) (seen_object self.old) k) }
-        ensures declared { OnOk result ((k : ℕ) → declared_in self.new k ≡ put_at ordinal (object_in (shapes_of self.old) object) (declared_in self.old) k) }
+        ensures seen { OnOk result ((k : ℕ)
+            → seen_object self.new k ≡ put_at ordinal (Some object) (seen_object self.old) k) }
+        ensures declared { OnOk result ((k : ℕ)
+            → declared_in self.new k
+            ≡ put_at ordinal (object_in (shapes_of self.old) object) (declared_in self.old) k) }
         ensures before { IfOk result (λ b. b ≡ seen_object self.old ordinal) }
         ensures made { IfOk result (λ b. IfSome b (ObjectIsMade (length self.old.shapes))) }
         ensures room { OnOk result (ordinal < length self.new.entries) }
@@ -274,7 +288,8 @@ impl Known {
     fn hide(&mut self, ordinal: usize)
         requires { ordinal < length self.old.entries }
         ensures shapes { self.new.shapes ≡ self.old.shapes }
-        ensures seen { (k : ℕ) → seen_object self.new k ≡ put_at ordinal None (seen_object self.old) k }
+        ensures seen { (k : ℕ)
+            → seen_object self.new k ≡ put_at ordinal None (seen_object self.old) k }
         ensures declared { (k : ℕ) → declared_in self.new k ≡ declared_in self.old k }
         ensures long { length self.new.entries ≡ length self.old.entries }
     {
@@ -286,7 +301,8 @@ impl Known {
         requires made { ObjectIsMade (length self.old.shapes) object }
         requires room { ordinal < length self.old.entries }
         ensures shapes { self.new.shapes ≡ self.old.shapes }
-        ensures seen { (k : ℕ) → seen_object self.new k ≡ put_at ordinal (Some object) (seen_object self.old) k }
+        ensures seen { (k : ℕ)
+            → seen_object self.new k ≡ put_at ordinal (Some object) (seen_object self.old) k }
         ensures declared { (k : ℕ) → declared_in self.new k ≡ declared_in self.old k }
         ensures long { length self.new.entries ≡ length self.old.entries }
     {
@@ -298,7 +314,8 @@ impl Known {
         requires made { IfSome before (ObjectIsMade (length self.old.shapes)) }
         requires room { ordinal < length self.old.entries }
         ensures shapes { self.new.shapes ≡ self.old.shapes }
-        ensures seen { (k : ℕ) → seen_object self.new k ≡ put_at ordinal before (seen_object self.old) k }
+        ensures seen { (k : ℕ)
+            → seen_object self.new k ≡ put_at ordinal before (seen_object self.old) k }
         ensures declared { (k : ℕ) → declared_in self.new k ≡ declared_in self.old k }
         ensures long { length self.new.entries ≡ length self.old.entries }
     {
@@ -333,7 +350,8 @@ impl Known {
 
     /// What a declaration is, where it is in scope.
     pub fn seen(&self, ordinal: usize) -> Option<&Object>
-        ensures value { option_and_then (λ o. object_in (shapes_of self.now) o.now) result ≡ seen_in self.now ordinal }
+        ensures value { option_and_then (λ o. object_in (shapes_of self.now) o.now) result
+            ≡ seen_in self.now ordinal }
         ensures made { IfSome result (λ o. ObjectIsMade (length self.now.shapes) o.now) }
     {
         let entry = self.entries.get(ordinal)?;
@@ -346,7 +364,8 @@ impl Known {
 
     /// What was declared last at an ordinal, in scope or not.
     pub fn object(&self, ordinal: usize) -> Option<&Object>
-        ensures value { option_and_then (λ o. object_in (shapes_of self.now) o.now) result ≡ declared_in self.now ordinal }
+        ensures value { option_and_then (λ o. object_in (shapes_of self.now) o.now) result
+            ≡ declared_in self.now ordinal }
         ensures made { IfSome result (λ o. ObjectIsMade (length self.now.shapes) o.now) }
     {
         let entry = self.entries.get(ordinal)?;
@@ -369,7 +388,8 @@ impl Known {
 
     /// The type of a declaration: of a type, of a variable or parameter, and of a constant.
     pub fn declared_type(&self, ordinal: usize) -> Option<TypeId>
-        ensures { option_map (type_shape (shapes_of self.now)) result ≡ type_declared (declared_in self.now ordinal) }
+        ensures { option_map (type_shape (shapes_of self.now)) result
+            ≡ type_declared (declared_in self.now ordinal) }
     {
         match self.object(ordinal)? {
             Object::Named(of) => Some(*of),
@@ -384,7 +404,11 @@ impl Known {
     /// What the shape at a place of the table is.
     pub(crate) fn entry(&self, place: usize) -> Option<&TypeEntry>
         ensures found { option_map (λ m. m.now) result ≡ slice_get self.now.shapes place }
-        ensures shape { MatchOption result (slice_index_or (shapes_of self.now) place no_shape ≡ no_shape) (λ m. (slice_index_or (shapes_of self.now) place no_shape ≡ made_shape (shapes_of self.now) m.now) × CountsParts m.now (made_shape (shapes_of self.now) m.now)) }
+        ensures shape { MatchOption result
+            (slice_index_or (shapes_of self.now) place no_shape ≡ no_shape)
+            (λ m. (slice_index_or (shapes_of self.now) place no_shape
+            ≡ made_shape (shapes_of self.now) m.now)
+            × CountsParts m.now (made_shape (shapes_of self.now) m.now)) }
     {
         if place < self.shapes.len() {
             Some(&self.shapes[place])
@@ -395,7 +419,8 @@ impl Known {
 
     /// The type of an array's elements.
     pub fn element(&self, base: TypeId) -> Option<TypeId>
-        ensures { option_map (type_shape (shapes_of self.now)) result ≡ element_type (type_shape (shapes_of self.now) base) integer_shape }
+        ensures { option_map (type_shape (shapes_of self.now)) result
+            ≡ element_type (type_shape (shapes_of self.now) base) integer_shape }
     {
         match base {
             TypeId::Array(i) => match self.entry(i)? {
@@ -411,7 +436,8 @@ impl Known {
 
     /// The type of the first field of this name in a record.
     pub fn field(&self, base: TypeId, name: &str) -> Option<TypeId>
-        ensures { option_map (type_shape (shapes_of self.now)) result ≡ field_type (type_shape (shapes_of self.now) base) name.now }
+        ensures { option_map (type_shape (shapes_of self.now)) result
+            ≡ field_type (type_shape (shapes_of self.now) base) name.now }
     {
         match base {
             TypeId::Record(i) => match self.entry(i)? {
@@ -513,10 +539,13 @@ impl Known {
     ) -> Result<Option<TypeId>, AllocError>
         requires { IsMade (length self.old.shapes) element }
         ensures made { IfOk result (λ r. IfSome r (IsMade (length self.new.shapes))) }
-        ensures value { IfOk result (λ r. option_map (type_shape (shapes_of self.new)) r ≡ within_limits (array_shape ordinal size (type_shape (shapes_of self.old) element))) }
+        ensures value { IfOk result (λ r. option_map (type_shape (shapes_of self.new)) r
+            ≡ within_limits (array_shape ordinal size (type_shape (shapes_of self.old) element))) }
         ensures entries { OnOk result (self.new.entries ≡ self.old.entries) }
-        ensures shapes { OnOk result ((later : List shape.Shape) × (shapes_of self.new ≡ shapes_of self.old ++ later)) }
-        ensures counted { IfOk result (λ r. IfSome r (λ _. length self.new.shapes ≡ suc (length self.old.shapes))) }
+        ensures shapes { OnOk result
+            ((later : List shape.Shape) × (shapes_of self.new ≡ shapes_of self.old ++ later)) }
+        ensures counted { IfOk result
+            (λ r. IfSome r (λ _. length self.new.shapes ≡ suc (length self.old.shapes))) }
         ensures longer { OnOk result (length self.old.shapes ≤ length self.new.shapes) }
         ensures meaning { OnOk result (known_meaning self.new ≡ known_meaning self.old) }
     {
@@ -541,7 +570,9 @@ impl Known {
 
     /// How many scalars the fields of a record have. None past what a number can say.
     fn field_scalars(&self, fields: &[Field]) -> Option<usize>
-        ensures { MatchOption result (2 ^ 64 ≤ field_scalars (fields_shape (shapes_of self.now) fields.now)) (λ n. n ≡ field_scalars (fields_shape (shapes_of self.now) fields.now)) }
+        ensures { MatchOption result
+            (2 ^ 64 ≤ field_scalars (fields_shape (shapes_of self.now) fields.now))
+            (λ n. n ≡ field_scalars (fields_shape (shapes_of self.now) fields.now)) }
     {
         let mut sum = 0usize;
         for field in fields {
@@ -573,10 +604,14 @@ impl Known {
     ) -> Result<Option<TypeId>, AllocError>
         requires { All (λ f. IsMade (length self.old.shapes) f.of) fields.items }
         ensures made { IfOk result (λ r. IfSome r (IsMade (length self.new.shapes))) }
-        ensures value { IfOk result (λ r. option_map (type_shape (shapes_of self.new)) r ≡ within_limits (record_shape ordinal (fields_shape (shapes_of self.old) fields.items))) }
+        ensures value { IfOk result (λ r. option_map (type_shape (shapes_of self.new)) r
+            ≡ within_limits
+            (record_shape ordinal (fields_shape (shapes_of self.old) fields.items))) }
         ensures entries { OnOk result (self.new.entries ≡ self.old.entries) }
-        ensures shapes { OnOk result ((later : List shape.Shape) × (shapes_of self.new ≡ shapes_of self.old ++ later)) }
-        ensures counted { IfOk result (λ r. IfSome r (λ _. length self.new.shapes ≡ suc (length self.old.shapes))) }
+        ensures shapes { OnOk result
+            ((later : List shape.Shape) × (shapes_of self.new ≡ shapes_of self.old ++ later)) }
+        ensures counted { IfOk result
+            (λ r. IfSome r (λ _. length self.new.shapes ≡ suc (length self.old.shapes))) }
         ensures longer { OnOk result (length self.old.shapes ≤ length self.new.shapes) }
         ensures meaning { OnOk result (known_meaning self.new ≡ known_meaning self.old) }
     {

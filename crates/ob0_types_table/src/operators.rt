@@ -20,7 +20,9 @@ pub fn value_of_relation(
     left: Option<Scalar>,
     right: Option<Scalar>,
 ) -> Option<Scalar>
-    ensures { option_map scalar_value result ≡ both (λ x y. given_value (values.relate relation x y)) (option_map scalar_value left) (option_map scalar_value right) }
+    ensures { option_map scalar_value result
+        ≡ both (λ x y. given_value (values.relate relation x y)) (option_map scalar_value left)
+        (option_map scalar_value right) }
 {
     match left {
         None => None,
@@ -33,7 +35,9 @@ pub fn value_of_relation(
 
 /// The value of a first term with its sign, if there is one; None where it overflows.
 pub fn with_sign(sign: Option<Sign>, operand: Option<Scalar>) -> Option<Scalar>
-    ensures { option_map scalar_value result ≡ option_and_then (λ x. given_value (values.signed sign x)) (option_map scalar_value operand) }
+    ensures { option_map scalar_value result
+        ≡ option_and_then (λ x. given_value (values.signed sign x))
+        (option_map scalar_value operand) }
 {
     match operand {
         None => None,
@@ -43,7 +47,8 @@ pub fn with_sign(sign: Option<Sign>, operand: Option<Scalar>) -> Option<Scalar>
 
 /// The value of `~` with its operand.
 pub fn complement(operand: Option<Scalar>) -> Option<Scalar>
-    ensures { option_map scalar_value result ≡ option_and_then (λ x. given_value (values.negated x)) (option_map scalar_value operand) }
+    ensures { option_map scalar_value result
+        ≡ option_and_then (λ x. given_value (values.negated x)) (option_map scalar_value operand) }
 {
     match operand {
         None => None,
@@ -57,7 +62,9 @@ pub fn value_of_sum(
     left: Option<Scalar>,
     right: Option<Scalar>,
 ) -> Option<Scalar>
-    ensures { option_map scalar_value result ≡ option_and_then (sum_value operator (option_map scalar_value right)) (option_map scalar_value left) }
+    ensures { option_map scalar_value result
+        ≡ option_and_then (sum_value operator (option_map scalar_value right))
+        (option_map scalar_value left) }
 {
     match left {
         None => None,
@@ -79,7 +86,9 @@ pub fn value_of_product(
     left: Option<Scalar>,
     right: Option<Scalar>,
 ) -> Option<Scalar>
-    ensures { option_map scalar_value result ≡ option_and_then (product_value operator (option_map scalar_value right)) (option_map scalar_value left) }
+    ensures { option_map scalar_value result
+        ≡ option_and_then (product_value operator (option_map scalar_value right))
+        (option_map scalar_value left) }
 {
     match left {
         None => None,

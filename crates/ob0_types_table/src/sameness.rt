@@ -24,7 +24,8 @@ pub enum Parts<'k> {
 
 /// Whether a record is what has a fault means.
 fn is_nothing(entry: &RecordShape) -> bool
-    ensures { (shapes : List shape.Shape) → result ≡ same_shape (made_shape shapes (made.Record entry.now)) no_shape }
+    ensures { (shapes : List shape.Shape)
+        → result ≡ same_shape (made_shape shapes (made.Record entry.now)) no_shape }
 {
     entry.ordinal == 0 && entry.fields.as_slice().is_empty()
 }
@@ -32,7 +33,8 @@ fn is_nothing(entry: &RecordShape) -> bool
 impl Known {
     /// A type with its parts. It has none exactly where it is no type of the module.
     pub fn parts(&self, of: TypeId) -> Parts<'_>
-        ensures shape { parts_shape (shapes_of self.now) result ≡ type_shape (shapes_of self.now) of }
+        ensures shape { parts_shape (shapes_of self.now) result
+            ≡ type_shape (shapes_of self.now) of }
         ensures counted { PartsAreCounted (shapes_of self.now) result }
         ensures known { has_parts result ≡ is_known_type self.now of }
     {
@@ -61,7 +63,8 @@ impl Known {
     /// where one was made twice.
     #[cycle(sameness)]
     pub fn same(&self, a: TypeId, b: TypeId) -> bool
-        ensures { result ≡ same_shape (type_shape (shapes_of self.now) a) (type_shape (shapes_of self.now) b) }
+        ensures { result
+            ≡ same_shape (type_shape (shapes_of self.now) a) (type_shape (shapes_of self.now) b) }
     {
         if a == b {
             return true;
@@ -107,7 +110,9 @@ impl Known {
 
     #[cycle(sameness)]
     fn same_record(&self, one: &RecordShape, other: &RecordShape) -> bool
-        ensures { result ≡ same_shape (made_shape (shapes_of self.now) (made.Record one.now)) (made_shape (shapes_of self.now) (made.Record other.now)) }
+        ensures { result
+            ≡ same_shape (made_shape (shapes_of self.now) (made.Record one.now))
+            (made_shape (shapes_of self.now) (made.Record other.now)) }
     {
         one.ordinal == other.ordinal
             && self.same_fields(one.fields.as_slice(), other.fields.as_slice())
@@ -115,14 +120,18 @@ impl Known {
 
     #[cycle(sameness)]
     fn same_array(&self, a: ArrayShape, b: ArrayShape) -> bool
-        ensures { result ≡ same_shape (made_shape (shapes_of self.now) (made.Array a)) (made_shape (shapes_of self.now) (made.Array b)) }
+        ensures { result
+            ≡ same_shape (made_shape (shapes_of self.now) (made.Array a))
+            (made_shape (shapes_of self.now) (made.Array b)) }
     {
         a.ordinal == b.ordinal && a.length == b.length && self.same(a.element, b.element)
     }
 
     #[cycle(sameness)]
     fn same_fields(&self, fields: &[Field], others: &[Field]) -> bool
-        ensures { result ≡ same_fields (fields_shape (shapes_of self.now) fields.now) (fields_shape (shapes_of self.now) others.now) }
+        ensures { result
+            ≡ same_fields (fields_shape (shapes_of self.now) fields.now)
+            (fields_shape (shapes_of self.now) others.now) }
     {
         if fields.len() != others.len() {
             return false;
@@ -137,7 +146,10 @@ impl Known {
 
     #[cycle(sameness)]
     fn same_field(&self, field: &Field, other: &Field) -> bool
-        ensures { result ≡ (same_name (string_bytes field.now.name) (string_bytes other.now.name) && same_shape (type_shape (shapes_of self.now) field.now.of) (type_shape (shapes_of self.now) other.now.of)) }
+        ensures { result
+            ≡ (same_name (string_bytes field.now.name) (string_bytes other.now.name)
+            && same_shape (type_shape (shapes_of self.now) field.now.of)
+            (type_shape (shapes_of self.now) other.now.of)) }
     {
         field.name == other.name && self.same(field.of, other.of)
     }

@@ -25,7 +25,9 @@ pub enum TypeId {
 
 /// `left + right`, `left - right`, `left OR right`.
 fn add_type(operator: AddOperator, left: TypeId, right: TypeId) -> Option<TypeId>
-    ensures { (shapes : List Shape) → option_map (type_shape shapes) result ≡ add_type operator (type_shape shapes left) (type_shape shapes right) }
+    ensures { (shapes : List Shape)
+        → option_map (type_shape shapes) result
+        ≡ add_type operator (type_shape shapes left) (type_shape shapes right) }
 {
     match operator {
         AddOperator::Add => both_integers(left, right),
@@ -36,7 +38,9 @@ fn add_type(operator: AddOperator, left: TypeId, right: TypeId) -> Option<TypeId
 
 /// `left * right`, `left DIV right`, `left MOD right`, `left & right`.
 fn multiply_type(operator: MultiplyOperator, left: TypeId, right: TypeId) -> Option<TypeId>
-    ensures { (shapes : List Shape) → option_map (type_shape shapes) result ≡ multiply_type operator (type_shape shapes left) (type_shape shapes right) }
+    ensures { (shapes : List Shape)
+        → option_map (type_shape shapes) result
+        ≡ multiply_type operator (type_shape shapes left) (type_shape shapes right) }
 {
     match operator {
         MultiplyOperator::Multiply => both_integers(left, right),
@@ -47,7 +51,9 @@ fn multiply_type(operator: MultiplyOperator, left: TypeId, right: TypeId) -> Opt
 }
 
 fn both_integers(left: TypeId, right: TypeId) -> Option<TypeId>
-    ensures { (shapes : List Shape) → option_map (type_shape shapes) result ≡ add_type adding.Add (type_shape shapes left) (type_shape shapes right) }
+    ensures { (shapes : List Shape)
+        → option_map (type_shape shapes) result
+        ≡ add_type adding.Add (type_shape shapes left) (type_shape shapes right) }
 {
     match left {
         TypeId::Integer => only_integer(right),
@@ -59,7 +65,9 @@ fn both_integers(left: TypeId, right: TypeId) -> Option<TypeId>
 }
 
 fn both_booleans(left: TypeId, right: TypeId) -> Option<TypeId>
-    ensures { (shapes : List Shape) → option_map (type_shape shapes) result ≡ add_type adding.Or (type_shape shapes left) (type_shape shapes right) }
+    ensures { (shapes : List Shape)
+        → option_map (type_shape shapes) result
+        ≡ add_type adding.Or (type_shape shapes left) (type_shape shapes right) }
 {
     match left {
         TypeId::Integer => None,
@@ -71,7 +79,9 @@ fn both_booleans(left: TypeId, right: TypeId) -> Option<TypeId>
 }
 
 fn only_integer(operand: TypeId) -> Option<TypeId>
-    ensures { (shapes : List Shape) → option_map (type_shape shapes) result ≡ sign_type (Some signs.Plus) (type_shape shapes operand) }
+    ensures { (shapes : List Shape)
+        → option_map (type_shape shapes) result
+        ≡ sign_type (Some signs.Plus) (type_shape shapes operand) }
 {
     match operand {
         TypeId::Integer => Some(TypeId::Integer),
@@ -84,7 +94,8 @@ fn only_integer(operand: TypeId) -> Option<TypeId>
 
 /// `~ operand`
 fn only_boolean(operand: TypeId) -> Option<TypeId>
-    ensures { (shapes : List Shape) → option_map (type_shape shapes) result ≡ complement_type (type_shape shapes operand) }
+    ensures { (shapes : List Shape)
+        → option_map (type_shape shapes) result ≡ complement_type (type_shape shapes operand) }
 {
     match operand {
         TypeId::Integer => None,
@@ -97,7 +108,9 @@ fn only_boolean(operand: TypeId) -> Option<TypeId>
 
 /// `left = right` and its like.
 fn relation_type(relation: Relation, left: TypeId, right: TypeId) -> Option<TypeId>
-    ensures { (shapes : List Shape) → option_map (type_shape shapes) result ≡ relation_type relation (type_shape shapes left) (type_shape shapes right) }
+    ensures { (shapes : List Shape)
+        → option_map (type_shape shapes) result
+        ≡ relation_type relation (type_shape shapes left) (type_shape shapes right) }
 {
     match left {
         TypeId::Integer => match right {
@@ -121,7 +134,9 @@ fn relation_type(relation: Relation, left: TypeId, right: TypeId) -> Option<Type
 }
 
 fn compared_truths(relation: Relation) -> Option<TypeId>
-    ensures { (shapes : List Shape) → option_map (type_shape shapes) result ≡ relation_type relation boolean_shape boolean_shape }
+    ensures { (shapes : List Shape)
+        → option_map (type_shape shapes) result
+        ≡ relation_type relation boolean_shape boolean_shape }
 {
     match relation {
         Relation::Equal => Some(TypeId::Boolean),
@@ -135,7 +150,8 @@ fn compared_truths(relation: Relation) -> Option<TypeId>
 
 /// A term with its sign, if it has one.
 fn sign_type(sign: Option<Sign>, operand: TypeId) -> Option<TypeId>
-    ensures { (shapes : List Shape) → option_map (type_shape shapes) result ≡ sign_type sign (type_shape shapes operand) }
+    ensures { (shapes : List Shape)
+        → option_map (type_shape shapes) result ≡ sign_type sign (type_shape shapes operand) }
 {
     match sign {
         None => Some(operand),
@@ -148,7 +164,8 @@ fn sign_type(sign: Option<Sign>, operand: TypeId) -> Option<TypeId>
 
 /// The type of a constant.
 pub fn scalar_type(value: Scalar) -> TypeId
-    ensures { (shapes : List Shape) → Some (type_shape shapes result) ≡ value_type (scalar_value value) }
+    ensures { (shapes : List Shape)
+        → Some (type_shape shapes result) ≡ value_type (scalar_value value) }
 {
     match value {
         Scalar::Number(_) => TypeId::Integer,
@@ -162,7 +179,10 @@ pub fn type_of_sum(
     left: Option<TypeId>,
     right: Option<TypeId>,
 ) -> Option<TypeId>
-    ensures { (shapes : List Shape) → option_map (type_shape shapes) result ≡ both (add_type operator) (option_map (type_shape shapes) left) (option_map (type_shape shapes) right) }
+    ensures { (shapes : List Shape)
+        → option_map (type_shape shapes) result
+        ≡ both (add_type operator) (option_map (type_shape shapes) left)
+        (option_map (type_shape shapes) right) }
 {
     match left {
         None => None,
@@ -179,7 +199,10 @@ pub fn type_of_product(
     left: Option<TypeId>,
     right: Option<TypeId>,
 ) -> Option<TypeId>
-    ensures { (shapes : List Shape) → option_map (type_shape shapes) result ≡ both (multiply_type operator) (option_map (type_shape shapes) left) (option_map (type_shape shapes) right) }
+    ensures { (shapes : List Shape)
+        → option_map (type_shape shapes) result
+        ≡ both (multiply_type operator) (option_map (type_shape shapes) left)
+        (option_map (type_shape shapes) right) }
 {
     match left {
         None => None,
@@ -196,7 +219,10 @@ pub fn type_of_relation(
     left: Option<TypeId>,
     right: Option<TypeId>,
 ) -> Option<TypeId>
-    ensures { (shapes : List Shape) → option_map (type_shape shapes) result ≡ both (relation_type relation) (option_map (type_shape shapes) left) (option_map (type_shape shapes) right) }
+    ensures { (shapes : List Shape)
+        → option_map (type_shape shapes) result
+        ≡ both (relation_type relation) (option_map (type_shape shapes) left)
+        (option_map (type_shape shapes) right) }
 {
     match left {
         None => None,
@@ -209,7 +235,9 @@ pub fn type_of_relation(
 
 /// The type of a simple expression's first term with its sign, if there is one.
 pub fn with_sign(sign: Option<Sign>, operand: Option<TypeId>) -> Option<TypeId>
-    ensures { (shapes : List Shape) → option_map (type_shape shapes) result ≡ option_and_then (sign_type sign) (option_map (type_shape shapes) operand) }
+    ensures { (shapes : List Shape)
+        → option_map (type_shape shapes) result
+        ≡ option_and_then (sign_type sign) (option_map (type_shape shapes) operand) }
 {
     match operand {
         None => None,
@@ -219,7 +247,9 @@ pub fn with_sign(sign: Option<Sign>, operand: Option<TypeId>) -> Option<TypeId>
 
 /// The type of `~` with its operand.
 pub fn complement(operand: Option<TypeId>) -> Option<TypeId>
-    ensures { (shapes : List Shape) → option_map (type_shape shapes) result ≡ option_and_then complement_type (option_map (type_shape shapes) operand) }
+    ensures { (shapes : List Shape)
+        → option_map (type_shape shapes) result
+        ≡ option_and_then complement_type (option_map (type_shape shapes) operand) }
 {
     match operand {
         None => None,

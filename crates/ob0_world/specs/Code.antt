@@ -13,8 +13,10 @@ use Rattle.ob0_world_rules.specs.Events.{Event, open_document, change_document, 
 
 -- an event of the code
 abbrev pub event_of : event.Event → Event
-event_of (event.TheVariants.OpenDoc uri text) = open_document (string_bytes uri) (chars (string_bytes text))
-event_of (event.TheVariants.ChangeDoc uri changes) = change_document (string_bytes uri) (map reported_change changes.items)
+event_of (event.TheVariants.OpenDoc uri text) =
+    open_document (string_bytes uri) (chars (string_bytes text))
+event_of (event.TheVariants.ChangeDoc uri changes) =
+    change_document (string_bytes uri) (map reported_change changes.items)
 event_of (event.TheVariants.CloseDoc uri) = close_document (string_bytes uri)
 event_of (event.TheVariants.Ask uri ask) = ask_about (string_bytes uri) (ask_of ask)
 event_of event.TheVariants.Serve = serve
@@ -34,7 +36,13 @@ seen_of (seen.TheVariants.Dropped k) = drops k
 
 -- a publication of the code
 abbrev pub made_of : made.Made → Made
-made_of m = record { uri = string_bytes m.uri; version = m.version; text = chars (string_bytes m.text); empty = m.empty }
+made_of m =
+    record {
+      uri = string_bytes m.uri;
+      version = m.version;
+      text = chars (string_bytes m.text);
+      empty = m.empty;
+    }
 
 -- the applied edits of the code
 abbrev pub all_applied : played.Played → List Applied

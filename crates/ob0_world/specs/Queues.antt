@@ -50,7 +50,10 @@ IsUnderstood asked content = (m : ToEditor) × (understood asked content.items �
 -- A session that has begun with this editor and isn't at its end: it writes the edits of a workspace with the versions of
 -- their documents, and offers code actions as literals.
 abbrev pub IsRunning : State → Type 0
-IsRunning s = (s.phase ≡ Running) × (s.client.takes_document_changes ≡ true) × (s.client.takes_literal_actions ≡ true)
+IsRunning s =
+    (s.phase ≡ Running)
+    × (s.client.takes_document_changes ≡ true)
+    × (s.client.takes_literal_actions ≡ true)
 
 -- the session runs with this editor, or has failed
 abbrev pub IsRunningOrFailed : SessionState → Type 0
@@ -66,12 +69,14 @@ held_by failed = none_open Utf16
 
 -- what a publication with a version was made for: the present text of the document
 abbrev pub made_of_document : List ℕ → ℤ → Bool → Document → Option Made
-made_of_document uri version empty (InStep held text) = Some (record { uri = uri; version = version; text = text; empty = empty })
+made_of_document uri version empty (InStep held text) =
+    Some (record { uri = uri; version = version; text = text; empty = empty })
 made_of_document uri version empty OutOfStep = None
 
 -- the document that a publication was made for
 abbrev pub made_for : OpenDocuments → ToEditor → Option Made
-made_for held (publishes uri (Some version) empty) = option_and_then (made_of_document uri version empty) (document_at held uri)
+made_for held (publishes uri (Some version) empty) =
+    option_and_then (made_of_document uri version empty) (document_at held uri)
 made_for held (publishes uri None empty) = None
 made_for held (answers k edits) = None
 
@@ -89,7 +94,13 @@ pub record Sound (asked : List SentAsk) (to_server to_editor : Contents) (sessio
   pub stands : IsRunningOrFailed session
 
 -- client and server, from what the code stores of them
-abbrev pub ends_from : Editor → Contents → SessionState → Contents → List applied.Applied → List made.Made → Ends
+abbrev pub ends_from : Editor
+    → Contents
+    → SessionState
+    → Contents
+    → List applied.Applied
+    → List made.Made
+    → Ends
 ends_from e to_server session to_editor applied made =
     record {
       editor = e;
@@ -101,9 +112,20 @@ ends_from e to_server session to_editor applied made =
     }
 
 -- client and server from what the code keeps
-abbrev pub both_from : Editor → Contents → SessionState → Contents → List applied.Applied → List made.Made → Both
+abbrev pub both_from : Editor
+    → Contents
+    → SessionState
+    → Contents
+    → List applied.Applied
+    → List made.Made
+    → Both
 both_from e to_server session to_editor applied made =
-    record { ends = ends_from e to_server session to_editor applied made; session = session; to_server = bytes to_server; to_editor = bytes to_editor }
+    record {
+      ends = ends_from e to_server session to_editor applied made;
+      session = session;
+      to_server = bytes to_server;
+      to_editor = bytes to_editor;
+    }
 
 -- ---- what a world keeps
 
@@ -122,7 +144,8 @@ IsReached w = (unit : Unit) × (events : List Event) × Course (start unit) even
 -- the publication with a version that the first of these contents is
 abbrev pub made_sent : OpenDocuments → List SentAsk → Contents → Option Made
 made_sent held asked [] = None
-made_sent held asked (content ∷ contents) = option_and_then (made_for held) (understood asked content.items)
+made_sent held asked (content ∷ contents) =
+    option_and_then (made_for held) (understood asked content.items)
 
 -- a content, if there is one, waits after the others
 abbrev pub IsSent : Contents → Option (Vec ℕ Global) → seen.Seen → Contents → Type 0

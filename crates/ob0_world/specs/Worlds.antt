@@ -35,7 +35,13 @@ pub record World : Type 0 where
 
 -- Nothing was done yet, except that the editor has initialized the session.
 abbrev pub new_both : Unit → Both
-new_both unit = record { ends = start unit; session = serving (begins (client_for unit)); to_server = []; to_editor = [] }
+new_both unit =
+    record {
+      ends = start unit;
+      session = serving (begins (client_for unit));
+      to_server = [];
+      to_editor = [];
+    }
 
 abbrev pub new_world : Unit → World
 new_world unit = record { both = new_both unit; steps = 0; ended = false }
@@ -44,13 +50,22 @@ new_world unit = record { both = new_both unit; steps = 0; ended = false }
 
 -- the session replies to a content with these
 abbrev pub IsAnswered : SessionState → List ℕ → List (List ℕ) → SessionState → Type 0
-IsAnswered old content sent new = (before : State) × (after : State) × (old ≡ serving before) × (new ≡ serving after) × Answers before content sent after
+IsAnswered old content sent new =
+    (before : State)
+    × (after : State)
+    × (old ≡ serving before)
+    × (new ≡ serving after)
+    × Answers before content sent after
 
 -- the session takes the first content that waits, and its replies wait for the editor
 abbrev pub TakesFirst : List (List ℕ) → Both → Both → Type 0
-TakesFirst [] old new = (new.session ≡ old.session) × (new.to_server ≡ []) × (new.to_editor ≡ old.to_editor)
+TakesFirst [] old new =
+    (new.session ≡ old.session) × (new.to_server ≡ []) × (new.to_editor ≡ old.to_editor)
 TakesFirst (content ∷ rest) old new =
-    (sent : List (List ℕ)) × IsAnswered old.session content sent new.session × (new.to_server ≡ rest) × (new.to_editor ≡ old.to_editor ++ sent)
+    (sent : List (List ℕ))
+    × IsAnswered old.session content sent new.session
+    × (new.to_server ≡ rest)
+    × (new.to_editor ≡ old.to_editor ++ sent)
 
 -- only its own turn moves it
 abbrev pub MovesServer : Event → Both → Both → Type 0
@@ -66,7 +81,8 @@ MovesServer (discard k) old new = new.session ≡ old.session
 -- each content says its message: as many contents as messages
 abbrev pub AllSay : List SentAsk → List ToServer → List (List ℕ) → Type 0
 AllSay asked [] [] = ⊤
-AllSay asked (m ∷ messages) (content ∷ contents) = SaysToServer asked m content × AllSay asked messages contents
+AllSay asked (m ∷ messages) (content ∷ contents) =
+    SaysToServer asked m content × AllSay asked messages contents
 AllSay asked [] (content ∷ contents) = ⊥
 AllSay asked (m ∷ messages) [] = ⊥
 
@@ -81,7 +97,9 @@ pub record IsTied (w : Both) : Type 0 where
 -- A world that hasn't ended makes the step, and counts it; one that has ended makes none.
 abbrev pub StepsFrom : Bool → World → Event → Seen → World → Type 0
 StepsFrom false old event seen new =
-    Happens old.both.ends event seen new.both.ends × MovesServer event old.both new.both × IsTied new.both
+    Happens old.both.ends event seen new.both.ends
+    × MovesServer event old.both new.both
+    × IsTied new.both
     × (new.steps ≡ old.steps + 1) × (new.ended ≡ false)
 StepsFrom true old event seen new = ⊥
 
@@ -97,7 +115,8 @@ pub record SameHistory (old new : Ends) : Type 0 where
 -- A step whose allocation fails isn't made and not counted, and ends the world: what has come so far stays. A world that has
 -- ended says so at each step, and stays as it is.
 abbrev pub FailsFrom : Bool → World → WorldFault → World → Type 0
-FailsFrom false old Memory new = SameHistory old.both.ends new.both.ends × (new.steps ≡ old.steps) × (new.ended ≡ true)
+FailsFrom false old Memory new =
+    SameHistory old.both.ends new.both.ends × (new.steps ≡ old.steps) × (new.ended ≡ true)
 FailsFrom false old Ended new = ⊥
 FailsFrom true old Memory new = ⊥
 FailsFrom true old Ended new = new ≡ old
@@ -118,4 +137,6 @@ Plays unit events p = Headline unit (map event_of events) (all_applied p) (all_m
 
 -- The headline of the events before the one at which an allocation failed, which the fault counts; none of an empty list.
 abbrev pub PlaysBefore : Unit → List event.Event → PlayFault → Type 0
-PlaysBefore unit events fault = ((fault.steps < length events) ⊎ (fault.steps ≡ 0)) × Plays unit (take fault.steps events) fault.played
+PlaysBefore unit events fault =
+    ((fault.steps < length events) ⊎ (fault.steps ≡ 0))
+    × Plays unit (take fault.steps events) fault.played

@@ -90,7 +90,8 @@ impl<T: TextStore> Ends<T> {
     /// Makes an event happen.
     pub fn make(&mut self, event: &Event) -> Result<Seen, AllocError>
         requires { AreFew self.old.ends.editor }
-        ensures ok { IfOk result (λ seen. Happens self.old.ends (event_of event.now) (seen_of seen) self.new.ends) }
+        ensures ok { IfOk result
+            (λ seen. Happens self.old.ends (event_of event.now) (seen_of seen) self.new.ends) }
         ensures server { OnOk result (MovesServer (event_of event.now) self.old self.new) }
         ensures err { OnErr result (SameHistory self.old.ends self.new.ends) }
     {
@@ -108,7 +109,8 @@ impl<T: TextStore> Ends<T> {
 
     fn open(&mut self, uri: &str, text: &str) -> Result<Seen, AllocError>
         requires { AreFew self.old.ends.editor }
-        ensures ok { IfOk result (λ seen. Happens self.old.ends (open_document uri.now (chars text.now)) (seen_of seen) self.new.ends) }
+        ensures ok { IfOk result (λ seen. Happens self.old.ends
+            (open_document uri.now (chars text.now)) (seen_of seen) self.new.ends) }
         ensures server { OnOk result (self.new.session ≡ self.old.session) }
         ensures err { OnErr result (SameHistory self.old.ends self.new.ends) }
     {
@@ -118,7 +120,9 @@ impl<T: TextStore> Ends<T> {
 
     fn change(&mut self, uri: &str, changes: &[Change]) -> Result<Seen, AllocError>
         requires { AreFew self.old.ends.editor }
-        ensures ok { IfOk result (λ seen. Happens self.old.ends (change_document uri.now (map reported_change changes.now)) (seen_of seen) self.new.ends) }
+        ensures ok { IfOk result (λ seen. Happens self.old.ends
+            (change_document uri.now (map reported_change changes.now)) (seen_of seen)
+            self.new.ends) }
         ensures server { OnOk result (self.new.session ≡ self.old.session) }
         ensures err { OnErr result (SameHistory self.old.ends self.new.ends) }
     {
@@ -127,7 +131,8 @@ impl<T: TextStore> Ends<T> {
     }
 
     fn close(&mut self, uri: &str) -> Result<Seen, AllocError>
-        ensures ok { IfOk result (λ seen. Happens self.old.ends (close_document uri.now) (seen_of seen) self.new.ends) }
+        ensures ok { IfOk result
+            (λ seen. Happens self.old.ends (close_document uri.now) (seen_of seen) self.new.ends) }
         ensures server { OnOk result (self.new.session ≡ self.old.session) }
         ensures err { OnErr result (SameHistory self.old.ends self.new.ends) }
     {
@@ -137,7 +142,8 @@ impl<T: TextStore> Ends<T> {
 
     fn ask(&mut self, uri: &str, ask: &Ask) -> Result<Seen, AllocError>
         requires { AreFew self.old.ends.editor }
-        ensures ok { IfOk result (λ seen. Happens self.old.ends (ask_about uri.now (ask_of ask.now)) (seen_of seen) self.new.ends) }
+        ensures ok { IfOk result (λ seen. Happens self.old.ends (ask_about uri.now (ask_of ask.now))
+            (seen_of seen) self.new.ends) }
         ensures server { OnOk result (self.new.session ≡ self.old.session) }
         ensures err { OnErr result (SameHistory self.old.ends self.new.ends) }
     {
@@ -148,7 +154,8 @@ impl<T: TextStore> Ends<T> {
     /// The session takes one message, and its replies wait for the editor. What it publishes with a version is made for the
     /// text that the document has then.
     fn serve(&mut self) -> Result<Seen, AllocError>
-        ensures ok { IfOk result (λ seen. Happens self.old.ends events.serve (seen_of seen) self.new.ends) }
+        ensures ok { IfOk result
+            (λ seen. Happens self.old.ends events.serve (seen_of seen) self.new.ends) }
         ensures server { OnOk result (TakesFirst self.old.to_server self.old self.new) }
         ensures err { OnErr result (SameHistory self.old.ends self.new.ends) }
     {
@@ -171,7 +178,8 @@ impl<T: TextStore> Ends<T> {
     }
 
     fn take(&mut self) -> Result<Seen, AllocError>
-        ensures ok { IfOk result (λ seen. Happens self.old.ends take_message (seen_of seen) self.new.ends) }
+        ensures ok { IfOk result
+            (λ seen. Happens self.old.ends take_message (seen_of seen) self.new.ends) }
         ensures server { OnOk result (self.new.session ≡ self.old.session) }
         ensures err { OnErr result (SameHistory self.old.ends self.new.ends) }
     {
@@ -196,7 +204,8 @@ impl<T: TextStore> Ends<T> {
 
     fn apply(&mut self, k: u64) -> Result<Seen, AllocError>
         requires { AreFew self.old.ends.editor }
-        ensures ok { IfOk result (λ seen. Happens self.old.ends (events.apply k) (seen_of seen) self.new.ends) }
+        ensures ok { IfOk result
+            (λ seen. Happens self.old.ends (events.apply k) (seen_of seen) self.new.ends) }
         ensures server { OnOk result (self.new.session ≡ self.old.session) }
         ensures err { OnErr result (SameHistory self.old.ends self.new.ends) }
     {
@@ -242,7 +251,8 @@ fn answer<T: TextStore>(
     session: &mut Session<T>,
     content: &[u8],
 ) -> Result<Vec<Vec<u8>>, AllocError>
-    ensures ok { IfOk result (λ sent. IsAnswered session.old content.now (bytes sent.items) session.new) }
+    ensures ok { IfOk result
+        (λ sent. IsAnswered session.old content.now (bytes sent.items) session.new) }
     ensures err { OnErr result (session.new ≡ failed) }
 {
     match session.step(content) {
@@ -261,7 +271,8 @@ fn first_made<T: TextStore>(
     documents: &Documents<T>,
     sent: &[Vec<u8>],
 ) -> Result<Option<Made>, AllocError>
-    ensures { IfOk result (λ made. option_map made_of made ≡ made_sent documents.now editor.now.asked sent.now) }
+    ensures { IfOk result
+        (λ made. option_map made_of made ≡ made_sent documents.now editor.now.asked sent.now) }
 {
     if sent.is_empty() {
         return Ok(None);
@@ -275,7 +286,8 @@ fn made_of_content<T: TextStore>(
     documents: &Documents<T>,
     content: &[u8],
 ) -> Result<Option<Made>, AllocError>
-    ensures { IfOk result (λ made. option_map made_of made ≡ option_and_then (made_for documents.now) (understood editor.now.asked content.now)) }
+    ensures { IfOk result (λ made. option_map made_of made
+        ≡ option_and_then (made_for documents.now) (understood editor.now.asked content.now)) }
 {
     let Some(message) = editor.read(content)? else {
         return Ok(None);
@@ -304,7 +316,9 @@ fn made_with<T: TextStore>(
     version: i64,
     empty: bool,
 ) -> Result<Option<Made>, AllocError>
-    ensures { IfOk result (λ made. option_map made_of made ≡ option_and_then (made_of_document (string_bytes uri) version empty) (document_at documents.now (string_bytes uri))) }
+    ensures { IfOk result (λ made. option_map made_of made
+        ≡ option_and_then (made_of_document (string_bytes uri) version empty)
+        (document_at documents.now (string_bytes uri))) }
 {
     match documents.get(uri.as_str()) {
         Some(held) => match held {

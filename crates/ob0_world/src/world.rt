@@ -76,7 +76,8 @@ impl<T: TextStore> World<T> {
     /// Makes one event happen. The server is a session: its turn is one `Session::step` on the first content that waits.
     pub fn step(&mut self, event: &Event) -> Result<Seen, WorldFault>
         requires few { self.old.steps < 2 ^ 63 - 1 }
-        ensures ok { IfOk result (λ seen. WorldSteps self.old (event_of event.now) (seen_of seen) self.new) }
+        ensures ok { IfOk result
+            (λ seen. WorldSteps self.old (event_of event.now) (seen_of seen) self.new) }
         ensures holds { OnOk result (Holds self.new.both.ends) }
         ensures err { IfErr result (λ fault. WorldFails self.old fault self.new) }
     {
