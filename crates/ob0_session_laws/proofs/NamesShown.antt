@@ -1,7 +1,7 @@
 -- A question about what is at a place of a text has one answer.
-use Rattle.std.proofs.Common.{◌≡◌, ◌∙◌, ℕ, ◌+◌, ◌-◌, nat_lt, Bool, true, false, Option, Some, None, List, map, drop, if◌then◌else◌, refl, sym, ap, inl, inr}
+use Rattle.std.proofs.Common.{◌≡◌, ◌∙◌, ℕ, ◌+◌, ◌-◌, ◌++◌, nat_lt, Bool, true, false, Option, Some, None, List, map, drop, if◌then◌else◌, refl, sym, ap, inl, inr}
 use Rattle.std.specs.Prelude.{option_and_then, option_map, unwrap_or}
-use Rattle.std.specs.List.{position_from}
+use Rattle.std.specs.List.{filter, find, position_from}
 use Rattle.serde_json.specs.Data.{Data, array}
 use Rattle.serde_json.specs.View.{items_of}
 use Rattle.ob0_scan.specs.Scanned.{Scanned}
@@ -16,11 +16,12 @@ use Rattle.ob0_scope.specs.NamesAtPlaces.{name_on, refers}
 use Rattle.ob0_scope.specs.declared.naming.Named.{Named}
 use Rattle.ob0_types_rules.specs.Bindings.{declared_object}
 use Rattle.ob0_types_fields.specs.Identifiers.{declared_in, field_at, field_identifiers, field_on, first, record_tokens, tokens_among}
+use Rattle.ob0_selections.specs.FieldRows.{is_at}
 use Rattle.ob0_selections.specs.FieldTypes.{typed_fields}
 use Rattle.ob0_selections.specs.Selections.{Selected, selections}
 use Rattle.ob0_refs.specs.Declarations.{object_hover}
 use Rattle.ob0_refs.specs.Hovers.{field_text, predeclared_text, type_text}
-use Rattle.ob0_refs.specs.Questions.{Identified, hover_at_place, declared, definition_at, field_named_at, field_references, named_at, or_else, references_at, selected_on, name_or_field, identified_at, without}
+use Rattle.ob0_refs.specs.Questions.{Identified, hover_at_place, declared, definition_at, field_named_at, field_references, named_at, or_else, references_at, name_or_field, identified_at, without}
 use Rattle.ob0_refs.specs.Shown.{HoverText, name_hover_at}
 use Rattle.ob0_refs.specs.declared.answers.Of.TheVariants as tells
 use Rattle.ob0_rpc.specs.Requesting.{At}
@@ -33,7 +34,6 @@ use Rattle.ob0_session_queries.specs.declared.questions.NameQuestion.TheVariants
 use Rattle.ob0_world_rules.proofs.OneFields.{one_list_of_fields}
 use Rattle.ob0_world_rules.proofs.OneModule.{Same, same_module, one_name, standing_of}
 use Rattle.ob0_session_laws.specs.Determined.{OneTable}
-use Rattle.std.specs.List.{filter}
 
 -- what is shown of a name, by the tokens and the tree over them
 abbrev shown_in : Scanned → Tree ℕ module_text → Named → Option HoverText
@@ -42,8 +42,9 @@ shown_in s t n =
     (if nat_lt n.ordinal 7 then Some (predeclared_text (text_at s n.token))
     else option_and_then (object_hover (text_at s n.token) (map (text_at s) (drop (n.ordinal + 1 - 7) (declaring_only (identifiers role.Declaring t))))) (declared_object (named s t) n.ordinal))
 
-abbrev selected_in : Scanned → ℕ → List (Selected ℕ) → Option HoverText
-selected_in s offset found = option_map (λ x. record { span = span_at s x.name; text = field_text (text_at s x.name) (type_text x.shape) }) (selected_on s offset found)
+-- what is shown of an identifier of a field
+abbrev row_shown : Scanned → Selected ℕ → HoverText
+row_shown s x = record { span = span_at s x.name; text = field_text (text_at s x.name) (type_text x.shape) }
 
 module _ (r q : Resolution) (e : Same r.module_read q.module_read) (fields : field_identifiers r ≡ field_identifiers q) (tables : (token : ℕ) → ordinal_in r.ordinals token ≡ ordinal_in q.ordinals token) (offset : ℕ) where
   same_field : field_at r offset ≡ field_at q offset
@@ -55,9 +56,11 @@ module _ (r q : Resolution) (e : Same r.module_read q.module_read) (fields : fie
   same_shown : hover_at_place r offset ≡ hover_at_place q offset
   same_shown = λ i.
       or_else (same_name_shown i)
-      (or_else
-      (selected_in (e.source i) offset (typed_fields (record { stands_for = λ token. option_and_then (declared_object (named (e.source i) (e.tree i))) (tables token i); written = λ token. text_at (e.source i) token }) None (e.tree i)))
-      (selected_in (e.source i) offset (selections (record { stands_for = λ token. option_and_then (declared_object (named (e.source i) (e.tree i))) (tables token i); written = λ token. text_at (e.source i) token }) (e.tree i))))
+      (option_map (row_shown (e.source i))
+      (option_and_then (λ x. find (is_at x.0)
+      (typed_fields (record { stands_for = λ token. option_and_then (declared_object (named (e.source i) (e.tree i))) (tables token i); written = λ token. text_at (e.source i) token }) None (e.tree i)
+      ++ selections (record { stands_for = λ token. option_and_then (declared_object (named (e.source i) (e.tree i))) (tables token i); written = λ token. text_at (e.source i) token }) (e.tree i)))
+      (same_field i)))
 
   -- ---- where it is declared
 
