@@ -43,7 +43,7 @@ fn hover_field(
 }
 
 fn hover_of(alloc: Global, names: &Resolved<'_>, row: FieldRow<'_>) -> Result<Hover, AllocError>
-    ensures { IfOk result (λ h. hover_in h ≡ selection_hover names.now (row_in row)) }
+    ensures { IfOk result (λ h. hover_in h ≡ selection_hover names.now (row_in row.entry)) }
 {
     let tokens = names.tokens();
     let text = field_line(

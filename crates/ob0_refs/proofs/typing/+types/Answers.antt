@@ -13,8 +13,8 @@ of_array-returns t c =
 
 pub type_text-returns-in-Record : goal.type_text-returns-in-Record
 type_text-returns-in-Record t c =
-    IfOk-weaker c.record_text.result _ _ (λ text h. h c.in-Record.record.now.ordinal (fields_shape (shapes_of c.args.known.now) c.in-Record.record.now.fields) (search (rules, fields_counted (shapes_of c.args.known.now) c.in-Record.record.now.fields)) ∙ ap type_text c.in-Record.ensures) c.record_text.ensures
+    IfOk-weaker c.record_text.result _ _ (λ text h. h c.in-Record.record.now.ordinal (fields_shape (shapes_of c.args.known.now) c.in-Record.record.now.fields) (search (rules, fields_counted (shapes_of c.args.known.now) c.in-Record.record.now.fields)) ∙ ap type_text c.in-Record.ensures.shape) c.record_text.ensures
 
 pub type_text-returns-in-Faulty : goal.type_text-returns-in-Faulty
 type_text-returns-in-Faulty t c =
-    IfOk-weaker c.record_text-in-Faulty.result _ _ (λ text h. h 0 no_field_shape (search rules) ∙ ap type_text c.in-Faulty.ensures) c.record_text-in-Faulty.ensures
+    IfOk-weaker c.record_text-in-Faulty.result _ _ (λ text h. h 0 no_field_shape (search rules) ∙ ap type_text c.in-Faulty.ensures.shape) c.record_text-in-Faulty.ensures
