@@ -1,7 +1,7 @@
 //! Checking a module, and what is known of a well-typed one.
 
 ghost use Rattle.ob0_scope_rules.specs.Resolution.{is_of_declarations};
-ghost use Rattle.ob0_types.specs.CheckedModules.{AreCheckedFaults, AreTypesOf, IsChecked, checked_by};
+ghost use Rattle.ob0_types.specs.CheckedModules.{AreTypesOf, IsChecked, checked_by};
 ghost use Rattle.ob0_types.specs.FaultOrder.{AreFirstOf};
 ghost use Rattle.ob0_types.specs.RowsOfFields.{AreRowsBeside};
 ghost use Rattle.ob0_types.specs.FoundFaults.{faults_found, types_found};
@@ -127,20 +127,6 @@ pub fn types_of<'t>(alloc: Global, resolved: &'t Resolved<'t>) -> Result<ModuleT
         rows,
         faults,
     })
-}
-
-/// The faults of a module alone: those that `check` finds.
-pub fn faults_in<'t>(alloc: Global, resolved: &'t Resolved<'t>) -> Result<Vec<Fault>, AllocError>
-    ensures { IfOk result (λ faults. AreCheckedFaults resolved.now faults.items) }
-{
-    fits_by_ordinal();
-    modules_fit();
-    no_fault_in_modules();
-    // For the proof: what the contract of this call says.
-    let _module = resolved.module();
-    let known = decide(alloc, resolved)?;
-    let found = faults_of(alloc, resolved, known.is_some())?;
-    Ok(found)
 }
 
 /// The fields of a module that fits.
