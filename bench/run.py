@@ -1,7 +1,9 @@
 #!/usr/bin/env python3
 """Times bin/ob0 and prints what it finds; nothing fails by time.
 
-  bench/run.py [WORD..]   the measurements whose names hold one of the words; with no word all of them"""
+  bench/run.py [WORD..]   the measurements whose names hold one of the words; with no word all of them
+
+The variable BESIDE may name another program with the same commands: runs are then timed in it too."""
 import ctypes
 import os
 import re
@@ -518,21 +520,25 @@ def lacks(command):
 def ran():
     import programs
 
+    beside = os.environ.get("BESIDE")
     missing = {command: lacks(command) for command in ("lua5.4", "python3")}
     for name, (text, lua, python) in programs.PROGRAMS.items():
         found = on_file(["run"], text)
         said(f"{name}: ob0", f"{found.processor:.3f} s  {megabytes(found.memory)}  status {found.status}")
-        for command, other in (("lua5.4", lua), ("python3", python)):
-            if missing[command]:
+        for words, other in ([beside, "run"], text), (["lua5.4"], lua), (["python3"], python):
+            if words[0] is None:
+                continue
+            command = os.path.basename(words[0])
+            if missing.get(command):
                 said(f"{name}: {command}", f"skipped: {missing[command]}")
                 continue
             with tempfile.TemporaryDirectory() as room:
                 file = os.path.join(room, "program")
                 with open(file, "w", encoding="utf-8") as it:
                     it.write(other)
-                beside = best(3, lambda: Timed([command, file], b""))
-            agrees = "the same output" if beside.out.split() == found.out.split() else "ANOTHER OUTPUT"
-            said(f"{name}: {command}", f"{beside.processor:.3f} s  ob0 takes {found.processor / beside.processor:.1f} times that; {agrees}")
+                its = best(3, lambda: Timed([*words, file], b""))
+            agrees = "the same output" if its.out.split() == found.out.split() else "ANOTHER OUTPUT"
+            said(f"{name}: {command}", f"{its.processor:.3f} s  ob0 takes {found.processor / its.processor:.2f} times that; {agrees}")
 
 
 def output_of(text, wanted):

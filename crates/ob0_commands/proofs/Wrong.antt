@@ -3,6 +3,8 @@ use Rattle.std.proofs.Common.{◌≡◌, ◌∙◌, ℕ, List, [], ◌∷◌, Op
 use Rattle.std.proofs.lemmas.Str.{encodes-chars}
 use Rattle.std.specs.Io.KnownBytes.{Appends}
 use Rattle.std.specs.Str.{chars, IsUtf8}
+use Rattle.ob0_scope_rules.specs.Resolution.{Resolution}
+use Rattle.ob0_analysis.specs.Analysed.{Finds}
 use Rattle.ob0_analysis.specs.Diagnosed.{IsWellTypedModule, Reports, ReportsFaults, complaint_in}
 use Rattle.ob0_rename.specs.InTexts.{FindsNewName}
 use Rattle.ob0_analysis.specs.declared.analysis.Finding.{Finding}
@@ -50,3 +52,10 @@ pub ill_typed : (unit : Unit) (content text : List ℕ) (place : Position) (new 
     → Appends before after (complaint_lines text (map complaint_in shown)) → PrintsFaults text before after
 ill_typed unit content text place new found told shown before after holds u is ill h printed =
     of_text content text told.items shown before after holds u is (subst (λ (a : Finding (Result (Vec Edit Global) EditRefusal)). FindsNewName unit content place new a) ill h) printed
+
+-- what is reported in place of an answer
+pub of_finding : {A : Type 0} (text : List ℕ) (answers : Resolution → A → Type 0) (found : Finding A) (told : Vec Diagnosis Global) (shown : List Diagnosis) (before after : Option (List ℕ)) → shown ≡ told.items → found ≡ IllTyped told → Finds text answers found
+    → Appends before after (complaint_lines text (map complaint_in shown)) → PrintsFaults text before after
+of_finding {A = A} text answers found told shown before after is ill h printed =
+    let here : ¬ IsWellTypedModule text × ReportsFaults text (map complaint_in told.items) = subst (λ (a : Finding A). Finds text answers a) ill h in
+    inr (map complaint_in told.items, here.0, here.1, subst (λ (ds : List Diagnosis). Appends before after (complaint_lines text (map complaint_in ds))) is printed)

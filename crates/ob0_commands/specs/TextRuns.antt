@@ -8,6 +8,8 @@ use Rattle.ob0_types_rules.specs.WellTyped.{WellTyped}
 use Rattle.ob0_run_rules.specs.Runs.{Run, run}
 use Rattle.ob0_analysis.specs.Diagnosed.{IsTextOf}
 use Rattle.ob0_run.specs.Outcomes.{end_in}
+use Rattle.ob0_run.specs.Programs as lowered
+use Rattle.ob0_run_lowering.specs.declared.programs.Program.{Program}
 use Rattle.ob0_run.specs.declared.running.End.TheVariants as end
 use Rattle.ob0_commands.specs.Numbers.{WritesNumbers}
 use Rattle.ob0_commands.specs.Printed.{PrintsFaults, output_text}
@@ -18,6 +20,13 @@ pub record RunsAs (text : List ℕ) (input : List ℤ) (c t : ℕ) (r : Run) : T
   pub text_of : IsTextOf tree text
   pub well_typed : WellTyped tree
   pub is : r ≡ run tree input c t
+
+-- the text is a well-typed module, and this program runs as it does
+pub record IsLoweredTo (text : List ℕ) (program : Program) : Type 0 where
+  pub tree : Tree Name module_text
+  pub text_of : IsTextOf tree text
+  pub well_typed : WellTyped tree
+  pub runs : lowered.RunsAs tree program
 
 -- known bytes grow by what a run of the file's module outputs, given the numbers that the known bytes of an input write
 pub record PrintsRun (file : List ℕ) (given : Option (List ℕ)) (c t : ℕ) (before after : Option (List ℕ)) (r : Run) : Type 0 where

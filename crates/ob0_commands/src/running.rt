@@ -1,40 +1,36 @@
 //! Running a file's module: its input, and what a run outputs.
 
-ghost use Rattle.std.specs.Prelude.{◌≡◌, ◌≤◌, ◌++◌, [], true, IfOk, IfErr, OnOk, option_map, string_bytes};
+ghost use Rattle.std.specs.Prelude.{◌≡◌, ◌≤◌, ◌++◌, true, IfOk, IfErr, IfNone, MatchOption, OnOk, option_map, string_bytes};
 ghost use Rattle.std.specs.Io.KnownBytes.{Appends};
 ghost use Rattle.ob0_tree.specs.Parsed.{named_tree_of};
 ghost use Rattle.ob0_run.specs.Outcomes.{run_of};
-ghost use Rattle.ob0_run_rules.specs.Runs.{run};
-ghost use Rattle.ob0_analysis.specs.Diagnosed.{Reports};
+ghost use Rattle.ob0_run.specs.Programs as lowered;
 ghost use Rattle.ob0_run.specs.States.{item_of, items_out};
-ghost use Rattle.ob0_commands.specs.Printed.{end_line, output_text, written_text};
+ghost use Rattle.ob0_commands.specs.Printed.{PrintsFaults, end_line, output_text, written_text};
 ghost use Rattle.ob0_commands.specs.Statuses.{StopsPrinting, status_at};
-ghost use Rattle.ob0_commands.specs.TextRuns.{PrintsDone, PrintsOther, RunsAs};
+ghost use Rattle.ob0_commands.specs.TextRuns.{IsLoweredTo, PrintsDone, PrintsOther, RunsAs};
 
-use crate::checking::check;
+use crate::checking::{print_diagnoses, text_of};
 use crate::faults::{FileFault, print_fault};
 use crate::numbers::read_numbers;
 use crate::printing::{Output, print};
+use itoa::Buffer;
 use ob0_analysis::{Finding, Question, WellTyped, ask};
-use ob0_run::{End, Item, Outcome, run};
+use ob0_run::{End, Item, Outcome, Program, execute, lower};
 use std::alloc::{AllocError, Global};
 use std::io::Read;
 
-/// The run of a text's module.
+/// The program that a text's module is lowered to.
 #[derive(Drop)]
-struct RunOf<'i> {
-    input: &'i [i32],
-    calls: u32,
-    turns: u32,
-}
+struct Lowering {}
 
-impl<'i> Question for RunOf<'i> {
-    type Answer = Outcome;
+impl Question for Lowering {
+    type Answer = Program;
 
-    ghost answers = { λ q names outcome. run_of outcome ≡ run (named_tree_of names.module_read) q.input.now q.calls q.turns };
+    ghost answers = { λ _ names program. lowered.RunsAs (named_tree_of names.module_read) program };
 
-    fn answer(&self, alloc: Global, module: &WellTyped<'_, '_>) -> Result<Outcome, AllocError> {
-        run(alloc, module, self.input, self.calls, self.turns)
+    fn answer(&self, alloc: Global, module: &WellTyped<'_, '_>) -> Result<Program, AllocError> {
+        lower(alloc, module)
     }
 }
 
@@ -75,34 +71,48 @@ fn run_file<R: Read, O: Output, E: Output>(
     ensures other { IfOk result (λ status. status ≡ 1 → PrintsOther file.now (R.remaining input.old) calls turns (O.contents out.old) (O.contents out.new)) }
     ensures flushed { OnOk result (O.is_flushed out.new ≡ true) }
 {
-    let Some(text) = check(alloc, file, out)? else {
+    let Some(text) = text_of(file, out)? else {
+        return Ok(1);
+    };
+    let Some(program) = lower_text(alloc, text, out)? else {
         return Ok(1);
     };
     let numbers = read_numbers(alloc, input)?;
-    let outcome = run_module(alloc, text, numbers.as_slice(), calls, turns)?;
+    let outcome = execute_module(alloc, text, &program, numbers.as_slice(), calls, turns)?;
     print_outcome(alloc, outcome.output.as_slice(), outcome.end, out, err)
 }
 
-/// The run of the module that a text is, of which nothing is reported.
-fn run_module(
+/// The program that a text is lowered to; else what is wrong with the text is printed.
+fn lower_text<O: Output>(
     alloc: Global,
     text: &str,
+    out: &mut O,
+) -> Result<Option<Program>, FileFault>
+    ensures found { IfOk result (λ found. MatchOption found (PrintsFaults text.now (O.contents out.old) (O.contents out.new)) (λ program. IsLoweredTo text.now program × (out.new ≡ out.old))) }
+    ensures flushed { IfOk result (λ found. IfNone found (O.is_flushed out.new ≡ true)) }
+{
+    match ask(alloc, text, None, &Lowering {})? {
+        Finding::Answered(program) => Ok(Some(program)),
+        Finding::IllTyped(told) => {
+            print_diagnoses(alloc, text, told.as_slice(), out)?;
+            Ok(None)
+        }
+    }
+}
+
+/// The run of the module that a text is, by the program that it is lowered to. The text is for the contract alone.
+fn execute_module(
+    alloc: Global,
+    text: &str,
+    program: &Program,
     input: &[i32],
     calls: u32,
     turns: u32,
 ) -> Result<Outcome, AllocError>
-    requires { Reports text.now [] }
+    requires { IsLoweredTo text.now program.now }
     ensures { IfOk result (λ outcome. RunsAs text.now input.now calls turns (run_of outcome)) }
 {
-    let question = RunOf {
-        input,
-        calls,
-        turns,
-    };
-    match ask(alloc, text, None, &question)? {
-        Finding::Answered(outcome) => Ok(outcome),
-        Finding::IllTyped(_) => unreachable!(),
-    }
+    execute(alloc, program, input, calls, turns)
 }
 
 /// The line, with its ending, that names an end other than `Done`.
@@ -134,7 +144,7 @@ pub fn print_outcome<O: Output, E: Output>(
     ensures status { IfOk result (λ status. status ≡ status_at end) }
     ensures fault { IfErr result StopsPrinting }
 {
-    print(out, text_of(alloc, output)?.as_str())?;
+    print(out, output_of(alloc, output)?.as_str())?;
     match line_of(end) {
         Some(line) => {
             let _ = print(err, line);
@@ -145,23 +155,24 @@ pub fn print_outcome<O: Output, E: Output>(
 }
 
 /// A number is a space and its digits, a line a line ending.
-fn text_of(alloc: Global, output: &[Item]) -> Result<String, AllocError>
+fn output_of(alloc: Global, output: &[Item]) -> Result<String, AllocError>
     ensures { IfOk result (λ text. string_bytes text ≡ output_text (items_out output.now)) }
 {
     let mut text = String::new(alloc);
+    let mut digits = Buffer::new();
     for item in output {
-        push_item(alloc, &mut text, *item)?;
+        push_item(&mut text, &mut digits, *item)?;
     }
     Ok(text)
 }
 
-fn push_item(alloc: Global, text: &mut String, item: Item) -> Result<(), AllocError>
+fn push_item(text: &mut String, digits: &mut Buffer, item: Item) -> Result<(), AllocError>
     ensures { OnOk result (string_bytes text.new ≡ string_bytes text.old ++ written_text (item_of item)) }
 {
     match item {
         Item::Number(number) => {
-            let digits = format!(in alloc; " {number}")?;
-            text.push_str(digits.as_str())
+            text.push_str(" ")?;
+            text.push_str(digits.format(number))
         }
         Item::Line => text.push_str("\n"),
     }

@@ -8,7 +8,7 @@ ghost use Rattle.ob0_run_machine.specs.View.{number_of, operation_of, place_of, 
 ghost use Rattle.ob0_run_lowering.specs.LoweredBodies.{StatementLowers};
 
 use crate::{Lowered, Scene};
-use ob0_run_machine::code::{Number, Operation, Place, Statement, Variable};
+use ob0_run_machine::code::{First, Number, Operation, Place, Statement, Variable};
 use ob0_tree::Assignment;
 use std::alloc::{AllocError, Global};
 
@@ -44,12 +44,12 @@ fn store_operation(
 {
     let Operation { first, link } = operation;
     match first {
-        Number::Variable(left) => {
+        First::Variable(left) => {
             if left == variable {
                 return Ok(Statement::Update(variable, link));
             }
             let operation = Operation {
-                first: Number::Variable(left),
+                first: First::Variable(left),
                 link,
             };
             let n = Number::Operation(Box::new(alloc, operation)?);

@@ -17,8 +17,8 @@ mod statements;
 mod types;
 mod visible_sites;
 
-pub use lowered::{Lowered, TypedPlace};
+pub(crate) use lowered::{Lowered, TypedPlace};
 pub use programs::{Program, lower};
-pub use scene::{Scene, Site};
-pub use statements::body;
-pub use types::Types;
+pub(crate) use scene::{Scene, Site};
+pub(crate) use statements::body;
+pub(crate) use types::Types;

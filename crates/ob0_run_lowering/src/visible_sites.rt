@@ -140,7 +140,7 @@ impl VisibleSites {
 
     /// Goes back to what was in scope when so much was hidden.
     pub(crate) fn back_to(&mut self, mark: usize)
-        ensures { (w : Sight) → Follows w self.old → mark ≡ length w.hidden.items → IsRestored w self.old self.new }
+        ensures { (w : VisibleSites) → Follows w self.old → mark ≡ length w.hidden.items → IsRestored w self.old self.new }
     {
         while self.hidden.len() > mark {
             match self.hidden.pop() {

@@ -5,11 +5,11 @@ use Rattle.ob0_run_machine.specs.declared.code.Link.{Link}
 use Rattle.ob0_run_machine.specs.declared.code.Link as link
 use Rattle.ob0_run_machine.specs.declared.code.Chain.{out-Chain}
 use Rattle.ob0_run_machine.specs.declared.code.Number.{Chain, Row_of-Link, end_of-Link, more_of-Link, items-the_row-Link, items_hidden-the_row-Link-0}
-use Rattle.ob0_run_machine.specs.declared.code.Link.TheBlock.{hidden-the_row-Link-0}
+use Rattle.ob0_run_machine.specs.declared.code.First.TheBlock.{hidden-the_row-Link-0}
 use Rattle.ob0_run_machine.specs.Evaluation.{Levels, Outcome, ends, gives, number, ◌>>=◌}
 use Rattle.ob0_run_machine.specs.Lowered as lowered
 use Rattle.ob0_run_machine.specs.Answers.{linked}
-use Rattle.ob0_run_machine.specs.View.{applied, chained_by, chained_from, chained_in, number_of}
+use Rattle.ob0_run_machine.specs.View.{applied, chained_by, chained_from, chained_in, first_of, number_of}
 
 pub bind_gives : {A : Type 0} (o : Outcome A) → (o >>= (λ a. gives a)) ≡ o
 bind_gives (gives a) = refl
@@ -84,5 +84,5 @@ chained_listed _ end_of-Link left = refl
 chained_listed _ (more_of-Link l row) left = chained_listed _ row (applied l left)
 
 pub chain_made : (c : _) → number_of (Chain c) ≡ chained_in c.value
-chain_made c = chained_listed _ (hidden-the_row-Link-0 (out-Chain c.value).rest) (number_of (out-Chain c.value).first)
-    ∙ ap (chained_from (number_of (out-Chain c.value).first)) (items_hidden-the_row-Link-0 (out-Chain c.value).rest)
+chain_made c = chained_listed _ (hidden-the_row-Link-0 (out-Chain c.value).rest) (first_of (out-Chain c.value).first)
+    ∙ ap (chained_from (first_of (out-Chain c.value).first)) (items_hidden-the_row-Link-0 (out-Chain c.value).rest)

@@ -15,6 +15,8 @@ use Rattle.ob0_run_machine.specs.declared.ending.Ending.TheVariants as ending
 use Rattle.ob0_run_machine.specs.declared.ending.Stop.{Stop}
 use Rattle.ob0_run_machine.specs.declared.ending.Stop.TheVariants as stop
 use Rattle.ob0_run_machine.specs.declared.machine.Machine.{Machine}
+use Rattle.ob0_run_machine.specs.declared.memory.Memory.{Memory}
+use Rattle.ob0_run_machine.specs.Allocations.{has_failed}
 use Rattle.ob0_run_machine.specs.Answers.{end_of}
 use Rattle.ob0_run_machine.specs.Evaluation.{Levels, Outcome, TurnBound, ends, gives, truth}
 use Rattle.ob0_run_machine.specs.Execution.{Calls, Progress, State, choose, entered, execute, execute_all, execute_branches, continue_with, pass_all, running, stopped, turns, turns_until, use_in}
@@ -24,7 +26,7 @@ use Rattle.ob0_run_machine.specs.View.{all_branches, argument_of, branches_in, c
 
 failed_then : (e : Stop) (m : Machine) (p : Progress) (k : State → Progress) → MachineSteps (Err e) m p → MachineSteps (Err e) m (continue_with p k)
 failed_then (stop.Ended x) m p k h = ap (λ p. continue_with p k) h
-failed_then stop.Memory m p k h = tt
+failed_then stop.Memory m p k h = h
 
 -- the exit of a `?`
 pub leaving : {post : Post} {r : Result (Unit {0}) Stop} {e : Stop} {m m' : Machine} {f : Doing} → (y : Stop) × (r ≡ Err y) × (y ≡ e) → MachineDoes post (Err e) m m' f → MachineDoes post r m m' f
@@ -283,17 +285,17 @@ pub call-goes : (t : ℕ) (ls : Levels) (c : call.Call) (enters : Calls) (s : St
 unfolding execute
 call-goes t ls c enters s = refl
 
-pub call_fails : {post : Post} {m m' : Machine} (cells : List ℤ) (addresses : List ℕ) (e : Stop) (t : ℕ) (ls : Levels) (c : call.Call) (xs : List Argument) (none : List ℕ)
-    → none ≡ [] → xs ≡ c.arguments.items → Passes (Err e) cells addresses (pass_all ls (map argument_of xs) (passed_in m.cells.items none)) → m'.output ≡ m.output
+pub call_fails : {post : Post} {m m' : Machine} (memory : Memory) (cells : List ℤ) (addresses : List ℕ) (e : Stop) (t : ℕ) (ls : Levels) (c : call.Call) (xs : List Argument) (none : List ℕ)
+    → none ≡ [] → xs ≡ c.arguments.items → Passes (Err e) memory cells addresses (pass_all ls (map argument_of xs) (passed_in m.cells.items none)) → m'.output ≡ m.output → m'.memory ≡ memory
     → MachineDoes post (Err e) m m' (executed t ls (call_of c))
-call_fails {m = m} cells addresses (stop.Ended x) t ls c xs none empty same h out = record {
+call_fails {m = m} memory cells addresses (stop.Ended x) t ls c xs none empty same h out kept = record {
   as_defined = λ enters p.
       call-goes t ls c enters (state_of m)
       ∙ ap (λ o. use_in (state_of m) o (λ p. enters c.procedure (entered ls (length m.cells.items) c.up p) record (state_of m) { cells = p.cells }))
       (ap (λ xs. pass_all ls (map argument_of xs) (passed_in m.cells.items [])) (sym same) ∙ ap (λ none. pass_all ls (map argument_of xs) (passed_in m.cells.items none)) (sym empty) ∙ h)
       ∙ ap (λ o. stopped (end_of x) (items_out o.items)) (sym out);
 }
-call_fails cells addresses stop.Memory t ls c xs none empty same h out = record { as_defined = λ enters p. tt }
+call_fails memory cells addresses stop.Memory t ls c xs none empty same h out kept = record { as_defined = λ enters p. ap has_failed kept ∙ h }
 
 pub call_enters : {post : Post} {m m' : Machine} {r : Result (Unit {0}) Stop} (cells : List ℤ) (addresses : List ℕ) (t : ℕ) (ls inner : Levels) (c : call.Call) (xs : List Argument) (none : List ℕ)
     → none ≡ [] → xs ≡ c.arguments.items → pass_all ls (map argument_of xs) (passed_in m.cells.items none) ≡ gives (passed_in cells addresses)

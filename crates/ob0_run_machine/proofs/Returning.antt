@@ -13,8 +13,6 @@ use Rattle.ob0_run_machine.specs.Lowered.{Procedure}
 use Rattle.ob0_run_machine.specs.Machines.{MachineDoes, Enters, Performs, Post, MachineSteps, activated, executed_all, items_out, state_of}
 use Rattle.ob0_run_machine.specs.declared.machine.Item.{Item}
 use Rattle.ob0_run_machine.specs.Lowered as lowered
-use Rattle.ob0_run_machine.specs.Answers.{end_of}
-use Rattle.ob0_run_machine.specs.declared.ending.Ending.{Ending}
 use Rattle.ob0_run_machine.specs.View.{program_of, sequence_of}
 use Rattle.ob0_run_machine.specs.declared.code.Statement.{Statement}
 use Rattle.ob0_run_machine.specs.Outcomes.{IsEndOf, block_run, end_in}
@@ -45,7 +43,7 @@ module _ (m m₂ : Machine) (program : Program) (c t k : ℕ) (l : level.Level) 
 
   pub call_fails : (e : Stop) → MachineDoes post (Err e) m m₂ (activated o t (levels_of l)) → Enters (Err e) m m₂ program c t k l
   call_fails (stop.Ended x) d = goes ∙ ap (drop_variables (innermost (levels_of l)).base) (d.as_defined _ performs)
-  call_fails stop.Memory d = tt
+  call_fails stop.Memory d = d.as_defined (call (program_of program).procedures (c - 1) t) performs
 
   pub call_returns : (m₃ : Machine) (u v : Unit {0}) → MachineDoes post (Ok u) m m₂ (activated o t (levels_of l)) → state_of m₃ ≡ record (state_of m₂) { cells = take (innermost (levels_of l)).base m₂.cells.items } → Enters (Ok v) m m₃ program c t k l
   call_returns m₃ u v d cut = goes ∙ ap (drop_variables (innermost (levels_of l)).base) (d.as_defined _ performs) ∙ ap running (sym cut)

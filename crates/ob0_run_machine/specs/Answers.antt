@@ -1,10 +1,8 @@
 -- What the machine's steps answer.
 -- Rule: none; for contracts of the machine's steps.
-use Rattle.std.specs.Prelude.{◌≡◌, ℤ, List, Option, Some, None, Ok, Err, Result}
+use Rattle.std.specs.Prelude.{ℤ, List, Option, Some, None, Ok, Err, Result}
 use Rattle.ob0_run_machine.specs.declared.ending.Ending.{Ending}
 use Rattle.ob0_run_machine.specs.declared.ending.Ending.TheVariants as ending
-use Rattle.ob0_run_machine.specs.declared.ending.Stop.{Stop}
-use Rattle.ob0_run_machine.specs.declared.ending.Stop.TheVariants as stop
 use Rattle.ob0_run_machine.specs.Evaluation as evaluation
 use Rattle.ob0_run_machine.specs.Evaluation.{End, Levels, Outcome, ends, gives, number, operate, ◌>>=◌}
 use Rattle.ob0_run_machine.specs.declared.code.Link.{Link}

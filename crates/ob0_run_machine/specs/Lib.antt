@@ -6,3 +6,4 @@ pub mod Levels
 pub mod Answers
 pub mod Machines
 pub mod Outcomes
+pub mod Allocations

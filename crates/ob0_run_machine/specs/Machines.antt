@@ -1,6 +1,6 @@
 -- What the machine means, and what a step of it says of the run.
 -- Rule: none; for contracts of the machine.
-use Rattle.std.specs.Prelude.{◌≡◌, ℕ, ℤ, List, map, Ok, Err, Option, Result}
+use Rattle.std.specs.Prelude.{◌≡◌, ℕ, ℤ, List, map, Ok, Err, Option, Result, true}
 use denote.MutBor.{MutBor}
 use denote.Ref.{Bor}
 use Rattle.ob0_run_machine.specs.declared.ending.Ending.{Ending}
@@ -10,6 +10,8 @@ use Rattle.ob0_run_machine.specs.declared.level.Level as level
 use Rattle.ob0_run_machine.specs.declared.machine.Item.{Item}
 use Rattle.ob0_run_machine.specs.declared.machine.Item.TheVariants as item
 use Rattle.ob0_run_machine.specs.declared.machine.Machine.{Machine}
+use Rattle.ob0_run_machine.specs.declared.memory.Memory.{Memory}
+use Rattle.ob0_run_machine.specs.Allocations.{has_failed}
 use Rattle.ob0_run_machine.specs.Answers.{end_of}
 use Rattle.ob0_run_machine.specs.Evaluation.{Levels, Outcome, ends, gives}
 use Rattle.ob0_run_machine.specs.Execution.{Calls, Passed, Progress, State, Written, activate, call, entered, execute, execute_all, line_out, number_out, running, stopped}
@@ -36,11 +38,11 @@ abbrev pub moved : Result (Unit {0}) Ending → Machine → Progress
 moved (Ok done) m = running (state_of m)
 moved (Err e) m = stopped (end_of e) (items_out m.output.items)
 
--- the same of any step, but where an allocation failed
+-- the same of any step; it is out of memory only where an allocation has failed
 abbrev pub MachineSteps : Result (Unit {0}) Stop → Machine → Progress → Type 0
 MachineSteps (Ok done) m p = p ≡ running (state_of m)
 MachineSteps (Err (stop.Ended e)) m p = p ≡ stopped (end_of e) (items_out m.output.items)
-MachineSteps (Err stop.Memory) m p = Unit {0}
+MachineSteps (Err stop.Memory) m p = has_failed m.memory ≡ true
 
 -- what a closure that performs calls does: the machine before it, the procedure, the activation, its answer and the machine after it
 abbrev pub Post : Type 1
@@ -76,11 +78,11 @@ passed_in cells addresses = record { cells = cells; addresses = addresses }
 abbrev pub entering : ℕ → ℕ → Levels → ℕ → List ℕ → Doing
 entering k up ls base addresses enters s = enters k (entered ls base up (passed_in s.cells addresses)) s
 
--- an argument is passed, or it ends the run, but where an allocation failed
-abbrev pub Passes : Result (Unit {0}) Stop → List ℤ → List ℕ → Outcome Passed → Type 0
-Passes (Ok done) cells addresses o = o ≡ gives (passed_in cells addresses)
-Passes (Err (stop.Ended e)) cells addresses o = o ≡ ends (end_of e)
-Passes (Err stop.Memory) cells addresses o = Unit {0}
+-- an argument is passed, or it ends the run; it is out of memory only where an allocation has failed
+abbrev pub Passes : Result (Unit {0}) Stop → Memory → List ℤ → List ℕ → Outcome Passed → Type 0
+Passes (Ok done) memory cells addresses o = o ≡ gives (passed_in cells addresses)
+Passes (Err (stop.Ended e)) memory cells addresses o = o ≡ ends (end_of e)
+Passes (Err stop.Memory) memory cells addresses o = has_failed memory ≡ true
 
 -- the body of a procedure runs, if there is one
 abbrev pub activated : Option Procedure → ℕ → Levels → Doing

@@ -5,6 +5,8 @@ use Rattle.ob0_run_machine.specs.declared.code.Place as place
 use Rattle.ob0_run_machine.specs.declared.code.Place.{Place}
 use Rattle.ob0_run_machine.specs.declared.code.Number as number
 use Rattle.ob0_run_machine.specs.declared.code.Number.{Number}
+use Rattle.ob0_run_machine.specs.declared.code.First as first
+use Rattle.ob0_run_machine.specs.declared.code.First.{First}
 use Rattle.ob0_run_machine.specs.declared.code.Chain as chain
 use Rattle.ob0_run_machine.specs.declared.code.Variable.{Variable}
 use Rattle.ob0_run_machine.specs.declared.code.Variable.TheVariants as variable
@@ -63,8 +65,14 @@ abbrev mutual
   number_of (number.Variable v) = lowered.cell (variable_of v)
   number_of (number.Cell p) = lowered.cell (place_of p)
   number_of (number.Negative' pointer n) = lowered.negative (number_of n)
-  number_of (number.Operation' pointer first l) = applied l (number_of first)
-  number_of (number.Chain' pointer first shape row) = chained_by row (number_of first)
+  number_of (number.Operation' pointer begin l) = applied l (first_of begin)
+  number_of (number.Chain' pointer begin shape row) = chained_by row (first_of begin)
+
+  pub first_of : First → lowered.Number
+  first_of (first.Literal n) = lowered.literal n
+  first_of (first.Variable v) = lowered.cell (variable_of v)
+  first_of (first.Cell p) = lowered.cell (place_of p)
+  first_of (first.Negative' pointer n) = lowered.negative (number_of n)
 
   -- an operation on a number
   pub applied : Link → lowered.Number → lowered.Number
@@ -95,7 +103,7 @@ element_of e = lowered.element (place_of (out-Element e).array) (number_of (out-
 
 -- an operation of the code
 abbrev pub operation_of : Operation → lowered.Number
-operation_of o = applied (out-Operation o).link (number_of (out-Operation o).first)
+operation_of o = applied (out-Operation o).link (first_of (out-Operation o).first)
 
 -- a chain of operations, from this left operand on
 abbrev pub chained_from : lowered.Number → List Link → lowered.Number
@@ -104,7 +112,7 @@ chained_from left (l ∷ ls) = chained_from (applied l left) ls
 
 -- a chain of operations of the code
 abbrev pub chained_in : chain.Chain → lowered.Number
-chained_in c = chained_from (number_of (chain.out-Chain c).first) (chain.out-Chain c).rest.items
+chained_in c = chained_from (first_of (chain.out-Chain c).first) (chain.out-Chain c).rest.items
 
 -- a relation of the code
 abbrev pub relation_of : Relation → lowered.Relation

@@ -1,13 +1,15 @@
 //! Where the VAR parameters of a call lead.
 
-ghost use Rattle.std.specs.Prelude.{◌≡◌, ◌++◌, ◌∷◌, [], IfOk, OnOk};
+ghost use Rattle.std.specs.Prelude.{◌≡◌, ◌++◌, ◌∷◌, [], IfOk, OnErr, OnOk, true};
+ghost use Rattle.ob0_run_machine.specs.Allocations.{has_failed};
 ghost use Rattle.ob0_run_machine.specs.Levels.{addresses_in};
 
-use std::alloc::{AllocError, Global};
+use crate::memory::Memory;
+use std::alloc::AllocError;
 
 /// Addresses in order. One or two are here, more in a list: most calls allocate nothing for them.
 #[derive(Drop)]
-pub enum Addresses {
+pub(crate) enum Addresses {
     Empty,
     One(usize),
     Two(usize, usize),
@@ -15,20 +17,22 @@ pub enum Addresses {
 }
 
 /// Three addresses.
-fn three(alloc: Global, a: usize, b: usize, c: usize) -> Result<Addresses, AllocError>
-    ensures { IfOk result (λ r. addresses_in r ≡ a ∷ b ∷ c ∷ []) }
+fn three(memory: &mut Memory, a: usize, b: usize, c: usize) -> Result<Addresses, AllocError>
+    ensures listed { IfOk result (λ r. addresses_in r ≡ a ∷ b ∷ c ∷ []) }
+    ensures failed { OnErr result (has_failed memory.new ≡ true) }
 {
-    let mut all = Vec::new(alloc);
-    all.push(a)?;
-    all.push(b)?;
-    all.push(c)?;
+    let mut all = memory.list();
+    memory.push(&mut all, a)?;
+    memory.push(&mut all, b)?;
+    memory.push(&mut all, c)?;
     Ok(Addresses::More(all))
 }
 
 impl Addresses {
     /// Puts one more at the end.
-    pub(crate) fn push(&mut self, alloc: Global, address: usize) -> Result<(), AllocError>
-        ensures { OnOk result (addresses_in self.new ≡ addresses_in self.old ++ address ∷ []) }
+    pub(crate) fn push(&mut self, memory: &mut Memory, address: usize) -> Result<(), AllocError>
+        ensures items { OnOk result (addresses_in self.new ≡ addresses_in self.old ++ address ∷ []) }
+        ensures failed { OnErr result (has_failed memory.new ≡ true) }
     {
         match self {
             Addresses::Empty => *self = Addresses::One(address),
@@ -38,9 +42,9 @@ impl Addresses {
             }
             Addresses::Two(a, b) => {
                 let (a, b) = (*a, *b);
-                *self = three(alloc, a, b, address)?;
+                *self = three(memory, a, b, address)?;
             }
-            Addresses::More(all) => all.push(address)?,
+            Addresses::More(all) => memory.push(all, address)?,
         }
         Ok(())
     }

@@ -9,7 +9,7 @@ ghost use Rattle.ob0_run_machine.specs.View.{procedure_of, program_of};
 use crate::code::{Procedure, Program};
 use crate::ending::{Ending, Stop};
 use crate::level::Level;
-use crate::machine::{Machine, push_zeros};
+use crate::machine::Machine;
 use crate::statements::sequence;
 
 /// The procedure at an index.
@@ -37,7 +37,9 @@ fn activate<F: Fn(&mut Machine<'_>, usize, &Level<'_>) -> Result<(), Stop>>(
     match procedure {
         None => Ok(()),
         Some(procedure) => {
-            push_zeros(&mut machine.cells, procedure.cells)?;
+            machine
+                .memory
+                .push_zeros(&mut machine.cells, procedure.cells)?;
             sequence(&procedure.body, level, turns, machine, enter)
         }
     }

@@ -67,11 +67,21 @@ pub enum Number {
     Chain(Box<Chain>),
 }
 
+/// What operations in a row begin with: a number that is no operation. So no row is nested in the left operand of another.
+#[cycle(numbers)]
+#[derive(Drop)]
+pub enum First {
+    Literal(i32),
+    Variable(Variable),
+    Cell(Place),
+    Negative(Box<Number>),
+}
+
 /// A number and an operation on it.
 #[cycle(numbers)]
 #[derive(Drop)]
 pub struct Operation {
-    pub first: Number,
+    pub first: First,
     pub link: Link,
 }
 
@@ -79,7 +89,7 @@ pub struct Operation {
 #[cycle(numbers)]
 #[derive(Drop)]
 pub struct Chain {
-    pub first: Number,
+    pub first: First,
     pub rest: Vec<Link>,
 }
 

@@ -23,9 +23,9 @@ pub enum Ending {
 
 /// Why a step of a run gives nothing.
 #[derive(Clone, Copy, PartialEq, Eq, Debug)]
-pub enum Stop {
+pub(crate) enum Stop {
     Ended(Ending),
-    /// an allocation failed.
+    /// An allocation failed.
     Memory,
 }
 

@@ -7,7 +7,7 @@ use crate::ending::Ending;
 
 /// What an evaluation gives, or how it ends the run, in one tag: this is returned in registers, a `Result` through memory.
 #[derive(Clone, Copy, PartialEq, Eq, Debug)]
-pub enum Evaluated<T> {
+pub(crate) enum Evaluated<T> {
     Value(T),
     Overflow,
     Divisor,

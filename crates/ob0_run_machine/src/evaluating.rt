@@ -7,10 +7,10 @@ ghost use Rattle.ob0_run_machine.specs.Evaluation.{address, cell_at, gives, numb
 ghost use Rattle.ob0_run_machine.specs.declared.code.Truths.{out-Truths};
 ghost use Rattle.ob0_run_machine.specs.Lowered as lowered;
 ghost use Rattle.ob0_run_machine.specs.Levels.{levels_of};
-ghost use Rattle.ob0_run_machine.specs.View.{all_in, any_in, applied, chained_in, element_of, number_of, operation_of, place_of, related_by, row_of, truth_of, variable_of};
+ghost use Rattle.ob0_run_machine.specs.View.{all_in, any_in, applied, chained_in, element_of, first_of, number_of, operation_of, place_of, related_by, row_of, truth_of, variable_of};
 
 use crate::code::{
-    Chain, Element, Link, Number, Operands, Operation, Place, Relation, Row, Several, Truth,
+    Chain, Element, First, Link, Number, Operands, Operation, Place, Relation, Row, Several, Truth,
     Truths, Variable,
 };
 use crate::ending::Ending;
@@ -125,6 +125,23 @@ pub(crate) fn evaluate_number(n: &Number, level: &Level<'_>, cells: &[i32]) -> R
     }
 }
 
+/// What operations begin with.
+#[inline(always)]
+#[cycle(evaluation)]
+fn evaluate_first(n: &First, level: &Level<'_>, cells: &[i32]) -> Result<i32, Ending>
+    ensures { outcome_of_result result ≡ number (levels_of level.now) cells.now (first_of n.now) }
+{
+    match n {
+        First::Literal(n) => Ok(*n),
+        First::Variable(variable) => Ok(value_of(*variable, level, cells)),
+        First::Cell(place) => {
+            let a = locate(place, level, cells)?;
+            Ok(cell_at(cells, a))
+        }
+        First::Negative(operand) => unpacked(opposite(operand, level, cells)),
+    }
+}
+
 #[inline(never)]
 #[cycle(evaluation)]
 fn opposite(operand: &Number, level: &Level<'_>, cells: &[i32]) -> Evaluated<i32>
@@ -141,7 +158,7 @@ fn opposite(operand: &Number, level: &Level<'_>, cells: &[i32]) -> Evaluated<i32
 fn operation(o: &Operation, level: &Level<'_>, cells: &[i32]) -> Evaluated<i32>
     ensures { outcome_of result ≡ number (levels_of level.now) cells.now (operation_of o.now) }
 {
-    match evaluate_number(&o.first, level, cells) {
+    match evaluate_first(&o.first, level, cells) {
         Ok(left) => flat(apply(&o.link, left, level, cells)),
         Err(ending) => flat(Err(ending)),
     }
@@ -161,7 +178,7 @@ fn chain(c: &Chain, level: &Level<'_>, cells: &[i32]) -> Evaluated<i32>
 fn operations(c: &Chain, level: &Level<'_>, cells: &[i32]) -> Result<i32, Ending>
     ensures { outcome_of_result result ≡ number (levels_of level.now) cells.now (chained_in c.now) }
 {
-    let mut left = evaluate_number(&c.first, level, cells)?;
+    let mut left = evaluate_first(&c.first, level, cells)?;
     for link in &c.rest {
         left = apply(link, left, level, cells)?;
     }

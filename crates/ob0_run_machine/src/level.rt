@@ -6,14 +6,14 @@ ghost use Rattle.ob0_run_machine.specs.Levels.{levels_of, levels_seen};
 
 /// An activation: where its cells begin, where its VAR parameters lead, and the activation in which its procedure is declared.
 #[derive(Clone, Copy)]
-pub struct Level<'l> {
+pub(crate) struct Level<'l> {
     pub base: usize,
     pub addresses: &'l [usize],
     pub enclosing: Option<&'l Level<'l>>,
 }
 
 /// The activation so many levels out.
-pub fn outside<'l>(level: &'l Level<'l>, up: usize) -> Option<&'l Level<'l>>
+pub(crate) fn outside<'l>(level: &'l Level<'l>, up: usize) -> Option<&'l Level<'l>>
     ensures { levels_seen result ≡ drop up (levels_of level.now) }
 {
     if up == 0 {
@@ -26,7 +26,7 @@ pub fn outside<'l>(level: &'l Level<'l>, up: usize) -> Option<&'l Level<'l>>
 }
 
 /// Where the cells of the activation so many levels out begin.
-pub fn base_at(level: &Level<'_>, up: usize) -> usize
+pub(crate) fn base_at(level: &Level<'_>, up: usize) -> usize
     ensures { result ≡ (level_at (levels_of level.now) up).base }
 {
     match outside(level, up) {
@@ -36,7 +36,7 @@ pub fn base_at(level: &Level<'_>, up: usize) -> usize
 }
 
 /// Where a VAR parameter of the activation so many levels out leads.
-pub fn passed_at(level: &Level<'_>, up: usize, index: usize) -> usize
+pub(crate) fn passed_at(level: &Level<'_>, up: usize, index: usize) -> usize
     ensures { result ≡ slice_index_or (level_at (levels_of level.now) up).addresses index 0 }
 {
     match outside(level, up) {

@@ -1,18 +1,19 @@
 //! Lowered code, what it means, and the machine that runs it over one store of cells.
 #![tactic(auto)]
 
-pub mod addresses;
-pub mod calls;
+mod addresses;
+mod calls;
 pub mod code;
-pub mod ending;
+mod ending;
 mod evaluated;
-pub mod evaluating;
-pub mod level;
-pub mod machine;
-pub mod operators;
-pub mod passing;
-pub mod running;
-pub mod statements;
+mod evaluating;
+mod level;
+mod machine;
+mod memory;
+mod operators;
+mod passing;
+mod running;
+mod statements;
 
 pub use ending::Ending;
 pub use machine::Item;

@@ -1,11 +1,13 @@
 //! The machine: the cells of all variables, the rest of the input, and what was output.
 
-ghost use Rattle.std.specs.Prelude.{◌≡◌, ◌++◌, IsOk, OnOk, length, slice_set};
-ghost use Rattle.ob0_run_machine.specs.Execution.{block_at, copied, append_output, read_number, zeros};
-ghost use Rattle.ob0_run_machine.specs.Machines.{MachineSteps, item_of, moved, state_of};
+ghost use Rattle.std.specs.Prelude.{◌≡◌, OnErr, OnOk, length, slice_set, true};
+ghost use Rattle.ob0_run_machine.specs.Execution.{copied, append_output, read_number};
+ghost use Rattle.ob0_run_machine.specs.Machines.{item_of, moved, state_of};
+ghost use Rattle.ob0_run_machine.specs.Allocations.{has_failed};
 
-use crate::ending::{Ending, Stop};
-use std::alloc::{AllocError, Global};
+use crate::ending::Ending;
+use crate::memory::Memory;
+use std::alloc::AllocError;
 
 /// What a run outputs.
 #[derive(Clone, Copy, PartialEq, Eq, Debug)]
@@ -16,8 +18,8 @@ pub enum Item {
 
 /// The state of a run: its cells, the rest of the input, and what it has output.
 #[derive(Drop)]
-pub struct Machine<'i> {
-    pub alloc: Global,
+pub(crate) struct Machine<'i> {
+    pub memory: Memory,
     /// The cells of all variables, those of the module first.
     pub cells: Vec<i32>,
     /// The numbers that weren't read yet.
@@ -48,27 +50,6 @@ pub(crate) fn copy(cells: &mut Vec<i32>, to: usize, from: usize, count: usize)
     }
 }
 
-/// Puts a copy of so many cells at the end, zeros where they aren't there.
-pub(crate) fn push_block(cells: &mut Vec<i32>, from: usize, count: usize) -> Result<(), AllocError>
-    ensures { OnOk result (cells.new.items ≡ cells.old.items ++ block_at cells.old.items from count) }
-{
-    let length = cells.len();
-    if count <= length && from <= length - count {
-        return cells.extend_from_within(from..from + count);
-    }
-    push_zeros(cells, count)
-}
-
-/// Puts so many new cells at the end.
-pub(crate) fn push_zeros(cells: &mut Vec<i32>, count: usize) -> Result<(), AllocError>
-    ensures { OnOk result (cells.new.items ≡ cells.old.items ++ zeros count) }
-{
-    match cells.len().checked_add(count) {
-        None => Err(AllocError),
-        Some(length) => cells.resize(length, 0),
-    }
-}
-
 impl<'i> Machine<'i> {
     /// How many cells there are.
     pub(crate) fn size(&self) -> usize
@@ -92,9 +73,9 @@ impl<'i> Machine<'i> {
     }
 
     pub(crate) fn append_output(&mut self, item: Item) -> Result<(), AllocError>
-        ensures { OnOk result (state_of self.new ≡ append_output (state_of self.old) (item_of item)) }
+        ensures appended { OnOk result (state_of self.new ≡ append_output (state_of self.old) (item_of item)) }
+        ensures failed { OnErr result (has_failed self.new.memory ≡ true) }
     {
-        self.output.push(item)?;
-        Ok(())
+        self.memory.push(&mut self.output, item)
     }
 }

@@ -42,7 +42,7 @@ pub(crate) fn modulo(left: i32, right: i32) -> Result<i32, Ending>
     Ok(left.rem_euclid(right))
 }
 
-/// The result of an operator on two numbers; the end Overflow or Divisor where it has none.
+/// The sum; the end Overflow where it isn't of 32 bits. So are the difference, the product and the number with the other sign.
 #[inline(always)]
 pub(crate) fn add(left: i32, right: i32) -> Result<i32, Ending>
     ensures { outcome_of_result result ≡ operate sum left right }
@@ -50,7 +50,6 @@ pub(crate) fn add(left: i32, right: i32) -> Result<i32, Ending>
     in_range(left.checked_add(right))
 }
 
-/// The number with the other sign; the end Overflow for the least one.
 #[inline(always)]
 pub(crate) fn subtract(left: i32, right: i32) -> Result<i32, Ending>
     ensures { outcome_of_result result ≡ operate difference left right }

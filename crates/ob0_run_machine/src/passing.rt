@@ -11,36 +11,35 @@ use crate::code::Argument;
 use crate::ending::Stop;
 use crate::evaluating::{evaluate_number, evaluate_truth, locate};
 use crate::level::Level;
-use crate::machine::push_block;
+use crate::memory::Memory;
 use crate::operators::as_cell;
-use std::alloc::Global;
 
 /// Evaluates an argument and passes it.
 fn pass(
-    alloc: Global,
+    memory: &mut Memory,
     argument: &Argument,
     level: &Level<'_>,
     cells: &mut Vec<i32>,
     addresses: &mut Addresses,
 ) -> Result<(), Stop>
-    ensures { Passes result cells.new.items (addresses_in addresses.new) (pass (levels_of level.now) (argument_of argument.now) (passed_in cells.old.items (addresses_in addresses.old))) }
+    ensures { Passes result memory.new cells.new.items (addresses_in addresses.new) (pass (levels_of level.now) (argument_of argument.now) (passed_in cells.old.items (addresses_in addresses.old))) }
 {
     match argument {
         Argument::Place(place) => {
             let a = locate(place, level, cells.as_slice())?;
-            addresses.push(alloc, a)?;
+            addresses.push(memory, a)?;
         }
         Argument::Number(n) => {
             let a = evaluate_number(n, level, cells.as_slice())?;
-            cells.push(a)?;
+            memory.push(cells, a)?;
         }
         Argument::Truth(t) => {
             let a = evaluate_truth(t, level, cells.as_slice())?;
-            cells.push(as_cell(a))?;
+            memory.push(cells, as_cell(a))?;
         }
         Argument::Block(place, count) => {
             let a = locate(place, level, cells.as_slice())?;
-            push_block(cells, a, *count)?;
+            memory.push_block(cells, a, *count)?;
         }
     }
     Ok(())
@@ -48,16 +47,16 @@ fn pass(
 
 /// Evaluates and passes arguments, from left to right.
 pub(crate) fn pass_all(
-    alloc: Global,
+    memory: &mut Memory,
     arguments: &[Argument],
     level: &Level<'_>,
     cells: &mut Vec<i32>,
     addresses: &mut Addresses,
 ) -> Result<(), Stop>
-    ensures { Passes result cells.new.items (addresses_in addresses.new) (pass_all (levels_of level.now) (map argument_of arguments.now) (passed_in cells.old.items (addresses_in addresses.old))) }
+    ensures { Passes result memory.new cells.new.items (addresses_in addresses.new) (pass_all (levels_of level.now) (map argument_of arguments.now) (passed_in cells.old.items (addresses_in addresses.old))) }
 {
     for argument in arguments {
-        pass(alloc, argument, level, cells, addresses)?;
+        pass(memory, argument, level, cells, addresses)?;
     }
     Ok(())
 }

@@ -10,7 +10,8 @@ use crate::calls::call;
 use crate::code::Program;
 use crate::ending::{Ending, Stop};
 use crate::level::Level;
-use crate::machine::{Item, Machine, push_zeros};
+use crate::machine::{Item, Machine};
+use crate::memory::Memory;
 use crate::statements::sequence;
 use std::alloc::{AllocError, Global};
 
@@ -72,10 +73,11 @@ pub fn run(
 ) -> Result<Outcome, AllocError>
     ensures { IfOk result (λ o. run_of o ≡ run (program_of program.now) input.now calls turns) }
 {
+    let mut memory = Memory::new(alloc);
     let mut cells = Vec::new(alloc);
-    push_zeros(&mut cells, program.cells)?;
+    memory.push_zeros(&mut cells, program.cells)?;
     let mut machine = Machine {
-        alloc,
+        memory,
         cells,
         input,
         output: Vec::new(alloc),

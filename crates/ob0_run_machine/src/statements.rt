@@ -158,7 +158,7 @@ fn run_call<F: Fn(&mut Machine<'_>, usize, &Level<'_>) -> Result<(), Stop>>(
     let base = machine.size();
     let mut addresses = Addresses::Empty;
     pass_all(
-        machine.alloc,
+        &mut machine.memory,
         c.arguments.as_slice(),
         level,
         &mut machine.cells,

@@ -6,7 +6,7 @@ use Rattle.ob0_run_machine.specs.declared.code.Chain.{out-Chain}
 use Rattle.ob0_run_machine.specs.Answers.{end_of}
 use Rattle.ob0_run_machine.specs.Evaluation.{ends, number, ◌>>=◌}
 use Rattle.ob0_run_machine.specs.Levels.{levels_of}
-use Rattle.ob0_run_machine.specs.View.{chained_in, number_of}
+use Rattle.ob0_run_machine.specs.View.{chained_in, first_of, number_of}
 use Rattle.ob0_run_machine.specs.declared.code.Operation.{out-Operation}
 use Rattle.ob0_run_machine.specs.Answers.{linked}
 use Rattle.ob0_run_machine.proofs.Chains.{applied_to, chain_begins, chain_fails, chain_made}
@@ -15,11 +15,11 @@ use Rattle.ob0_run_machine.proofs.evaluating.+evaluation.Goals as goal
 
 pub operations-returns-in_err-left : goal.operations-returns-in_err-left
 operations-returns-in_err-left t c = told_exit c.from_residual.result c.in_err-left.field-0.0 _ (err_from_is_err_and c.from_residual.result c.from_residual.ensures.1)
-    (chain_fails (levels_of c.args.level.now) c.args.cells.now (number_of (out-Chain c.args.c.now).first) (out-Chain c.args.c.now).rest.items (ends (end_of c.in_err-left.field-0.0)) c.in_err-left.ensures)
+    (chain_fails (levels_of c.args.level.now) c.args.cells.now (first_of (out-Chain c.args.c.now).first) (out-Chain c.args.c.now).rest.items (ends (end_of c.in_err-left.field-0.0)) c.in_err-left.ensures)
 
 pub operations-loop-link-init : goal.operations-loop-link-init
 operations-loop-link-init t c = let a : SFits w32 c.in_ok-left.left = search rules in
-    rw (to_z-of_z a) (chain_begins (levels_of c.args.level.now) c.args.cells.now (number_of (out-Chain c.args.c.now).first) (out-Chain c.args.c.now).rest.items _ c.in_ok-left.ensures)
+    rw (to_z-of_z a) (chain_begins (levels_of c.args.level.now) c.args.cells.now (first_of (out-Chain c.args.c.now).first) (out-Chain c.args.c.now).rest.items _ c.in_ok-left.ensures)
 
 pub evaluate_number-returns-in-Chain : goal.evaluate_number-returns-in-Chain
 evaluate_number-returns-in-Chain t c = c.unpacked-in-Chain.ensures ∙ c.chain.ensures ∙ ap (number (levels_of c.args.level.now) c.args.cells.now) (ap chained_in c.deref-in-Chain.ensures ∙ sym (chain_made c.in-Chain.c) ∙ ap number_of (sym c.in-Chain.is))
@@ -29,10 +29,10 @@ operation-returns-in-Ok t c =
     let ls = levels_of c.args.level.now in
     let o = out-Operation c.args.o.now in
     let a : SFits w32 c.in-Ok.left = search rules in
-    c.flat.ensures ∙ c.apply.ensures ∙ ap (linked ls c.args.cells.now o.link) (to_z-of_z a) ∙ ap (λ z. z >>= linked ls c.args.cells.now o.link) c.in-Ok.ensures ∙ sym (applied_to ls c.args.cells.now (number_of o.first) o.link)
+    c.flat.ensures ∙ c.apply.ensures ∙ ap (linked ls c.args.cells.now o.link) (to_z-of_z a) ∙ ap (λ z. z >>= linked ls c.args.cells.now o.link) c.in-Ok.ensures ∙ sym (applied_to ls c.args.cells.now (first_of o.first) o.link)
 
 pub operation-returns-in-Err : goal.operation-returns-in-Err
 operation-returns-in-Err t c =
     let ls = levels_of c.args.level.now in
     let o = out-Operation c.args.o.now in
-    c.flat-in-Err.ensures ∙ ap (λ z. z >>= linked ls c.args.cells.now o.link) c.in-Err.ensures ∙ sym (applied_to ls c.args.cells.now (number_of o.first) o.link)
+    c.flat-in-Err.ensures ∙ ap (λ z. z >>= linked ls c.args.cells.now o.link) c.in-Err.ensures ∙ sym (applied_to ls c.args.cells.now (first_of o.first) o.link)

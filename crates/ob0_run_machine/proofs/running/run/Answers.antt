@@ -5,6 +5,6 @@ use Rattle.ob0_run_machine.proofs.running.run.Goals as goal
 
 pub returns : goal.returns
 returns c =
-    let begun = begins_with c.push_zeros.new.cells.items c.new-cells.result.items _ c.args.input.now c.new.result.items c.in_ok-push_zeros.ensures c.new-cells.ensures.items c.new.ensures.items in
+    let begun = begins_with c.push_zeros.new.cells.items c.new-cells.result.items _ c.args.input.now c.new.result.items c.in_ok-push_zeros.ensures.items c.new-cells.ensures.items c.new.ensures.items in
     ended_by c.execute.new.machine _ c.execute.result c.end_of.result c.in_ok-end.end c.in_ok-end.was c.end_of.ensures c.execute.ensures
     ∙ finishes (program_of c.args.program.now) c.args.input.now c.args.calls c.args.turns _ _ begun refl

@@ -1,7 +1,7 @@
 use Rattle.std.proofs.Common.{◌≡◌, ◌++◌, drop, string_bytes}
 use Rattle.ob0_run.specs.States.{items_out}
 use Rattle.ob0_commands.specs.Printed.{output_text}
-use Rattle.ob0_commands.proofs.running.text_of.Given as goal
+use Rattle.ob0_commands.proofs.running.output_of.Given as goal
 
 abbrev pub invariant-loop-item : goal.invariant-loop-item
 invariant-loop-item l =

@@ -1,0 +1,8 @@
+-- Whether an allocation of a run has failed.
+-- Rule: docs/LANGUAGE.md, Runs: a run ends as out of memory only where an allocation failed.
+use Rattle.std.specs.Prelude.{Bool}
+use Rattle.ob0_run_machine.specs.declared.memory.Memory.{Memory}
+
+-- whether an allocation of the run has failed
+abbrev pub has_failed : Memory → Bool
+has_failed memory = memory.has_failed

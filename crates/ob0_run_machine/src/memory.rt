@@ -1,0 +1,95 @@
+//! Memory of a run: its lists grow here alone, so that it is known whether an allocation has failed.
+
+ghost use Rattle.std.specs.Prelude.{◌≡◌, ◌++◌, ◌∷◌, [], OnErr, OnOk, false, true};
+ghost use Rattle.ob0_run_machine.specs.Execution.{block_at, zeros};
+ghost use Rattle.ob0_run_machine.specs.Allocations.{has_failed};
+
+use std::alloc::{AllocError, Global};
+
+/// The allocator, and whether an allocation has failed.
+#[derive(Clone, Copy)]
+pub(crate) struct Memory {
+    alloc: Global,
+    has_failed: bool,
+}
+
+impl Memory {
+    /// An allocator that hasn't failed.
+    pub(crate) fn new(alloc: Global) -> Memory
+        ensures { has_failed result ≡ false }
+    {
+        Memory {
+            alloc,
+            has_failed: false,
+        }
+    }
+
+    /// An empty list.
+    pub(crate) fn list<T>(&self) -> Vec<T>
+        ensures { result.items ≡ [] }
+    {
+        Vec::new(self.alloc)
+    }
+
+    /// Puts an item at the end.
+    #[inline(always)]
+    pub(crate) fn push<T: Copy>(&mut self, list: &mut Vec<T>, item: T) -> Result<(), AllocError>
+        ensures items { OnOk result (list.new.items ≡ list.old.items ++ item ∷ []) }
+        ensures failed { OnErr result (has_failed self.new ≡ true) }
+    {
+        match list.push(item) {
+            Ok(()) => Ok(()),
+            Err(_) => Err(self.fail()),
+        }
+    }
+
+    /// Puts so many new cells at the end.
+    pub(crate) fn push_zeros(
+        &mut self,
+        cells: &mut Vec<i32>,
+        count: usize,
+    ) -> Result<(), AllocError>
+        ensures items { OnOk result (cells.new.items ≡ cells.old.items ++ zeros count) }
+        ensures failed { OnErr result (has_failed self.new ≡ true) }
+    {
+        match cells.len().checked_add(count) {
+            None => Err(self.fail()),
+            Some(length) => match cells.resize(length, 0) {
+                Ok(()) => Ok(()),
+                Err(_) => Err(self.fail()),
+            },
+        }
+    }
+
+    /// Puts a copy of so many cells at the end, zeros where they aren't there.
+    pub(crate) fn push_block(
+        &mut self,
+        cells: &mut Vec<i32>,
+        from: usize,
+        count: usize,
+    ) -> Result<(), AllocError>
+        ensures items { OnOk result (cells.new.items ≡ cells.old.items ++ block_at cells.old.items from count) }
+        ensures failed { OnErr result (has_failed self.new ≡ true) }
+    {
+        let length = cells.len();
+        if count > length {
+            return self.push_zeros(cells, count);
+        }
+        if from > length - count {
+            return self.push_zeros(cells, count);
+        }
+        match cells.extend_from_within(from..from + count) {
+            Ok(()) => Ok(()),
+            Err(_) => Err(self.fail()),
+        }
+    }
+
+    /// Remembers that an allocation has failed.
+    #[cold]
+    fn fail(&mut self) -> AllocError
+        ensures { has_failed self.new ≡ true }
+    {
+        self.has_failed = true;
+        AllocError
+    }
+}
