@@ -1,3 +1,6 @@
+pub mod CellLaws
+pub mod LoweringLaws
+pub mod StatementLaws
 pub mod Splits
 pub mod Parts
 pub mod Places

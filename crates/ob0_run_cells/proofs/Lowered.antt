@@ -6,7 +6,7 @@ use Rattle.ob0_tree.specs.Tree.{end}
 use Rattle.ob0_types_rules.specs.Expressions.{evaluate}
 use Rattle.ob0_run_machine.specs.Lowered as lowered
 use Rattle.ob0_run_cells.specs.Lowering.{addends_left, multipliers_left}
-use Rattle.ob0_run_cells.specs.LoweringLaws.{AddendsLower, BlocksLower, CellsLower, ConjunctionsLower, ConstantsLower, DisjunctionsLower, ExpressionsLower, FieldsLower, IndexesLower, IntegersLower, NegationsLower, OperatorsEnd, ParenthesesLower, ProductsLower, RelationsLower, SelectorsEnd, SumsLower, TermsLower, VariablesLower}
+use Rattle.ob0_run_cells.proofs.LoweringLaws.{AddendsLower, BlocksLower, CellsLower, ConjunctionsLower, ConstantsLower, DisjunctionsLower, ExpressionsLower, FieldsLower, IndexesLower, IntegersLower, NegationsLower, OperatorsEnd, ParenthesesLower, ProductsLower, RelationsLower, SelectorsEnd, SumsLower, TermsLower, VariablesLower}
 use Rattle.ob0_run_cells.proofs.LoweredNumbers as numbers
 use Rattle.ob0_run_cells.proofs.LoweredOutcomes.{difference-operates, product-operates, quotient-operates, remainder-operates, sum-operates}
 use Rattle.ob0_run_cells.proofs.LoweredPlaces as places

@@ -7,7 +7,7 @@ use Rattle.ob0_values.specs.Values.{FieldShapes, Members, Shape, Step, Value, Va
 use Rattle.ob0_run_rules.specs.Fitting.{EachHasShape, HasShape, HaveShapes, part_shape, shape_at_path}
 use Rattle.ob0_run_rules.proofs.Sound.{below_of, of_some, some-gives}
 use Rattle.ob0_run_rules.proofs.SoundStatements.{with_path-fits}
-use Rattle.ob0_run_cells.specs.CellLaws.{PartsAreSlices, SizesAreLimited, WritingPartsWritesSlices}
+use Rattle.ob0_run_cells.proofs.CellLaws.{PartsAreSlices, SizesAreLimited, WritingPartsWritesSlices}
 use Rattle.ob0_run_cells.specs.Cells.{cells_at, cells_of, cells_with, element_cells, field_offset, field_sizes, member_cells, offset, size, step_offset}
 use Rattle.ob0_run_cells.proofs.Splits.{Lies, lies-alone, lies-behind, lies-first, lies-within, split-at, split-with}
 

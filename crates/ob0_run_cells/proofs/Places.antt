@@ -4,7 +4,7 @@ use Rattle.ob0_values.specs.Values.{Place, Shape, Step, Store, Value, at_path, b
 use Rattle.ob0_run_rules.specs.Fitting.{HasShape, PlaceFits, StoreFits, StoreTyping, part_shape, shape_at_path}
 use Rattle.ob0_run_rules.proofs.Sound.{is_number, is_truth, of_some, some-gives}
 use Rattle.ob0_run_rules.proofs.SoundStatements.{PlaceFits-grows, set-fits, slice_get-grows, with_path-fits}
-use Rattle.ob0_run_cells.specs.CellLaws.{AddressesStay, NumbersAreCells, PartsHaveAddresses, PlacesAreSlices, TruthsAreCells, TypesGiveSizes, WritingPlacesWritesSlices}
+use Rattle.ob0_run_cells.proofs.CellLaws.{AddressesStay, NumbersAreCells, PartsHaveAddresses, PlacesAreSlices, TruthsAreCells, TypesGiveSizes, WritingPlacesWritesSlices}
 use Rattle.ob0_run_cells.specs.Cells.{address, all_cells, cells_at, cells_of, cells_with, offset, size, sizes, truth_cell}
 use Rattle.ob0_run_cells.proofs.Parts.{cells-size, lies-inside, path-lies}
 use Rattle.ob0_run_cells.proofs.Splits.{Lies, lies-behind, lies-first, lies-within, split-at, split-get, split-set, split-with}

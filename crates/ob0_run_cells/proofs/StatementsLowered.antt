@@ -1,5 +1,5 @@
 -- The proofs of the laws of lowered statements.
-use Rattle.ob0_run_cells.specs.StatementLaws.{AssignmentsLower, BranchesLower, CallsLower, ElsesLower, LoopsLower, SequencesEnd, SequencesLower, StandardCallsLower}
+use Rattle.ob0_run_cells.proofs.StatementLaws.{AssignmentsLower, BranchesLower, CallsLower, ElsesLower, LoopsLower, SequencesEnd, SequencesLower, StandardCallsLower}
 use Rattle.ob0_run_cells.proofs.LoweredAssignments.{block-assigned, line-means, number-assigned, reads-mean, truth-assigned, writes-mean}
 use Rattle.ob0_run_cells.proofs.LoweredControl.{branches-mean, else-means, elsif-means, first-empty, first-means, further-empty, further-means, no-else, no-elsif, repeat-means, sequence-ends, while-means}
 use Rattle.ob0_run_cells.proofs.PassedArguments.{call-means}

@@ -1,29 +1,16 @@
--- Calls of lowered procedures do what calls of the module's do that drop their variables; runs are the same runs.
+-- Runs of lowered programs are the runs of their modules.
 -- Rule: none; laws of lowered programs.
-use Rattle.std.specs.Prelude.{◌≡◌, ℕ, suc, ◌+◌, ◌*◌, ◌<◌, ◌^◌, List, map, ℤ}
+use Rattle.std.specs.Prelude.{◌≡◌, ℕ, suc, ◌*◌, ◌<◌, ◌^◌, List, map, ℤ}
 use Rattle.ob0_tree.specs.Tree.{Tree, module_text}
-use Rattle.ob0_scope_rules.specs.Names.{Label, Name, as_labels}
+use Rattle.ob0_scope_rules.specs.Names.{Name, as_labels}
 use Rattle.ob0_scope_rules.specs.Scopes.{numbered}
-use Rattle.ob0_types_rules.specs.Environments.{meanings}
-use Rattle.ob0_types_rules.specs.WellTyped.{TypeEnvironment, WellTyped}
-use Rattle.ob0_run_rules.specs.Fitting.{EnvironmentsFit, StoreTyping}
-use Rattle.ob0_run_rules.specs.GivenUp.{call_giving_up}
-use Rattle.ob0_run_rules.specs.Runs.{Activation, Run, run, statement_meanings}
-use Rattle.ob0_run_machine.specs.Evaluation.{Levels}
+use Rattle.ob0_types_rules.specs.WellTyped.{WellTyped}
+use Rattle.ob0_run_rules.specs.Runs.{Run, run}
 use Rattle.ob0_run_machine.specs.Execution as execution
 use Rattle.ob0_run_machine.specs.Lowered as lowered
-use Rattle.ob0_run_cells.specs.Activations.{Placing, PlacingFits, ProgramMeans, targets_in}
-use Rattle.ob0_run_cells.specs.Cells.{sizes}
-use Rattle.ob0_run_cells.specs.LoweredStatements.{CallsRepresent, HaveNumbers, written_of}
+use Rattle.ob0_run_cells.specs.Activations.{ProgramMeans}
+use Rattle.ob0_run_cells.specs.LoweredStatements.{HaveNumbers, written_of}
 use Rattle.ob0_run_cells.specs.Lowering.{end_of}
-
--- with so many calls left to open, each of at most so many cells, as many as have addresses; a call that returns gives its cells up,
--- as one of the module's that drops its variables
-abbrev pub CallsLowered : Type 0
-CallsLowered =
-    (table : List lowered.Procedure) (most c t : ℕ) (typing : StoreTyping) (ls : Levels) (checked : TypeEnvironment Label) (placing : Placing Label) (active : Activation Label)
-    → EnvironmentsFit as_labels typing checked active → PlacingFits table most as_labels typing ls checked placing active → sizes typing + c * most < 2 ^ 64
-    → CallsRepresent (meanings as_labels checked) (targets_in as_labels placing) record { typing = typing; active = statement_meanings as_labels active; levels = ls; enters = call_giving_up as_labels c t active; lowered_enters = execution.call table c t }
 
 -- a run of lowered code as one of the module
 abbrev pub run_of : execution.Run → Run

@@ -1,8 +1,5 @@
-//! The store of a run as one list of cells: definitions, and the laws that tie values, places and stores to their cells, and
-//! lowered code to the module that it means.
+//! The store of a run as one list of cells, and what lowered code means against the module: definitions, and the law that the run
+//! of a lowered program is its module's run.
 #![tactic(auto)]
 
 pub mod activation_laws;
-pub mod laws;
-pub mod lowering_laws;
-pub mod statement_laws;
