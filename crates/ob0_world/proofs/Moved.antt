@@ -3,7 +3,7 @@ use Rattle.std.proofs.Common.{◌≡◌, ◌∙◌, ℕ, Bool, true, false, cond
 use Rattle.std.specs.Prelude.{⊤, ℤ, All, Vec, map, IfOk, OnErr, is_some}
 use Rattle.std.specs.declared.alloc.Global.{Global}
 use Rattle.std.proofs.lemmas.List.{append-nil, map-append}
-use Rattle.std.proofs.lemmas.List.Elements.{All-push, All-tail}
+use Rattle.std.proofs.lemmas.List.Elements.{All-head, All-push, All-tail}
 use Rattle.ob0_text.specs.OpenDocuments.{TextChange}
 use Rattle.ob0_session.specs.SessionStates.{SessionState}
 use Rattle.ob0_world_editor.specs.Code.{applied_of}
@@ -230,6 +230,13 @@ sent_happens f old e new content q q' r s ap_list md (Err x) was extends is sent
 pub taken_sound : (asked : List SentAsk) (q r rest : Contents) (s : SessionState) (c : Vec ℕ Global) → r ≡ c ∷ rest → Sound asked q r s → Sound asked q rest s
 taken_sound asked q r rest s c is sound =
     record { heard_all = sound.heard_all; understood_all = All-tail (IsUnderstood asked) c rest (subst (All (IsUnderstood asked)) is sound.understood_all); stands = sound.stands }
+
+-- a content that waits for the editor says something to it
+pub taken_says : (asked : List SentAsk) (q r rest : Contents) (s : SessionState) (c : Vec ℕ Global) → r ≡ c ∷ rest → Sound asked q r s → understood asked c.items ≡ None → ⊥
+taken_says asked q r rest s c is sound silent =
+    let says : IsUnderstood asked c = All-head (IsUnderstood asked) c rest (subst (All (IsUnderstood asked)) is sound.understood_all) in
+    let clash : Some says.0 ≡ None = sym says.1 ∙ silent in
+    cc
 
 -- a content may have been put after the others
 pub maybe_pushed : (asked : List SentAsk) (q q' r : Contents) (s : SessionState) (c : Vec ℕ Global) (b : Bool) → q' ≡ cond b (q ++ c ∷ []) q → IsHeard asked c → Sound asked q r s → Sound asked q' r s
