@@ -1,16 +1,21 @@
 //! What is found by the table of a text's lines.
 
-ghost use Rattle.std.specs.Prelude.{◌≡◌, ◌+◌, ◌-◌, ◌<◌, ◌≤◌, length, min, slice_get, slice_index};
+ghost use Rattle.std.specs.Prelude.{◌≡◌, ◌+◌, ◌-◌, ◌<◌, ◌≤◌, IfOk, length, map, min, slice_get, slice_index};
 ghost use Rattle.std.specs.Option.{option_map};
 ghost use Rattle.std.specs.Str.{chars};
 ghost use Rattle.ob0_text.specs.Texts.{lines, offset_of, position_of};
 ghost use Rattle.ob0_text.specs.Units.{width_of};
-ghost use Rattle.ob0_text.specs.Places.{IsPlaceBefore};
+ghost use Rattle.ob0_text.specs.Places.{IsPlace, IsPlaceBefore};
+ghost use Rattle.ob0_text.specs.declared.position_types.Unit.{Unit};
 ghost use Rattle.ob0_text.specs.LineStarts.{HasLines, with_ending};
 
 use crate::line_table::LineTable;
-use crate::passes::{PassState, is_from, onward_to_offset, onward_to_position, position_at};
+use crate::passes::{PassState, START, is_from, onward_to_offset, onward_to_position, position_at};
 use crate::position_types::{Position, Range, Unit};
+use std::alloc::{AllocError, Global};
+
+/// How many bytes after a place a pass goes on from it without looking its line up.
+const NEAR: usize = 32;
 
 /// Where a position is, in bytes.
 pub fn offset_in(text: &str, table: &LineTable, unit: Unit, position: Position) -> usize
@@ -50,9 +55,102 @@ pub fn position_in(text: &str, table: &LineTable, unit: Unit, offset: usize) -> 
     requires { HasLines text.now table.now }
     ensures { result ≡ position_of (width_of unit) (chars text.now) offset }
 {
-    let started = table.starts_before(offset.min(text.len()) + 1);
-    let place = line_place(table, started as u64 - 1);
+    let place = line_before(text, table, offset);
     position_at(onward_to_offset(text, unit, place, offset))
+}
+
+/// The positions of offsets. Each is counted from the one before it or from the start of its line.
+pub fn positions_in(
+    alloc: Global,
+    text: &str,
+    table: &LineTable,
+    unit: Unit,
+    offsets: &[usize],
+) -> Result<Vec<Position>, AllocError>
+    requires { HasLines text.now table.now }
+    ensures { IfOk result (λ positions. positions.items
+        ≡ map (position_of (width_of unit) (chars text.now)) offsets.now) }
+{
+    let mut positions = Vec::new(alloc);
+    let mut place = START;
+    for offset in offsets {
+        let from = nearest_before(text, table, place, *offset);
+        place = onward_to_offset(text, unit, from, *offset);
+        positions.push(position_at(place))?;
+    }
+    Ok(positions)
+}
+
+/// The offsets of positions. Each is looked for from the one before it, where both are in one line, and else from the start
+/// of its line.
+pub fn offsets_in(
+    alloc: Global,
+    text: &str,
+    table: &LineTable,
+    unit: Unit,
+    positions: &[Position],
+) -> Result<Vec<usize>, AllocError>
+    requires { HasLines text.now table.now }
+    ensures { IfOk result (λ offsets. offsets.items
+        ≡ map (offset_of (width_of unit) (chars text.now)) positions.now) }
+{
+    let mut offsets = Vec::new(alloc);
+    let mut place = START;
+    let mut last = position_at(START);
+    for position in positions {
+        place = place_after(text, table, unit, last, place, *position);
+        last = *position;
+        offsets.push(place.offset)?;
+    }
+    Ok(offsets)
+}
+
+/// The place of a position, by that of the last one where both are in one line.
+fn place_after(
+    text: &str,
+    table: &LineTable,
+    unit: Unit,
+    last: Position,
+    place: PassState,
+    position: Position,
+) -> PassState
+    requires lines { HasLines text.now table.now }
+    requires last { IsPlaceBefore (width_of unit) text.now last place }
+    ensures place { IsPlaceBefore (width_of unit) text.now position result }
+    ensures offset { result.offset ≡ offset_of (width_of unit) (chars text.now) position }
+{
+    if last.line == position.line && is_from(last, position) {
+        onward_to_position(text, unit, place, position)
+    } else {
+        place_in(text, table, unit, position)
+    }
+}
+
+/// A place from which an offset is near: the last one of a pass, or the start of the offset's line.
+fn nearest_before(text: &str, table: &LineTable, place: PassState, offset: usize) -> PassState
+    requires { HasLines text.now table.now }
+    ensures place { (unit : Unit) → IsPlace (width_of unit) text.now place
+        → IsPlace (width_of unit) text.now result }
+    ensures behind { result.offset ≤ offset }
+{
+    if place.offset <= offset && offset - place.offset < NEAR {
+        return place;
+    }
+    let start = line_before(text, table, offset);
+    if start.offset <= place.offset && place.offset <= offset {
+        return place;
+    }
+    start
+}
+
+/// The start of an offset's line, which is found by halving.
+fn line_before(text: &str, table: &LineTable, offset: usize) -> PassState
+    requires { HasLines text.now table.now }
+    ensures place { (unit : Unit) → IsPlace (width_of unit) text.now result }
+    ensures behind { result.offset ≤ offset }
+{
+    let started = table.starts_before(offset.min(text.len()) + 1);
+    line_place(table, started as u64 - 1)
 }
 
 /// Line `k` with its ending.

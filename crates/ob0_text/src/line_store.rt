@@ -7,9 +7,8 @@ ghost use Rattle.ob0_text.specs.Texts.{lines, offset_of};
 ghost use Rattle.ob0_text.specs.Units.{width_of};
 ghost use Rattle.ob0_text.specs.LineStarts.{with_ending};
 
-use crate::line_lookups::{bounds_in, line_in, offset_in, position_in};
+use crate::line_lookups::{bounds_in, line_in, offset_in, offsets_in, position_in, positions_in};
 use crate::line_table::LineTable;
-use crate::passes::{offsets_of, positions_of};
 use crate::position_types::{Position, Range, Unit};
 use crate::stores::TextStore;
 use std::alloc::{AllocError, Global};
@@ -83,11 +82,11 @@ impl TextStore for Lines {
     }
 
     fn positions(&self, alloc: Global, offsets: &[usize]) -> Result<Vec<Position>, AllocError> {
-        positions_of(alloc, self.text.as_str(), self.unit, offsets)
+        positions_in(alloc, self.text.as_str(), &self.table, self.unit, offsets)
     }
 
     fn offsets(&self, alloc: Global, positions: &[Position]) -> Result<Vec<usize>, AllocError> {
-        offsets_of(alloc, self.text.as_str(), self.unit, positions)
+        offsets_in(alloc, self.text.as_str(), &self.table, self.unit, positions)
     }
 
     fn replace(&mut self, range: Range, text: &str) -> Result<(), AllocError> {

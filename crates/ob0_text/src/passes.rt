@@ -19,7 +19,8 @@ pub struct PassState {
     pub character: u64,
 }
 
-const START: PassState = PassState {
+/// Where each pass begins.
+pub const START: PassState = PassState {
     offset: 0,
     line: 0,
     character: 0,

@@ -1,28 +1,4 @@
-use Rattle.std.proofs.Common.{◌≡◌, ◌-◌, ◌<◌, get_or, length, sym, ap, ◌∙◌, subst, arith}
-use Rattle.std.specs.Str.{chars}
-use Rattle.ob0_text.specs.Units.{width_of}
-use Rattle.ob0_text.proofs.Widths.{narrow}
-use Rattle.ob0_text.proofs.LinePlaces.{some_start, counts, searched}
 use Rattle.ob0_text.proofs.line_lookups.position_in.Goals as goal
 
-pub overflow_sub-started : goal.overflow_sub-started
-overflow_sub-started c =
-    let found = searched c.args.text.now c.args.table.now.starts c.min.result _ _ c.utf8.text c.requires.starts (omega arith) (omega arith) c.starts_before-started.ensures.count in
-    omega (arith, found.0)
-
-pub line_place-place-requires : goal.line_place-place-requires
-line_place-place-requires c =
-    subst (λ t. 0 < length t) (sym c.requires.starts) (some_start (chars c.args.text.now))
-
 pub onward_to_offset-requires-clause-place : goal.onward_to_offset-requires-clause-place
-onward_to_offset-requires-clause-place c =
-    let place = c.line_place-place in
-    counts (width_of c.args.unit) (narrow c.args.unit) c.args.text.now c.args.table.now.starts _ place.result c.utf8.text c.requires.starts place.ensures.offset place.ensures.line place.ensures.character
-
-pub onward_to_offset-requires-clause-behind : goal.onward_to_offset-requires-clause-behind
-onward_to_offset-requires-clause-behind c =
-    let place = c.line_place-place in
-    let found = searched c.args.text.now c.args.table.now.starts c.min.result _ _ c.utf8.text c.requires.starts (omega arith) (omega arith) c.starts_before-started.ensures.count in
-    let line : place.result.line ≡ c.starts_before-started.result - 1 = omega (arith, place.ensures.line, found.0, found.1) in
-    let start : place.result.offset ≡ get_or c.args.table.now.starts (c.starts_before-started.result - 1) 0 = place.ensures.offset ∙ ap (λ k. get_or c.args.table.now.starts k 0) line in
-    omega (arith, start, found.2)
+onward_to_offset-requires-clause-place c = c.line_before-place.ensures.place c.args.unit
