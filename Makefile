@@ -5,7 +5,7 @@
 #   make package           packs the proved program: a Debian package and a .tar.gz with the same tree, in bin/
 #   make install PREFIX=.. copies that tree to PREFIX: the program, manual page, completions, editor files, pages and examples
 #   make uninstall PREFIX=.. removes what was installed there
-#   make test              the gate (every proof; the kit keeps what passed earlier on this machine) and the end-to-end tests
+#   make test              the gate (every proof from nothing) and the end-to-end tests
 #   make help              prints these lines
 # (where bin/ob0 is there and up to date, build, package, install and demo need no toolchain)
 # and beside them:

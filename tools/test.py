@@ -1,6 +1,6 @@
 #!/usr/bin/env python3
 """The whole test: the gate (`rt ci`: every proof, the edits that must fail, the tests, the program as two compilers build
-it; the kit keeps what passed earlier on this machine), and then the end-to-end tests on the program that the gate built.
+it), and then the end-to-end tests on the program that the gate built.
 
 The last line is 'N passed, M failed' over both; it also goes into bin/results."""
 import os
