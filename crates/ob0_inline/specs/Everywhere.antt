@@ -10,6 +10,7 @@ use Rattle.ob0_text.specs.declared.refusals.EditRefusal.{EditRefusal}
 use Rattle.ob0_text.specs.declared.refusals.EditRefusal.TheVariants.{CommentInside, Memory, NoName, Shadowed, TooDeep, TooLong}
 use Rattle.ob0_text.specs.Units.{width_of}
 use Rattle.ob0_tree.specs.declared.tree.Role.TheVariants as role
+use Rattle.ob0_tree.specs.Module.{max_nesting}
 use Rattle.ob0_tree.specs.Parsed.{Parsed, named_tree_of, tree_of}
 use Rattle.ob0_tree.specs.Tree.{Tree, identifiers, module_text, nesting, occurrences}
 use Rattle.ob0_edits.specs.Ranges.{range_of}
@@ -88,7 +89,7 @@ has_comment m c = list_any (is_inside (span_over m.source.tokens c.first c.last)
 abbrev pub refusal_everywhere : Parsed → NamedConstant → Option EditRefusal
 refusal_everywhere m c =
     if nat_lt max_text (length (text_without m c)) then Some TooLong
-    else if nat_lt 100 (nesting (inlined_all m c)) then Some TooDeep
+    else if nat_lt max_nesting (nesting (inlined_all m c)) then Some TooDeep
     else if any_hidden (named_tree_of m) c then Some Shadowed
     else if has_comment m c then Some CommentInside
     else None

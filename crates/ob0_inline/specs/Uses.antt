@@ -7,6 +7,7 @@ use Rattle.ob0_text.specs.declared.edits.Edit.{Edit}
 use Rattle.ob0_text.specs.declared.position_types.Unit as counting
 use Rattle.ob0_text.specs.declared.refusals.EditRefusal.{EditRefusal}
 use Rattle.ob0_text.specs.declared.refusals.EditRefusal.TheVariants.{Memory, NoName, Shadowed, TooDeep, TooLong}
+use Rattle.ob0_tree.specs.Module.{max_nesting}
 use Rattle.ob0_tree.specs.Parsed.{Parsed, named_tree_of, tree_of}
 use Rattle.ob0_tree.specs.Tree.{Tree, module_text, nesting, occurrences}
 use Rattle.ob0_edits.specs.Replaced.{edit_at, parts, with_text_at}
@@ -59,7 +60,7 @@ abbrev pub refusal_here : Parsed → Use → Option EditRefusal
 refusal_here m u =
     if nat_lt max_text (length (with_text_at m.source (u.token ∷ []) (value_text u.value)))
     then Some TooLong
-    else if nat_lt 100 (nesting (inlined_here m u)) then Some TooDeep
+    else if nat_lt max_nesting (nesting (inlined_here m u)) then Some TooDeep
     else if is_predeclared_truth (named_tree_of m) u.occurrence u.value then None
     else Some Shadowed
 

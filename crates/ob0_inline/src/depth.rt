@@ -5,18 +5,15 @@ ghost use Rattle.ob0_edits.specs.Replaced.{LeavesWords};
 ghost use Rattle.ob0_edits.specs.Words.{word_lexeme};
 ghost use Rattle.ob0_scan.specs.Scanned.{IsScan, Scanned, Word};
 ghost use Rattle.ob0_text.specs.declared.refusals.EditRefusal.TheVariants.{Memory};
-ghost use Rattle.ob0_tree.specs.Module.{text_lexemes};
+ghost use Rattle.ob0_tree.specs.Module.{max_nesting, text_lexemes};
 ghost use Rattle.ob0_tree.specs.Parsed.{tree_of};
 ghost use Rattle.ob0_tree.specs.Tree.{Tree, module_text, nesting, spell};
 
 use ob0_parse::{ParseRefusal, parse};
 use ob0_scan::{ScanRefusal, Tokens, scan};
 use ob0_text::{Edit, EditRefusal, PatchFault, TextStore, patch};
-use ob0_tree::Module;
+use ob0_tree::{MAX_NESTING, Module};
 use std::alloc::Global;
-
-/// How deeply constructs may be nested in a module.
-const MAX_NESTING: u32 = 100;
 
 /// Whether the text that these edits make is nested deeper than a module may be, where they make a module deeper by one
 /// level at most. Only where the module itself is nested as deep as it may be is the text parsed.
@@ -27,7 +24,7 @@ pub(crate) fn is_too_deep<T: TextStore>(
     edits: &[Edit],
 ) -> Result<bool, EditRefusal>
     ensures deep { (ws : List Word) (t : Tree (List ℕ) module_text) → LeavesWords (T.unit_of store.now) (T.content store.now) edits.now ws → map word_lexeme ws ≡ spell t → nesting t ≤ nesting (tree_of read.now) + 1
-        → IfOk result (λ deep. deep ≡ nat_lt 100 (nesting t)) }
+        → IfOk result (λ deep. deep ≡ nat_lt max_nesting (nesting t)) }
     ensures memory { IfErr result (λ refusal. refusal ≡ Memory) }
 {
     if read.nesting() < MAX_NESTING {
@@ -43,7 +40,7 @@ fn is_parsed_too_deep<T: TextStore>(
     edits: &[Edit],
 ) -> Result<bool, EditRefusal>
     ensures deep { (ws : List Word) (t : Tree (List ℕ) module_text) → LeavesWords (T.unit_of store.now) (T.content store.now) edits.now ws → map word_lexeme ws ≡ spell t
-        → IfOk result (λ deep. deep ≡ nat_lt 100 (nesting t)) }
+        → IfOk result (λ deep. deep ≡ nat_lt max_nesting (nesting t)) }
     ensures memory { IfErr result (λ refusal. refusal ≡ Memory) }
 {
     match patch(alloc, store, edits) {
@@ -61,7 +58,7 @@ fn is_parsed_too_deep<T: TextStore>(
 /// Whether a text that has the tokens of a tree is a module: then the tree is nested no deeper than a module may be.
 fn is_module(alloc: Global, text: &str) -> Result<bool, EditRefusal>
     ensures shallow { (s : Scanned) (t : Tree (List ℕ) module_text) → IsScan s → s.text ≡ text.now → text_lexemes s ≡ spell t
-        → IfOk result (λ shallow. shallow ≡ nat_le (nesting t) 100) }
+        → IfOk result (λ shallow. shallow ≡ nat_le (nesting t) max_nesting) }
     ensures memory { IfErr result (λ refusal. refusal ≡ Memory) }
 {
     match scan(alloc, text) {
@@ -77,7 +74,7 @@ fn is_module(alloc: Global, text: &str) -> Result<bool, EditRefusal>
 fn is_parsed(alloc: Global, tokens: &Tokens) -> Result<bool, EditRefusal>
     ensures shallow { (t : Tree (List ℕ) module_text)
         → text_lexemes tokens.now ≡ spell t
-        → IfOk result (λ shallow. shallow ≡ nat_le (nesting t) 100) }
+        → IfOk result (λ shallow. shallow ≡ nat_le (nesting t) max_nesting) }
     ensures memory { IfErr result (λ refusal. refusal ≡ Memory) }
 {
     match parse(alloc, tokens) {

@@ -7,6 +7,7 @@ ghost use Rattle.ob0_scan.specs.Scanned.{max_text};
 ghost use Rattle.ob0_text.specs.declared.refusals.EditRefusal.TheVariants.{Memory, TooDeep, TooLong};
 ghost use Rattle.ob0_text.specs.Texts.{offset_of};
 ghost use Rattle.ob0_text.specs.Units.{width_of};
+ghost use Rattle.ob0_tree.specs.Module.{max_nesting};
 ghost use Rattle.ob0_tree.specs.Tree.{nesting};
 ghost use Rattle.ob0_edits.specs.Ranges.{range_of};
 ghost use Rattle.ob0_edits.specs.Removed.{span_over};
@@ -96,7 +97,7 @@ fn edits_everywhere<T: TextStore>(
         → max_text < length (text_without names.now.module_read constant) }
     ensures too_deep { IsAlone names.now.module_read constant.ordinal
         → IsErrOf result TooDeep
-        → 100 < nesting (inlined_all names.now.module_read constant) }
+        → max_nesting < nesting (inlined_all names.now.module_read constant) }
     ensures short { IfOk result
         (λ edits. length (text_without names.now.module_read constant) ≤ max_text) }
     ensures deep_and_short { IsErrOf result TooDeep

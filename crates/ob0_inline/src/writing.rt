@@ -4,6 +4,7 @@ ghost use Rattle.std.specs.Prelude.{◌≡◌, ◌⊎◌, ◌<◌, ◌≤◌, If
 ghost use Rattle.std.specs.Str.{chars};
 ghost use Rattle.ob0_scan.specs.Scanned.{max_text};
 ghost use Rattle.ob0_text.specs.declared.refusals.EditRefusal.TheVariants.{Memory, TooDeep, TooLong};
+ghost use Rattle.ob0_tree.specs.Module.{max_nesting};
 ghost use Rattle.ob0_tree.specs.Tree.{nesting};
 ghost use Rattle.ob0_edits.specs.Replaced.{AreNames, edit_at, parts, with_text_at};
 ghost use Rattle.ob0_inline.specs.Inlined.{LeavesModule, AreAlone, inlined_at};
@@ -38,7 +39,7 @@ pub(crate) fn edits_at<T: TextStore>(
         < length (with_text_at names.now.module_read.source places.now (value_text value)) }
     ensures too_deep { AreAlone names.now.module_read places.now value
         → IsErrOf result TooDeep
-        → 100 < nesting (inlined_at names.now.module_read places.now value) }
+        → max_nesting < nesting (inlined_at names.now.module_read places.now value) }
     ensures short { IfOk result (λ edits. length
         (with_text_at names.now.module_read.source places.now (value_text value))
         ≤ max_text) }

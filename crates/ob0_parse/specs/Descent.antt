@@ -10,6 +10,7 @@ use Rattle.ob0_scan.specs.declared.lexeme.Reserved.TheVariants as reserved
 use Rattle.ob0_scan.specs.declared.lexeme.Symbol.{Symbol}
 use Rattle.ob0_scan.specs.declared.lexeme.Symbol.TheVariants as symbol
 use Rattle.ob0_tree.specs.Lexeme.{Terminal, Name, Number, Mark, EndOfText}
+use Rattle.ob0_tree.specs.Module.{max_nesting}
 use Rattle.ob0_tree.specs.Tree.{Item, selector, multiplier, addend, comparison, arguments, further_argument, further_statement, elsif_part, else_part, further_name, further_fields, formals, further_section, constant, constants, type_name, type_names, variable, variables, procedure, body, Sort, item, items, maybe, expression, simple, term, factor, statement, sequence, names, written_type, fields, section, declarations, block, module_text}
 use Rattle.ob0_parse.specs.Follow.{rank, item_rank, opens_expression}
 use Rattle.ob0_parse.specs.declared.refusal.Expected.{Expected}
@@ -316,4 +317,4 @@ OneStop =
 
 -- the descent through the tokens of a whole text, the end counted as one, at nesting at most 100
 abbrev pub DescendsText : List (Terminal ℕ) → Stop → Type 0
-DescendsText tokens o = Descends (node module_text 100 ∷ finish ∷ []) 0 tokens o
+DescendsText tokens o = Descends (node module_text max_nesting ∷ finish ∷ []) 0 tokens o

@@ -12,9 +12,12 @@ use crate::tree::{
     WrittenType,
 };
 
+/// How deeply constructs may be nested in a module.
+pub const MAX_NESTING: u32 = 100;
+
 impl<'t> Module<'t> {
     /// The greatest number of constructs that are in one another: parenthesised and negated factors, indexes,
-    /// IF, WHILE and REPEAT, array and record types, and procedures. At most 100.
+    /// IF, WHILE and REPEAT, array and record types, and procedures. At most [`MAX_NESTING`].
     pub fn nesting(&self) -> u32
         ensures { result ≡ nesting (tree_of self.now) }
     {
