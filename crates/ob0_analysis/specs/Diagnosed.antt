@@ -3,7 +3,7 @@
 use Rattle.std.specs.Prelude.{◌≡◌, ◌⊎◌, ◌≤◌, ◌<◌, ◌++◌, ◌∷◌, ℕ, List, [], Option, Some, None, map, length, slice_get, codes, string_bytes}
 use Rattle.ob0_scan.specs.CodeTexts.{code_name, code_message}
 use Rattle.ob0_scan.specs.Refused.{AreFaults}
-use Rattle.ob0_scan.specs.Scanned.{Scanned, IsScannable, IsScanOf}
+use Rattle.ob0_scan.specs.Scanned.{Scanned, IsScannable, IsScanOf, max_faults}
 use Rattle.ob0_scan.specs.declared.fault.Fault.{Fault}
 use Rattle.ob0_scan.specs.declared.lexeme.Span.{Span}
 use Rattle.ob0_scan.specs.declared.lexeme.Token.{Token}
@@ -105,7 +105,7 @@ pub record ReportsTypes (text : List ℕ) (told : List Complaint) : Type 0 where
   pub faults : List Fault
   pub first : AreFirstFaults names faults
   pub some : 0 < length faults
-  pub few : length faults ≤ 100
+  pub few : length faults ≤ max_faults
   pub all : told ≡ map complaint_of faults
 
 -- ---- every text

@@ -1,6 +1,7 @@
 -- A checked module: its names, and what was reported of it.
 -- Rule: docs/LANGUAGE.md, Types 8, Faults of scopes and types 1.
 use Rattle.std.specs.Prelude.{◌≡◌, ℕ, ◌≤◌, Bool, true, List, [], length, ◌↔◌, IfSome, is_some, Option}
+use Rattle.ob0_scan.specs.Scanned.{max_faults}
 use Rattle.ob0_scan.specs.declared.fault.Fault.{Fault}
 use Rattle.ob0_scope_rules.specs.Resolution.{Resolution, IsResolution}
 use Rattle.ob0_scope_rules.specs.Names.{Name}
@@ -36,7 +37,7 @@ pub record IsChecked (c : CheckedModule) : Type 0 where
   pub told : (c.faults ≡ []) ↔ WellTyped (named_tree_of c.names.module_read)
   pub holds : IfSome c.known (HasDeclarations (named_tree_of c.names.module_read))
   pub kept : c.faults ≡ [] → is_some c.known ≡ true
-  pub few : length c.faults ≤ 100
+  pub few : length c.faults ≤ max_faults
   pub first : AreFirstFaults c.names c.faults
 
 -- these are the faults of a module that was checked, whatever is known of it

@@ -5,6 +5,7 @@ use Rattle.std.specs.List.{filter}
 use Rattle.std.specs.List.Sorted.{IsPermutation, IsSorted}
 use Rattle.std.specs.Ordering.{nat_cmp, ordering_then}
 use Rattle.std.specs.declared.cmp.Ordering.{Ordering}
+use Rattle.ob0_scan.specs.Scanned.{max_faults}
 use Rattle.ob0_scan.specs.declared.fault.Code.{Code}
 use Rattle.ob0_scan.specs.declared.fault.Code.TheVariants as code
 use Rattle.ob0_scan.specs.declared.fault.Fault.{Fault}
@@ -46,7 +47,7 @@ pub record AreFirstOf (found faults : List Fault) : Type 0 where
   pub all : List Fault
   pub joined : IsPermutation found all
   pub in_order : IsSorted fault_cmp all
-  pub first : faults ≡ take 100 all
+  pub first : faults ≡ take max_faults all
 
 -- The faults of a module, by LANGUAGE.md, Faults of scopes and types: names that nothing binds and faults of types, and names
 -- that are declared twice or close what another name opened. The first 100 are reported.

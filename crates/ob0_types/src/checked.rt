@@ -8,9 +8,10 @@ ghost use Rattle.ob0_types.specs.FoundFaults.{faults_found, types_found};
 ghost use Rattle.std.specs.List.{filter};
 ghost use Rattle.std.specs.Prelude.{◌≡◌, ◌≤◌, ◌↔◌, ◌++◌, [], length, IfOk, IfSome, OnOk, MatchOption};
 ghost use Rattle.ob0_types_fields.specs.Listed.{listed_by};
+ghost use Rattle.ob0_scan.specs.Scanned.{max_faults};
 
 use ob0_checker::decide;
-use ob0_scan::{Code, Fault};
+use ob0_scan::{Code, Fault, MAX_FAULTS};
 use ob0_scope_rules::{PREDECLARED, Resolved};
 use ob0_selections::FieldRows;
 use ob0_types_check::laws::{modules_fit, no_fault_in_modules};
@@ -96,9 +97,6 @@ pub struct FieldRow<'t> {
     pub shape: Shape<'t>,
 }
 
-/// The most faults that are kept.
-pub const MOST_FAULTS: usize = 100;
-
 /// Checks the types of a module. Its faults are those of its scopes and its types.
 pub fn check<'t>(alloc: Global, resolved: &'t Resolved<'t>) -> Result<Checked<'t>, AllocError>
     ensures names { IfOk result (λ c. c.names ≡ resolved.now) }
@@ -183,14 +181,14 @@ fn faults_of<'t>(
 ) -> Result<Vec<Fault>, AllocError>
     ensures none { IfOk result
         (λ faults. (faults.items ≡ []) ↔ (faults_found fits resolved.now ≡ [])) }
-    ensures few { IfOk result (λ faults. length faults.items ≤ 100) }
+    ensures few { IfOk result (λ faults. length faults.items ≤ max_faults) }
     ensures first { IfOk result
         (λ faults. AreFirstOf (faults_found fits resolved.now) faults.items) }
 {
     let mut faults = of_types(alloc, resolved, fits)?;
     add_declarations(&mut faults, resolved.faults())?;
     faults.sort_by_key(|fault| (fault.span.start, fault.span.end, fault.code))?;
-    faults.truncate(MOST_FAULTS);
+    faults.truncate(MAX_FAULTS);
     Ok(faults)
 }
 
