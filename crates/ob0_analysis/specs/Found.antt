@@ -1,6 +1,8 @@
 -- What a text is found to be.
 use Rattle.std.specs.Prelude.{ℕ, List, string_bytes}
 use Rattle.ob0_scan.specs.Refused.{AreFaults}
+use Rattle.ob0_scan.specs.declared.rescanning.NotRescanned.{NotRescanned}
+use Rattle.ob0_scan.specs.declared.rescanning.NotRescanned.TheVariants as rescanned
 use Rattle.ob0_scan.specs.Scanned.{IsScannable}
 use Rattle.ob0_parse.specs.RefusedBy.{RefusedBy}
 use Rattle.ob0_parse.specs.declared.refusal.ParseRefusal.{ParseRefusal}
@@ -13,6 +15,12 @@ abbrev pub text_of : Found → List ℕ
 text_of (NoLexemes ill) = string_bytes ill.text
 text_of (NoTree tokens refusal) = tokens.text
 text_of (Module m) = m.module_read.source.text
+
+-- why a changed text has no tokens: its faults, or that memory ran out
+abbrev pub IsRefusalOf : List ℕ → NotRescanned → Type 0
+IsRefusalOf text (rescanned.Faults faults tokens) =
+    (IsScannable text → ⊥) × AreFaults text faults.items
+IsRefusalOf text rescanned.Memory = Unit {0}
 
 -- memory didn't run out
 abbrev pub IsDecided : ParseRefusal → Type 0

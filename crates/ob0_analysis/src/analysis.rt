@@ -1,9 +1,13 @@
 //! What a text is, as one value that is kept.
 
-ghost use Rattle.std.specs.Prelude.{◌≡◌, IfOk, MatchOption, map};
+ghost use Rattle.std.specs.Prelude.{◌≡◌, true, IfErr, IfOk, MatchOption, map};
 ghost use Rattle.std.specs.Str.{IsUtf8};
 ghost use Rattle.ob0_scan.specs.Refused.{AreFaults};
+ghost use Rattle.ob0_scan.specs.Reused.{kinds};
 ghost use Rattle.ob0_scan.specs.Scanned.{IsScannable, IsScanOf};
+ghost use Rattle.ob0_tree.specs.Parsed.{IsParsed};
+ghost use Rattle.ob0_analysis.specs.Found.{IsRefusalOf};
+ghost use Rattle.ob0_analysis.specs.Parts.{parsed_by};
 ghost use Rattle.ob0_analysis.specs.Diagnosed.{IsWellTypedModule, Reports, complaint_in};
 
 use crate::diagnoses::{Diagnosis, of_faults};
@@ -12,7 +16,8 @@ use crate::differences::Difference;
 use crate::parts::ModuleParts;
 use ob0_parse::{ParseRefusal, tree_of};
 use ob0_scan::laws::one_scan;
-use ob0_scan::{Fault, NotRescanned, ScanRefusal, Tokens, rescan_in_place, scan};
+use ob0_scan::{Fault, NotRescanned, RescanInPlace, ScanRefusal, Tokens, rescan_in_place, scan};
+use ob0_tree::ModuleTree;
 use std::alloc::{AllocError, Global};
 use std::marker::Model;
 
@@ -65,45 +70,79 @@ impl Analysis {
         }
     }
 
-    /// The analysis of another text. What it has in common with the text before is taken over from that one's tokens.
+    /// The analysis of another text. What it has in common with the text before is taken over from it: tokens, and the tree
+    /// where all tokens are of the kinds that they were.
     pub fn after(self, alloc: Global, text: &str) -> Result<Analysis, AllocError>
         ensures { IfOk result (λ a. a ≡ text.now) }
     {
-        match self.into_tokens() {
-            None => Analysis::of(alloc, text),
-            Some(old) => Analysis::of_changed(alloc, old, text),
-        }
-    }
-
-    /// The tokens from which the next text's are made.
-    fn into_tokens(self) -> Option<Tokens> {
         let Analysis { found } = self;
         match found {
-            Found::NoLexemes(ill) => {
-                let IllLexed {
-                    text: _,
-                    faults: _,
-                    last,
-                } = ill;
-                last
-            }
-            Found::NoTree(tokens, _) => Some(tokens),
-            Found::Module(parts) => Some(parts.into_tokens()),
+            Found::NoLexemes(ill) => Analysis::after_faults(alloc, ill, text),
+            Found::NoTree(tokens, _) => Analysis::after_tokens(alloc, tokens, text),
+            Found::Module(parts) => Analysis::after_module(alloc, parts, text),
         }
     }
 
-    fn of_changed(alloc: Global, old: Tokens, text: &str) -> Result<Analysis, AllocError>
+    fn after_faults(alloc: Global, ill: IllLexed, text: &str) -> Result<Analysis, AllocError>
         ensures { IfOk result (λ a. a ≡ text.now) }
     {
-        let change = Difference::between(old.text(), text);
-        match rescan_in_place(alloc, old, text, change.from, change.removed, change.added) {
-            Ok(found) => Analysis::of_tokens(alloc, found.tokens),
-            Err(refusal) => match refusal {
-                NotRescanned::Faults(faults, old) => {
-                    Analysis::ill_lexed(alloc, text, faults, Some(old))
-                }
-                NotRescanned::Memory => Err(AllocError),
-            },
+        let IllLexed {
+            text: _,
+            faults: _,
+            last,
+        } = ill;
+        match last {
+            None => Analysis::of(alloc, text),
+            Some(old) => Analysis::after_tokens(alloc, old, text),
+        }
+    }
+
+    fn after_tokens(alloc: Global, old: Tokens, text: &str) -> Result<Analysis, AllocError>
+        ensures { IfOk result (λ a. a ≡ text.now) }
+    {
+        match scan_changed(alloc, old, text) {
+            Ok(found) => Analysis::of_tokens(alloc, found.rescan.tokens),
+            Err(refusal) => Analysis::not_scanned(alloc, text, refusal),
+        }
+    }
+
+    fn after_module(alloc: Global, old: ModuleParts, text: &str) -> Result<Analysis, AllocError>
+        ensures { IfOk result (λ a. a ≡ text.now) }
+    {
+        let (tokens, tree) = old.into_tree();
+        match scan_changed(alloc, tokens, text) {
+            Ok(found) => Analysis::of_scan(alloc, found, tree),
+            Err(refusal) => Analysis::not_scanned(alloc, text, refusal),
+        }
+    }
+
+    /// The analysis of a text with the tree of the text before, which is its own where the tokens are alike.
+    fn of_scan(
+        alloc: Global,
+        found: RescanInPlace,
+        tree: ModuleTree,
+    ) -> Result<Analysis, AllocError>
+        requires { found.alike ≡ true → IsParsed (parsed_by found.rescan.tokens tree) }
+        ensures { IfOk result (λ a. a ≡ found.rescan.tokens.text) }
+    {
+        let RescanInPlace { rescan, alike } = found;
+        if alike {
+            Analysis::of_tree(alloc, rescan.tokens, tree)
+        } else {
+            drop(tree);
+            Analysis::of_tokens(alloc, rescan.tokens)
+        }
+    }
+
+    fn not_scanned(alloc: Global, text: &str, refusal: NotRescanned) -> Result<Analysis, AllocError>
+        requires { IsRefusalOf text.now refusal }
+        ensures { IfOk result (λ a. a ≡ text.now) }
+    {
+        match refusal {
+            NotRescanned::Faults(faults, old) => {
+                Analysis::ill_lexed(alloc, text, faults, Some(old))
+            }
+            NotRescanned::Memory => Err(AllocError),
         }
     }
 
@@ -127,14 +166,22 @@ impl Analysis {
         ensures { IfOk result (λ a. a ≡ tokens.text) }
     {
         match tree_of(alloc, &tokens) {
-            Ok(tree) => Ok(Analysis {
-                found: Found::Module(ModuleParts::of(alloc, tokens, tree)?),
-            }),
+            Ok(tree) => Analysis::of_tree(alloc, tokens, tree),
             Err(ParseRefusal::Memory) => Err(AllocError),
             Err(refusal) => Ok(Analysis {
                 found: Found::NoTree(tokens, refusal),
             }),
         }
+    }
+
+    fn of_tree(alloc: Global, tokens: Tokens, tree: ModuleTree) -> Result<Analysis, AllocError>
+        requires { IsParsed (parsed_by tokens tree) }
+        ensures { IfOk result (λ a. a ≡ tokens.text) }
+    {
+        let parts = ModuleParts::of(alloc, tokens, tree)?;
+        Ok(Analysis {
+            found: Found::Module(parts),
+        })
     }
 
     /// The text.
@@ -184,4 +231,15 @@ impl Analysis {
             Found::Module(parts) => diagnose_module(alloc, parts),
         }
     }
+}
+
+/// The tokens of a text by those of another, or its faults.
+fn scan_changed(alloc: Global, old: Tokens, text: &str) -> Result<RescanInPlace, NotRescanned>
+    ensures ok { IfOk result (λ r. IsScanOf text.now r.rescan.tokens) }
+    ensures alike { IfOk result
+        (λ r. r.alike ≡ true → kinds r.rescan.tokens.tokens ≡ kinds old.tokens) }
+    ensures err { IfErr result (IsRefusalOf text.now) }
+{
+    let change = Difference::between(old.text(), text);
+    rescan_in_place(alloc, old, text, change.from, change.removed, change.added)
 }

@@ -103,17 +103,17 @@ impl ModuleParts {
         &self.tokens
     }
 
-    /// The tokens alone.
-    pub(crate) fn into_tokens(self) -> Tokens
-        ensures { result ≡ self.module_read.source }
+    /// The tokens and the tree alone.
+    pub(crate) fn into_tree(self) -> (Tokens, ModuleTree)
+        ensures { IsParsed (parsed_by result.0 result.1) }
     {
         let ModuleParts {
             tokens,
-            tree: _,
+            tree,
             bindings: _,
             types: _,
         } = self;
-        tokens
+        (tokens, tree)
     }
 }
 

@@ -4,6 +4,8 @@ use Rattle.std.specs.Prelude.{◌≡◌, ◌≢◌, ℕ, ◌+◌, ◌-◌, ◌�
 use Rattle.std.specs.List.{All, prefix_len}
 use Rattle.ob0_scan.specs.declared.lexeme.Span.{Span}
 use Rattle.ob0_scan.specs.declared.lexeme.Token.{Token}
+use Rattle.ob0_scan.specs.declared.lexeme.TokenKind.{TokenKind}
+use Rattle.ob0_scan.specs.declared.lexeme.TokenKind.TheVariants as kind
 use Rattle.ob0_scan.specs.Scanned.{Scanned}
 
 -- So many bytes of the old text from a place on gave way to so many others: the new one is as the old before them and after them.
@@ -12,6 +14,15 @@ pub record IsReplaced (old new : List ℕ) (from removed added : ℕ) : Type 0 w
   pub inside_new : from + added ≤ length new
   pub front : take from old ≡ take from new
   pub behind : drop (from + removed) old ≡ drop (from + added) new
+
+-- what a token is, whatever the value of an integer
+abbrev pub valueless : TokenKind → TokenKind
+valueless (kind.Integer value) = kind.Integer 0
+valueless k = k
+
+-- what the tokens of a text are, one after the other, whatever the values of integers
+abbrev pub kinds : List Token → List TokenKind
+kinds tokens = map (λ (t : Token). valueless t.kind) tokens
 
 -- a span after the change is moved by what was added less what was removed
 abbrev pub moved : ℕ → ℕ → Span → Span

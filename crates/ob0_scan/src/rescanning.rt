@@ -1,20 +1,21 @@
 //! Scans a text that was changed at one place, and takes over what an older scan found before the change and after it.
 
-ghost use Rattle.std.specs.Prelude.{◌≡◌, ◌+◌, ◌<◌, ◌≤◌, ◌^◌, ◌||◌, ◌++◌, IfOk, IfErr, OnOk, length, map, take, drop, nat_lt, option_copied};
+ghost use Rattle.std.specs.Prelude.{◌≡◌, ◌+◌, ◌-◌, ◌<◌, ◌≤◌, ◌^◌, ◌||◌, ◌++◌, true, IfOk, IfErr, OnOk, length, map, take, drop, nat_lt, option_copied};
 ghost use Rattle.std.specs.List.{All, prefix_len};
 ghost use Rattle.ob0_scan.specs.declared.lexeme.Span.{Span};
 ghost use Rattle.ob0_scan.specs.declared.lexeme.Token.{Token};
+ghost use Rattle.ob0_scan.specs.declared.lexeme.TokenKind.TheVariants.{Integer};
 ghost use Rattle.ob0_scan.specs.declared.rescanning.NotRescanned.TheVariants as rescanned;
 ghost use Rattle.ob0_scan.specs.Scanned.{IsScanOf};
 ghost use Rattle.ob0_scan.specs.Refused.{IsRightRefusal, IsRightRefusalOver};
 ghost use Rattle.ob0_scan.specs.UnderWay.{IsUnderWay};
-ghost use Rattle.ob0_scan.specs.Reused.{IsReplaced, Reuses, moved, moved_token, tokens_before_change, comments_before_change, back_tokens, back_comments};
+ghost use Rattle.ob0_scan.specs.Reused.{IsReplaced, Reuses, kinds, moved, moved_token, tokens_before_change, comments_before_change, back_tokens, back_comments, valueless};
 ghost use Rattle.ob0_scan.specs.Rescanning.{token_end, comment_end, last_end, token_begins, comment_begins, IsMovable, ReadsOn, IsMet, IsBetween};
 
 use crate::fault::{Fault, ScanRefusal};
-use crate::lexeme::{Span, Token};
+use crate::lexeme::{Span, Token, TokenKind};
 use crate::scanner::{MAX_TEXT, Scanner, too_long};
-use crate::tokens::{Rescan, Tokens};
+use crate::tokens::{Rescan, RescanInPlace, Tokens};
 use std::alloc::{AllocError, Global};
 use thiserror::Error;
 
@@ -199,6 +200,60 @@ pub(crate) struct Between {
     pub(crate) comments: Vec<Span>,
 }
 
+impl Between {
+    /// Whether the tokens between are of the same kinds as the old ones in whose place they come.
+    fn is_alike(&self, old: &[Token]) -> bool
+        requires ordered { self.now.front.tokens ≤ self.now.behind.tokens }
+        requires inside { self.now.behind.tokens ≤ length old.now }
+        ensures { result ≡ true → kinds self.now.tokens.items
+            ≡ kinds (take (self.now.behind.tokens - self.now.front.tokens)
+            (drop self.now.front.tokens old.now)) }
+    {
+        are_alike(&self.tokens, &old[self.front.tokens..self.behind.tokens])
+    }
+}
+
+/// Whether tokens are of the same kinds, one after the other.
+fn are_alike(new: &[Token], old: &[Token]) -> bool
+    ensures { result ≡ true → kinds new.now ≡ kinds old.now }
+{
+    if new.len() != old.len() {
+        return false;
+    }
+    for index in 0..new.len() {
+        if !is_same_kind(new[index].kind, old[index].kind) {
+            return false;
+        }
+    }
+    true
+}
+
+/// Whether two tokens are of one kind, whatever the values of integers.
+fn is_same_kind(a: TokenKind, b: TokenKind) -> bool
+    ensures { result ≡ true → valueless a ≡ valueless b }
+{
+    if a == b {
+        return true;
+    }
+    match a {
+        TokenKind::Integer(_) => is_integer(b),
+        TokenKind::Identifier => false,
+        TokenKind::Reserved(_) => false,
+        TokenKind::Symbol(_) => false,
+    }
+}
+
+fn is_integer(kind: TokenKind) -> bool
+    ensures { result ≡ true → valueless kind ≡ Integer 0 }
+{
+    match kind {
+        TokenKind::Integer(_) => true,
+        TokenKind::Identifier => false,
+        TokenKind::Reserved(_) => false,
+        TokenKind::Symbol(_) => false,
+    }
+}
+
 /// Why a changed text has no tokens; with the old ones, where it has faults.
 #[derive(Debug, Drop, Error)]
 pub enum NotRescanned {
@@ -232,7 +287,7 @@ pub fn rescan(
     ensures reused { IfOk result (λ r. Reuses old.now r.tokens from removed added r.read) }
 {
     match rescan_in_place(alloc, old.copied(alloc)?, new_text, from, removed, added) {
-        Ok(found) => Ok(found),
+        Ok(found) => Ok(found.rescan),
         Err(refusal) => match refusal {
             NotRescanned::Faults(faults, _) => Err(ScanRefusal::Faults(faults)),
             NotRescanned::Memory => Err(ScanRefusal::Memory),
@@ -248,11 +303,14 @@ pub fn rescan_in_place(
     from: usize,
     removed: usize,
     added: usize,
-) -> Result<Rescan, NotRescanned>
+) -> Result<RescanInPlace, NotRescanned>
     requires { IsReplaced old.text new_text.now from removed added }
-    ensures ok { IfOk result (λ r. IsScanOf new_text.now r.tokens) }
+    ensures ok { IfOk result (λ r. IsScanOf new_text.now r.rescan.tokens) }
     ensures err { IfErr result (IsRightRefusalOver old new_text.now) }
-    ensures reused { IfOk result (λ r. Reuses old r.tokens from removed added r.read) }
+    ensures reused { IfOk result
+        (λ r. Reuses old r.rescan.tokens from removed added r.rescan.read) }
+    ensures alike { IfOk result
+        (λ r. r.alike ≡ true → kinds r.rescan.tokens.tokens ≡ kinds old.tokens) }
 {
     let change = ReplacedRange {
         from,
@@ -262,8 +320,12 @@ pub fn rescan_in_place(
     match scan_again(alloc, &old, new_text, change) {
         Ok(between) => {
             let read = between.tokens.len() + between.comments.len();
+            let alike = between.is_alike(old.tokens());
             let tokens = old.with(alloc, new_text, between, change)?;
-            Ok(Rescan { tokens, read })
+            Ok(RescanInPlace {
+                rescan: Rescan { tokens, read },
+                alike,
+            })
         }
         Err(refusal) => match refusal {
             ScanRefusal::Faults(faults) => Err(NotRescanned::Faults(faults, old)),

@@ -1,0 +1,32 @@
+-- A text whose tokens between are of the same kinds as those before them has tokens of the same kinds.
+use Rattle.std.proofs.Common.{◌≡◌, ℕ, ◌+◌, ◌-◌, ◌≤◌, List, [], ◌∷◌, ◌++◌, map, take, drop, length, refl, sym, ap, ◌∙◌, arith}
+use Rattle.std.proofs.lemmas.List.{take-append-drop, drop-drop}
+use Rattle.ob0_scan.specs.declared.lexeme.Token.{Token}
+use Rattle.ob0_scan.specs.Reused.{valueless, kinds, moved_token}
+
+kinds-moved : (removed added : ℕ) (tokens : List Token) → kinds (map (moved_token removed added) tokens) ≡ kinds tokens
+kinds-moved removed added [] = refl
+kinds-moved removed added (t ∷ tokens) = ap (λ ks. valueless t.kind ∷ ks) (kinds-moved removed added tokens)
+
+kinds-append : (a b : List Token) → kinds (a ++ b) ≡ kinds a ++ kinds b
+kinds-append [] b = refl
+kinds-append (t ∷ a) b = ap (λ ks. valueless t.kind ∷ ks) (kinds-append a b)
+
+pub kinds_stay : (old between : List Token) (front behind removed added : ℕ) → front ≤ behind → kinds between ≡ kinds (take (behind - front) (drop front old)) → kinds (take front old ++ (between ++ map (moved_token removed added) (drop behind old))) ≡ kinds old
+kinds_stay old between front behind removed added ordered same =
+    let gone : List Token = take (behind - front) (drop front old) in
+    let rest : List Token = drop behind old in
+    let place : front + (behind - front) ≡ behind = omega (arith, ordered) in
+    let parts : gone ++ rest ≡ drop front old =
+    ap (λ l. gone ++ l) (ap (λ n. drop n old) (sym place) ∙ sym (drop-drop (behind - front) front old))
+    ∙ take-append-drop (behind - front) (drop front old) in
+    let middle : kinds (between ++ map (moved_token removed added) rest) ≡ kinds (drop front old) =
+    kinds-append between (map (moved_token removed added) rest)
+    ∙ ap (λ ks. ks ++ kinds (map (moved_token removed added) rest)) same
+    ∙ ap (λ ks. kinds gone ++ ks) (kinds-moved removed added rest)
+    ∙ sym (kinds-append gone rest)
+    ∙ ap kinds parts in
+    kinds-append (take front old) (between ++ map (moved_token removed added) rest)
+    ∙ ap (λ ks. kinds (take front old) ++ ks) middle
+    ∙ sym (kinds-append (take front old) (drop front old))
+    ∙ ap kinds (take-append-drop front old)
