@@ -9,7 +9,7 @@ use Rattle.std.specs.Ordering.{is_eq, nat_cmp}
 use Rattle.ob0_scan.specs.declared.fault.Fault.{Fault}
 use Rattle.ob0_scan.specs.Scanned.{Scanned}
 use Rattle.ob0_tree.specs.declared.tree.Fields.{Fields}
-use Rattle.ob0_tree.specs.Tree.{Tree, block, body, constants, declares, declares_procedure, formals, further_fields, has_body, items, maybe, procedure, type_names, variables}
+use Rattle.ob0_tree.specs.Tree.{Tree, block, body, constants, declares, declares_procedure, formals, has_body, items, maybe, procedure, type_names, variables}
 use Rattle.ob0_tree.specs.Places.{text_at}
 use Rattle.ob0_tree.specs.View.{fields_of, further_fields_of_group, items_of, record_listed}
 use Rattle.ob0_scope_rules.specs.DeclaredOnce.{block_names, groups_fields, is_among, procedure_names}

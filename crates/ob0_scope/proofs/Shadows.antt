@@ -10,7 +10,7 @@ use Rattle.ob0_scope_rules.specs.Names.{Name, as_names, same_name}
 use Rattle.ob0_scope.specs.NewestNames.{IsRenewed, KeepsNewest, KeepsPlaces, newest_in, place_of}
 use Rattle.ob0_scope_rules.specs.Scopes.{ordinal_of}
 use Rattle.ob0_scope.specs.Shadowing.{AreHidden, ArePlaced, IsNewest, latest, scope_of}
-use Rattle.ob0_scope_rules.proofs.NameEquality.{same_name-comm, same_name-refl}
+use Rattle.ob0_scope_rules.proofs.NameEquality.{same_name-comm}
 
 abbrev pub shown : Binding → Name × ℕ
 shown b = (b.name.now, b.ordinal)

@@ -1,4 +1,4 @@
-use Rattle.std.proofs.Common.{◌≡◌, ◌∙◌, ap}
+use Rattle.std.proofs.Common.{◌∙◌, ap}
 use Rattle.std.proofs.lemmas.Result.{MatchResult-weaker}
 use Rattle.ob0_scope.specs.Listing.{first_token, omitted, tokens_from}
 use Rattle.ob0_scope.proofs.TokensWith.{bound_with}

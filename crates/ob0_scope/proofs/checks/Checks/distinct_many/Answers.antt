@@ -1,4 +1,4 @@
-use Rattle.std.proofs.Common.{◌≡◌, ◌++◌, refl, ap, ◌∙◌, get_or}
+use Rattle.std.proofs.Common.{◌++◌, refl, ap, ◌∙◌, get_or}
 use Rattle.ob0_scan.specs.declared.fault.Fault.{Fault}
 use Rattle.ob0_scope_rules.specs.DeclaredTwice.{unless}
 use Rattle.ob0_scope.proofs.Checking.{all_seen, has, one_more, sees_on}

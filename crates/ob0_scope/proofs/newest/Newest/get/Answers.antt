@@ -1,5 +1,4 @@
-use Rattle.std.proofs.Common.{sym, ap, ◌∙◌}
-use Rattle.ob0_scope.specs.NewestNames.{newest_in}
+use Rattle.std.proofs.Common.{sym}
 use Rattle.ob0_scope.proofs.NewestNames.{newest_none}
 use Rattle.ob0_scope.proofs.newest.Newest.get.Goals as goal
 
