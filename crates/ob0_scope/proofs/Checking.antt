@@ -1,5 +1,5 @@
 -- What a tree tells of names that are declared once more: what loops collect, and what the parts of a module come to.
-use Rattle.std.proofs.Common.{◌≡◌, ℕ, ◌+◌, ◌<◌, ◌≤◌, Bool, true, false, not, cond, ◌||◌, List, [], ◌∷◌, ◌++◌, length, get_or, drop, refl, sym, ap, ◌∙◌, append-nil, append_assoc, Bor}
+use Rattle.std.proofs.Common.{◌≡◌, ℕ, zero, suc, map, take, arith, ◌+◌, ◌<◌, ◌≤◌, Bool, true, false, not, cond, ◌||◌, List, [], ◌∷◌, ◌++◌, length, get_or, drop, refl, sym, ap, ◌∙◌, append-nil, append_assoc, Bor}
 use Rattle.std.proofs.lemmas.List.{drop_all, drop_more}
 use Rattle.std.proofs.lemmas.Map.Text.{is_eq-slice_cmp}
 use Rattle.std.specs.List.{list_any}
@@ -9,7 +9,7 @@ use Rattle.std.specs.Ordering.{is_eq, nat_cmp}
 use Rattle.ob0_scan.specs.declared.fault.Fault.{Fault}
 use Rattle.ob0_scan.specs.Scanned.{Scanned}
 use Rattle.ob0_tree.specs.declared.tree.Fields.{Fields}
-use Rattle.ob0_tree.specs.Tree.{Tree, block, body, constants, declares, declares_procedure, formals, further_fields, has_body, items, maybe, procedure, type_names, variables}
+use Rattle.ob0_tree.specs.Tree.{Tree, block, body, constants, declares, declares_procedure, formals, has_body, items, maybe, procedure, type_names, variables}
 use Rattle.ob0_tree.specs.Places.{text_at}
 use Rattle.ob0_tree.specs.View.{fields_of, further_fields_of_group, items_of, record_listed}
 use Rattle.ob0_scope_rules.specs.DeclaredOnce.{block_names, groups_fields, is_among, procedure_names}
@@ -37,10 +37,10 @@ gathers_on f {xs = xs} {done = done} {now = now} x found next w less here step e
 abbrev pub has : BTreeSet (Bor Name) → Name → Bool
 has seen x = contains_by (λ key. slice_cmp nat_cmp x key.now) seen
 
--- the names so far are those of the set
-pub record Seeing (source : Scanned) (all : List ℕ) (start : List Fault) (done : ℕ) (seen : BTreeSet (Bor Name)) (now : List Fault) : Type 0 where
+-- the names so far are those that are seen
+pub record Seeing (source : Scanned) (all : List ℕ) (start : List Fault) (done : ℕ) (seen : Name → Bool) (now : List Fault) : Type 0 where
   pub before : List Name
-  pub found : (x : Name) → has seen x ≡ is_among x before
+  pub found : (x : Name) → seen x ≡ is_among x before
   pub so_far : now ++ again source before (drop done all) ≡ start ++ again source [] all
 
 either : (p q r : Bool) → p ≡ q → cond p true r ≡ (q || r)
@@ -52,33 +52,48 @@ either false false r e = refl
 abbrev pub Adds : Name → BTreeSet (Bor Name) → BTreeSet (Bor Name) → Type 0
 Adds x seen next = UpdatesBy (λ a b. slice_cmp nat_cmp a.now b.now) (λ key. slice_cmp nat_cmp x key.now) seen next true
 
-pub sees_on : (source : Scanned) (all : List ℕ) (start : List Fault) (done : ℕ) (seen next : BTreeSet (Bor Name)) (now later : List Fault) (added : Bool) (token : ℕ) (x : Name) → Seeing source all start done seen now → done < length all
-    → token ≡ get_or all done 0 → x ≡ text_at source token → added ≡ not (has seen x) → Adds x seen next → later ≡ now ++ unless added (duplicate_at source token) → Seeing source all start (done + 1) next later
+pub one_more : (x : Name) (seen next : BTreeSet (Bor Name)) → Adds x seen next → (q : Name) → has next q ≡ (same_name q x || has seen q)
+one_more x seen next grown q =
+    grown.0 (record { ref_ptr = (0, 0); now = q }) ∙ either (is_eq (slice_cmp nat_cmp x q)) (same_name q x) (has seen q) (is_eq-slice_cmp x q ∙ same_name-comm x q)
+
+pub sees_on : (source : Scanned) (all : List ℕ) (start : List Fault) (done : ℕ) (seen next : Name → Bool) (now later : List Fault) (added : Bool) (token : ℕ) (x : Name) → Seeing source all start done seen now → done < length all
+    → token ≡ get_or all done 0 → x ≡ text_at source token → added ≡ not (seen x) → ((q : Name) → next q ≡ (same_name q x || seen q)) → later ≡ now ++ unless added (duplicate_at source token) → Seeing source all start (done + 1) next later
 sees_on source all start done seen next now later added token x w less here named new grown e =
     let rest = drop (done + 1) all in
     let split : drop done all ≡ token ∷ rest = drop_more all done 0 less ∙ ap (λ y. y ∷ rest) (sym here) in
     let fresh : added ≡ not (is_among (text_at source token) w.before) = new ∙ (ap not (w.found x) ∙ ap (λ y. not (is_among y w.before)) named) in
     record {
       before = x ∷ w.before;
-      found = λ q.
-          grown.0 (record { ref_ptr = (0, 0); now = q })
-          ∙ (either (is_eq (slice_cmp nat_cmp x q)) (same_name q x) (has seen q) (is_eq-slice_cmp x q ∙ same_name-comm x q) ∙ ap (λ b. same_name q x || b) (w.found q));
+      found = λ q. grown q ∙ ap (λ b. same_name q x || b) (w.found q);
       so_far = (λ i. (e ∙ ap (λ b. now ++ unless b (duplicate_at source token)) fresh) i ++ again source (named i ∷ w.before) rest)
           ∙ (append_assoc now (unless (not (is_among (text_at source token) w.before)) (duplicate_at source token)) (again source (text_at source token ∷ w.before) rest)
           ∙ (sym (ap (λ ys. now ++ again source w.before ys) split) ∙ w.so_far));
     }
 
-pub all_seen : {source : Scanned} {all : List ℕ} {start : List Fault} {done : ℕ} {seen : BTreeSet (Bor Name)} {now : List Fault} → Seeing source all start done seen now → length all ≤ done → now ≡ start ++ again source [] all
+pub all_seen : {source : Scanned} {all : List ℕ} {start : List Fault} {done : ℕ} {seen : Name → Bool} {now : List Fault} → Seeing source all start done seen now → length all ≤ done → now ≡ start ++ again source [] all
 all_seen {source = source} {all = all} {start = start} {done = done} {now = now} w over =
     sym (append-nil now) ∙ (sym (ap (λ ys. now ++ again source w.before ys) (drop_all done all over)) ∙ w.so_far)
 
-pub nothing_seen : (source : Scanned) (all : List ℕ) (start : List Fault) (seen : BTreeSet (Bor Name)) → seen.keys ≡ [] → Seeing source all start 0 seen start
+pub nothing_seen : (source : Scanned) (all : List ℕ) (start : List Fault) (seen : BTreeSet (Bor Name)) → seen.keys ≡ [] → Seeing source all start 0 (has seen) start
 nothing_seen source all start seen empty_is =
     record {
       before = [];
       found = λ x. ap (λ ks. list_any (λ (key : Bor Name). is_eq (slice_cmp nat_cmp x key.now)) ks) empty_is;
       so_far = refl;
     }
+
+swapped : (a b c : Bool) → (a || (b || c)) ≡ (b || (a || c))
+swapped true true c = refl
+swapped true false c = refl
+swapped false true c = refl
+swapped false false c = refl
+
+-- one more of the names before a place
+pub one_further : (text : ℕ → Name) (all : List ℕ) (done : ℕ) (d : ℕ) → done < length all → (q : Name) → is_among q (map text (take (suc done) all)) ≡ (same_name q (text (get_or all done d)) || is_among q (map text (take done all)))
+one_further text [] done d less q = absurd (omega (arith, less))
+one_further text (x ∷ xs) zero d less q = refl
+one_further text (x ∷ xs) (suc done) d less q =
+    ap (λ b. same_name q (text x) || b) (one_further text xs done d (omega (arith, less)) q) ∙ swapped (same_name q (text x)) (same_name q (text (get_or xs done d))) (is_among q (map text (take done xs)))
 
 -- a record's fields, whichever group is the first
 pub record_told : (source : Scanned) (start own after : List Fault) (gs : List Fields) (fs : List ℕ) → fs ≡ groups_fields (items_of further_fields_of_group gs) → own ≡ start ++ again source [] fs

@@ -14,7 +14,7 @@ use Rattle.ob0_scope.specs.declared.newest.Entry.{Entry}
 use Rattle.ob0_scope.specs.Keys.{Key, compare_keys, compare_name, number_of}
 use Rattle.ob0_scope_rules.specs.Names.{Name, same_name}
 use Rattle.ob0_scope_rules.proofs.NameEquality.{same_name-comm, same_name-refl}
-use Rattle.ob0_scope.specs.NewestNames.{ArePlaces, IsAdded, IsRenewed, KeepsFirst, newest_in, place_of}
+use Rattle.ob0_scope.specs.NewestNames.{ArePlaces, IsAdded, IsRenewed, KeepsNewest, KeepsPlaces, newest_in, place_of}
 
 -- names that are reported apart: of the first, of a later one, of none
 first_place : (same : Bool) (o : Option ℕ) → (if same then Some zero else option_map suc o) ≡ Some zero → same ≡ true
@@ -200,8 +200,19 @@ places_added places next es r h renews w =
           ];
     }
 
--- a name that is added takes no name's place
-pub first_kept : (before after : List Entry) (x : Name) → place_of before x ≡ None → IsAdded before after x → KeepsFirst before after
-first_kept before after x none added = λ y first.
-    let other : same_name x y ≡ false = not_same (same_name x y) (λ e. some_apart (place_of before y) 0 first (ap (place_of before) (sym ((bytes_eq-Decides x y).0 e)) ∙ none)) in
-    added y ∙ (if_false (same_name x y) (Some (length before)) (place_of before y) other ∙ first)
+-- a name that is added takes no name's place, and has the one after all others
+pub places_kept : (before after : List Entry) (x : Name) → place_of before x ≡ None → IsAdded before after x → KeepsPlaces before after
+places_kept before after x none added = λ y i there.
+    let other : same_name x y ≡ false = not_same (same_name x y) (λ e. some_apart (place_of before y) i there (ap (place_of before) (sym ((bytes_eq-Decides x y).0 e)) ∙ none)) in
+    added y ∙ (if_false (same_name x y) (Some (length before)) (place_of before y) other ∙ there)
+
+pub placed_last : (before after : List Entry) (x : Name) → IsAdded before after x → place_of after x ≡ Some (length before)
+placed_last before after x added = added x ∙ if_true (same_name x x) (Some (length before)) (place_of before x) (same_name-refl x)
+
+-- nothing is bound to a name that is added
+pub none_newer : (es : List Entry) (r : Entry) → r.newest ≡ None → place_of es r.name.now ≡ None → KeepsNewest es (es ++ (r ∷ []))
+none_newer es r e absent = λ y. added es r absent y ∙ one y (same_name r.name.now y) refl
+  where
+    one : (y : Name) (b : Bool) → same_name r.name.now y ≡ b → (if b then r.newest else newest_in es y) ≡ newest_in es y
+    one y true same = e ∙ (sym (newest_none es r.name.now absent) ∙ ap (newest_in es) ((bytes_eq-Decides r.name.now y).0 same))
+    one y false same = refl

@@ -1,5 +1,5 @@
 -- What is known after each part of a module: which names are visible, and that a table with all marks numbers the part.
-use Rattle.std.proofs.Common.{◌≡◌, ℕ, suc, ◌+◌, ◌-◌, Option, Some, None, List, [], ◌∷◌, ◌++◌, map, length, drop, refl, sym, ap, ◌∙◌, subst, arith, append_assoc, append-nil, length-append}
+use Rattle.std.proofs.Common.{◌≡◌, ◌<◌, ◌≤◌, ℕ, suc, ◌+◌, ◌-◌, true, false, Option, Some, None, List, [], ◌∷◌, ◌++◌, map, length, drop, refl, sym, ap, ◌∙◌, subst, arith, append_assoc, append-nil, length-append}
 use Rattle.std.proofs.lemmas.List.{map-append}
 use Rattle.std.proofs.Math.Seq.{drop-append-add}
 use Rattle.ob0_tree.specs.declared.tree.Role.{Role}
@@ -10,13 +10,14 @@ use Rattle.ob0_tree.specs.Places.{value_at}
 use Rattle.ob0_scope.specs.Written.{Writing, name_at, spelled_by}
 use Rattle.ob0_tree.proofs.Occurring.{looked_up_only, looked_up_only-append}
 use Rattle.ob0_scope.specs.Marks.{OrdinalMark}
-use Rattle.ob0_scope_rules.specs.Names.{Name, as_names}
+use Rattle.ob0_scope_rules.specs.Names.{Name, as_names, same_name}
 use Rattle.ob0_scope_rules.specs.Parts.{constant_names, formal_names, formal_sections, further_names, module_block, named_types, names_listed, procedure_name, section_constants, section_names, section_types, section_variables, variable_names}
 use Rattle.ob0_scope_rules.specs.Resolution.{declaring_only}
 use Rattle.ob0_scope_rules.specs.Scopes.{Labels, Scope, after_block, after_names, after_procedure, after_procedures, body_scope, declare_names, declare_procedure_names, ordinal_of, predeclared_scope, relabel_block, relabel_constant_section, relabel_constants, relabel_formals, relabel_further, relabel_names, relabel_procedure, relabel_procedures, relabel_section, relabel_sections, relabel_type_section, relabel_types, relabel_uses, relabel_variable_section, relabel_variables, relabelled}
-use Rattle.ob0_scope.specs.Marking.{Visit, leave_block, after_heading, found, found_all, left_to, marked, numbered_all, numbered_at, visible_from, used, visit_block, visit_constant, visit_constant_section, visit_constants, visit_formals, visit_module, visit_procedure, visit_procedures, visit_section, visit_sections, visit_type, visit_type_section, visit_types, visit_variable, visit_variable_section, visit_variables}
+use Rattle.ob0_scope.specs.Marking.{Visit, started, leave_block, after_heading, found, found_all, left_to, marked, numbered_all, numbered_at, visible_from, used, visit_block, visit_constant, visit_constant_section, visit_constants, visit_formals, visit_module, visit_procedure, visit_procedures, visit_section, visit_sections, visit_type, visit_type_section, visit_types, visit_variable, visit_variable_section, visit_variables}
 use Rattle.ob0_scope.proofs.Agreed.{AllFit, agreed}
-use Rattle.ob0_scope_rules.proofs.Ordinals.{after_names-append, declare_names-append}
+use Rattle.ob0_scope_rules.proofs.Ordinals.{after_names-append, declare_names-append, le-after_block, le-after_names}
+use Rattle.ob0_scope_rules.proofs.OccurrenceNames.{length-map}
 use Rattle.ob0_scope_rules.proofs.Peeling.{Two}
 use Rattle.ob0_scope_rules.proofs.Plain.{IsPlain, declares_nothing, declaring_only-append}
 
@@ -32,10 +33,68 @@ marks_split table (x ∷ xs) ys h = let rest = marks_split table xs ys h.1 in ((
 abbrev pub tokens_of : List OrdinalMark → List ℕ
 tokens_of ms = map (λ m. m.token) ms
 
+-- an ordinal, if there is one, is that of a declaration before this
+abbrev pub IsBefore : ℕ → Option ℕ → Type 0
+IsBefore k None = Unit {0}
+IsBefore k (Some j) = j < k
+
+-- all names of a scope are bound to declarations before this
+abbrev AreBefore : ℕ → Scope Name → Type 0
+AreBefore k [] = Unit {0}
+AreBefore k (b ∷ s) = (b.1 < k) × AreBefore k s
+
+before_later : (k later : ℕ) (s : Scope Name) → k ≤ later → AreBefore k s → AreBefore later s
+before_later k later [] le h = tt
+before_later k later (b ∷ s) le h = (omega (arith, le, h.0), before_later k later s le h.1)
+
+names_before : (k : ℕ) (xs : List Name) (s : Scope Name) (later : ℕ) → k + length xs ≤ later → AreBefore later s → AreBefore later (declare_names k xs s)
+names_before k [] s later le h = h
+names_before k (x ∷ xs) s later le h = names_before (suc k) xs ((x, k) ∷ s) later (omega (arith, le)) (omega (arith, le), h)
+
+older_before : (k : ℕ) (newer s : Scope Name) → AreBefore k (newer ++ s) → AreBefore k s
+older_before k [] s h = h
+older_before k (b ∷ newer) s h = older_before k newer s h.1
+
+looked_up_before : (k : ℕ) (s : Scope Name) (x : Name) → AreBefore k s → IsBefore k (ordinal_of as_names s x)
+looked_up_before k [] x h = tt
+looked_up_before k (b ∷ s) x h = elim (same_name x b.0) as (λ v. IsBefore k (elim v [ true ↦ Some b.1 | false ↦ ordinal_of as_names s x ])) [ true ↦ h.0 | false ↦ looked_up_before k s x h.1 ]
+
+-- each declaring identifier has the next ordinal, and each other one that of a declaration before it, or none
+abbrev pub AreInOrder : (ℕ → Option ℕ) → ℕ → List (Role × ℕ) → Type 0
+AreInOrder table k [] = Unit {0}
+AreInOrder table k ((role.Declaring, i) ∷ xs) = (table i ≡ Some k) × AreInOrder table (suc k) xs
+AreInOrder table k ((role.LookedUp, i) ∷ xs) = IsBefore k (table i) × AreInOrder table k xs
+AreInOrder table k ((role.ClosingName, i) ∷ xs) = IsBefore k (table i) × AreInOrder table k xs
+AreInOrder table k ((role.FieldName, i) ∷ xs) = IsBefore k (table i) × AreInOrder table k xs
+AreInOrder table k ((role.ModuleName, i) ∷ xs) = IsBefore k (table i) × AreInOrder table k xs
+
+some_declared : {x : ℕ} {xs : List ℕ} → (x ∷ xs) ≡ [] → ⊥
+some_declared e = absurd (cc)
+
+other_in_order : (table : ℕ → Option ℕ) (k : ℕ) (r : Role) (i : ℕ) (xs : List (Role × ℕ)) → declaring_only ((r, i) ∷ []) ≡ [] → IsBefore k (table i) → AreInOrder table k xs → AreInOrder table k ((r, i) ∷ xs)
+other_in_order table k role.Declaring i xs e h rest = absurd (some_declared e)
+other_in_order table k role.LookedUp i xs e h rest = (h, rest)
+other_in_order table k role.ClosingName i xs e h rest = (h, rest)
+other_in_order table k role.FieldName i xs e h rest = (h, rest)
+other_in_order table k role.ModuleName i xs e h rest = (h, rest)
+
+-- a part that declares nothing
+used_in_order : (table : ℕ → Option ℕ) (src : Writing) (s : Scope Name) (k : ℕ) (xs rest : List (Role × ℕ)) → AreBefore k s → declaring_only xs ≡ [] → AllFit table src s xs → AreInOrder table k rest → AreInOrder table k (xs ++ rest)
+used_in_order table src s k [] rest low e h order = order
+used_in_order table src s k ((role.Declaring, i) ∷ xs) rest low e h order = absurd (some_declared e)
+used_in_order table src s k ((role.LookedUp, i) ∷ xs) rest low e h order = (subst (IsBefore k) (sym h.0) (looked_up_before k s (name_at src i) low), used_in_order table src s k xs rest low e h.1 order)
+used_in_order table src s k ((role.ClosingName, i) ∷ xs) rest low e h order = (subst (IsBefore k) (sym h.0) tt, used_in_order table src s k xs rest low e h.1 order)
+used_in_order table src s k ((role.FieldName, i) ∷ xs) rest low e h order = (subst (IsBefore k) (sym h.0) tt, used_in_order table src s k xs rest low e h.1 order)
+used_in_order table src s k ((role.ModuleName, i) ∷ xs) rest low e h order = (subst (IsBefore k) (sym h.0) tt, used_in_order table src s k xs rest low e h.1 order)
+
 pub record At (v : Visit) (src : Writing) (s : Scope Name) (k : ℕ) : Type 0 where
   pub writing : v.writing ≡ src
   pub scope : v.scope ≡ s
   pub next : 7 + length v.declarations ≡ k
+  pub before : AreBefore k s
+
+pub at_start : (src : Writing) → At (started src) src (predeclared_scope as_names) 7
+at_start src = record { writing = refl; scope = refl; next = refl; before = names_before 0 (map as_names.predeclared (0 ∷ 1 ∷ 2 ∷ 3 ∷ 4 ∷ 5 ∷ 6 ∷ [])) [] 7 (omega arith) tt }
 
 joined : {X Y : Type 0} (f : List X → List Y) (xs ys : List X) (a b c : List Y) → f (xs ++ ys) ≡ f xs ++ f ys → b ≡ a ++ f xs → c ≡ b ++ f ys → c ≡ a ++ f (xs ++ ys)
 joined f xs ys a b c split e g = g ∙ (ap (λ z. z ++ f ys) e ∙ (append_assoc a (f xs) (f ys) ∙ ap (λ z. a ++ z) (sym split)))
@@ -134,6 +193,7 @@ pub record Passed (table : ℕ → Option ℕ) (src : Writing) (v w : Visit) (id
   pub used : w.uses ≡ v.uses ++ looked_up_only ids
   pub tokens : tokens_of w.marks ≡ tokens_of v.marks ++ names_only ids
   pub agree : HasMarks table w.marks → HasMarks table v.marks × P
+  pub in_order : HasMarks table w.marks → (later : List (Role × ℕ)) → AreInOrder table k later → AreInOrder table (7 + length v.declarations) (ids ++ later)
 
 module _ {M : Type 0} (table : ℕ → Option ℕ) (label : Labels Name M) (src : Writing) where
   abbrev Passes : Visit → Visit → List (Role × ℕ) → Scope Name → ℕ → Type 0 → Type 0
@@ -144,29 +204,34 @@ module _ {M : Type 0} (table : ℕ → Option ℕ) (label : Labels Name M) (src 
   by_table t = mapped (λ i. label (table i) (name_at src i)) (value_at src.source) t
 
   pass_nothing : (v : Visit) (s : Scope Name) (k : ℕ) → At v src s k → Passes v v [] s k (Unit {0})
-  pass_nothing v s k at = record { at = at; declared = sym (append-nil v.declarations); used = sym (append-nil v.uses); tokens = sym (append-nil (tokens_of v.marks)); agree = λ h. (h, tt) }
+  pass_nothing v s k at = record { at = at; declared = sym (append-nil v.declarations); used = sym (append-nil v.uses); tokens = sym (append-nil (tokens_of v.marks)); agree = λ h. (h, tt); in_order = λ h later. subst (λ n. AreInOrder table n later) (sym at.next) }
 
   pass_then : {a b c : Visit} {xs ys : List (Role × ℕ)} {s s' : Scope Name} {k k' : ℕ} {P Q : Type 0} → Passes a b xs s k P → Passes b c ys s' k' Q → Passes a c (xs ++ ys) s' k' (Two P Q)
-  pass_then {xs = xs} {ys = ys} p q =
+  pass_then {a = a} {xs = xs} {ys = ys} p q =
       record {
         at = q.at;
         declared = joined declaring_only xs ys _ _ _ (declaring_only-append xs ys) p.declared q.declared;
         used = joined looked_up_only xs ys _ _ _ (looked_up_only-append xs ys) p.used q.used;
         tokens = joined names_only xs ys _ _ _ (map-append (λ x. x.1) xs ys) p.tokens q.tokens;
         agree = λ h. let later = q.agree h in let now = p.agree later.0 in (now.0, record { first = now.1; second = later.1 });
+        in_order = λ h later o.
+            subst (AreInOrder table (7 + length a.declarations)) (sym (append_assoc xs ys later))
+            (p.in_order (q.agree h).0 (ys ++ later) (subst (λ n. AreInOrder table n (ys ++ later)) p.at.next (q.in_order h later o)));
       }
 
   pass_to : {a b : Visit} {xs : List (Role × ℕ)} {s : Scope Name} {k : ℕ} {P Q : Type 0} → Passes a b xs s k P → (P → Q) → Passes a b xs s k Q
-  pass_to p f = record { at = p.at; declared = p.declared; used = p.used; tokens = p.tokens; agree = λ h. let x = p.agree h in (x.0, f x.1) }
+  pass_to p f = record { at = p.at; declared = p.declared; used = p.used; tokens = p.tokens; agree = λ h. let x = p.agree h in (x.0, f x.1); in_order = p.in_order }
 
   pass_is : {a b : Visit} {xs ys : List (Role × ℕ)} {s s' : Scope Name} {k k' : ℕ} {P : Type 0} → xs ≡ ys → s ≡ s' → k ≡ k' → Passes a b xs s k P → Passes a b ys s' k' P
-  pass_is {a = a} e f g p =
+  pass_is {a = a} {s = s} {s' = s'} {k = k} e f g p =
       record {
-        at = record { writing = p.at.writing; scope = p.at.scope ∙ f; next = p.at.next ∙ g };
+        at = record { writing = p.at.writing; scope = p.at.scope ∙ f; next = p.at.next ∙ g; before = subst (λ n. AreBefore n s') g (subst (AreBefore k) f p.at.before) };
         declared = p.declared ∙ ap (λ ids. a.declarations ++ declaring_only ids) e;
         used = p.used ∙ ap (λ ids. a.uses ++ looked_up_only ids) e;
         tokens = p.tokens ∙ ap (λ ids. tokens_of a.marks ++ names_only ids) e;
         agree = p.agree;
+        in_order = λ h later o.
+            subst (λ ids. AreInOrder table (7 + length a.declarations) (ids ++ later)) e (p.in_order h later (subst (λ n. AreInOrder table n later) (sym g) o));
       }
 
   used_passed : {σ : Sort} (t : Tree ℕ σ) (v : Visit) (s : Scope Name) (k : ℕ) → IsPlain σ → At v src s k
@@ -175,36 +240,43 @@ module _ {M : Type 0} (table : ℕ → Option ℕ) (label : Labels Name M) (src 
       let plain = (declares_nothing is_plain t).plain in
       let f = found_every table src (identifiers role.Declaring t) v in
       record {
-        at = record { writing = f.writing ∙ at.writing; scope = f.scope ∙ at.scope; next = ap (λ ds. 7 + length ds) f.kept ∙ at.next };
+        at = record { writing = f.writing ∙ at.writing; scope = f.scope ∙ at.scope; next = ap (λ ds. 7 + length ds) f.kept ∙ at.next; before = at.before };
         declared = f.kept ∙ (sym (append-nil v.declarations) ∙ ap (λ ds. v.declarations ++ ds) (sym plain));
         used = f.used;
         tokens = f.tokens;
         agree = λ h.
             let x = f.agree at.writing h in
             (x.0, (agreed table label src s role.Declaring (λ i e. e) t).reads (subst (λ s. AllFit table src s (identifiers role.Declaring t)) at.scope x.1));
+        in_order = λ h later o.
+            let fit = subst (λ s. AllFit table src s (identifiers role.Declaring t)) at.scope (f.agree at.writing h).1 in
+            subst (λ n. AreInOrder table n (identifiers role.Declaring t ++ later)) (sym at.next) (used_in_order table src s k (identifiers role.Declaring t) later at.before plain fit o);
       }
 
   number_passed : (x : ℕ) (v : Visit) (s : Scope Name) (k : ℕ) → At v src s k → Passes v (numbered_at x v) ((role.Declaring, x) ∷ []) s (suc k) (table x ≡ Some k)
   number_passed x v s k at =
       let m : OrdinalMark = record { token = x; ordinal = Some (7 + length v.declarations) } in
       record {
-        at = record { writing = at.writing; scope = at.scope; next = omega (arith, length-append v.declarations (x ∷ []), at.next) };
+        at = record { writing = at.writing; scope = at.scope; next = omega (arith, length-append v.declarations (x ∷ []), at.next); before = before_later k (suc k) s (omega arith) at.before };
         declared = refl;
         used = sym (append-nil v.uses);
         tokens = mark_added v.marks m;
         agree = λ h. let parts = marks_split table v.marks (m ∷ []) h in (parts.0, parts.1.0 ∙ ap Some at.next);
+        in_order = λ h later o. ((marks_split table v.marks (m ∷ []) h).1.0, subst (λ n. AreInOrder table (suc n) later) (sym at.next) o);
       }
 
-  mark_passed : (r : Role) (x : ℕ) (ordinal : Option ℕ) (v : Visit) (s : Scope Name) (k : ℕ) → declaring_only ((r, x) ∷ []) ≡ [] → looked_up_only ((r, x) ∷ []) ≡ [] → At v src s k
+  mark_passed : (r : Role) (x : ℕ) (ordinal : Option ℕ) (v : Visit) (s : Scope Name) (k : ℕ) → declaring_only ((r, x) ∷ []) ≡ [] → looked_up_only ((r, x) ∷ []) ≡ [] → IsBefore k ordinal → At v src s k
       → Passes v (marked x ordinal v) ((r, x) ∷ []) s k (table x ≡ ordinal)
-  mark_passed r x ordinal v s k no_declaration no_use at =
+  mark_passed r x ordinal v s k no_declaration no_use low at =
       let m : OrdinalMark = record { token = x; ordinal = ordinal } in
       record {
-        at = record { writing = at.writing; scope = at.scope; next = at.next };
+        at = record { writing = at.writing; scope = at.scope; next = at.next; before = at.before };
         declared = sym (append-nil v.declarations) ∙ ap (λ ds. v.declarations ++ ds) (sym no_declaration);
         used = sym (append-nil v.uses) ∙ ap (λ us. v.uses ++ us) (sym no_use);
         tokens = mark_added v.marks m;
         agree = λ h. let parts = marks_split table v.marks (m ∷ []) h in (parts.0, parts.1.0);
+        in_order = λ h later o.
+            let here = subst (IsBefore k) (sym (marks_split table v.marks (m ∷ []) h).1.0) low in
+            subst (λ n. AreInOrder table n ((r, x) ∷ later)) (sym at.next) (other_in_order table k r x later no_declaration here o);
       }
 
   -- names have the ordinals from k on
@@ -253,11 +325,19 @@ module _ {M : Type 0} (table : ℕ → Option ℕ) (label : Labels Name M) (src 
   -- what was declared in a part is visible after it
   show_passed : {a b : Visit} {xs : List (Role × ℕ)} {s s' : Scope Name} {k k' : ℕ} {P : Type 0} (ns : List Name) → At a src s k → map (name_at src) (declaring_only xs) ≡ ns → Passes a b xs s' k' P
       → Passes a (visible_from (length a.declarations) b) xs (declare_names k ns s') k' P
-  show_passed {a = a} {b = b} {xs = xs} {s' = s'} {k = k} ns at are p =
+  show_passed {a = a} {b = b} {xs = xs} {s' = s'} {k = k} {k' = k'} ns at are p =
       let left : drop (length a.declarations) b.declarations ≡ declaring_only xs = ap (drop (length a.declarations)) p.declared ∙ drop_past a.declarations (declaring_only xs) in
       let visible : declare_names (7 + length a.declarations) (map (name_at b.writing) (drop (length a.declarations) b.declarations)) b.scope ≡ declare_names k ns s' =
       (λ i. declare_names (at.next i) (map (name_at (p.at.writing i)) (left i)) (p.at.scope i)) ∙ ap (λ ns. declare_names k ns s') are in
-      record { at = record { writing = p.at.writing; scope = visible; next = p.at.next }; declared = p.declared; used = p.used; tokens = p.tokens; agree = p.agree }
+      let count : k + length ns ≤ k' = omega (arith, at.next, p.at.next, ap length p.declared, length-append a.declarations (declaring_only xs), length-map (name_at src) (declaring_only xs), ap length are) in
+      record {
+        at = record { writing = p.at.writing; scope = visible; next = p.at.next; before = names_before k ns s' k' count p.at.before };
+        declared = p.declared;
+        used = p.used;
+        tokens = p.tokens;
+        agree = p.agree;
+        in_order = p.in_order;
+      }
 
   listed_declaring : (xs : List ℕ) → declaring_only (all_declaring xs) ≡ xs
   listed_declaring [] = refl
@@ -378,13 +458,14 @@ module _ {M : Type 0} (table : ℕ → Option ℕ) (label : Labels Name M) (src 
   variable_section_passed (one (declares_variables vs)) v s k at = pass_to (variables_passed vs v s k at) (λ p i. one (declares_variables (p i)))
 
   left_passed : {a b : Visit} {xs : List (Role × ℕ)} {s s' : Scope Name} {k' : ℕ} {P : Type 0} (outer : ℕ) → outer ≡ length s → Extends s s' → Passes a b xs s' k' P → Passes a (left_to outer b) xs s k' P
-  left_passed {b = b} {s = s} outer count extends p =
+  left_passed {b = b} {s = s} {k' = k'} outer count extends p =
       record {
-        at = record { writing = p.at.writing; scope = (λ i. drop (length (p.at.scope i) - count i) (p.at.scope i)) ∙ left_extends extends; next = p.at.next };
+        at = record { writing = p.at.writing; scope = (λ i. drop (length (p.at.scope i) - count i) (p.at.scope i)) ∙ left_extends extends; next = p.at.next; before = older_before k' extends.newer s (subst (AreBefore k') extends.is p.at.before) };
         declared = p.declared;
         used = p.used;
         tokens = p.tokens;
         agree = p.agree;
+        in_order = p.in_order;
       }
 
   mutual
@@ -437,11 +518,12 @@ module _ {M : Type 0} (table : ℕ → Option ℕ) (label : Labels Name M) (src 
         let whole = pass_then h g in
         let e = extends_then (extends_then (one_extends (name, k) s) (names_extend (suc k) formal ((name, k) ∷ s))) (block_extends k₁ (spelled_by src b) inside) in
         let behind = left_passed outside count e whole in
+        let low : k < after_block k₁ (spelled_by src b) = omega (arith, le-after_names (suc k) formal, le-after_block k₁ (spelled_by src b)) in
         let shown_again : At (leave_block x (7 + own) outside (visit_block b v₃)) src ((name, k) ∷ s) (after_block k₁ (spelled_by src b)) =
-        record { writing = behind.at.writing; scope = (λ i. (name_at (behind.at.writing i) x, at.next i) ∷ behind.at.scope i); next = behind.at.next } in
+        record { writing = behind.at.writing; scope = (λ i. (name_at (behind.at.writing i) x, at.next i) ∷ behind.at.scope i); next = behind.at.next; before = (low, behind.at.before) } in
         let visible : Passes v (leave_block x (7 + own) outside (visit_block b v₃)) (((role.Declaring, x) ∷ identifiers role.Declaring fs) ++ identifiers role.Declaring b) ((name, k) ∷ s) (after_block k₁ (spelled_by src b)) _ =
-        record { at = shown_again; declared = behind.declared; used = behind.used; tokens = behind.tokens; agree = behind.agree } in
-        let last = mark_passed role.ClosingName closing (Some (7 + own)) (leave_block x (7 + own) outside (visit_block b v₃)) ((name, k) ∷ s) (after_block k₁ (spelled_by src b)) refl refl shown_again in
+        record { at = shown_again; declared = behind.declared; used = behind.used; tokens = behind.tokens; agree = behind.agree; in_order = behind.in_order } in
+        let last = mark_passed role.ClosingName closing (Some (7 + own)) (leave_block x (7 + own) outside (visit_block b v₃)) ((name, k) ∷ s) (after_block k₁ (spelled_by src b)) refl refl (omega (arith, low, at.next)) shown_again in
         pass_is (append_assoc ((role.Declaring, x) ∷ identifiers role.Declaring fs) (identifiers role.Declaring b) ((role.ClosingName, closing) ∷ []) ∙ append_assoc ((role.Declaring, x) ∷ []) (identifiers role.Declaring fs) (identifiers role.Declaring b ++ ((role.ClosingName, closing) ∷ []))) refl refl
         (pass_to (pass_then visible last)
         (λ p i. declares_procedure (label (sym p.first.first.first i) name) (p.first.first.second i) (p.first.second i) (label (sym (p.second ∙ ap Some at.next) i) (name_at src closing))))
@@ -451,8 +533,8 @@ module _ {M : Type 0} (table : ℕ → Option ℕ) (label : Labels Name M) (src 
       (relabelled as_names label (spelled_by src m) ≡ by_table m)
   module_passed (is_module x b closing) v at =
       let s = predeclared_scope as_names in
-      let a = mark_passed role.ModuleName x None v s 7 refl refl at in
+      let a = mark_passed role.ModuleName x None v s 7 refl refl tt at in
       let g = block_passed b (marked x None v) s 7 a.at in
-      let last = mark_passed role.ModuleName closing None (visit_block b (marked x None v)) (body_scope 7 (spelled_by src b) s) (after_block 7 (spelled_by src b)) refl refl g.at in
+      let last = mark_passed role.ModuleName closing None (visit_block b (marked x None v)) (body_scope 7 (spelled_by src b) s) (after_block 7 (spelled_by src b)) refl refl tt g.at in
       pass_to (pass_then a (pass_then g last))
       (λ p i. is_module (label (sym p.first i) (name_at src x)) (p.second.first i) (label (sym p.second.second i) (name_at src closing)))

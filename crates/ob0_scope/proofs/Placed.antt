@@ -21,7 +21,7 @@ use Rattle.ob0_scope_rules.specs.Resolution.{IsResolution, Resolution, label_at,
 use Rattle.ob0_scope_rules.specs.Spans.{span_in}
 use Rattle.ob0_scope_rules.specs.Scopes.{as_label, same_ordinal}
 use Rattle.ob0_scope.specs.declared.naming.Named as named
-use Rattle.ob0_scope.specs.Listing.{is_identifier, is_listed, is_name_on, tokens_listed}
+use Rattle.ob0_scope.specs.Listing.{is_identifier, is_name_on}
 use Rattle.ob0_scope_rules.specs.Spans.{is_on}
 use Rattle.ob0_scope.specs.NamesAtPlaces.{BoundIdentifier, is_declaring, name_on, named_by, refers, bound_identifiers, tokens_bound}
 
@@ -32,7 +32,7 @@ names_mapped f g (Number n ∷ xs) = names_mapped f g xs
 names_mapped f g (Mark k ∷ xs) = names_mapped f g xs
 names_mapped f g (EndOfText ∷ xs) = names_mapped f g xs
 
-leaves-mapped : {N M : Type 0} {s : Sort} (f : N → M) (g : ℕ → ℕ) (t : Tree N s) → leaves (mapped f g t) ≡ map f (leaves t)
+pub leaves-mapped : {N M : Type 0} {s : Sort} (f : N → M) (g : ℕ → ℕ) (t : Tree N s) → leaves (mapped f g t) ≡ map f (leaves t)
 leaves-mapped f g t =
     leaves_spelled role.Declaring (mapped f g t)
     ∙ (ap lexeme_names (spell_mapped f g t) ∙ (names_mapped f g (spell t) ∙ ap (map f) (sym (leaves_spelled role.Declaring t))))
@@ -60,6 +60,14 @@ bound_to source ordinals d i = one (ordinal_in ordinals i)
     one : (o : Option ℕ) → same_label (as_label as_names o (text_at source i)) (declared d) ≡ same_ordinal o d
     one None = refl
     one (Some k) = refl
+
+-- an identifier has this ordinal, and isn't the declaring one unless that is asked for
+abbrev pub is_listed : List (Option ℕ) → Bool → ℕ → Role × ℕ → Bool
+is_listed ordinals include d x = same_ordinal (ordinal_in ordinals x.1) d && (include || not (is_declaring x.0))
+
+-- the identifiers of a declaration by the table, with or without the declaring one
+abbrev pub tokens_listed : List (Option ℕ) → Bool → ℕ → List (Role × ℕ) → List ℕ
+tokens_listed ordinals include d xs = map (λ x. x.1) (filter (is_listed ordinals include d) xs)
 
 -- what is kept of one list and what is kept of another
 listed : (source : Scanned) (ordinals : List (Option ℕ)) (include : Bool) (d : ℕ) (xs : List (Role × ℕ))

@@ -19,7 +19,7 @@ use Rattle.ob0_scope_rules.proofs.Bound.{bindings_by_table}
 use Rattle.ob0_scope.proofs.FirstCaptures.{same_binding-refl}
 use Rattle.ob0_scope.proofs.Fused.{mapped-mapped, relabelled-mapped}
 use Rattle.ob0_scope_rules.proofs.OccurrencesMapped.{occurrences-mapped}
-use Rattle.ob0_scope.proofs.Passing.{HasMarks, module_passed}
+use Rattle.ob0_scope.proofs.Passing.{HasMarks, at_start, module_passed}
 use Rattle.ob0_scope.proofs.Tables.{marks_stand}
 
 -- the table of all marks has each at its token
@@ -28,7 +28,7 @@ pub marks_in_table : (m : Parsed) (w : Writing) (v : Visit) (ordinals : List (Op
 marks_in_table m w v ordinals parsed gone tabled =
     let marks = (visit_module (tree_of m) (started w)).marks in
     let count = length-replicate (length m.source.tokens) (let nothing : Option ℕ = None in nothing) in
-    let passed = module_passed (ordinal_in ordinals) (as_label as_names) w (tree_of m) (started w) (record { writing = refl; scope = refl; next = refl }) in
+    let passed = module_passed (ordinal_in ordinals) (as_label as_names) w (tree_of m) (started w) (at_start w) in
     let table : ordinals ≡ with_marks (replicate (length m.source.tokens) None) marks = tabled ∙ ap (λ (v : Visit). with_marks (replicate (length m.source.tokens) None) v.marks) gone in
     let ascend = subst (λ ts. Ascending 0 ts (length m.source.tokens)) (sym passed.tokens) (leaves_ascend m parsed) in
     let stand = marks_stand marks (replicate (length m.source.tokens) None) 0 (length m.source.tokens) ascend (subst (λ n. length m.source.tokens ≤ n) (sym count) (le_refl (length m.source.tokens))) in
@@ -49,7 +49,7 @@ pub renumbered : (r : Resolution) (d : ℕ) (new : Name) (v : Visit) (ordinals :
 renumbered r d new v ordinals is gone tabled =
     let m = r.module_read in
     let w = renamed_in r d new in
-    let passed = module_passed (ordinal_in ordinals) (as_label as_names) w (tree_of m) (started w) (record { writing = refl; scope = refl; next = refl }) in
+    let passed = module_passed (ordinal_in ordinals) (as_label as_names) w (tree_of m) (started w) (at_start w) in
     ap numbered (renamed_spelled r d new is) ∙ (passed.agree (marks_in_table m w v ordinals is.parsed gone tabled)).1
 
 -- what is bound in the renamed module
@@ -60,7 +60,7 @@ renamed_bindings r d new ordinals is numbering =
     let label : ℕ → Label = λ i. as_label as_names (ordinal_in ordinals i) (name_at (renamed_in r d new) i) in
     ap occurrences numbering ∙ (occurrences-mapped label (value_at m.source) (tree_of m) ∙ ap (map label) (sym is.occurring))
 
-ordinals_back : (written : ℕ → Name) (ordinals : List (Option ℕ)) (is : List ℕ) → map label_ordinal (map (λ i. as_label as_names (ordinal_in ordinals i) (written i)) is) ≡ map (ordinal_in ordinals) is
+pub ordinals_back : (written : ℕ → Name) (ordinals : List (Option ℕ)) (is : List ℕ) → map label_ordinal (map (λ i. as_label as_names (ordinal_in ordinals i) (written i)) is) ≡ map (ordinal_in ordinals) is
 ordinals_back written ordinals [] = refl
 ordinals_back written ordinals (i ∷ is) = λ j. back (ordinal_in ordinals i) (written i) j ∷ ordinals_back written ordinals is j
   where

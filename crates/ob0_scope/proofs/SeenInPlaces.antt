@@ -26,7 +26,7 @@ use Rattle.ob0_scope.specs.Written.{Writing, name_at}
 use Rattle.ob0_scope.proofs.Fused.{relabelled-mapped}
 use Rattle.ob0_scope_rules.proofs.OccurrenceNames.{occurrences-with_names}
 use Rattle.ob0_scope_rules.proofs.OccurrencesMapped.{occurrences-mapped}
-use Rattle.ob0_scope.proofs.Passing.{module_passed, tokens_of}
+use Rattle.ob0_scope.proofs.Passing.{at_start, module_passed, tokens_of}
 use Rattle.ob0_scope.proofs.Renumbered.{marks_in_table}
 use Rattle.ob0_scope.proofs.Tables.{kept_below}
 
@@ -400,7 +400,7 @@ seen_in_places r y v sought ordinals is table gone tabled =
     let m = r.module_read in
     let w : Writing = record { source = m.source; ordinals = sought; declaration = Some 0; new = y } in
     let ids = identifiers role.Declaring (tree_of m) in
-    let passed = module_passed (ordinal_in ordinals) forget w (tree_of m) (started w) (record { writing = refl; scope = refl; next = refl }) in
+    let passed = module_passed (ordinal_in ordinals) forget w (tree_of m) (started w) (at_start w) in
     let agree = (passed.agree (marks_in_table m w v ordinals is.parsed gone tabled)).1 in
     let told_so : AllTold sought ids = subst (λ (t : List (Option ℕ)). AllTold t ids) (sym table) (uses_told r is) in
     ap (map (ordinal_in ordinals)) is.occurring

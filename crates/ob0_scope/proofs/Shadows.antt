@@ -7,10 +7,10 @@ use Rattle.std.proofs.lemmas.Slice.Eq.{bytes_eq-Decides}
 use Rattle.ob0_scope.specs.declared.newest.Entry.{Entry}
 use Rattle.ob0_scope.specs.declared.visible.Binding.{Binding}
 use Rattle.ob0_scope_rules.specs.Names.{Name, as_names, same_name}
-use Rattle.ob0_scope.specs.NewestNames.{IsRenewed, newest_in}
+use Rattle.ob0_scope.specs.NewestNames.{IsRenewed, KeepsNewest, KeepsPlaces, newest_in, place_of}
 use Rattle.ob0_scope_rules.specs.Scopes.{ordinal_of}
-use Rattle.ob0_scope.specs.Shadowing.{AreHidden, IsNewest, latest, scope_of}
-use Rattle.ob0_scope_rules.proofs.NameEquality.{same_name-comm, same_name-refl}
+use Rattle.ob0_scope.specs.Shadowing.{AreHidden, ArePlaced, IsNewest, latest, scope_of}
+use Rattle.ob0_scope_rules.proofs.NameEquality.{same_name-comm}
 
 abbrev pub shown : Binding → Name × ℕ
 shown b = (b.name.now, b.ordinal)
@@ -93,14 +93,22 @@ given_up newest next items b w renewed =
       hidden = trail.1;
     }
 
-found_step : (same : Bool) (n : ℕ) (rest : Option ℕ) → same ≡ true → (if same then Some n else rest) ≡ Some n
-found_step true n rest e = refl
-found_step false n rest e = absurd (cc)
+-- each binding has its name's place, also after places were kept, with one more and with one less
+pub still_placed : (before after : List Entry) (bs : List Binding) → KeepsPlaces before after → ArePlaced before bs → ArePlaced after bs
+still_placed before after [] kept h = tt
+still_placed before after (b ∷ bs) kept h = (kept b.name.now b.place h.0, still_placed before after bs kept h.1)
 
--- the name of the newest binding is found
-pub newest_found : (newest : List Entry) (items : List Binding) (b : Binding) → IsNewest newest (items ++ (b ∷ [])) → newest_in newest b.name.now ≡ Some (length (reverse items))
-newest_found newest items b w =
-    w.found b.name.now ∙ (ap (latest b.name.now) (reverse-append items (b ∷ [])) ∙ found_step (same_name b.name.now b.name.now) (length (reverse items)) (latest b.name.now (reverse items)) (same_name-refl b.name.now))
+pub one_more_placed : (newest : List Entry) (items : List Binding) (b : Binding) → ArePlaced newest items → place_of newest b.name.now ≡ Some b.place → ArePlaced newest (items ++ (b ∷ []))
+one_more_placed newest [] b h at = (at, tt)
+one_more_placed newest (x ∷ items) b h at = (h.0, one_more_placed newest items b h.1 at)
+
+pub one_less_placed : (newest : List Entry) (items : List Binding) (b : Binding) → ArePlaced newest (items ++ (b ∷ [])) → ArePlaced newest items × (place_of newest b.name.now ≡ Some b.place)
+one_less_placed newest [] b h = (tt, h.0)
+one_less_placed newest (x ∷ items) b h = let rest = one_less_placed newest items b h.1 in ((h.0, rest.0), rest.1)
+
+-- what is kept, after names were given places
+pub still_newest : (before after : List Entry) (items : List Binding) → KeepsNewest before after → IsNewest before items → IsNewest after items
+still_newest before after items kept w = record { found = λ x. kept x ∙ w.found x; hidden = w.hidden }
 
 pub scope-popped : (items : List Binding) (b : Binding) → scope_of (items ++ (b ∷ [])) ≡ shown b ∷ scope_of items
 scope-popped items b = ap (map shown) (reverse-append items (b ∷ []))

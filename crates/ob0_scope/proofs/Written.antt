@@ -15,10 +15,9 @@ use Rattle.ob0_scope_rules.specs.Resolution.{IsResolution, Resolution, ordinal_i
 use Rattle.ob0_scope_rules.specs.Scopes.{same_ordinal}
 use Rattle.ob0_scope.specs.Written.{name_at}
 use Rattle.ob0_scope.proofs.Renumbered.{renamed_spelled}
-use Rattle.ob0_scope.specs.Listing.{is_listed, tokens_listed}
 use Rattle.ob0_scope.specs.NamesAtPlaces.{IsRenamedAt, is_among, tokens_bound}
 use Rattle.ob0_scope.proofs.Alike.{AllAlike, alike}
-use Rattle.ob0_scope.proofs.Placed.{bound_listed}
+use Rattle.ob0_scope.proofs.Placed.{bound_listed, is_listed, tokens_listed}
 
 -- what is kept of ascending tokens ascends, and what is kept of identifiers are identifiers
 

@@ -1,15 +1,11 @@
 -- The identifiers of a module by a table of ordinals.
--- Rule: none; for contracts: identifiers by a table of ordinals.
-use Rattle.std.specs.Prelude.{ℕ, ◌<◌, ◌≤◌, Bool, true, false, not, ◌&&◌, ◌||◌, List, [], ◌∷◌, Option, map}
-use Rattle.std.specs.List.{filter}
+-- Rule: none; for private contracts: identifiers by a table of ordinals.
+use Rattle.std.specs.Prelude.{ℕ, ◌+◌, ◌<◌, ◌≤◌, Bool, true, false, not, ◌&&◌, if◌then◌else◌, List, [], ◌∷◌, Option, Some, None, drop}
 use Rattle.ob0_scan.specs.declared.lexeme.Token.{Token}
 use Rattle.ob0_scan.specs.declared.lexeme.TokenKind.{TokenKind}
 use Rattle.ob0_scan.specs.declared.lexeme.TokenKind.TheVariants as kind
-use Rattle.ob0_tree.specs.declared.tree.Role.{Role}
-use Rattle.ob0_scope_rules.specs.Resolution.{ordinal_in}
 use Rattle.ob0_scope_rules.specs.Scopes.{same_ordinal}
 use Rattle.ob0_scope_rules.specs.Spans.{is_on}
-use Rattle.ob0_scope.specs.NamesAtPlaces.{is_declaring}
 
 -- a token is an identifier
 abbrev pub is_identifier : TokenKind → Bool
@@ -28,11 +24,23 @@ AreApart from [] = Unit {0}
 AreApart from (t ∷ ts) =
     (from ≤ t.span.start) × ((t.span.start < t.span.end) × AreApart t.span.end ts)
 
--- an identifier has this ordinal, and isn't the declaring one unless that is asked for
-abbrev pub is_listed : List (Option ℕ) → Bool → ℕ → Role × ℕ → Bool
-is_listed ordinals include d x =
-    same_ordinal (ordinal_in ordinals x.1) d && (include || not (is_declaring x.0))
+-- the indexes of the entries of a table that have an ordinal, but for one; the first entry has this index
+abbrev pub tokens_with : Option ℕ → ℕ → ℕ → List (Option ℕ) → List ℕ
+tokens_with omitted d i [] = []
+tokens_with omitted d i (ordinal ∷ ordinals) =
+    if same_ordinal ordinal d && not (same_ordinal omitted i)
+    then i ∷ tokens_with omitted d (i + 1) ordinals
+    else tokens_with omitted d (i + 1) ordinals
 
--- the identifiers of a declaration by the table, with or without the declaring one
-abbrev pub tokens_listed : List (Option ℕ) → Bool → ℕ → List (Role × ℕ) → List ℕ
-tokens_listed ordinals include d xs = map (λ x. x.1) (filter (is_listed ordinals include d) xs)
+-- those from a token on
+abbrev pub tokens_from : Option ℕ → ℕ → ℕ → List (Option ℕ) → List ℕ
+tokens_from omitted d first ordinals = tokens_with omitted d first (drop first ordinals)
+
+-- the token that is left out: the one that declares, unless it is asked for
+abbrev pub omitted : Bool → Option ℕ → Option ℕ
+omitted include declaring = if include then None else declaring
+
+-- where the tokens that name a declaration begin: nothing names it before it is declared
+abbrev pub first_token : Option ℕ → ℕ
+first_token None = 0
+first_token (Some token) = token

@@ -34,10 +34,11 @@ IsAdded before after x =
     (y : Name)
     → place_of after y ≡ (if same_name x y then Some (length before) else place_of before y)
 
--- each name keeps its place
+-- each name that has a place keeps it
 abbrev pub KeepsPlaces : List Entry → List Entry → Type 0
-KeepsPlaces before after = (y : Name) → place_of after y ≡ place_of before y
+KeepsPlaces before after =
+    (y : Name) → (i : ℕ) → place_of before y ≡ Some i → place_of after y ≡ Some i
 
--- the name that has the first place keeps it
-abbrev pub KeepsFirst : List Entry → List Entry → Type 0
-KeepsFirst before after = (y : Name) → place_of before y ≡ Some 0 → place_of after y ≡ Some 0
+-- each name keeps its newest binding
+abbrev pub KeepsNewest : List Entry → List Entry → Type 0
+KeepsNewest before after = (y : Name) → newest_in after y ≡ newest_in before y

@@ -35,7 +35,14 @@ pub record VisibleNames : Type 0 where
 abbrev pub with_scope : VisibleNames → Scope Name → VisibleNames
 with_scope v scope = record { new_name = v.new_name; scope = scope }
 
+-- each binding has the place of its name
+abbrev pub ArePlaced : List Entry → List Binding → Type 0
+ArePlaced newest [] = Unit {0}
+ArePlaced newest (b ∷ bs) =
+    (place_of newest b.name.now ≡ Some b.place) × ArePlaced newest bs
+
 -- What is kept of each name is the index of its newest binding, and the new name has the first place.
 pub record IsKept (new : Name) (newest : List Entry) (bindings : List Binding) : Type 0 where
   pub is : IsNewest newest bindings
+  pub placed : ArePlaced newest bindings
   pub first : place_of newest new ≡ Some 0

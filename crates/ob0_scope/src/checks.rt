@@ -1,13 +1,13 @@
 //! Names that are declared twice, and closing names that differ.
 
-ghost use Rattle.std.specs.Prelude.{◌≡◌, ◌++◌, [], IfOk, OnOk};
+ghost use Rattle.std.specs.Prelude.{◌≡◌, ◌++◌, [], IfOk, OnOk, map};
 ghost use Rattle.ob0_scan.specs.Scanned.{Scanned};
 ghost use Rattle.ob0_tree.specs.Places.{text_at};
 ghost use Rattle.ob0_tree.specs.View.{items_of, names_of, type_of, record_in, fields_of, constants_of, types_of, variables_of, formals_of, procedure_of, block_of, further_fields_of_group};
 ghost use Rattle.ob0_scope_rules.specs.Names.{same_name};
 ghost use Rattle.ob0_scope_rules.specs.Parts.{names_listed, constant_names, named_types, variable_names, formal_names, formal_sections, section_constants, section_types, section_variables};
-ghost use Rattle.ob0_scope_rules.specs.DeclaredOnce.{block_names, group_fields, procedure_names};
-ghost use Rattle.ob0_scope_rules.specs.DeclaredTwice.{again, block_twice, closing_other, fields_twice, formals_twice, group_twice, procedure_twice, twice_in, types_twice, unless, variables_twice};
+ghost use Rattle.ob0_scope_rules.specs.DeclaredOnce.{block_names, group_fields, is_among, procedure_names};
+ghost use Rattle.ob0_scope_rules.specs.DeclaredTwice.{again, block_twice, closing_other, duplicate_at, fields_twice, formals_twice, group_twice, procedure_twice, twice_in, types_twice, unless, variables_twice};
 
 use crate::writing::token_text;
 use ob0_scan::{Code, Fault, Tokens};
@@ -19,6 +19,9 @@ use ob0_tree::{
 use std::alloc::{AllocError, Global};
 use std::collections::BTreeSet;
 use std::marker::Model;
+
+/// How many names are compared with one another, without a set of them.
+const FEW: usize = 16;
 
 /// The faults of declarations so far.
 #[derive(Drop)]
@@ -54,6 +57,28 @@ fn is_same(tokens: &Tokens, a: usize, b: usize) -> bool
     ensures { result ≡ same_name (text_at tokens.now a) (text_at tokens.now b) }
 {
     token_text(tokens, a) == token_text(tokens, b)
+}
+
+/// A second declaration.
+fn duplicate_at(tokens: &Tokens, name: usize) -> Fault
+    ensures { result ≡ duplicate_at tokens.now name }
+{
+    Fault {
+        code: Code::Duplicate,
+        span: token_span(tokens, name),
+    }
+}
+
+/// Whether one of some identifiers is written so.
+fn is_written(tokens: &Tokens, names: &[usize], text: &str) -> bool
+    ensures { result ≡ is_among text.now (map (text_at tokens.now) names.now) }
+{
+    for name in names {
+        if text == token_text(tokens, *name) {
+            return true;
+        }
+    }
+    false
 }
 
 fn add_names(out: &mut Vec<usize>, ns: &Names) -> Result<(), AllocError>
@@ -179,14 +204,32 @@ impl Checks {
     fn distinct(&mut self, tokens: &Tokens, names: &[usize]) -> Result<(), AllocError>
         ensures { OnOk result (self.new ≡ self.old ++ again tokens.now [] names.now) }
     {
+        if names.len() <= FEW {
+            self.distinct_few(tokens, names)
+        } else {
+            self.distinct_many(tokens, names)
+        }
+    }
+
+    /// The same, where each name is compared with all before it.
+    fn distinct_few(&mut self, tokens: &Tokens, names: &[usize]) -> Result<(), AllocError>
+        ensures { OnOk result (self.new ≡ self.old ++ again tokens.now [] names.now) }
+    {
+        for (index, name) in names.iter().enumerate() {
+            let is_second = is_written(tokens, &names[..index], token_text(tokens, *name));
+            self.expect(!is_second, duplicate_at(tokens, *name))?;
+        }
+        Ok(())
+    }
+
+    /// The same, with a set of the names so far.
+    fn distinct_many(&mut self, tokens: &Tokens, names: &[usize]) -> Result<(), AllocError>
+        ensures { OnOk result (self.new ≡ self.old ++ again tokens.now [] names.now) }
+    {
         let mut seen = BTreeSet::new(self.alloc);
         for name in names {
             let added = seen.insert(token_text(tokens, *name))?;
-            let fault = Fault {
-                code: Code::Duplicate,
-                span: token_span(tokens, *name),
-            };
-            self.expect(added, fault)?;
+            self.expect(added, duplicate_at(tokens, *name))?;
         }
         Ok(())
     }
@@ -206,7 +249,7 @@ impl Checks {
     fn record(&mut self, tokens: &Tokens, r: &RecordType) -> Result<(), AllocError>
         ensures { OnOk result (self.new ≡ self.old ++ fields_twice tokens.now (record_in r.now)) }
     {
-        let mut names = Vec::new(self.alloc);
+        let mut names = Vec::with_capacity(self.alloc, FEW)?;
         for group in &r.groups {
             add_fields(&mut names, group)?;
         }
@@ -279,7 +322,7 @@ impl Checks {
     {
         self.closing(tokens, p.name, p.closing)?;
         self.formals(tokens, &p.formals)?;
-        let mut own = Vec::new(self.alloc);
+        let mut own = Vec::with_capacity(self.alloc, FEW)?;
         add_formals(&mut own, &p.formals)?;
         self.block(tokens, own, &p.block)
     }

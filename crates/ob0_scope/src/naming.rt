@@ -5,14 +5,12 @@ ghost use Rattle.std.specs.List.{position_from};
 ghost use Rattle.std.specs.List.Sorted.{IsNonDecreasingBy, IsPartitionPoint};
 ghost use Rattle.ob0_scan.specs.declared.lexeme.Token as token;
 ghost use Rattle.ob0_tree.specs.Order.{AreIdentifiers, Ascending};
-ghost use Rattle.ob0_scope.specs.Listing.{AreApart, is_identifier, is_name_on, tokens_listed};
-ghost use Rattle.ob0_scope_rules.specs.Resolution.{ordinal_in};
+ghost use Rattle.ob0_scope.specs.Listing.{AreApart, first_token, is_identifier, is_name_on, omitted, tokens_from};
 ghost use Rattle.ob0_scope_rules.specs.Scopes.{same_ordinal};
-ghost use Rattle.ob0_scope.specs.NamesAtPlaces.{IsRenamedAt, is_declaring, name_on, tokens_bound};
+ghost use Rattle.ob0_scope.specs.NamesAtPlaces.{IsRenamedAt, name_on, tokens_bound};
 
 use ob0_scan::{Token, TokenKind};
 use ob0_scope_rules::Resolved;
-use ob0_tree::Role;
 use std::alloc::{AllocError, Global};
 
 /// An identifier that is bound to a declaration: its token, and the declaration's ordinal.
@@ -49,8 +47,63 @@ pub fn tokens_bound(
     ensures { IfOk result
         (λ found. found.items ≡ tokens_bound names.now.module_read declaration include) }
 {
-    let identifiers = names.module().identifiers(alloc)?;
-    tokens_of(alloc, names, declaration, include, &identifiers)
+    // For the proof: what the contract of this call says.
+    let _ = names.module();
+    let declaring = names.declaring_token(declaration);
+    tokens_from(
+        alloc,
+        names.ordinals(),
+        first_token(declaring),
+        declaration,
+        omitted(include, declaring),
+    )
+}
+
+/// The token that is left out: the one that declares, unless it is asked for.
+fn omitted(include: bool, declaring: Option<usize>) -> Option<usize>
+    ensures { result ≡ omitted include declaring }
+{
+    if include { None } else { declaring }
+}
+
+/// Where the tokens that name a declaration begin: nothing names it before it is declared.
+fn first_token(declaring: Option<usize>) -> usize
+    ensures { result ≡ first_token declaring }
+{
+    match declaring {
+        Some(token) => token,
+        None => 0,
+    }
+}
+
+/// The tokens from one on that a table binds to a declaration, but for one that is left out.
+fn tokens_from(
+    alloc: Global,
+    ordinals: &[Option<usize>],
+    first: usize,
+    declaration: usize,
+    omitted: Option<usize>,
+) -> Result<Vec<usize>, AllocError>
+    ensures { IfOk result
+        (λ found. found.items ≡ tokens_from omitted declaration first ordinals.now) }
+{
+    let mut found = Vec::new(alloc);
+    for token in first..ordinals.len() {
+        if is_same(ordinals[token], declaration) && !is_same(omitted, token) {
+            found.push(token)?;
+        }
+    }
+    Ok(found)
+}
+
+/// Whether there is a number, and it is this one.
+fn is_same(number: Option<usize>, other: usize) -> bool
+    ensures { result ≡ same_ordinal number other }
+{
+    match number {
+        Some(number) => number == other,
+        None => false,
+    }
 }
 
 /// The tokens at which another name for a declaration is written: the one that declares it, its closing name, and all
@@ -72,47 +125,6 @@ pub fn renamed_tokens(
     // For the proof: what the contract of this call says.
     let _ = names.module();
     tokens_bound(alloc, names, declaration, true)
-}
-
-/// The tokens of those of some identifiers that a declaration binds.
-fn tokens_of(
-    alloc: Global,
-    names: &Resolved,
-    declaration: usize,
-    include: bool,
-    identifiers: &[(Role, usize)],
-) -> Result<Vec<usize>, AllocError>
-    ensures { IfOk result (λ found. found.items
-        ≡ tokens_listed names.now.ordinals include declaration identifiers.now) }
-{
-    let mut found = Vec::new(alloc);
-    for (role, token) in identifiers {
-        if is_bound(names, declaration, *token) && (include || !is_declaring(*role)) {
-            found.push(*token)?;
-        }
-    }
-    Ok(found)
-}
-
-fn is_bound(names: &Resolved, declaration: usize, token: usize) -> bool
-    ensures { result ≡ same_ordinal (ordinal_in names.now.ordinals token) declaration }
-{
-    match names.ordinal_at(token) {
-        Some(ordinal) => ordinal == declaration,
-        None => false,
-    }
-}
-
-fn is_declaring(role: Role) -> bool
-    ensures { result ≡ is_declaring role }
-{
-    match role {
-        Role::Declaring => true,
-        Role::LookedUp => false,
-        Role::ClosingName => false,
-        Role::FieldName => false,
-        Role::ModuleName => false,
-    }
 }
 
 /// The index of the first identifier that a place is on. It is found by halving: it is the first token that doesn't end

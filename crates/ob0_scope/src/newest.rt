@@ -1,8 +1,8 @@
 //! The newest binding of each name.
 
-ghost use Rattle.std.specs.Prelude.{◌≡◌, ◌<◌, ◌∷◌, ◌++◌, [], IfOk, IfSome, IsSome, OnErr, OnOk, None, Some, length};
+ghost use Rattle.std.specs.Prelude.{◌≡◌, [], IfOk, IfSome, OnErr, OnOk, None, Some};
 ghost use Rattle.ob0_scope.specs.Keys.{number_of, with_byte, with_bytes};
-ghost use Rattle.ob0_scope.specs.NewestNames.{IsAdded, IsRenewed, KeepsFirst, KeepsPlaces, newest_in, place_of};
+ghost use Rattle.ob0_scope.specs.NewestNames.{IsAdded, IsRenewed, KeepsNewest, KeepsPlaces, newest_in, place_of};
 ghost use Rattle.ob0_scope_rules.specs.Names.{Name};
 
 use std::alloc::{AllocError, Global};
@@ -47,9 +47,25 @@ fn with_byte(number: u64, byte: u8) -> u64
     number.wrapping_mul(256).wrapping_add(u64::from(byte))
 }
 
-/// Where a name with this number is noted among the recent ones. The product's first bits depend on all bits of the number.
-fn slot_of(number: u64) -> usize {
-    (number.wrapping_mul(0x9E37_79B9_7F4A_7C15) >> 54) as usize
+/// A few bytes of a name side by side, enough to distinguish most names: of a long one the first and the last three.
+fn sketch(name: &str) -> u64 {
+    let bytes = name.as_bytes();
+    let len = bytes.len();
+    if len == 0 {
+        return 0;
+    }
+    let first = u64::from(bytes[0]);
+    let last = u64::from(bytes[len - 1]);
+    let ends = (len as u64) << 16 | first << 8 | last;
+    if len < 4 {
+        return ends << 8 | u64::from(bytes[len / 2]);
+    }
+    ends << 16 | u64::from(bytes[len - 2]) << 8 | u64::from(bytes[len - 3])
+}
+
+/// Where a name is noted among the recent ones. The product's first bits depend on all bits of the sketch.
+fn slot_of(name: &str) -> usize {
+    (sketch(name).wrapping_mul(0x9E37_79B9_7F4A_7C15) >> 54) as usize
 }
 
 /// A name that was bound, with the index of its newest binding, where it has one.
@@ -87,7 +103,7 @@ impl<'t> Newest<'t> {
         ensures first { IfOk result (λ t. place_of t first.now ≡ Some 0) }
     {
         let mut newest = Newest::with_no_names(alloc)?;
-        newest.add(first, None)?;
+        newest.add(first)?;
         Ok(newest)
     }
 
@@ -140,12 +156,11 @@ impl<'t> Newest<'t> {
         ensures found { result ≡ place_of self.old name.now }
         ensures same { self.new ≡ self.old }
     {
-        let key = key_of(name);
-        let slot = slot_of(key.0);
+        let slot = slot_of(name);
         if let Some(place) = self.find_entry(slot, name) {
             return Some(place);
         }
-        let place = match self.places.get(&key) {
+        let place = match self.places.get(&key_of(name)) {
             None => return None,
             Some(place) => *place,
         };
@@ -153,21 +168,44 @@ impl<'t> Newest<'t> {
         Some(place)
     }
 
-    /// Adds a name that wasn't bound before.
-    fn add(&mut self, name: &'t str, newest: Option<usize>) -> Result<(), AllocError>
+    /// Adds a name that has no place. Nothing is bound to it yet.
+    fn add(&mut self, name: &'t str) -> Result<(), AllocError>
         requires { place_of self.old name.now ≡ None }
-        ensures renewed { OnOk result (IsRenewed self.old self.new name.now newest) }
         ensures added { OnOk result (IsAdded self.old self.new name.now) }
+        ensures newest { OnOk result (KeepsNewest self.old self.new) }
         ensures same { OnErr result (self.new ≡ self.old) }
     {
         self.entries.reserve(1)?;
         self.places.insert(key_of(name), self.entries.len())?;
-        self.entries.push_reserved(Entry { name, newest });
+        self.entries.push_reserved(Entry { name, newest: None });
         Ok(())
     }
 
+    /// The place of a name, which is added where it has none.
+    pub(crate) fn place(&mut self, name: &'t str) -> Result<usize, AllocError>
+        ensures placed { IfOk result (λ place. place_of self.new name.now ≡ Some place) }
+        ensures places { OnOk result (KeepsPlaces self.old self.new) }
+        ensures newest { OnOk result (KeepsNewest self.old self.new) }
+        ensures same { OnErr result (self.new ≡ self.old) }
+    {
+        if let Some(place) = self.find(name) {
+            return Ok(place);
+        }
+        let place = self.entries.len();
+        self.add(name)?;
+        Ok(place)
+    }
+
+    /// The index of the newest binding of the name at a place.
+    pub(crate) fn newest_at(&self, place: usize, name: &'t str) -> Option<usize>
+        requires { place_of self.now name.now ≡ Some place }
+        ensures { result ≡ newest_in self.now name.now }
+    {
+        self.entries[place].newest
+    }
+
     /// Gives the name at a place another newest binding.
-    fn renew(&mut self, place: usize, name: &'t str, newest: Option<usize>)
+    pub(crate) fn renew(&mut self, place: usize, name: &'t str, newest: Option<usize>)
         requires { place_of self.old name.now ≡ Some place }
         ensures renewed { IsRenewed self.old self.new name.now newest }
         ensures places { KeepsPlaces self.old self.new }
@@ -184,39 +222,6 @@ impl<'t> Newest<'t> {
             None => return None,
             Some(place) => place,
         };
-        self.entries[place].newest
-    }
-
-    /// Gives a name a newer binding, and answers the one before.
-    pub(crate) fn put(&mut self, name: &'t str, index: usize) -> Result<Option<usize>, AllocError>
-        ensures before { IfOk result (λ before. before ≡ newest_in self.old name.now) }
-        ensures renewed { OnOk result (IsRenewed self.old self.new name.now (Some index)) }
-        ensures first { OnOk result (KeepsFirst self.old self.new) }
-        ensures same { OnErr result (self.new ≡ self.old) }
-    {
-        match self.find(name) {
-            None => {
-                self.add(name, Some(index))?;
-                Ok(None)
-            }
-            Some(place) => {
-                let before = self.entries[place].newest;
-                self.renew(place, name, Some(index));
-                Ok(before)
-            }
-        }
-    }
-
-    /// Gives a name that is bound back the binding before its newest one.
-    pub(crate) fn put_back(&mut self, name: &'t str, before: Option<usize>)
-        requires { IsSome (newest_in self.old name.now) }
-        ensures renewed { IsRenewed self.old self.new name.now before }
-        ensures places { KeepsPlaces self.old self.new }
-    {
-        let place = match self.find(name) {
-            None => return,
-            Some(place) => place,
-        };
-        self.renew(place, name, before);
+        self.newest_at(place, name)
     }
 }

@@ -1,33 +1,27 @@
 //! Goes through the declarations of a module in text order, and gives each identifier the ordinal of its declaration.
 
-ghost use Rattle.std.specs.Prelude.{◌≡◌, ◌+◌, ◌<◌, ◌^◌, [], OnOk, IfOk, length, map, Some, None};
+ghost use Rattle.std.specs.Prelude.{◌≡◌, ◌+◌, ◌<◌, ◌^◌, OnOk, IfOk, length, Some, None};
 ghost use Rattle.ob0_tree.specs.declared.tree.Role.TheVariants as roles;
 ghost use Rattle.ob0_tree.specs.Parsed.{tree_of};
-ghost use Rattle.ob0_tree.specs.View.{expression_of, body_of, type_of, names_of, constant_of, constants_of, type_declaration_of, types_of, variable_of, variables_of, section_of, formals_of, procedure_of, block_of};
+ghost use Rattle.ob0_tree.specs.View.{names_of, constant_of, constants_of, type_declaration_of, types_of, variable_of, variables_of, section_of, formals_of, procedure_of, block_of};
 ghost use Rattle.ob0_scope_rules.specs.Names.{as_names};
 ghost use Rattle.ob0_scope_rules.specs.Parts.{names_listed};
 ghost use Rattle.ob0_scope_rules.specs.Resolution.{ordinal_in};
 ghost use Rattle.ob0_scope_rules.specs.Scopes.{ordinal_of, predeclared_scope};
 ghost use Rattle.ob0_scope.specs.Written.{is_renamed, name_at};
-ghost use Rattle.ob0_scope.specs.Tabling.{marked, numbered_at, numbered_all, visible, visible_from, left_to, found, found_all, used, visit_constant, visit_constant_section, visit_type, visit_type_section, visit_variable, visit_variable_section, visit_section, visit_formals, visit_procedure, visit_block, visit_module, started};
+ghost use Rattle.ob0_scope.specs.Tabling.{marked, numbered_at, numbered_all, visible, visible_from, left_to, found, visit_constant, visit_constant_section, visit_type, visit_type_section, visit_variable, visit_variable_section, visit_section, visit_formals, visit_procedure, visit_block, visit_module, started};
 
 use crate::visible::Visible;
 use crate::writing::{Writing, is_renamed, token_text};
 use ob0_scan::Tokens;
 use ob0_scope_rules::{PREDECLARED, ordinal_at};
-use ob0_tree::identifiers::Found;
-use ob0_tree::{
-    Block, Constant, Expression, Module, Names, Procedure, Role, Section, Statement,
-    TypeDeclaration, Variables, WrittenType, identifiers,
-};
+use ob0_tree::{Block, Constant, Module, Names, Procedure, Section, TypeDeclaration, Variables};
 use std::alloc::{AllocError, Global};
 use std::marker::Model;
-use std::mem::replace;
 
 /// What is known in the middle of a module. The table has the ordinal of each identifier so far at its token.
 #[derive(Drop)]
 pub(crate) struct Numbering<'t> {
-    alloc: Global,
     tokens: &'t Tokens,
     ordinals: &'t [Option<usize>],
     declaration: Option<usize>,
@@ -35,7 +29,6 @@ pub(crate) struct Numbering<'t> {
     declarations: Vec<usize>,
     occurrences: Vec<usize>,
     table: Vec<Option<usize>>,
-    found: Found,
 }
 
 impl<'t> Model for Numbering<'t> {
@@ -80,7 +73,6 @@ pub(crate) fn number<'t>(
 {
     let table = vec![in alloc; None; writing.tokens.tokens().len()]?;
     let mut numbering = Numbering {
-        alloc,
         tokens: writing.tokens,
         ordinals: writing.ordinals,
         declaration: writing.declaration,
@@ -88,7 +80,6 @@ pub(crate) fn number<'t>(
         declarations: Vec::new(alloc),
         occurrences: Vec::new(alloc),
         table,
-        found: Vec::new(alloc),
     };
     numbering.mark(read.name(), None);
     numbering.block(read.block())?;
@@ -104,7 +95,6 @@ impl<'t> Numbering<'t> {
         ensures table { result.2.items ≡ self.entry.marks }
     {
         let Numbering {
-            alloc: _,
             tokens: _,
             ordinals: _,
             declaration: _,
@@ -112,7 +102,6 @@ impl<'t> Numbering<'t> {
             declarations,
             occurrences,
             table,
-            found: _,
         } = self;
         (declarations, occurrences, table)
     }
@@ -131,7 +120,7 @@ impl<'t> Numbering<'t> {
         self.visible.len()
     }
 
-    fn mark(&mut self, token: usize, ordinal: Option<usize>)
+    pub(crate) fn mark(&mut self, token: usize, ordinal: Option<usize>)
         ensures { self.new ≡ marked token ordinal self.old }
     {
         if token < self.table.len() {
@@ -202,80 +191,13 @@ impl<'t> Numbering<'t> {
     }
 
     /// Looks a name up.
-    fn look_up(&mut self, token: usize) -> Result<(), AllocError>
+    pub(crate) fn look_up(&mut self, token: usize) -> Result<(), AllocError>
         ensures { OnOk result (self.new ≡ found roles.LookedUp token self.old) }
     {
         let ordinal = self.ordinal_bound(token);
         self.occurrences.push(token)?;
         self.mark(token, ordinal);
         Ok(())
-    }
-
-    /// An identifier of a part that declares nothing.
-    fn identifier(&mut self, role: Role, token: usize) -> Result<(), AllocError>
-        ensures { OnOk result (self.new ≡ found role token self.old) }
-    {
-        match role {
-            Role::LookedUp => self.look_up(token)?,
-            Role::Declaring => self.mark(token, None),
-            Role::ClosingName => self.mark(token, None),
-            Role::FieldName => self.mark(token, None),
-            Role::ModuleName => self.mark(token, None),
-        }
-        Ok(())
-    }
-
-    /// An empty list for identifiers, with the room of the one that was used before.
-    fn list(&mut self) -> Found
-        ensures empty { result.items ≡ [] }
-        ensures same { self.new ≡ self.old }
-    {
-        let mut found = replace(&mut self.found, Vec::new(self.alloc));
-        found.clear();
-        found
-    }
-
-    /// The identifiers of a part that declares nothing.
-    fn find(&mut self, found: &[(Role, usize)]) -> Result<(), AllocError>
-        ensures { OnOk result (self.new ≡ found_all found.now self.old) }
-    {
-        for (role, token) in found {
-            self.identifier(*role, *token)?;
-        }
-        Ok(())
-    }
-
-    /// The same, and keeps the list for its room.
-    fn find_names(&mut self, found: Found) -> Result<(), AllocError>
-        ensures { OnOk result (self.new ≡ found_all found.items self.old) }
-    {
-        self.find(&found)?;
-        self.found = found;
-        Ok(())
-    }
-
-    fn expression(&mut self, e: &Expression) -> Result<(), AllocError>
-        ensures { OnOk result (self.new ≡ used (expression_of e.now) self.old) }
-    {
-        let mut found = self.list();
-        identifiers::expression(&mut found, e)?;
-        self.find_names(found)
-    }
-
-    fn written(&mut self, t: &WrittenType) -> Result<(), AllocError>
-        ensures { OnOk result (self.new ≡ used (type_of t.now) self.old) }
-    {
-        let mut found = self.list();
-        identifiers::written_type(&mut found, t)?;
-        self.find_names(found)
-    }
-
-    fn body(&mut self, statements: &Option<Vec<Statement>>) -> Result<(), AllocError>
-        ensures { OnOk result (self.new ≡ used (body_of statements.now) self.old) }
-    {
-        let mut found = self.list();
-        identifiers::body(&mut found, statements)?;
-        self.find_names(found)
     }
 
     fn names(&mut self, ns: &Names) -> Result<(), AllocError>

@@ -9,10 +9,11 @@ use crate::newest::Newest;
 use std::alloc::{AllocError, Global};
 use std::marker::Model;
 
-/// A declaration that is visible, with the index of the binding that it hides.
+/// A declaration that is visible, with the place of its name and the index of the binding that it hides.
 #[derive(Drop)]
 pub(crate) struct Binding<'t> {
     name: &'t str,
+    place: usize,
     ordinal: usize,
     hidden: Option<usize>,
 }
@@ -91,9 +92,12 @@ impl<'t> Visible<'t> {
             (self.new ≡ with_scope self.old ((name.entry.now, ordinal) ∷ self.old.scope)) }
     {
         self.bindings.reserve(1)?;
-        let hidden = self.newest.put(name, self.bindings.len())?;
+        let place = self.newest.place(name)?;
+        let hidden = self.newest.newest_at(place, name);
+        self.newest.renew(place, name, Some(self.bindings.len()));
         self.bindings.push_reserved(Binding {
             name,
+            place,
             ordinal,
             hidden,
         });
@@ -117,6 +121,6 @@ impl<'t> Visible<'t> {
         let Some(left) = self.bindings.pop() else {
             return;
         };
-        self.newest.put_back(left.name, left.hidden);
+        self.newest.renew(left.place, left.name, left.hidden);
     }
 }

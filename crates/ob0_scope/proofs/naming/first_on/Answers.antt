@@ -1,9 +1,8 @@
-use Rattle.std.proofs.Common.{◌≡◌, ℕ, suc, ◌+◌, ◌<◌, ◌≤◌, Some, length, sym, ap, ◌∙◌, arith, add-one, subst, Bool}
-use Rattle.std.specs.Prelude.{nat_lt, slice_index_or, true, false}
-use Rattle.std.specs.List.Sorted.{IsPartitionPoint}
+use Rattle.std.proofs.Common.{◌≡◌, suc, ◌+◌, Some, sym, ap, ◌∙◌, arith, add-one, subst}
+use Rattle.std.specs.Prelude.{slice_index_or, true, false}
 use Rattle.ob0_scan.specs.declared.lexeme.Token.{Token}
 use Rattle.ob0_scan.specs.declared.lexeme.TokenKind.TheVariants as kind
-use Rattle.ob0_scope.specs.Listing.{AreApart, is_name_on}
+use Rattle.ob0_scope.specs.Listing.{is_name_on}
 use Rattle.ob0_scope.proofs.TokensAt.{ends_rise, found_here, found_next, found_none, found_past}
 use Rattle.ob0_scope.proofs.naming.first_on.Goals as goal
 

@@ -27,7 +27,7 @@ pub procedure-returns : goal.procedure-returns
 procedure-returns t c =
     let src = c.args.tokens.now in
     let p = out-Procedure c.args.p.now in
-    let own = c.in_ok-add_formals.ensures ∙ ap (λ xs. xs ++ formal_names (formal_sections (formals_of p.formals))) c.new-own.ensures.items in
+    let own = c.in_ok-add_formals.ensures ∙ ap (λ xs. xs ++ formal_names (formal_sections (formals_of p.formals))) c.in_ok-own.ensures.items in
     subst (λ z. OnOk c.block.result (c.block.new.self ≡ z))
     (procedure_told src c.args.self.now c.closing.new.self c.formals.new.self p.name (formals_of p.formals) (block_of p.block) p.closing c.add_formals.new.out.items c.in_ok-closing.ensures c.in_ok-formals.ensures own
     ∙ ap (λ t. c.args.self.now ++ procedure_twice src t) (sym (sym (ap procedure_of (roll-out-Procedure c.args.p.now)) ∙ procedure_made p)))

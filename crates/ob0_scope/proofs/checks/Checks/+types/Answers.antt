@@ -11,7 +11,7 @@ record-returns t c =
     let src = c.args.tokens.now in
     let gs = c.args.r.now.groups.items in
     let found = gathered (λ xs. groups_fields (items_of further_fields_of_group xs)) refl c.loop-group.invariant c.loop-group-test.false
-    ∙ (λ i. c.new-names.ensures.items i ++ groups_fields (items_of further_fields_of_group (c.deref-group-items.ensures.value i))) in
+    ∙ (λ i. c.in_ok-names.ensures.items i ++ groups_fields (items_of further_fields_of_group (c.deref-group-items.ensures.value i))) in
     let named = c.in_ok-distinct.ensures ∙ ap (λ xs. c.args.self.now ++ again src [] xs) c.deref.ensures.value in
     let rest = gathered (λ xs. groups_twice src (items_of further_fields_of_group xs)) refl c.loop-group-2.invariant c.loop-group-2-test.false
     ∙ ap (λ xs. c.distinct.new.self ++ groups_twice src (items_of further_fields_of_group xs)) c.deref-group-items-2.ensures.value in

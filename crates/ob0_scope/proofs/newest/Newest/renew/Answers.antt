@@ -29,4 +29,4 @@ pub returns-clause-places : goal.returns-clause-places
 returns-clause-places c =
     let at : place_of c.self.inside.entries.items c.args.name.now ≡ Some c.args.place = ap (λ es. place_of es c.args.name.now) c.self.view_is ∙ c.requires in
     let r : Entry = record { name = c.args.name; newest = c.args.newest } in
-    λ y. place_renewed c.self.inside.entries.items c.args.name.now c.args.place r refl at y ∙ ap (λ es. place_of es y) c.self.view_is
+    λ y i there. place_renewed c.self.inside.entries.items c.args.name.now c.args.place r refl at y ∙ (ap (λ es. place_of es y) c.self.view_is ∙ there)

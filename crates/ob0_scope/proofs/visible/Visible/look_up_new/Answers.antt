@@ -1,7 +1,6 @@
-use Rattle.std.proofs.Common.{◌≡◌, Some, None, arith, ap, ◌∙◌}
+use Rattle.std.proofs.Common.{arith, ap, ◌∙◌}
 use Rattle.ob0_scope_rules.specs.Names.{as_names}
 use Rattle.ob0_scope_rules.specs.Scopes.{ordinal_of}
-use Rattle.ob0_scope.specs.NewestNames.{newest_in}
 use Rattle.ob0_scope.specs.Shadowing.{VisibleNames}
 use Rattle.ob0_scope.proofs.Shadows.{looked_up_below, looked_up_none, looked_up_some}
 use Rattle.ob0_scope.proofs.visible.Visible.look_up_new.Goals as goal

@@ -1,0 +1,25 @@
+use Rattle.std.proofs.Common.{◌≡◌, ◌||◌, ◌++◌, ◌+◌, suc, map, not, take, get_or, refl, ap, ◌∙◌, add-one, sym}
+use Rattle.ob0_scan.specs.declared.fault.Fault.{Fault}
+use Rattle.ob0_tree.specs.Places.{text_at}
+use Rattle.ob0_scope_rules.specs.DeclaredOnce.{is_among}
+use Rattle.ob0_scope_rules.specs.DeclaredTwice.{unless}
+use Rattle.ob0_scope_rules.specs.Names.{same_name}
+use Rattle.ob0_scope.proofs.Checking.{all_seen, one_further, sees_on}
+use Rattle.ob0_scope.proofs.checks.Checks.distinct_few.Goals as goal
+
+pub loop-index-preserved : goal.loop-index-preserved
+loop-index-preserved c =
+    let tokens = c.args.tokens.now in
+    let names = c.args.names.now in
+    let done = c.loop-index.index in
+    let name = get_or names done 0 in
+    let next : done + 1 ≡ suc done = add-one done in
+    sees_on tokens names c.args.self.now done (λ x. is_among x (map (text_at tokens) (take done names))) (λ x. is_among x (map (text_at tokens) (take (done + 1) names)))
+    c.loop-index.self c.expect.new.self (not c.is_written-is_second.result) name c.token_text.result.now
+    c.loop-index.invariant c.loop-index-test.true refl c.token_text.ensures (ap not c.is_written-is_second.ensures)
+    (λ q. ap (λ n. is_among q (map (text_at tokens) (take n names))) next
+    ∙ (one_further (text_at tokens) names done 0 c.loop-index-test.true q ∙ ap (λ t. same_name q t || is_among q (map (text_at tokens) (take done names))) (sym c.token_text.ensures)))
+    (c.in_ok-expect.ensures ∙ ap (λ (f : Fault). c.loop-index.self ++ unless (not c.is_written-is_second.result) f) c.duplicate_at.ensures)
+
+pub returns : goal.returns
+returns c = all_seen c.loop-index.invariant c.loop-index-test.false
