@@ -23,7 +23,7 @@ use Rattle.ob0_types_rules.proofs.TypedElsewhere.{then_some}
 use Rattle.ob0_types_table.specs.FieldPlaces.{field_selected, place_of_field}
 use Rattle.ob0_types_table.specs.declared.known.FieldOf.{FieldOf}
 use Rattle.ob0_values.specs.Values.{FieldShapes, Shape, array_shape, integer_shape, next_field_shape, no_field_shape, record_shape}
-use Rattle.ob0_types_fields.specs.FieldTypes.{FieldsTyped, constructed, field_in, typed_field}
+use Rattle.ob0_types_fields.specs.FieldTypes.{FieldsTyped, TypedField, constructed, field_in, first_listed, typed_field}
 use Rattle.ob0_types_fields.specs.Identifiers.{declared_fields, declared_in, declared_in_procedure, declared_in_procedures, declaring_field, field_identifiers, first, is_field, tokens_among}
 use Rattle.ob0_types_fields.specs.Owned.{marked_group, marked_groups, marked_sections, marked_type, marked_types, marked_variables}
 use Rattle.ob0_types_fields.proofs.DeclaredTypes.{BlockStands, Denotes, FormalsStand, ProcedureStands, ProceduresStand, TypesStand, VariablesStand, meaning, module-stands}
@@ -94,6 +94,12 @@ place-found (next_field_shape y s rest) x u h = one (same_name x y) h (place-fou
     one true e later = (0, refl)
     one false e later = let found = later e in (suc found.0, ap (option_map suc) found.1)
 
+abbrev of_field : FieldOf → Shape → TypedField
+of_field f t = record { field = f; shape = t }
+
+abbrev place_in : ℕ → ℕ → FieldOf
+place_in k i = record { ordinal = k; index = i }
+
 within-is : (s t : Shape) → within_limits s ≡ Some t → s ≡ t
 within-is s t = elim (nat_le (scalars s) 65536 && nat_le (depth s) 100) as (λ b. (if b then Some s else None) ≡ Some t → s ≡ t) [ true ↦ λ h. some_inverse h | false ↦ λ h. absurd (cc) ]
 
@@ -127,14 +133,14 @@ module _ (r : Resolution) where
   variables-counted : (gs : Tree ℕ (items variable)) → length (constructed (meaning r) None gs) ≡ variables_constructors gs
   variables-counted end = refl
   variables-counted (more (declares_variable ns u) gs) =
-      length-append (constructed (meaning r) None (declares_variable ns u)) (constructed (meaning r) None gs) ∙ (λ i. type-counted _ u i + variables-counted gs i)
+      length-append (constructed (meaning r) None (declares_variable ns u)) (constructed (meaning r) None gs) ∙ (λ i. type-counted (type_declared ((meaning r).stands_for (first_listed ns))) u i + variables-counted gs i)
 
   sections-counted : (fs : Tree ℕ (items further_section)) → length (constructed (meaning r) None fs) ≡ formals_constructors fs
   sections-counted end = refl
   sections-counted (more (then_section (value_section ns u)) fs) =
-      length-append (constructed (meaning r) None (value_section ns u)) (constructed (meaning r) None fs) ∙ (λ i. type-counted _ u i + sections-counted fs i)
+      length-append (constructed (meaning r) None (value_section ns u)) (constructed (meaning r) None fs) ∙ (λ i. type-counted (type_declared ((meaning r).stands_for (first_listed ns))) u i + sections-counted fs i)
   sections-counted (more (then_section (variable_section ns u)) fs) =
-      length-append (constructed (meaning r) None (variable_section ns u)) (constructed (meaning r) None fs) ∙ (λ i. type-counted _ u i + sections-counted fs i)
+      length-append (constructed (meaning r) None (variable_section ns u)) (constructed (meaning r) None fs) ∙ (λ i. type-counted (type_declared ((meaning r).stands_for (first_listed ns))) u i + sections-counted fs i)
 
   type_section-counted : (ts : Tree ℕ (maybe type_names)) → length (constructed (meaning r) None ts) ≡ types_constructors (section_types ts)
   type_section-counted none = refl
@@ -266,7 +272,7 @@ module _ (r : Resolution) where
     name-typed : (x : Name) (s : Shape) → shape_of_field all x ≡ Some s → is_some (field_in (record_shape o all) x) ≡ true
     name-typed x s typed =
         let place = place-found all x s typed in
-        λ i. is_some (option_and_then (λ f. option_map (λ t. record { field = f; shape = t }) (typed i)) (option_map (λ n. record { ordinal = o; index = n }) (place.1 i)))
+        λ i. is_some (option_and_then (λ f. option_map (of_field f) (typed i)) (option_map (place_in o) (place.1 i)))
 
     own-names : (j k : ℕ) (made : List (Option Shape)) (xs : List ℕ) → AllByRecursion (λ x. is_some (field_in (record_shape o all) (text x)) ≡ true) xs → AllByRecursion (InRecord (record_shape o all) j made k) (map (λ x. (x, j)) xs)
     own-names j k made [] h = tt
