@@ -1,6 +1,6 @@
 -- The search for the ARRAY or RECORD with an ordinal, among all of a module in text order.
 -- Rule: none; for private contracts of a walk.
-use Rattle.std.specs.Prelude.{◌⊎◌, inl, inr, ℕ, ◌-◌, ◌==◌, List, [], ◌∷◌, Option, None, option_map, if◌then◌else◌}
+use Rattle.std.specs.Prelude.{ℕ, ◌-◌, ◌==◌, List, [], ◌∷◌, Option, None, option_map, if◌then◌else◌}
 use Rattle.ob0_types_rules.specs.Expressions.{Meanings}
 use Rattle.ob0_types_rules.specs.WellTyped.{Signature}
 use Rattle.ob0_types_table.specs.declared.types.TypeId.{TypeId}
@@ -15,13 +15,14 @@ use Rattle.ob0_types_fields.specs.FieldTypes.{TypedField}
 use Rattle.ob0_types_fields.specs.Owned.{token_objects}
 
 -- the type that was found, or how many ARRAY and RECORD come before it
-abbrev pub Sought : Type 0
-Sought = Option Shape ⊎ ℕ
+pub data Sought : Type 0 where
+  is_found : Option Shape → Sought
+  is_after : ℕ → Sought
 
 -- after one more, which constructs the type t
 abbrev pub after_one : Sought → Option Shape → Sought
-after_one (inl found) t = inl found
-after_one (inr n) t = if n == 0 then inl t else inr (n - 1)
+after_one (is_found found) t = is_found found
+after_one (is_after n) t = if n == 0 then is_found t else is_after (n - 1)
 
 -- after several
 abbrev pub after_all : Sought → List (Option Shape) → Sought
@@ -30,8 +31,8 @@ after_all s (t ∷ ts) = after_all (after_one s t) ts
 
 -- the type that was found, if any
 abbrev pub found_type : Sought → Option Shape
-found_type (inl found) = found
-found_type (inr n) = None
+found_type (is_found found) = found
+found_type (is_after n) = None
 
 -- what the walk over the declarations knows: what names mean, and what types are
 abbrev pub names_in : ConstructorWalk → Meanings ℕ Shape Signature
@@ -43,8 +44,8 @@ type_in w of = option_map (type_shape (shapes_of w.known.now)) of
 
 -- a search of the code
 abbrev pub search_in : List Shape → Search → Sought
-search_in shapes (search.Found of) = inl (option_map (type_shape shapes) of)
-search_in shapes (search.Before n) = inr n
+search_in shapes (search.Found of) = is_found (option_map (type_shape shapes) of)
+search_in shapes (search.Before n) = is_after n
 
 -- what a search of the walk means
 abbrev pub sought_in : ConstructorWalk → Search → Sought
