@@ -310,15 +310,17 @@ impl<'t> WellTyped<'t> {
         ensures { option_map row_in result ≡ row_of self.now identifier }
     {
         let known = self.known();
-        let found = typed_field(known, self.resolved(), identifier)?;
-        Some(FieldRow {
-            token: identifier.0,
-            field: found.field,
-            shape: Shape {
-                known,
-                of: found.of,
-            },
-        })
+        match typed_field(known, self.resolved(), identifier) {
+            None => None,
+            Some(found) => Some(FieldRow {
+                token: identifier.0,
+                field: found.field,
+                shape: Shape {
+                    known,
+                    of: found.of,
+                },
+            }),
+        }
     }
 
     /// The value of a constant that a CONST section declares, by its ordinal. None for every other declaration, TRUE and

@@ -3,7 +3,7 @@ use Rattle.std.proofs.Common.{◌≡◌, ℕ, zero, suc, ◌+◌, ◌-◌, ◌==
 use Rattle.std.proofs.lemmas.List.{drop_all, drop_more}
 use Rattle.ob0_tree.specs.declared.tree.Fields.{Fields}
 use Rattle.ob0_tree.specs.declared.tree.Section.{Section}
-use Rattle.ob0_tree.specs.Tree.{Tree, Item, item, items, more, value_section, variable_section}
+use Rattle.ob0_tree.specs.Tree.{Tree, Item, item, value_section, variable_section}
 use Rattle.ob0_tree.specs.View.{formals_listed, further_fields_of_group, further_section_of, items_of, names_of, record_listed, section_of, type_of}
 use Rattle.ob0_types_rules.specs.Expressions.{Meanings}
 use Rattle.ob0_types_rules.specs.Typing.{type_declared}
