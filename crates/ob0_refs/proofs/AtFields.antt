@@ -1,5 +1,5 @@
 -- What is answered at a place that is on a field.
-use Rattle.std.proofs.Common.{◌≡◌, ℕ, suc, ◌+◌, ◌<◌, ◌==◌, ◌&&◌, Bool, true, false, if◌then◌else◌, List, [], ◌∷◌, map, length, get_or, is_some, Some, None, Option, option_map, refl, sym, ap, ◌∙◌, subst, arith, true≢false, eq-eqb, nat_lt, All, Contains}
+use Rattle.std.proofs.Common.{◌≡◌, ℕ, suc, ◌+◌, ◌<◌, ◌==◌, ◌&&◌, Bool, true, false, if◌then◌else◌, List, [], ◌∷◌, map, length, get_or, is_some, Some, None, Option, option_map, option_and_then, refl, sym, ap, ◌∙◌, subst, arith, true≢false, eq-eqb, nat_lt, All, Contains}
 use Rattle.std.proofs.lemmas.List.Elements.{All-head, All-tail}
 use Rattle.std.proofs.lemmas.Slice.Eq.{bytes_eq-Decides}
 use Rattle.ob0_scan.specs.Scanned.{Scanned}
@@ -12,12 +12,16 @@ use Rattle.ob0_scope_rules.specs.Spans.{is_on}
 use Rattle.ob0_scope.specs.NamesAtPlaces.{name_on}
 use Rattle.ob0_scope.specs.declared.naming.Named as named
 use Rattle.ob0_types.specs.CheckedModules.{IsWellTyped}
+use Rattle.ob0_types.specs.RowsOfFields.{FieldRow, field_row_at, row_of}
 use Rattle.ob0_types_rules.proofs.Literals.{some_inverse}
+use Rattle.ob0_types_fields.specs.FieldTypes.{TypedField, typed_field}
 use Rattle.ob0_types_fields.specs.Identifiers.{declaring_field, field_at, field_identifiers, field_on, field_tokens, is_field, tokens_among}
 use Rattle.ob0_types_fields.proofs.FieldsDeclared.{fields_declared-holds}
+use Rattle.ob0_types_fields.proofs.TypedFields.{fields_typed-holds}
 use Rattle.ob0_refs.specs.Answered.{at_name}
-use Rattle.ob0_refs.specs.Laws.{FieldsAreDefined, FieldsAreRenamedThere, IsOnField, IsRenamedThere}
-use Rattle.ob0_refs.specs.Questions.{at_field, declared, definition_at, field_declared, named_at, or_else, references_at, name_or_field}
+use Rattle.ob0_refs.specs.Laws.{FieldsAreDefined, FieldsAreRenamedThere, FieldsHaveHovers, IsOnField, IsRenamedThere}
+use Rattle.ob0_refs.specs.Questions.{at_field, declared, definition_at, field_declared, field_hover, name_or_field, named_at, or_else, references_at, row_hover}
+use Rattle.ob0_refs.specs.Shown.{name_hover_at}
 use Rattle.ob0_refs.specs.declared.answers.At as told
 use Rattle.ob0_refs.specs.declared.answers.Of as of
 use Rattle.ob0_refs.specs.declared.answers.Of.TheVariants as tells
@@ -37,13 +41,13 @@ no_field true ordinal = refl
 no_field false ordinal = refl
 
 -- a field, and no name
-pub record OnField (r : Resolution) (offset : ℕ) (span : Span) (k : ℕ) : Type 0 where
+record OnField (r : Resolution) (offset : ℕ) (span : Span) (k : ℕ) : Type 0 where
   pub token : ℕ
   pub no_name : name_on r.module_read offset ≡ None
   pub field : field_at r offset ≡ Some (token, k)
   pub place : span_at r.module_read.source token ≡ span
 
-pub on_field : (r : Resolution) (offset k index : ℕ) (span : Span) → IsOnField r offset span k index → OnField r offset span k
+on_field : (r : Resolution) (offset k index : ℕ) (span : Span) → IsOnField r offset span k index → OnField r offset span k
 on_field r offset k index span h = go (name_on r.module_read offset) refl (field_at r offset) refl h
   where
     go : (n : Option named.Named) → name_on r.module_read offset ≡ n → (f : Option (ℕ × ℕ)) → field_at r offset ≡ f → name_or_field r.module_read n f ≡ Some (record { span = span; of = tells.Field k index }) → OnField r offset span k
@@ -91,7 +95,7 @@ module _ (source : Scanned) (offset : ℕ) (x : ℕ × ℕ) where
           (0, omega arith, ap (λ (z : ℕ × ℕ). span_at source z.0) same)
       one false e later = behind (is_field source x.1 (text_at source x.0) y) (later e)
 
-pub some_mapped : {A B : Type 0} (f : A → B) (o : Option A) → is_some (option_map f o) ≡ is_some o
+some_mapped : {A B : Type 0} (f : A → B) (o : Option A) → is_some (option_map f o) ≡ is_some o
 some_mapped f None = refl
 some_mapped f (Some a) = refl
 
@@ -122,6 +126,17 @@ fields_are_renamed_there-holds r offset k index span h =
 
 -- ---- what is shown
 
-pub shown_else : {A : Type 0} (o other : Option A) → is_some other ≡ true → is_some (or_else o other) ≡ true
+shown_else : {A : Type 0} (o other : Option A) → is_some other ≡ true → is_some (or_else o other) ≡ true
 shown_else None other h = h
 shown_else (Some a) other h = refl
+
+pub fields_have_hovers-holds : FieldsHaveHovers
+fields_have_hovers-holds r offset k index span well h =
+    let m : Parsed = r.module_read in
+    let at = on_field r offset k index span h in
+    let x : ℕ × ℕ = (at.token, k) in
+    let typed : is_some (typed_field r x) ≡ true = found_holds m.source offset x (λ y. is_some (typed_field r y) ≡ true) (field_identifiers r) (fields_typed-holds r well.resolved well.well_typed) at.field in
+    shown_else (name_hover_at m offset) (field_hover r offset)
+    (some_mapped (row_hover r) (field_row_at r offset)
+    ∙ (ap (λ (f : Option (ℕ × ℕ)). is_some (option_and_then (row_of r) f)) at.field
+    ∙ (some_mapped (λ (f : TypedField). record { token = at.token; of = f }) (typed_field r x) ∙ typed)))

@@ -11,9 +11,8 @@ use Rattle.ob0_scope.specs.declared.naming.Named as named
 use Rattle.ob0_types_fields.specs.Identifiers.{declaring_field, field_at, field_place, field_tokens}
 use Rattle.ob0_refs.specs.Answered.{at_name}
 use Rattle.ob0_refs.specs.Places.{declared_at, references_to}
-use Rattle.ob0_types.specs.RowsOfFields.{field_row_at}
+use Rattle.ob0_types.specs.RowsOfFields.{FieldRow, field_row_at}
 use Rattle.ob0_refs.specs.Hovers.{field_text, type_text}
-use Rattle.ob0_selections.specs.Selections.{Selected}
 use Rattle.ob0_refs.specs.Shown.{HoverText, name_hover_at}
 use Rattle.ob0_refs.specs.declared.answers.At as told
 use Rattle.ob0_refs.specs.declared.answers.Of.TheVariants as tells
@@ -91,16 +90,16 @@ or_else (Some a) other = Some a
 or_else None other = other
 
 -- the hover of an identifier of a field: the field's type
-abbrev pub selection_hover : Resolution → Selected ℕ → HoverText
-selection_hover r s =
+abbrev pub row_hover : Resolution → FieldRow → HoverText
+row_hover r row =
     record {
-      span = span_at r.module_read.source s.name;
-      text = field_text (text_at r.module_read.source s.name) (type_text s.shape);
+      span = span_at r.module_read.source row.token;
+      text = field_text (text_at r.module_read.source row.token) (type_text row.of.shape);
     }
 
 -- what is shown of the field at a place, where it is declared and where it is selected
 abbrev pub field_hover : Resolution → ℕ → Option HoverText
-field_hover r offset = option_map (selection_hover r) (field_row_at r offset)
+field_hover r offset = option_map (row_hover r) (field_row_at r offset)
 
 -- what is shown at a place: of a name, or else of a field
 abbrev pub hover_at_place : Resolution → ℕ → Option HoverText

@@ -2,7 +2,7 @@
 
 ghost use Rattle.std.specs.Prelude.{◌≡◌, IfOk, option_map};
 ghost use Rattle.ob0_refs.specs.Parts.{hover_in};
-ghost use Rattle.ob0_refs.specs.Questions.{field_hover, hover_at_place, selection_hover};
+ghost use Rattle.ob0_refs.specs.Questions.{field_hover, hover_at_place, row_hover};
 ghost use Rattle.ob0_types.specs.RowsOfFields.{row_in};
 
 use crate::answers::Hover;
@@ -43,7 +43,7 @@ fn hover_field(
 }
 
 fn hover_of(alloc: Global, names: &Resolved<'_>, row: FieldRow<'_>) -> Result<Hover, AllocError>
-    ensures { IfOk result (λ h. hover_in h ≡ selection_hover names.now (row_in row.entry)) }
+    ensures { IfOk result (λ h. hover_in h ≡ row_hover names.now (row_in row.entry)) }
 {
     let tokens = names.tokens();
     let text = field_line(

@@ -1,7 +1,7 @@
 -- A question about what is at a place of a text has one answer.
-use Rattle.std.proofs.Common.{◌≡◌, ◌∙◌, ℕ, ◌+◌, ◌-◌, ◌++◌, nat_lt, Bool, true, false, Option, Some, None, List, map, drop, if◌then◌else◌, refl, sym, ap, inl, inr}
+use Rattle.std.proofs.Common.{◌≡◌, ◌∙◌, ℕ, ◌+◌, ◌-◌, ◌++◌, nat_lt, Bool, true, false, Option, Some, None, List, map, drop, get_or, if◌then◌else◌, refl, sym, ap, inl, inr}
 use Rattle.std.specs.Prelude.{option_and_then, option_map, unwrap_or}
-use Rattle.std.specs.List.{filter, find, position_from}
+use Rattle.std.specs.List.{filter, position_from}
 use Rattle.serde_json.specs.Data.{Data, array}
 use Rattle.serde_json.specs.View.{items_of}
 use Rattle.ob0_scan.specs.Scanned.{Scanned}
@@ -15,10 +15,9 @@ use Rattle.ob0_scope_rules.specs.Resolution.{Resolution, declaring_only, ordinal
 use Rattle.ob0_scope.specs.NamesAtPlaces.{name_on, refers}
 use Rattle.ob0_scope.specs.declared.naming.Named.{Named}
 use Rattle.ob0_types_rules.specs.Bindings.{declared_object}
+use Rattle.ob0_types.specs.RowsOfFields.{FieldRow}
+use Rattle.ob0_types_fields.specs.FieldTypes.{constructed, field_in}
 use Rattle.ob0_types_fields.specs.Identifiers.{declared_in, field_at, field_identifiers, field_on, first, record_tokens, tokens_among}
-use Rattle.ob0_selections.specs.FieldRows.{is_at}
-use Rattle.ob0_selections.specs.FieldTypes.{typed_fields}
-use Rattle.ob0_selections.specs.Selections.{Selected, selections}
 use Rattle.ob0_refs.specs.Declarations.{object_hover}
 use Rattle.ob0_refs.specs.Hovers.{field_text, predeclared_text, type_text}
 use Rattle.ob0_refs.specs.Questions.{Identified, hover_at_place, declared, definition_at, field_named_at, field_references, named_at, or_else, references_at, name_or_field, identified_at, without}
@@ -43,8 +42,8 @@ shown_in s t n =
     else option_and_then (object_hover (text_at s n.token) (map (text_at s) (drop (n.ordinal + 1 - 7) (declaring_only (identifiers role.Declaring t))))) (declared_object (named s t) n.ordinal))
 
 -- what is shown of an identifier of a field
-abbrev row_shown : Scanned → Selected ℕ → HoverText
-row_shown s x = record { span = span_at s x.name; text = field_text (text_at s x.name) (type_text x.shape) }
+abbrev row_shown : Scanned → FieldRow → HoverText
+row_shown s x = record { span = span_at s x.token; text = field_text (text_at s x.token) (type_text x.of.shape) }
 
 module _ (r q : Resolution) (e : Same r.module_read q.module_read) (fields : field_identifiers r ≡ field_identifiers q) (tables : (token : ℕ) → ordinal_in r.ordinals token ≡ ordinal_in q.ordinals token) (offset : ℕ) where
   same_field : field_at r offset ≡ field_at q offset
@@ -57,9 +56,9 @@ module _ (r q : Resolution) (e : Same r.module_read q.module_read) (fields : fie
   same_shown = λ i.
       or_else (same_name_shown i)
       (option_map (row_shown (e.source i))
-      (option_and_then (λ x. find (is_at x.0)
-      (typed_fields (record { stands_for = λ token. option_and_then (declared_object (named (e.source i) (e.tree i))) (tables token i); written = λ token. text_at (e.source i) token }) None (e.tree i)
-      ++ selections (record { stands_for = λ token. option_and_then (declared_object (named (e.source i) (e.tree i))) (tables token i); written = λ token. text_at (e.source i) token }) (e.tree i)))
+      (option_and_then (λ x. option_map (λ f. record { token = x.0; of = f })
+      (option_and_then (λ s. field_in s (text_at (e.source i) x.0))
+      (get_or (constructed (record { stands_for = λ token. option_and_then (declared_object (named (e.source i) (e.tree i))) (tables token i); written = λ token. text_at (e.source i) token }) None (e.tree i)) x.1 None)))
       (same_field i)))
 
   -- ---- where it is declared

@@ -13,8 +13,6 @@ use Rattle.ob0_types_rules.specs.WellTyped.{WellTyped}
 use Rattle.ob0_types.specs.FaultOrder.{AreFirstFaults}
 use Rattle.ob0_types.specs.declared.checked.ModuleTypes.{ModuleTypes}
 use Rattle.ob0_types_fields.specs.Listed.{AreFields, Listed}
-use Rattle.ob0_selections.specs.declared.selecting.Selection.{Selection}
-use Rattle.ob0_types.specs.RowsOfFields.{AreRowsOf}
 
 -- a checked module: its names, its faults, and the table of what it declares
 pub record CheckedModule : Type 0 where
@@ -49,21 +47,18 @@ AreCheckedFaults names faults =
 abbrev pub checked_by : Resolution → ModuleTypes → CheckedModule
 checked_by names types = record { names = names; faults = types.faults.items; known = types.known }
 
--- This was found of a module's types: the module is checked by it, and where it has no fault its fields are these, each
--- with its type.
+-- This was found of a module's types: the module is checked by it, and where it has no fault its fields are these.
 pub record AreTypesOf (names : Resolution) (types : ModuleTypes) : Type 0 where
   pub checked : IsChecked (checked_by names types)
   pub fields : types.faults.items ≡ [] → AreFields names types.fields
-  pub rows : types.faults.items ≡ [] → IfSome types.known (λ t. AreRowsOf names t types.rows)
 
 -- a module that is well-typed
 pub record IsWellTyped (names : Resolution) : Type 0 where
   pub resolved : IsResolution names
   pub well_typed : WellTyped (named_tree_of names.module_read)
 
--- what is known of a module that is well-typed: its declarations, its fields, and what each identifier of a field is
-pub record IsKnownOf (names : Resolution) (known : Tables) (fields : Listed) (rows : List Selection) : Type 0 where
+-- what is known of a module that is well-typed: its declarations and its fields
+pub record IsKnownOf (names : Resolution) (known : Tables) (fields : Listed) : Type 0 where
   pub well_typed : IsWellTyped names
   pub declarations : HasDeclarations (named_tree_of names.module_read) known
   pub fields_are : AreFields names fields
-  pub rows_are : AreRowsOf names known rows

@@ -3,7 +3,6 @@
 ghost use Rattle.ob0_scope_rules.specs.Resolution.{is_of_declarations};
 ghost use Rattle.ob0_types.specs.CheckedModules.{AreTypesOf, IsChecked, checked_by};
 ghost use Rattle.ob0_types.specs.FaultOrder.{AreFirstOf};
-ghost use Rattle.ob0_types.specs.RowsOfFields.{AreRowsBeside};
 ghost use Rattle.ob0_types.specs.FoundFaults.{faults_found, types_found};
 ghost use Rattle.std.specs.List.{filter};
 ghost use Rattle.std.specs.Prelude.{◌≡◌, ◌≤◌, ◌↔◌, ◌++◌, [], length, IfOk, IfSome, OnOk, MatchOption};
@@ -13,10 +12,9 @@ ghost use Rattle.ob0_scan.specs.Scanned.{max_faults};
 use ob0_checker::decide;
 use ob0_scan::{Code, Fault, MAX_FAULTS};
 use ob0_scope_rules::{PREDECLARED, Resolved};
-use ob0_selections::FieldRows;
 use ob0_types_check::laws::{modules_fit, no_fault_in_modules};
 use ob0_types_check::report_faults;
-use ob0_types_fields::FieldList;
+use ob0_types_fields::{FieldList, typed_field};
 use ob0_types_rules::laws::fits_by_ordinal;
 use ob0_types_table::{FieldOf, Known, Parts, TypeId};
 use ob0_values::Scalar;
@@ -24,13 +22,12 @@ use std::alloc::{AllocError, Global};
 use std::borrow::Cow;
 use std::marker::Model;
 
-/// What checking a module finds: what its declarations are, its fields and their types, where it is well-typed; and the
-/// faults of its scopes and types. It borrows nothing.
+/// What checking a module finds: what its declarations are and its fields, where it is well-typed; and the faults of its
+/// scopes and types. It borrows nothing.
 #[derive(Drop)]
 pub struct ModuleTypes {
     pub known: Option<Known>,
     pub fields: FieldList,
-    pub rows: FieldRows,
     pub faults: Vec<Fault>,
 }
 
@@ -63,7 +60,6 @@ pub struct WellTyped<'t> {
     checked: &'t Checked<'t>,
     known: &'t Known,
     fields: &'t FieldList,
-    rows: &'t FieldRows,
 }
 
 impl<'t> Model for WellTyped<'t> {
@@ -79,7 +75,7 @@ impl<'t> Model for WellTyped<'t> {
 
     ghost view = { λ w. w.checked.now.names };
 
-    ghost invariant = { λ w. IsKnownOf w.checked.now.names w.known.now w.fields.now w.rows.now };
+    ghost invariant = { λ w. IsKnownOf w.checked.now.names w.known.now w.fields.now };
 }
 
 /// A type of a module, with the table that knows its parts.
@@ -117,12 +113,10 @@ pub fn types_of<'t>(alloc: Global, resolved: &'t Resolved<'t>) -> Result<ModuleT
     let _module = resolved.module();
     let known = decide(alloc, resolved)?;
     let fields = known_fields(alloc, resolved, &known)?;
-    let rows = known_rows(alloc, resolved, &known, &fields)?;
     let faults = faults_of(alloc, resolved, known.is_some())?;
     Ok(ModuleTypes {
         known,
         fields,
-        rows,
         faults,
     })
 }
@@ -140,36 +134,6 @@ fn known_fields<'t>(
         None => Ok(FieldList::none(alloc)),
         Some(known) => FieldList::of(alloc, known, names),
     }
-}
-
-/// The identifiers of the fields of a module that fits, each with its type. None where it has no fields.
-fn known_rows<'t>(
-    alloc: Global,
-    resolved: &'t Resolved<'t>,
-    known: &Option<Known>,
-    fields: &FieldList,
-) -> Result<FieldRows, AllocError>
-    ensures { IfOk result
-        (λ rows. IfSome known.now (λ t. AreRowsBeside fields.now t resolved.now rows)) }
-{
-    match known {
-        None => Ok(FieldRows::none(alloc)),
-        Some(known) => rows_beside(alloc, resolved, known, fields),
-    }
-}
-
-fn rows_beside<'t>(
-    alloc: Global,
-    resolved: &'t Resolved<'t>,
-    known: &Known,
-    fields: &FieldList,
-) -> Result<FieldRows, AllocError>
-    ensures { IfOk result (AreRowsBeside fields.now known.now resolved.now) }
-{
-    if fields.is_empty() {
-        return Ok(FieldRows::none(alloc));
-    }
-    FieldRows::of(alloc, known, resolved)
 }
 
 /// The faults of scopes and types, sorted by start, end and number, the first 100. Names that nothing binds are reported with
@@ -289,7 +253,6 @@ impl<'t> Checked<'t> {
                         checked: self,
                         known,
                         fields: &types.fields,
-                        rows: &types.rows,
                     })
                 } else {
                     None
@@ -306,11 +269,8 @@ impl<'t> WellTyped<'t> {
     ghost use Rattle.ob0_types_fields.specs.Listed.{AreFields};
     ghost use Rattle.ob0_types_rules.specs.ConstantValues.{value_of_constant};
     ghost use Rattle.ob0_types_rules.specs.Bindings.{declared_object};
-    ghost use Rattle.std.specs.List.{Contains};
-    ghost use Rattle.std.specs.Prelude.{ℕ};
     ghost use Rattle.ob0_types.specs.DeclaredShapes.{shape_of};
     ghost use Rattle.ob0_types.specs.RowsOfFields.{row_in, row_of};
-    ghost use Rattle.ob0_types_fields.specs.Identifiers.{field_identifiers};
     ghost use Rattle.ob0_types_rules.specs.Typing.{type_declared};
     ghost use Rattle.ob0_values.specs.Scalars.{scalar_value};
 
@@ -343,20 +303,19 @@ impl<'t> WellTyped<'t> {
         self.fields
     }
 
-    /// What the identifier of a field at a token is.
-    pub(crate) fn field_row(&self, token: usize) -> Option<FieldRow<'t>>
-        ensures { (k : ℕ)
-            → Contains (field_identifiers self.now) (token, k)
-            → option_map row_in result ≡ row_of self.now token }
+    /// What an identifier of a field is, by its token and the ordinal of its record.
+    pub(crate) fn field_row(&self, identifier: (usize, usize)) -> Option<FieldRow<'t>>
+        ensures { option_map row_in result ≡ row_of self.now identifier }
     {
-        match self.rows.at(token) {
+        let known = self.known();
+        match typed_field(known, self.resolved(), identifier) {
             None => None,
-            Some(row) => Some(FieldRow {
-                token: row.token,
-                field: row.field,
+            Some(found) => Some(FieldRow {
+                token: identifier.0,
+                field: found.field,
                 shape: Shape {
-                    known: self.known,
-                    of: row.of,
+                    known,
+                    of: found.of,
                 },
             }),
         }

@@ -25,7 +25,7 @@ pub fn field_row_at<'t>(well_typed: &WellTyped<'t>, offset: usize) -> Option<Fie
 {
     match field_at(well_typed, offset) {
         None => None,
-        Some(field) => well_typed.field_row(field.0),
+        Some(field) => well_typed.field_row(field),
     }
 }
 

@@ -17,3 +17,7 @@ pub mod DuplicateFields
 pub mod FieldsDeclared
 pub mod MappedIdentifiers
 pub mod FieldsListed
+pub mod FieldLabels
+pub mod ConstructorWalks
+pub mod DeclaredTypes
+pub mod TypedFields

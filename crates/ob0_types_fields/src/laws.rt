@@ -1,10 +1,10 @@
 //! The laws. Each function does nothing: its contract is the law.
 
+ghost use Rattle.ob0_types_fields.specs.FieldTypes.{FieldsTyped};
 ghost use Rattle.ob0_types_fields.specs.Identifiers.{DuplicateByToken, FieldsDeclared, FieldsListed, RenamedAtTokens};
 ghost use Rattle.ob0_types_fields.specs.Owned.{MarkedFields, OwnersByDeclaration, OwnersOfFields};
 
 /// In a well-typed module a table that has at each token the record whose field the token is, by what names are declared as,
-
 /// is a table of owners.
 pub fn owners_by_declaration()
     ensures { OwnersByDeclaration }
@@ -38,4 +38,9 @@ pub fn fields_declared()
 /// In a well-typed module the fields are all identifiers that are written as fields, in text order, and no others.
 pub fn fields_listed()
     ensures { FieldsListed }
+{}
+
+/// In a well-typed module each identifier that declares or selects a field is of a field that has a type.
+pub fn fields_typed()
+    ensures { FieldsTyped }
 {}

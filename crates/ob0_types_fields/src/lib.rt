@@ -3,9 +3,11 @@
 
 mod declared;
 mod declaring;
+mod field_types;
 pub mod laws;
 mod listing;
 mod owning;
 mod reading;
 
+pub use field_types::{TypedField, typed_field};
 pub use listing::FieldList;

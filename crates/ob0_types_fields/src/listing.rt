@@ -1,6 +1,6 @@
 //! The fields of a module in lists, and what is found in them.
 
-ghost use Rattle.std.specs.Prelude.{◌≡◌, ◌==◌, [], IfOk, length};
+ghost use Rattle.std.specs.Prelude.{◌≡◌, [], IfOk};
 ghost use Rattle.std.specs.List.{position_from};
 ghost use Rattle.ob0_tree.specs.Parsed.{tree_of};
 ghost use Rattle.ob0_tree.specs.Places.{text_at};
@@ -44,13 +44,6 @@ impl FieldList {
             declared: Vec::new(alloc),
             all: Vec::new(alloc),
         }
-    }
-
-    /// Whether no identifier of the module is a field.
-    pub fn is_empty(&self) -> bool
-        ensures { result ≡ (length self.now.all == 0) }
-    {
-        self.all.is_empty()
     }
 
     /// The fields of a module by the table of its declarations. Where no field is declared, none is looked for among what is

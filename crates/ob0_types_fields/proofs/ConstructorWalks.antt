@@ -1,0 +1,68 @@
+-- The walk that searches for an ARRAY or RECORD by its ordinal.
+use Rattle.std.proofs.Common.{◌≡◌, ℕ, zero, suc, ◌+◌, ◌-◌, ◌==◌, ◌<◌, ◌≤◌, Bool, true, false, List, [], ◌∷◌, ◌++◌, length, get_or, drop, Option, None, if◌then◌else◌, refl, sym, ap, ◌∙◌, arith, eqb-true}
+use Rattle.std.proofs.lemmas.List.{drop_all, drop_more}
+use Rattle.ob0_tree.specs.declared.tree.Fields.{Fields}
+use Rattle.ob0_tree.specs.declared.tree.Section.{Section}
+use Rattle.ob0_tree.specs.Tree.{Tree, Item, item, value_section, variable_section}
+use Rattle.ob0_tree.specs.View.{formals_listed, further_fields_of_group, further_section_of, items_of, names_of, record_listed, section_of, type_of}
+use Rattle.ob0_types_rules.specs.Expressions.{Meanings}
+use Rattle.ob0_types_rules.specs.Typing.{type_declared}
+use Rattle.ob0_types_rules.specs.WellTyped.{Signature}
+use Rattle.ob0_values.specs.Values.{Shape}
+use Rattle.ob0_types_fields.specs.FieldTypes.{constructed}
+use Rattle.ob0_types_fields.specs.Search.{Sought, is_found, is_after, after_all, after_one, found_type}
+
+pub after_both : (s : Sought) (xs ys : List (Option Shape)) → after_all s (xs ++ ys) ≡ after_all (after_all s xs) ys
+after_both s [] ys = refl
+after_both s (x ∷ xs) ys = after_both (after_one s x) xs ys
+
+found_stays : (t : Option Shape) (xs : List (Option Shape)) → found_type (after_all (is_found t) xs) ≡ t
+found_stays t [] = refl
+found_stays t (x ∷ xs) = found_stays t xs
+
+-- what is found is at its place
+pub found_at : (n : ℕ) (xs : List (Option Shape)) → found_type (after_all (is_after n) xs) ≡ get_or xs n None
+found_at n [] = refl
+found_at zero (x ∷ xs) = found_stays x xs
+found_at (suc n) (x ∷ xs) = go (suc n == 0) refl (found_at n xs)
+  where
+    go : (b : Bool) → (suc n == 0) ≡ b → found_type (after_all (is_after n) xs) ≡ get_or xs n None
+        → found_type (after_all (if b then is_found x else is_after (suc n - 1)) xs) ≡ get_or xs n None
+    go true e later = absurd (omega (arith, eqb-true (suc n) 0 e))
+    go false e later =
+        let less : suc n - 1 ≡ n = omega arith in
+        ap (λ k. found_type (after_all (is_after k) xs)) less ∙ later
+
+-- the search after those that were passed, with those that are left, is the search after all
+pub record OverItems {A : Type 0} {i : Item} (f : A → Tree ℕ (item i)) (m : Meanings ℕ Shape Signature) (t : Option Shape) (start : Sought) (xs : List A) (done : ℕ) (now : Sought) : Type 0 where
+  pub so_far : after_all now (constructed m t (items_of f (drop done xs))) ≡ after_all start (constructed m t (items_of f xs))
+
+pub items_go_on : {A : Type 0} {i : Item} {f : A → Tree ℕ (item i)} {m : Meanings ℕ Shape Signature} {t : Option Shape} {start : Sought} {xs : List A} {done : ℕ} {now : Sought} (x : A) (next : Sought)
+    → OverItems f m t start xs done now → done < length xs → x ≡ get_or xs done x → next ≡ after_all now (constructed m t (f x)) → OverItems f m t start xs (done + 1) next
+items_go_on {f = f} {m = m} {t = t} {xs = xs} {done = done} {now = now} x next w less here is =
+    let rest : List (Option Shape) = constructed m t (items_of f (drop (done + 1) xs)) in
+    record {
+      so_far = ap (λ s. after_all s rest) is
+          ∙ (sym (after_both now (constructed m t (f x)) rest)
+          ∙ (sym (ap (λ ys. after_all now (constructed m t (items_of f ys))) (drop_more xs done x less ∙ ap (λ y. y ∷ drop (done + 1) xs) (sym here))) ∙ w.so_far));
+    }
+
+pub items_end : {A : Type 0} {i : Item} {f : A → Tree ℕ (item i)} {m : Meanings ℕ Shape Signature} {t : Option Shape} {start : Sought} {xs : List A} {done : ℕ} {now : Sought}
+    → OverItems f m t start xs done now → length xs ≤ done → now ≡ after_all start (constructed m t (items_of f xs))
+items_end {f = f} {m = m} {t = t} {xs = xs} {done = done} {now = now} w all =
+    sym (ap (λ ys. after_all now (constructed m t (items_of f ys))) (drop_all done xs all)) ∙ w.so_far
+
+pub record_walked : (m : Meanings ℕ Shape Signature) (t : Option Shape) (gs : List Fields) → constructed m t (record_listed gs) ≡ t ∷ constructed m t (items_of further_fields_of_group gs)
+record_walked m t [] = refl
+record_walked m t (g ∷ gs) = refl
+
+pub formals_walked : (m : Meanings ℕ Shape Signature) (t : Option Shape) (ss : List Section) → constructed m t (formals_listed ss) ≡ constructed m t (items_of further_section_of ss)
+formals_walked m t [] = refl
+formals_walked m t (s ∷ ss) = refl
+
+pub section_walked : (m : Meanings ℕ Shape Signature) (t : Option Shape) (s : Section) → constructed m t (section_of s) ≡ constructed m (type_declared (m.stands_for s.names.first)) (type_of s.written)
+section_walked m t s = by s.by_reference
+  where
+    by : (b : Bool) → constructed m t (if b then variable_section (names_of s.names) (type_of s.written) else value_section (names_of s.names) (type_of s.written)) ≡ constructed m (type_declared (m.stands_for s.names.first)) (type_of s.written)
+    by true = refl
+    by false = refl

@@ -1,0 +1,494 @@
+-- In a well-typed module each identifier of a field is of a field that has a type.
+use Rattle.std.proofs.Common.{◌≡◌, ◌⊎◌, inl, inr, ℕ, suc, ◌+◌, ◌<◌, ◌==◌, Bool, true, false, ◌&&◌, ◌||◌, not, if◌then◌else◌, nat_le, List, [], ◌∷◌, ◌++◌, map, length, get_or, is_some, Some, None, Option, option_map, option_and_then, refl, sym, ap, ◌∙◌, subst, true≢false, arith, length-append, eqb-true}
+use Rattle.std.proofs.lemmas.Bool.{and_parts}
+use Rattle.std.proofs.lemmas.List.{get_or-append-add, get_or_append_left}
+use Rattle.std.proofs.lemmas.List.Elements.{All-weaker}
+use Rattle.std.proofs.lemmas.Slice.Eq.{bytes_eq-Decides}
+use Rattle.std.specs.List.{AllByRecursion}
+use Rattle.ob0_tree.specs.Parsed.{named_tree_of, tree_of}
+use Rattle.ob0_tree.specs.Places.{text_at, value_at}
+use Rattle.ob0_tree.specs.Tree.{Tree, array_type, block, declares, declares_procedure, declares_type, declares_types, declares_variable, declares_variables, end, fields, formals, further_fields, further_name, further_section, has_body, item, items, listed, mapped, maybe, module_text, more, named_type, names, no_fields, no_formals, none, one, procedure, record_type, some_fields, some_formals, then_fields, then_name, then_section, type_name, type_names, value_section, variable, variable_section, variables, written_type}
+use Rattle.ob0_scope_rules.specs.DeclaredOnce.{are_distinct, block_once, fields_once, formals_once, group_fields, group_once, groups_fields, groups_once, is_among, procedure_once, procedures_once, types_once, variables_once}
+use Rattle.ob0_scope_rules.specs.Names.{Label, Name, as_labels, as_names, label_text, same_name}
+use Rattle.ob0_scope_rules.specs.Parts.{formal_names, formal_sections, further_names, module_block, names_listed, section_types, section_variables}
+use Rattle.ob0_scope_rules.specs.Resolution.{IsResolution, Resolution, ordinal_in}
+use Rattle.ob0_scope_rules.specs.Scopes.{as_label}
+use Rattle.ob0_types_rules.specs.Declarations.{after_formals, after_types, after_variables, block_constructors, formals_constructors, procedure_constructors, procedures_constructors, types_constructors, variables_constructors}
+use Rattle.ob0_types_rules.specs.Environments.{meanings}
+use Rattle.ob0_types_rules.specs.InLabels.{in_labels, label_in}
+use Rattle.ob0_types_rules.specs.Typing.{array_length, constant_value, constructors, denoted, denoted_group, denoted_groups, depth, element_type, group_constructors, groups_constructors, scalars, shape_of_field, type_declared, with_fields, within_limits}
+use Rattle.ob0_types_rules.specs.WellTyped.{TypeEnvironment, WellTyped}
+use Rattle.ob0_types_rules.proofs.Literals.{some_inverse}
+use Rattle.ob0_types_rules.proofs.TypedElsewhere.{then_some}
+use Rattle.ob0_types_table.specs.FieldPlaces.{place_of_field}
+use Rattle.ob0_types_table.specs.declared.known.FieldOf.{FieldOf}
+use Rattle.ob0_values.specs.Values.{FieldShapes, Shape, array_shape, integer_shape, next_field_shape, no_field_shape, record_shape}
+use Rattle.ob0_types_fields.specs.FieldTypes.{FieldsTyped, TypedField, constructed, field_in, first_listed, typed_field}
+use Rattle.ob0_types_fields.specs.Identifiers.{declared_fields, declared_in, declared_in_procedure, declared_in_procedures, declaring_field, field_identifiers, first, is_field, tokens_among}
+use Rattle.ob0_types_fields.specs.Owned.{marked_group, marked_groups, marked_sections, marked_type, marked_types, marked_variables}
+use Rattle.ob0_types_fields.proofs.DeclaredTypes.{BlockStands, Denotes, FormalsStand, ProcedureStands, ProceduresStand, TypesStand, VariablesStand, meaning, module-stands}
+use Rattle.ob0_types_fields.proofs.FieldLabels.{AllWritten, BlockPlain, GroupPlain, GroupsPlain, IsWritten, ProcedurePlain, ProceduresPlain, SectionsPlain, TypePlain, TypesPlain, VariablesPlain, numbered-plain}
+use Rattle.ob0_types_fields.proofs.FieldsDeclared.{fields_declared-holds}
+
+or_right : (a b : Bool) → b ≡ true → (a || b) ≡ true
+or_right true b h = refl
+or_right false b h = h
+
+-- ---- own of a record
+
+among-left : (y : Name) (xs ys : List Name) → is_among y xs ≡ true → is_among y (xs ++ ys) ≡ true
+among-left y [] ys h = absurd (true≢false (sym h))
+among-left y (x ∷ xs) ys h = one (same_name y x) h (among-left y xs ys)
+  where
+    one : (b : Bool) → (b || is_among y xs) ≡ true → (is_among y xs ≡ true → is_among y (xs ++ ys) ≡ true) → (b || is_among y (xs ++ ys)) ≡ true
+    one true e later = refl
+    one false e later = later e
+
+among-right : (y : Name) (xs ys : List Name) → is_among y ys ≡ true → is_among y (xs ++ ys) ≡ true
+among-right y [] ys h = h
+among-right y (x ∷ xs) ys h = or_right (same_name y x) (is_among y (xs ++ ys)) (among-right y xs ys h)
+
+not_true : (b : Bool) → not b ≡ true → b ≡ false
+not_true true h = absurd (true≢false (sym h))
+not_true false h = refl
+
+distinct-right : (xs ys : List Name) → are_distinct (xs ++ ys) ≡ true → are_distinct ys ≡ true
+distinct-right [] ys h = h
+distinct-right (x ∷ xs) ys h = distinct-right xs ys (and_parts (not (is_among x (xs ++ ys))) (are_distinct (xs ++ ys)) h).1
+
+distinct-apart : (y : Name) (xs ys : List Name) → are_distinct (xs ++ ys) ≡ true → is_among y ys ≡ true → is_among y xs ≡ false
+distinct-apart y [] ys h among = refl
+distinct-apart y (x ∷ xs) ys h among = one (same_name y x) refl (distinct-apart y xs ys (and_parts (not (is_among x (xs ++ ys))) (are_distinct (xs ++ ys)) h).1 among)
+  where
+    parts : (not (is_among x (xs ++ ys)) ≡ true) × (are_distinct (xs ++ ys) ≡ true)
+    parts = and_parts (not (is_among x (xs ++ ys))) (are_distinct (xs ++ ys)) h
+
+    one : (b : Bool) → same_name y x ≡ b → is_among y xs ≡ false → (b || is_among y xs) ≡ false
+    one true e later =
+        let same : y ≡ x = (bytes_eq-Decides y x).0 e in
+        absurd (true≢false (sym (subst (λ z. is_among z (xs ++ ys) ≡ true) same (among-right y xs ys among)) ∙ not_true (is_among x (xs ++ ys)) parts.0))
+    one false e later = later
+
+with-among : (y : Name) (xs : List Name) (s : Shape) (later : FieldShapes) → is_among y xs ≡ true → shape_of_field (with_fields xs s later) y ≡ Some s
+with-among y [] s later h = absurd (true≢false (sym h))
+with-among y (x ∷ xs) s later h = one (same_name y x) h (with-among y xs s later)
+  where
+    one : (b : Bool) → (b || is_among y xs) ≡ true → (is_among y xs ≡ true → shape_of_field (with_fields xs s later) y ≡ Some s) → (if b then Some s else shape_of_field (with_fields xs s later) y) ≡ Some s
+    one true e rest = refl
+    one false e rest = rest e
+
+with-none : (y : Name) (xs : List Name) (s : Shape) (later : FieldShapes) → is_among y xs ≡ false → shape_of_field (with_fields xs s later) y ≡ shape_of_field later y
+with-none y [] s later h = refl
+with-none y (x ∷ xs) s later h = one (same_name y x) h (with-none y xs s later)
+  where
+    one : (b : Bool) → (b || is_among y xs) ≡ false → (is_among y xs ≡ false → shape_of_field (with_fields xs s later) y ≡ shape_of_field later y) → (if b then Some s else shape_of_field (with_fields xs s later) y) ≡ shape_of_field later y
+    one true e rest = absurd (true≢false e)
+    one false e rest = rest e
+
+place-found : (fs : FieldShapes) (x : Name) (u : Shape) → shape_of_field fs x ≡ Some u → (i : ℕ) × (place_of_field fs x ≡ Some i)
+place-found no_field_shape x u h = absurd (cc)
+place-found (next_field_shape y s rest) x u h = one (same_name x y) h (place-found rest x u)
+  where
+    one : (b : Bool) → (if b then Some s else shape_of_field rest x) ≡ Some u → (shape_of_field rest x ≡ Some u → (i : ℕ) × (place_of_field rest x ≡ Some i))
+        → (i : ℕ) × ((if b then Some 0 else option_map suc (place_of_field rest x)) ≡ Some i)
+    one true e later = (0, refl)
+    one false e later = let found = later e in (suc found.0, ap (option_map suc) found.1)
+
+abbrev of_field : FieldOf → Shape → TypedField
+of_field f t = record { field = f; shape = t }
+
+abbrev place_in : ℕ → ℕ → FieldOf
+place_in k i = record { ordinal = k; index = i }
+
+within-is : (s t : Shape) → within_limits s ≡ Some t → s ≡ t
+within-is s t = elim (nat_le (scalars s) 65536 && nat_le (depth s) 100) as (λ b. (if b then Some s else None) ≡ Some t → s ≡ t) [ true ↦ λ h. some_inverse h | false ↦ λ h. absurd (cc) ]
+
+itself : (x : Name) → same_name x x ≡ true
+itself x = (bytes_eq-Decides x x).1 refl
+
+-- ---- each ARRAY and RECORD constructs one type
+
+module _ (r : Resolution) where
+  mutual
+    type-counted : (t : Option Shape) (u : Tree ℕ written_type) → length (constructed (meaning r) t u) ≡ constructors u
+    type-counted t (named_type x) = refl
+    type-counted t (array_type e u) = ap suc (type-counted (option_and_then (λ a. element_type a integer_shape) t) u)
+    type-counted t (record_type g rest) =
+        ap suc (length-append (constructed (meaning r) t g) (constructed (meaning r) t rest) ∙ (λ i. group-counted t g i + groups-counted t rest i))
+
+    group-counted : (t : Option Shape) (g : Tree ℕ fields) → length (constructed (meaning r) t g) ≡ group_constructors g
+    group-counted t no_fields = refl
+    group-counted t (some_fields ns u) = type-counted _ u
+
+    groups-counted : (t : Option Shape) (gs : Tree ℕ (items further_fields)) → length (constructed (meaning r) t gs) ≡ groups_constructors gs
+    groups-counted t end = refl
+    groups-counted t (more (then_fields g) rest) =
+        length-append (constructed (meaning r) t g) (constructed (meaning r) t rest) ∙ (λ i. group-counted t g i + groups-counted t rest i)
+
+  types-counted : (ds : Tree ℕ (items type_name)) → length (constructed (meaning r) None ds) ≡ types_constructors ds
+  types-counted end = refl
+  types-counted (more (declares_type x u) ds) =
+      length-append (constructed (meaning r) None (declares_type x u)) (constructed (meaning r) None ds) ∙ (λ i. type-counted (type_declared ((meaning r).stands_for x)) u i + types-counted ds i)
+
+  variables-counted : (gs : Tree ℕ (items variable)) → length (constructed (meaning r) None gs) ≡ variables_constructors gs
+  variables-counted end = refl
+  variables-counted (more (declares_variable ns u) gs) =
+      length-append (constructed (meaning r) None (declares_variable ns u)) (constructed (meaning r) None gs) ∙ (λ i. type-counted (type_declared ((meaning r).stands_for (first_listed ns))) u i + variables-counted gs i)
+
+  sections-counted : (fs : Tree ℕ (items further_section)) → length (constructed (meaning r) None fs) ≡ formals_constructors fs
+  sections-counted end = refl
+  sections-counted (more (then_section (value_section ns u)) fs) =
+      length-append (constructed (meaning r) None (value_section ns u)) (constructed (meaning r) None fs) ∙ (λ i. type-counted (type_declared ((meaning r).stands_for (first_listed ns))) u i + sections-counted fs i)
+  sections-counted (more (then_section (variable_section ns u)) fs) =
+      length-append (constructed (meaning r) None (variable_section ns u)) (constructed (meaning r) None fs) ∙ (λ i. type-counted (type_declared ((meaning r).stands_for (first_listed ns))) u i + sections-counted fs i)
+
+  type_section-counted : (ts : Tree ℕ (maybe type_names)) → length (constructed (meaning r) None ts) ≡ types_constructors (section_types ts)
+  type_section-counted none = refl
+  type_section-counted (one (declares_types ts)) = types-counted ts
+
+  variable_section-counted : (vs : Tree ℕ (maybe variables)) → length (constructed (meaning r) None vs) ≡ variables_constructors (section_variables vs)
+  variable_section-counted none = refl
+  variable_section-counted (one (declares_variables vs)) = variables-counted vs
+
+  formal_section-counted : (fs : Tree ℕ (maybe formals)) → length (constructed (meaning r) None fs) ≡ formals_constructors (formal_sections fs)
+  formal_section-counted none = refl
+  formal_section-counted (one no_formals) = refl
+  formal_section-counted (one (some_formals (value_section ns u) fs)) = sections-counted (more (then_section (value_section ns u)) fs)
+  formal_section-counted (one (some_formals (variable_section ns u) fs)) = sections-counted (more (then_section (variable_section ns u)) fs)
+
+  mutual
+    block-counted : (b : Tree ℕ block) → length (constructed (meaning r) None b) ≡ block_constructors b
+    block-counted (has_body (declares cs ts vs ps) statements) =
+        length-append (constructed (meaning r) None ts) (constructed (meaning r) None vs ++ constructed (meaning r) None ps)
+        ∙ ((λ i. type_section-counted ts i + length-append (constructed (meaning r) None vs) (constructed (meaning r) None ps) i)
+        ∙ (λ i. types_constructors (section_types ts) + (variable_section-counted vs i + procedures-counted ps i)))
+
+    procedures-counted : (ps : Tree ℕ (items procedure)) → length (constructed (meaning r) None ps) ≡ procedures_constructors ps
+    procedures-counted end = refl
+    procedures-counted (more p rest) =
+        length-append (constructed (meaning r) None p) (constructed (meaning r) None rest) ∙ (λ i. procedure-counted p i + procedures-counted rest i)
+
+    procedure-counted : (p : Tree ℕ (item procedure)) → length (constructed (meaning r) None p) ≡ procedure_constructors p
+    procedure-counted (declares_procedure x fs b closing) =
+        length-append (constructed (meaning r) None fs) (constructed (meaning r) None b) ∙ (λ i. formal_section-counted fs i + block-counted b i)
+
+-- ---- fields of the types that are constructed
+
+-- Where the first of these types has the ordinal k, the type with this ordinal has a field of the name.
+pub record Has (made : List (Option Shape)) (k ordinal : ℕ) (x : Name) : Type 0 where
+  pub place : ℕ
+  pub is_at : ordinal ≡ k + place
+  pub within : place < length made
+  pub typed : is_some (option_and_then (λ s. field_in s x) (get_or made place None)) ≡ true
+
+has-before : (made later : List (Option Shape)) (k ordinal : ℕ) (x : Name) → Has made k ordinal x → Has (made ++ later) k ordinal x
+has-before made later k ordinal x h =
+    record {
+      place = h.place;
+      is_at = h.is_at;
+      within = omega (arith, h.within, length-append made later);
+      typed = ap (λ t. is_some (option_and_then (λ s. field_in s x) t)) (get_or_append_left made later None h.place h.within) ∙ h.typed;
+    }
+
+has-later : (made later : List (Option Shape)) (k ordinal : ℕ) (x : Name) → Has later (k + length made) ordinal x → Has (made ++ later) k ordinal x
+has-later made later k ordinal x h =
+    record {
+      place = length made + h.place;
+      is_at = omega (arith, h.is_at);
+      within = omega (arith, h.within, length-append made later);
+      typed = ap (λ t. is_some (option_and_then (λ s. field_in s x) t)) (get_or-append-add made later h.place None) ∙ h.typed;
+    }
+
+has-next : (t : Option Shape) (made : List (Option Shape)) (k ordinal : ℕ) (x : Name) → Has made (suc k) ordinal x → Has (t ∷ made) k ordinal x
+has-next t made k ordinal x h =
+    record { place = suc h.place; is_at = omega (arith, h.is_at); within = omega (arith, h.within); typed = h.typed }
+
+each-both : {X : Type 0} (P : X → Type 0) (xs ys : List X) → AllByRecursion P xs → AllByRecursion P ys → AllByRecursion P (xs ++ ys)
+each-both P [] ys a b = b
+each-both P (x ∷ xs) ys a b = (a.0, each-both P xs ys a.1 b)
+
+each-weaker : {X : Type 0} (P Q : X → Type 0) → ((x : X) → P x → Q x) → (xs : List X) → AllByRecursion P xs → AllByRecursion Q xs
+each-weaker P Q f [] a = tt
+each-weaker P Q f (x ∷ xs) a = (f x a.0, each-weaker P Q f xs a.1)
+
+module _ (r : Resolution) where
+  abbrev text : ℕ → Name
+  text x = text_at r.module_read.source x
+
+  abbrev value : ℕ → ℕ
+  value x = value_at r.module_read.source x
+
+  -- the text of a field's name
+  written-text : (x : ℕ) → IsWritten (label_in r x) → label_text (label_in r x) ≡ text x
+  written-text x h = go (ordinal_in r.ordinals x) h
+    where
+      go : (o : Option ℕ) → IsWritten (as_label as_names o (text x)) → label_text (as_label as_names o (text x)) ≡ text x
+      go None h = refl
+      go (Some k) h = absurd h
+
+  further-texts : (ns : Tree ℕ (items further_name)) → AllWritten (further_names (in_labels r ns)) → map label_text (further_names (in_labels r ns)) ≡ further_names (mapped text value ns)
+  further-texts end h = refl
+  further-texts (more (then_name x) rest) h = λ i. written-text x h.0 i ∷ further-texts rest h.1 i
+
+  texts : (ns : Tree ℕ names) → AllWritten (names_listed (in_labels r ns)) → map label_text (names_listed (in_labels r ns)) ≡ names_listed (mapped text value ns)
+  texts (listed x rest) h = λ i. written-text x h.0 i ∷ further-texts rest h.1 i
+
+  -- an identifier with the ordinal of its record
+  abbrev HasField : List (Option Shape) → ℕ → ℕ × ℕ → Type 0
+  HasField made k x = Has made k x.1 (text x.0)
+
+  -- one of the record itself, or of a type within
+  abbrev InRecord : Shape → ℕ → List (Option Shape) → ℕ → ℕ × ℕ → Type 0
+  InRecord s j made k x = ((x.1 ≡ j) × (is_some (field_in s (text x.0)) ≡ true)) ⊎ HasField made k x
+
+  in-before : (s : Shape) (j : ℕ) (made later : List (Option Shape)) (k : ℕ) (x : ℕ × ℕ) → InRecord s j made k x → InRecord s j (made ++ later) k x
+  in-before s j made later k x (inl own) = inl own
+  in-before s j made later k x (inr h) = inr (has-before made later k x.1 (text x.0) h)
+
+  in-later : (s : Shape) (j : ℕ) (made later : List (Option Shape)) (k : ℕ) (x : ℕ × ℕ) → InRecord s j later (k + length made) x → InRecord s j (made ++ later) k x
+  in-later s j made later k x (inl own) = inl own
+  in-later s j made later k x (inr h) = inr (has-later made later k x.1 (text x.0) h)
+
+  of-record : (s : Shape) (j : ℕ) (made : List (Option Shape)) (x : ℕ × ℕ) → InRecord s j made (suc j) x → HasField (Some s ∷ made) j x
+  of-record s j made x (inl own) = record { place = 0; is_at = omega (arith, own.0); within = omega arith; typed = own.1 }
+  of-record s j made x (inr h) = has-next (Some s) made j x.1 (text x.0) h
+
+  -- two parts, one after the other
+  parts-have : (made later : List (Option Shape)) (k n : ℕ) (xs ys : List (ℕ × ℕ)) → n ≡ k + length made → AllByRecursion (HasField made k) xs → AllByRecursion (HasField later n) ys → AllByRecursion (HasField (made ++ later) k) (xs ++ ys)
+  parts-have made later k n xs ys e a b =
+      each-both (HasField (made ++ later) k) xs ys
+      (each-weaker (HasField made k) (HasField (made ++ later) k) (λ x h. has-before made later k x.1 (text x.0) h) xs a)
+      (each-weaker (HasField later n) (HasField (made ++ later) k) (λ x h. has-later made later k x.1 (text x.0) (subst (λ j. Has later j x.1 (text x.0)) e h)) ys b)
+
+  groups-have : (s : Shape) (j : ℕ) (made later : List (Option Shape)) (k n : ℕ) (xs ys : List (ℕ × ℕ)) → n ≡ k + length made → AllByRecursion (InRecord s j made k) xs → AllByRecursion (InRecord s j later n) ys
+      → AllByRecursion (InRecord s j (made ++ later) k) (xs ++ ys)
+  groups-have s j made later k n xs ys e a b =
+      each-both (InRecord s j (made ++ later) k) xs ys
+      (each-weaker (InRecord s j made k) (InRecord s j (made ++ later) k) (λ x h. in-before s j made later k x h) xs a)
+      (each-weaker (InRecord s j later n) (InRecord s j (made ++ later) k) (λ x h. in-later s j made later k x (subst (λ i. InRecord s j later i x) e h)) ys b)
+
+  module _ (o : ℕ) (all : FieldShapes) where
+    -- a name that has a type in a record is a field of it
+    name-typed : (x : Name) (s : Shape) → shape_of_field all x ≡ Some s → is_some (field_in (record_shape o all) x) ≡ true
+    name-typed x s typed =
+        let place = place-found all x s typed in
+        λ i. is_some (option_and_then (λ f. option_map (of_field f) (typed i)) (option_map (place_in o) (place.1 i)))
+
+    own-names : (j k : ℕ) (made : List (Option Shape)) (xs : List ℕ) → AllByRecursion (λ x. is_some (field_in (record_shape o all) (text x)) ≡ true) xs → AllByRecursion (InRecord (record_shape o all) j made k) (map (λ x. (x, j)) xs)
+    own-names j k made [] h = tt
+    own-names j k made (x ∷ xs) h = (inl (refl, h.0), own-names j k made xs h.1)
+
+    further-have : (ns : Tree ℕ (items further_name)) (before : List Name) (s : Shape) → ((y : Name) → is_among y (before ++ further_names (mapped text value ns)) ≡ true → shape_of_field all y ≡ Some s)
+        → AllByRecursion (λ x. is_some (field_in (record_shape o all) (text x)) ≡ true) (further_names ns)
+    further-have end before s has = tt
+    further-have (more (then_name x) rest) before s has = (
+      name-typed (text x) s (has (text x) (among-right (text x) before (text x ∷ further_names (mapped text value rest)) (ap (λ b. b || is_among (text x) (further_names (mapped text value rest))) (itself (text x))))),
+      further-have rest [] s (λ y among. has y (among-right y before (text x ∷ further_names (mapped text value rest)) (or_right (same_name y (text x)) (is_among y (further_names (mapped text value rest))) among))),
+    )
+
+    names-have : (ns : Tree ℕ names) (s : Shape) → ((y : Name) → is_among y (names_listed (mapped text value ns)) ≡ true → shape_of_field all y ≡ Some s)
+        → AllByRecursion (λ x. is_some (field_in (record_shape o all) (text x)) ≡ true) (names_listed ns)
+    names-have (listed x rest) s has = (
+      name-typed (text x) s (has (text x) (ap (λ b. b || is_among (text x) (further_names (mapped text value rest))) (itself (text x)))),
+      further-have rest (text x ∷ []) s has,
+    )
+
+    -- the fields of a group are found from the whole record as from the group on
+    abbrev Agree : List Name → FieldShapes → Type 0
+    Agree own fs = (y : Name) → is_among y own ≡ true → shape_of_field all y ≡ shape_of_field fs y
+
+  -- after a group a name is found as from those that follow, where it isn't one of the group's
+  behind-group : (env : TypeEnvironment Label) (k : ℕ) (later fs : FieldShapes) (g : Tree ℕ fields) → denoted_group (meanings as_labels env) k later (in_labels r g) ≡ Some fs → GroupPlain (in_labels r g)
+      → (others : List Name) → are_distinct (group_fields (mapped text value g) ++ others) ≡ true → (y : Name) → is_among y others ≡ true → shape_of_field fs y ≡ shape_of_field later y
+  unfolding denoted
+  behind-group env k later fs no_fields h plain others distinct y among = ap (λ z. shape_of_field z y) (sym (some_inverse h))
+  behind-group env k later fs (some_fields ns t) h plain others distinct y among =
+      let one = then_some (denoted (meanings as_labels env) k (in_labels r t)) (λ s. Some (with_fields (map label_text (names_listed (in_labels r ns))) s later)) fs h in
+      let own : List Name = names_listed (mapped text value ns) in
+      ap (λ z. shape_of_field z y) (sym (some_inverse one.2) ∙ ap (λ xs. with_fields xs one.0 later) (texts ns plain.0)) ∙ with-none y own one.0 later (distinct-apart y own others distinct among)
+
+  mutual
+    unfolding denoted
+
+    type-have : (env : TypeEnvironment Label) (k : ℕ) (u : Tree ℕ written_type) (s : Shape) → denoted (meanings as_labels env) k (in_labels r u) ≡ Some s → TypePlain (in_labels r u) → fields_once (mapped text value u) ≡ true
+        → (j : ℕ) → AllByRecursion (HasField (constructed (meaning r) (Some s) u) j) (marked_type j u)
+    type-have env k (named_type x) s h plain once j = tt
+    type-have env k (array_type e t) s h plain once j =
+        let one = then_some (constant_value (meanings as_labels env) (in_labels r e)) (λ v. option_and_then (λ n. option_and_then (λ a. within_limits (array_shape k n a)) (denoted (meanings as_labels env) (suc k) (in_labels r t))) (array_length v)) s h in
+        let two = then_some (array_length one.0) (λ n. option_and_then (λ a. within_limits (array_shape k n a)) (denoted (meanings as_labels env) (suc k) (in_labels r t))) s one.2 in
+        let three = then_some (denoted (meanings as_labels env) (suc k) (in_labels r t)) (λ a. within_limits (array_shape k two.0 a)) s two.2 in
+        let inner : List (Option Shape) = constructed (meaning r) (Some three.0) t in
+        subst (λ z. AllByRecursion (HasField (constructed (meaning r) (Some z) (array_type e t)) j) (marked_type (suc j) t)) (within-is (array_shape k two.0 three.0) s three.2)
+        (each-weaker (HasField inner (suc j)) (HasField (Some (array_shape k two.0 three.0) ∷ inner) j) (λ x h. has-next (Some (array_shape k two.0 three.0)) inner j x.1 (text x.0) h) (marked_type (suc j) t) (type-have env (suc k) t three.0 three.1 plain once (suc j)))
+    type-have env k (record_type g rest) s h plain once j =
+        let n : ℕ = suc k + group_constructors (in_labels r g) in
+        let own : List Name = group_fields (mapped text value g) in
+        let others : List Name = groups_fields (mapped text value rest) in
+        let one = then_some (denoted_groups (meanings as_labels env) n (in_labels r rest)) (λ later. option_and_then (λ fs. within_limits (record_shape k fs)) (denoted_group (meanings as_labels env) (suc k) later (in_labels r g))) s h in
+        let two = then_some (denoted_group (meanings as_labels env) (suc k) one.0 (in_labels r g)) (λ fs. within_limits (record_shape k fs)) s one.2 in
+        let all : FieldShapes = two.0 in
+        let z : Shape = record_shape k all in
+        let o1 = and_parts (are_distinct (own ++ others)) (group_once (mapped text value g) && groups_once (mapped text value rest)) once in
+        let o2 = and_parts (group_once (mapped text value g)) (groups_once (mapped text value rest)) o1.1 in
+        let first : List (Option Shape) = constructed (meaning r) (Some z) g in
+        let later : List (Option Shape) = constructed (meaning r) (Some z) rest in
+        let xs : List (ℕ × ℕ) = marked_group j (suc j) g in
+        let ys : List (ℕ × ℕ) = marked_groups j (suc j + group_constructors g) rest in
+        subst (λ y. AllByRecursion (HasField (constructed (meaning r) (Some y) (record_type g rest)) j) (xs ++ ys)) (within-is z s two.2)
+        (each-weaker (InRecord z j (first ++ later) (suc j)) (HasField (Some z ∷ (first ++ later)) j) (λ x h. of-record z j (first ++ later) x h) (xs ++ ys)
+        (groups-have z j first later (suc j) (suc j + group_constructors g) xs ys (ap (λ c. suc j + c) (sym (group-counted r (Some z) g)))
+        (group-has env (suc k) k all one.0 all g two.1 plain.0 o2.0 (λ y among. refl) j (suc j))
+        (groups-all env n k all one.0 rest one.1 plain.1 o2.1 (distinct-right own others o1.0) (λ y among. behind-group env (suc k) one.0 all g two.1 plain.0 others o1.0 y among) j (suc j + group_constructors g))))
+
+    group-has : (env : TypeEnvironment Label) (k o : ℕ) (all later fs : FieldShapes) (g : Tree ℕ fields) → denoted_group (meanings as_labels env) k later (in_labels r g) ≡ Some fs → GroupPlain (in_labels r g) → group_once (mapped text value g) ≡ true
+        → Agree o all (group_fields (mapped text value g)) fs → (j n : ℕ) → AllByRecursion (InRecord (record_shape o all) j (constructed (meaning r) (Some (record_shape o all)) g) n) (marked_group j n g)
+    group-has env k o all later fs no_fields h plain once agree j n = tt
+    group-has env k o all later fs (some_fields (listed x rest) t) h plain once agree j n =
+        let ns : Tree ℕ names = listed x rest in
+        let own : List Name = names_listed (mapped text value ns) in
+        let one = then_some (denoted (meanings as_labels env) k (in_labels r t)) (λ s. Some (with_fields (map label_text (names_listed (in_labels r ns))) s later)) fs h in
+        let is : fs ≡ with_fields own one.0 later = sym (some_inverse one.2) ∙ ap (λ xs. with_fields xs one.0 later) (texts ns plain.0) in
+        let has : (y : Name) → is_among y own ≡ true → shape_of_field all y ≡ Some one.0 = λ y among. agree y among ∙ (ap (λ z. shape_of_field z y) is ∙ with-among y own one.0 later among) in
+        let first : shape_of_field all (text x) ≡ Some one.0 = has (text x) (ap (λ b. b || is_among (text x) (further_names (mapped text value rest))) (itself (text x))) in
+        let made : List (Option Shape) = constructed (meaning r) (Some one.0) t in
+        subst (λ z. AllByRecursion (InRecord (record_shape o all) j (constructed (meaning r) z t) n) (map (λ y. (y, j)) (names_listed ns) ++ marked_type n t)) (sym first)
+        (each-both (InRecord (record_shape o all) j made n) (map (λ y. (y, j)) (names_listed ns)) (marked_type n t)
+        (own-names o all j n made (names_listed ns) (names-have o all ns one.0 has))
+        (each-weaker (HasField made n) (InRecord (record_shape o all) j made n) (λ y e. inr e) (marked_type n t) (type-have env k t one.0 one.1 plain.1 once n)))
+
+    groups-all : (env : TypeEnvironment Label) (k o : ℕ) (all fs : FieldShapes) (gs : Tree ℕ (items further_fields)) → denoted_groups (meanings as_labels env) k (in_labels r gs) ≡ Some fs → GroupsPlain (in_labels r gs) → groups_once (mapped text value gs) ≡ true
+        → are_distinct (groups_fields (mapped text value gs)) ≡ true → Agree o all (groups_fields (mapped text value gs)) fs → (j n : ℕ) → AllByRecursion (InRecord (record_shape o all) j (constructed (meaning r) (Some (record_shape o all)) gs) n) (marked_groups j n gs)
+    groups-all env k o all fs end h plain once distinct agree j n = tt
+    groups-all env k o all fs (more (then_fields g) rest) h plain once distinct agree j n =
+        let own : List Name = group_fields (mapped text value g) in
+        let others : List Name = groups_fields (mapped text value rest) in
+        let one = then_some (denoted_groups (meanings as_labels env) (k + group_constructors (in_labels r g)) (in_labels r rest)) (λ later. denoted_group (meanings as_labels env) k later (in_labels r g)) fs h in
+        let o1 = and_parts (group_once (mapped text value g)) (groups_once (mapped text value rest)) once in
+        let z : Shape = record_shape o all in
+        groups-have z j (constructed (meaning r) (Some z) g) (constructed (meaning r) (Some z) rest) n (n + group_constructors g) (marked_group j n g) (marked_groups j (n + group_constructors g) rest) (ap (λ c. n + c) (sym (group-counted r (Some z) g)))
+        (group-has env k o all one.0 fs g one.2 plain.0 o1.0 (λ y among. agree y (among-left y own others among)) j n)
+        (groups-all env (k + group_constructors (in_labels r g)) o all one.0 rest one.1 plain.1 o1.1 (distinct-right own others distinct)
+        (λ y among. agree y (among-right y own others among) ∙ behind-group env k one.0 fs g one.2 plain.0 others distinct y among) j (n + group_constructors g))
+
+  -- ---- declarations
+
+  -- the type that is declared is what the text of its type denotes
+  declared-have : (t : Option Shape) (u : Tree ℕ written_type) (s : Shape) → t ≡ Some s → Denotes r u s → TypePlain (in_labels r u) → fields_once (mapped text value u) ≡ true → (k : ℕ) → AllByRecursion (HasField (constructed (meaning r) t u) k) (marked_type k u)
+  declared-have t u s is d plain once k =
+      subst (λ z. AllByRecursion (HasField (constructed (meaning r) z u) k) (marked_type k u)) (sym is) (type-have d.env d.ordinal u s d.denotes plain once k)
+
+  types-have : (ds : Tree ℕ (items type_name)) → TypesStand r ds → TypesPlain (in_labels r ds) → types_once (mapped text value ds) ≡ true → (k : ℕ) → AllByRecursion (HasField (constructed (meaning r) None ds) k) (marked_types k ds)
+  types-have end stand plain once k = tt
+  types-have (more (declares_type x u) ds) stand plain once k =
+      let o = and_parts (fields_once (mapped text value u)) (types_once (mapped text value ds)) once in
+      let t : Option Shape = type_declared ((meaning r).stands_for x) in
+      parts-have (constructed (meaning r) t u) (constructed (meaning r) None ds) k (k + constructors u) (marked_type k u) (marked_types (k + constructors u) ds) (ap (λ c. k + c) (sym (type-counted r t u)))
+      (declared-have t u stand.0.0 (ap type_declared stand.0.1) stand.0.2 plain.0 o.0 k) (types-have ds stand.1 plain.1 o.1 (k + constructors u))
+
+  variables-have : (gs : Tree ℕ (items variable)) → VariablesStand r gs → VariablesPlain (in_labels r gs) → variables_once (mapped text value gs) ≡ true → (k : ℕ) → AllByRecursion (HasField (constructed (meaning r) None gs) k) (marked_variables k gs)
+  variables-have end stand plain once k = tt
+  variables-have (more (declares_variable (listed x others) u) gs) stand plain once k =
+      let o = and_parts (fields_once (mapped text value u)) (variables_once (mapped text value gs)) once in
+      let t : Option Shape = type_declared ((meaning r).stands_for x) in
+      parts-have (constructed (meaning r) t u) (constructed (meaning r) None gs) k (k + constructors u) (marked_type k u) (marked_variables (k + constructors u) gs) (ap (λ c. k + c) (sym (type-counted r t u)))
+      (declared-have t u stand.0.0 (ap type_declared stand.0.1) stand.0.2 plain.0 o.0 k) (variables-have gs stand.1 plain.1 o.1 (k + constructors u))
+
+  sections-have : (fs : Tree ℕ (items further_section)) → FormalsStand r fs → SectionsPlain (in_labels r fs) → formals_once (mapped text value fs) ≡ true → (k : ℕ) → AllByRecursion (HasField (constructed (meaning r) None fs) k) (marked_sections k fs)
+  sections-have end stand plain once k = tt
+  sections-have (more (then_section (value_section (listed x others) u)) fs) stand plain once k =
+      let o = and_parts (fields_once (mapped text value u)) (formals_once (mapped text value fs)) once in
+      let t : Option Shape = type_declared ((meaning r).stands_for x) in
+      parts-have (constructed (meaning r) t u) (constructed (meaning r) None fs) k (k + constructors u) (marked_type k u) (marked_sections (k + constructors u) fs) (ap (λ c. k + c) (sym (type-counted r t u)))
+      (declared-have t u stand.0.0 (ap type_declared stand.0.1) stand.0.2 plain.0 o.0 k) (sections-have fs stand.1 plain.1 o.1 (k + constructors u))
+  sections-have (more (then_section (variable_section (listed x others) u)) fs) stand plain once k =
+      let o = and_parts (fields_once (mapped text value u)) (formals_once (mapped text value fs)) once in
+      let t : Option Shape = type_declared ((meaning r).stands_for x) in
+      parts-have (constructed (meaning r) t u) (constructed (meaning r) None fs) k (k + constructors u) (marked_type k u) (marked_sections (k + constructors u) fs) (ap (λ c. k + c) (sym (type-counted r t u)))
+      (declared-have t u stand.0.0 (ap type_declared stand.0.1) stand.0.2 plain.0 o.0 k) (sections-have fs stand.1 plain.1 o.1 (k + constructors u))
+
+  type_section-have : (ts : Tree ℕ (maybe type_names)) → TypesStand r (section_types ts) → TypesPlain (section_types (in_labels r ts)) → types_once (section_types (mapped text value ts)) ≡ true → (k : ℕ)
+      → AllByRecursion (HasField (constructed (meaning r) None ts) k) (marked_types k (section_types ts))
+  type_section-have none stand plain once k = tt
+  type_section-have (one (declares_types ts)) stand plain once k = types-have ts stand plain once k
+
+  variable_section-have : (vs : Tree ℕ (maybe variables)) → VariablesStand r (section_variables vs) → VariablesPlain (section_variables (in_labels r vs)) → variables_once (section_variables (mapped text value vs)) ≡ true → (k : ℕ)
+      → AllByRecursion (HasField (constructed (meaning r) None vs) k) (marked_variables k (section_variables vs))
+  variable_section-have none stand plain once k = tt
+  variable_section-have (one (declares_variables vs)) stand plain once k = variables-have vs stand plain once k
+
+  formal_section-have : (fs : Tree ℕ (maybe formals)) → FormalsStand r (formal_sections fs) → SectionsPlain (formal_sections (in_labels r fs)) → formals_once (formal_sections (mapped text value fs)) ≡ true → (k : ℕ)
+      → AllByRecursion (HasField (constructed (meaning r) None fs) k) (marked_sections k (formal_sections fs))
+  formal_section-have none stand plain once k = tt
+  formal_section-have (one no_formals) stand plain once k = tt
+  formal_section-have (one (some_formals (value_section ns u) fs)) stand plain once k = sections-have (more (then_section (value_section ns u)) fs) stand plain once k
+  formal_section-have (one (some_formals (variable_section ns u) fs)) stand plain once k = sections-have (more (then_section (variable_section ns u)) fs) stand plain once k
+
+  mutual
+    block-has : (own : List Name) (b : Tree ℕ block) → BlockStands r b → BlockPlain (in_labels r b) → block_once own (mapped text value b) ≡ true → (k : ℕ) → AllByRecursion (HasField (constructed (meaning r) None b) k) (declared_in k b)
+    block-has own (has_body (declares cs ts vs ps) statements) stand plain once k =
+        let b : Tree ℕ block = has_body (declares cs ts vs ps) statements in
+        let T : Bool = types_once (section_types (mapped text value ts)) in
+        let V : Bool = variables_once (section_variables (mapped text value vs)) in
+        let P : Bool = procedures_once (mapped text value ps) in
+        let o1 = and_parts _ (T && (V && P)) once in
+        let o2 = and_parts T (V && P) o1.1 in
+        let o3 = and_parts V P o2.1 in
+        parts-have (constructed (meaning r) None ts) (constructed (meaning r) None vs ++ constructed (meaning r) None ps) k (after_types k b)
+        (marked_types k (section_types ts)) (marked_variables (after_types k b) (section_variables vs) ++ declared_in_procedures (after_variables k b) ps) (ap (λ c. k + c) (sym (type_section-counted r ts)))
+        (type_section-have ts stand.0.0 plain.0.0 o2.0 k)
+        (parts-have (constructed (meaning r) None vs) (constructed (meaning r) None ps) (after_types k b) (after_variables k b)
+        (marked_variables (after_types k b) (section_variables vs)) (declared_in_procedures (after_variables k b) ps) (ap (λ c. after_types k b + c) (sym (variable_section-counted r vs)))
+        (variable_section-have vs stand.0.1 plain.0.1 o3.0 (after_types k b)) (procedures-have ps stand.1 plain.1 o3.1 (after_variables k b)))
+
+    procedures-have : (ps : Tree ℕ (items procedure)) → ProceduresStand r ps → ProceduresPlain (in_labels r ps) → procedures_once (mapped text value ps) ≡ true → (k : ℕ) → AllByRecursion (HasField (constructed (meaning r) None ps) k) (declared_in_procedures k ps)
+    procedures-have end stand plain once k = tt
+    procedures-have (more q rest) stand plain once k =
+        let o = and_parts (procedure_once (mapped text value q)) (procedures_once (mapped text value rest)) once in
+        parts-have (constructed (meaning r) None q) (constructed (meaning r) None rest) k (k + procedure_constructors q)
+        (declared_in_procedure k q) (declared_in_procedures (k + procedure_constructors q) rest) (ap (λ c. k + c) (sym (procedure-counted r q)))
+        (procedure-has q stand.0 plain.0 o.0 k) (procedures-have rest stand.1 plain.1 o.1 (k + procedure_constructors q))
+
+    procedure-has : (q : Tree ℕ (item procedure)) → ProcedureStands r q → ProcedurePlain (in_labels r q) → procedure_once (mapped text value q) ≡ true → (k : ℕ) → AllByRecursion (HasField (constructed (meaning r) None q) k) (declared_in_procedure k q)
+    procedure-has (declares_procedure x fs b closing) stand plain once k =
+        let F : Bool = formals_once (formal_sections (mapped text value fs)) in
+        let B : Bool = block_once (formal_names (formal_sections (mapped text value fs))) (mapped text value b) in
+        let o1 = and_parts (same_name (text x) (text closing)) (F && B) once in
+        let o2 = and_parts F B o1.1 in
+        let n : ℕ = after_formals k (declares_procedure x fs b closing) in
+        parts-have (constructed (meaning r) None fs) (constructed (meaning r) None b) k n (marked_sections k (formal_sections fs)) (declared_in n b) (ap (λ c. k + c) (sym (formal_section-counted r fs)))
+        (formal_section-have fs stand.0 plain.0 o2.0 k) (block-has (formal_names (formal_sections (mapped text value fs))) b stand.1 plain.1 o2.1 n)
+
+  -- all types that a module constructs
+  abbrev made_in_module : List (Option Shape)
+  made_in_module = constructed (meaning r) None (tree_of r.module_read)
+
+  declared-typed : IsResolution r → WellTyped (named_tree_of r.module_read) → AllByRecursion (HasField made_in_module 0) (declared_fields r.module_read)
+  unfolding WellTyped
+  declared-typed is well =
+      let b : Tree ℕ block = module_block (tree_of r.module_read) in
+      let plain : BlockPlain (in_labels r b) = subst (λ (z : Tree Label module_text). BlockPlain (module_block z)) is.numbering (numbered-plain (named_tree_of r.module_read)) in
+      let once = and_parts (same_name (text r.module_read.name) (text r.module_read.closing)) (block_once [] (mapped text value b)) well.0 in
+      block-has [] b (module-stands r is well) plain once.1 0
+
+  -- a field that some identifier declares
+  declaring-has : (k : ℕ) (x : Name) (xs : List (ℕ × ℕ)) → AllByRecursion (HasField made_in_module 0) xs → is_some (first (tokens_among r.module_read.source k x xs)) ≡ true → Has made_in_module 0 k x
+  declaring-has k x [] all h = absurd (true≢false (sym h))
+  declaring-has k x (y ∷ ys) all h = go (is_field r.module_read.source k x y) refl h (declaring-has k x ys all.1)
+    where
+      go : (b : Bool) → is_field r.module_read.source k x y ≡ b → is_some (first (if b then y.0 ∷ tokens_among r.module_read.source k x ys else tokens_among r.module_read.source k x ys)) ≡ true
+          → (is_some (first (tokens_among r.module_read.source k x ys)) ≡ true → Has made_in_module 0 k x) → Has made_in_module 0 k x
+      go true e found later =
+          let parts = and_parts (y.1 == k) (same_name (text y.0) x) e in
+          subst (λ n. Has made_in_module 0 n x) (eqb-true y.1 k parts.0) (subst (Has made_in_module 0 y.1) ((bytes_eq-Decides (text y.0) x).0 parts.1) all.0)
+      go false e found later = later found
+
+  has-typed : (x : ℕ × ℕ) → Has made_in_module 0 x.1 (text x.0) → is_some (typed_field r x) ≡ true
+  has-typed x h =
+      let place : x.1 ≡ h.place = omega (arith, h.is_at) in
+      ap (λ k. is_some (option_and_then (λ s. field_in s (text x.0)) (get_or made_in_module k None))) place ∙ h.typed
+
+pub fields_typed-holds : FieldsTyped
+fields_typed-holds r is well =
+    All-weaker (λ x. is_some (declaring_field r.module_read x.1 (text_at r.module_read.source x.0)) ≡ true) (λ x. is_some (typed_field r x) ≡ true)
+    (λ x h. has-typed r x (declaring-has r x.1 (text_at r.module_read.source x.0) (declared_fields r.module_read) (declared-typed r is well) h))
+    (field_identifiers r) (fields_declared-holds r is well)

@@ -1,0 +1,56 @@
+-- The search for the ARRAY or RECORD with an ordinal, among all of a module in text order.
+-- Rule: none; for private contracts of a walk.
+use Rattle.std.specs.Prelude.{ℕ, ◌-◌, ◌==◌, List, [], ◌∷◌, Option, None, option_map, if◌then◌else◌}
+use Rattle.ob0_types_rules.specs.Expressions.{Meanings}
+use Rattle.ob0_types_rules.specs.WellTyped.{Signature}
+use Rattle.ob0_types_table.specs.declared.types.TypeId.{TypeId}
+use Rattle.ob0_types_table.specs.KnownTables.{declared_in, shapes_of}
+use Rattle.ob0_types_table.specs.Tables.{type_shape}
+use Rattle.ob0_values.specs.Values.{Shape}
+use Rattle.ob0_types_fields.specs.declared.field_types.ConstructorWalk.{ConstructorWalk}
+use Rattle.ob0_types_fields.specs.declared.field_types.Search.{Search}
+use Rattle.ob0_types_fields.specs.declared.field_types.Search.TheVariants as search
+use Rattle.ob0_types_fields.specs.declared.field_types.TypedField as code
+use Rattle.ob0_types_fields.specs.FieldTypes.{TypedField}
+use Rattle.ob0_types_fields.specs.Owned.{token_objects}
+
+-- the type that was found, or how many ARRAY and RECORD come before it
+pub data Sought : Type 0 where
+  is_found : Option Shape → Sought
+  is_after : ℕ → Sought
+
+-- after one more, which constructs the type t
+abbrev pub after_one : Sought → Option Shape → Sought
+after_one (is_found found) t = is_found found
+after_one (is_after n) t = if n == 0 then is_found t else is_after (n - 1)
+
+-- after several
+abbrev pub after_all : Sought → List (Option Shape) → Sought
+after_all s [] = s
+after_all s (t ∷ ts) = after_all (after_one s t) ts
+
+-- the type that was found, if any
+abbrev pub found_type : Sought → Option Shape
+found_type (is_found found) = found
+found_type (is_after n) = None
+
+-- what the walk over the declarations knows: what names mean, and what types are
+abbrev pub names_in : ConstructorWalk → Meanings ℕ Shape Signature
+names_in w = token_objects (declared_in w.known.now) w.resolved.now
+
+-- a type of the code, if any
+abbrev pub type_in : ConstructorWalk → Option TypeId → Option Shape
+type_in w of = option_map (type_shape (shapes_of w.known.now)) of
+
+-- a search of the code
+abbrev pub search_in : List Shape → Search → Sought
+search_in shapes (search.Found of) = is_found (option_map (type_shape shapes) of)
+search_in shapes (search.Before n) = is_after n
+
+-- what a search of the walk means
+abbrev pub sought_in : ConstructorWalk → Search → Sought
+sought_in w s = search_in (shapes_of w.known.now) s
+
+-- a field of the code, with its type
+abbrev pub typed_field_in : List Shape → code.TypedField → TypedField
+typed_field_in shapes f = record { field = f.field; shape = type_shape shapes f.of }

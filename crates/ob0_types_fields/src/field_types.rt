@@ -1,0 +1,239 @@
+//! The field that an identifier is of, with its type: as the RECORD has it that declares it.
+
+ghost use Rattle.std.specs.Prelude.{◌≡◌, List, None, option_and_then, option_map};
+ghost use Rattle.ob0_tree.specs.View.{block_of, fields_of, formals_of, procedure_of, record_in, section_of, type_of, types_of, variables_of};
+ghost use Rattle.ob0_types_rules.specs.Typing.{element_type, field_type, type_declared};
+ghost use Rattle.ob0_types_table.specs.KnownTables.{declared_in, shapes_of};
+ghost use Rattle.ob0_types_table.specs.Tables.{type_shape};
+ghost use Rattle.ob0_values.specs.Values.{Shape, integer_shape};
+ghost use Rattle.ob0_types_fields.specs.FieldTypes.{constructed, constructed_by, typed_field_by};
+ghost use Rattle.ob0_types_fields.specs.Search.{after_all, after_one, found_type, names_in, search_in, sought_in, type_in, typed_field_in};
+
+use ob0_scope_rules::Resolved;
+use ob0_tree::{
+    Block, Fields, Procedure, RecordType, Section, TypeDeclaration, Variables, WrittenType,
+};
+use ob0_types_table::{FieldOf, Known, TypeId, text_at};
+
+/// A field of a record, with its type.
+#[derive(Clone, Copy)]
+pub struct TypedField {
+    pub field: FieldOf,
+    pub of: TypeId,
+}
+
+/// The field that an identifier is of, by its token and the ordinal of its record: as the RECORD with this ordinal has it,
+/// by the table of declarations.
+pub fn typed_field<'a, 't>(
+    known: &'a Known,
+    resolved: &'a Resolved<'t>,
+    identifier: (usize, usize),
+) -> Option<TypedField>
+    ensures { option_map (typed_field_in (shapes_of known.now)) result
+        ≡ typed_field_by (declared_in known.now) resolved.now identifier }
+{
+    let base = constructed_type(known, resolved, identifier.1)?;
+    let name = text_at(resolved.tokens(), identifier.0);
+    let field = known.field_of(base, name)?;
+    let of = known.field(base, name)?;
+    Some(TypedField { field, of })
+}
+
+/// The type that the ARRAY or RECORD with an ordinal constructs.
+fn constructed_type<'a, 't>(
+    known: &'a Known,
+    resolved: &'a Resolved<'t>,
+    ordinal: usize,
+) -> Option<TypeId>
+    ensures { option_map (type_shape (shapes_of known.now)) result
+        ≡ constructed_by (declared_in known.now) resolved.now ordinal }
+{
+    let walk = ConstructorWalk { known, resolved };
+    match walk.block(Search::Before(ordinal), resolved.module().block()) {
+        Search::Found(of) => of,
+        Search::Before(_) => None,
+    }
+}
+
+/// The search for an ARRAY or RECORD.
+#[derive(Clone, Copy)]
+enum Search {
+    /// How many ARRAY and RECORD come before it.
+    Before(usize),
+    /// The type that it constructs.
+    Found(Option<TypeId>),
+}
+
+impl Search {
+    /// Passes an ARRAY or RECORD, which constructs this type.
+    fn pass(self, of: Option<TypeId>) -> Search
+        ensures { (shapes : List Shape)
+            → search_in shapes result
+            ≡ after_one (search_in shapes self) (option_map (type_shape shapes) of) }
+    {
+        match self {
+            Search::Found(found) => Search::Found(found),
+            Search::Before(n) => {
+                if n == 0 {
+                    Search::Found(of)
+                } else {
+                    Search::Before(n - 1)
+                }
+            }
+        }
+    }
+}
+
+/// A module with the table of its declarations.
+#[derive(Clone, Copy)]
+struct ConstructorWalk<'a, 't> {
+    known: &'a Known,
+    resolved: &'a Resolved<'t>,
+}
+
+impl<'a, 't> ConstructorWalk<'a, 't> {
+    /// The type of what the name at a token declares.
+    fn declared(&self, token: usize) -> Option<TypeId>
+        ensures { type_in self.now result ≡ type_declared ((names_in self.now).stands_for token) }
+    {
+        let ordinal = self.resolved.ordinal_at(token)?;
+        self.known.declared_type(ordinal)
+    }
+
+    /// The type of an array's elements.
+    fn element(&self, of: Option<TypeId>) -> Option<TypeId>
+        ensures { type_in self.now result
+            ≡ option_and_then (λ a. element_type a integer_shape) (type_in self.now of) }
+    {
+        self.known.element(of?)
+    }
+
+    /// The type of the field with a name.
+    fn field(&self, of: Option<TypeId>, name: usize) -> Option<TypeId>
+        ensures { type_in self.now result
+            ≡ option_and_then (λ r. field_type r ((names_in self.now).written name))
+            (type_in self.now of) }
+    {
+        self.known.field(of?, text_at(self.resolved.tokens(), name))
+    }
+
+    /// The search after a type as it is written, by the type that it denotes.
+    #[cycle(types)]
+    fn written_type(&self, search: Search, of: Option<TypeId>, t: &WrittenType) -> Search
+        ensures { sought_in self.now result
+            ≡ after_all (sought_in self.now search)
+            (constructed (names_in self.now) (type_in self.now of) (type_of t.now)) }
+    {
+        match t {
+            WrittenType::Named(_) => search,
+            WrittenType::Array(a) => {
+                self.written_type(search.pass(of), self.element(of), &a.element)
+            }
+            WrittenType::Record(r) => self.record(search, of, r),
+        }
+    }
+
+    #[cycle(types)]
+    fn record(&self, search: Search, of: Option<TypeId>, r: &RecordType) -> Search
+        ensures { sought_in self.now result
+            ≡ after_all (sought_in self.now search)
+            (constructed (names_in self.now) (type_in self.now of) (record_in r.now)) }
+    {
+        let mut search = search.pass(of);
+        for group in &r.groups {
+            search = self.fields(search, of, group);
+        }
+        search
+    }
+
+    #[cycle(types)]
+    fn fields(&self, search: Search, of: Option<TypeId>, f: &Fields) -> Search
+        ensures { sought_in self.now result
+            ≡ after_all (sought_in self.now search)
+            (constructed (names_in self.now) (type_in self.now of) (fields_of f.now)) }
+    {
+        match f {
+            Fields::Empty => search,
+            Fields::Listed(l) => {
+                self.written_type(search, self.field(of, l.names.first), &l.written)
+            }
+        }
+    }
+
+    fn types(&self, search: Search, declared: &Option<Vec<TypeDeclaration>>) -> Search
+        ensures { sought_in self.now result
+            ≡ after_all (sought_in self.now search)
+            (constructed (names_in self.now) None (types_of declared.now)) }
+    {
+        let Some(declared) = declared else {
+            return search;
+        };
+        let mut search = search;
+        for d in declared {
+            search = self.written_type(search, self.declared(d.name), &d.written);
+        }
+        search
+    }
+
+    fn variables(&self, search: Search, declared: &Option<Vec<Variables>>) -> Search
+        ensures { sought_in self.now result
+            ≡ after_all (sought_in self.now search)
+            (constructed (names_in self.now) None (variables_of declared.now)) }
+    {
+        let Some(declared) = declared else {
+            return search;
+        };
+        let mut search = search;
+        for v in declared {
+            search = self.written_type(search, self.declared(v.names.first), &v.written);
+        }
+        search
+    }
+
+    fn formals(&self, search: Search, sections: &Option<Vec<Section>>) -> Search
+        ensures { sought_in self.now result
+            ≡ after_all (sought_in self.now search)
+            (constructed (names_in self.now) None (formals_of sections.now)) }
+    {
+        let Some(sections) = sections else {
+            return search;
+        };
+        let mut search = search;
+        for s in sections {
+            search = self.section(search, s);
+        }
+        search
+    }
+
+    fn section(&self, search: Search, s: &Section) -> Search
+        ensures { sought_in self.now result
+            ≡ after_all (sought_in self.now search)
+            (constructed (names_in self.now) None (section_of s.now)) }
+    {
+        self.written_type(search, self.declared(s.names.first), &s.written)
+    }
+
+    /// The search after the declarations of a block.
+    #[cycle(blocks)]
+    fn block(&self, search: Search, b: &Block) -> Search
+        ensures { sought_in self.now result
+            ≡ after_all (sought_in self.now search)
+            (constructed (names_in self.now) None (block_of b.now)) }
+    {
+        let mut search = self.types(search, &b.types);
+        search = self.variables(search, &b.variables);
+        for p in &b.procedures {
+            search = self.procedure(search, p);
+        }
+        search
+    }
+
+    #[cycle(blocks)]
+    fn procedure(&self, search: Search, p: &Procedure) -> Search
+        ensures { sought_in self.now result
+            ≡ after_all (sought_in self.now search)
+            (constructed (names_in self.now) None (procedure_of p.now)) }
+    {
+        self.block(self.formals(search, &p.formals), &p.block)
+    }
+}
