@@ -128,6 +128,7 @@ impl<'t> Newest<'t> {
     }
 
     /// The place of a name, where it is the one that is noted here.
+    #[inline(always)]
     fn find_entry(&self, slot: usize, name: &'t str) -> Option<usize>
         ensures { IfSome result (λ place. place_of self.now name.now ≡ Some place) }
     {
@@ -203,6 +204,7 @@ impl<'t> Newest<'t> {
         }
         let place = self.entries.len();
         self.add(name)?;
+        self.remember(slot_of(name), place);
         Ok(place)
     }
 
