@@ -128,6 +128,7 @@ impl<'t> Newest<'t> {
     }
 
     /// The place of a name, where it is the one that is noted here.
+    #[inline(always)]
     fn find_entry(&self, slot: usize, name: &'t str) -> Option<usize>
         ensures { IfSome result (λ place. place_of self.now name.now ≡ Some place) }
     {
@@ -152,14 +153,24 @@ impl<'t> Newest<'t> {
     }
 
     /// The place of a name.
+    #[inline(always)]
     fn find(&mut self, name: &'t str) -> Option<usize>
         ensures found { result ≡ place_of self.old name.now }
         ensures same { self.new ≡ self.old }
     {
         let slot = slot_of(name);
-        if let Some(place) = self.find_entry(slot, name) {
-            return Some(place);
+        match self.find_entry(slot, name) {
+            Some(place) => Some(place),
+            None => self.find_by_map(slot, name),
         }
+    }
+
+    /// The place of a name by the map. It is noted for the next look-up.
+    #[cold]
+    fn find_by_map(&mut self, slot: usize, name: &'t str) -> Option<usize>
+        ensures found { result ≡ place_of self.old name.now }
+        ensures same { self.new ≡ self.old }
+    {
         let place = match self.places.get(&key_of(name)) {
             None => return None,
             Some(place) => *place,
@@ -193,6 +204,7 @@ impl<'t> Newest<'t> {
         }
         let place = self.entries.len();
         self.add(name)?;
+        self.remember(slot_of(name), place);
         Ok(place)
     }
 

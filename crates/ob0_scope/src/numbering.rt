@@ -191,6 +191,7 @@ impl<'t> Numbering<'t> {
     }
 
     /// Looks a name up.
+    #[inline(always)]
     pub(crate) fn look_up(&mut self, token: usize) -> Result<(), AllocError>
         ensures { OnOk result (self.new ≡ found roles.LookedUp token self.old) }
     {
