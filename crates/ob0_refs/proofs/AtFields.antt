@@ -1,26 +1,23 @@
 -- What is answered at a place that is on a field.
-use Rattle.std.proofs.Common.{◌≡◌, ℕ, suc, ◌+◌, ◌<◌, ◌==◌, ◌&&◌, Bool, true, false, if◌then◌else◌, List, [], ◌∷◌, map, length, get_or, is_some, Some, None, Option, option_map, option_and_then, refl, sym, ap, ◌∙◌, subst, arith, true≢false, eq-eqb, nat_lt, All, Contains}
+use Rattle.std.proofs.Common.{◌≡◌, ℕ, suc, ◌&&◌, Bool, true, false, if◌then◌else◌, List, [], ◌∷◌, map, is_some, Some, None, Option, option_map, option_and_then, refl, sym, ap, ◌∙◌, subst, arith, true≢false, eq-eqb, nat_lt, All, Contains}
 use Rattle.std.proofs.lemmas.List.Elements.{All-head, All-tail}
 use Rattle.std.proofs.lemmas.Slice.Eq.{bytes_eq-Decides}
 use Rattle.ob0_scan.specs.Scanned.{Scanned}
 use Rattle.ob0_scan.specs.declared.lexeme.Span.{Span}
 use Rattle.ob0_tree.specs.Parsed.{Parsed}
 use Rattle.ob0_tree.specs.Places.{text_at}
-use Rattle.ob0_scope_rules.specs.Names.{same_name}
 use Rattle.ob0_scope_rules.specs.Resolution.{Resolution, span_at}
 use Rattle.ob0_scope_rules.specs.Spans.{is_on}
 use Rattle.ob0_scope.specs.NamesAtPlaces.{name_on}
 use Rattle.ob0_scope.specs.declared.naming.Named as named
-use Rattle.ob0_types.specs.CheckedModules.{IsWellTyped}
-use Rattle.ob0_types.specs.RowsOfFields.{FieldRow, field_row_at, row_of}
+use Rattle.ob0_types.specs.RowsOfFields.{field_row_at, row_of}
 use Rattle.ob0_types_rules.proofs.Literals.{some_inverse}
 use Rattle.ob0_types_fields.specs.FieldTypes.{TypedField, typed_field}
 use Rattle.ob0_types_fields.specs.Identifiers.{declaring_field, field_at, field_identifiers, field_on, field_tokens, is_field, tokens_among}
 use Rattle.ob0_types_fields.proofs.FieldsDeclared.{fields_declared-holds}
 use Rattle.ob0_types_fields.proofs.TypedFields.{fields_typed-holds}
-use Rattle.ob0_refs.specs.Answered.{at_name}
-use Rattle.ob0_refs.specs.Laws.{FieldsAreDefined, FieldsAreRenamedThere, FieldsHaveHovers, IsOnField, IsRenamedThere}
-use Rattle.ob0_refs.specs.Questions.{at_field, declared, definition_at, field_declared, field_hover, name_or_field, named_at, or_else, references_at, row_hover}
+use Rattle.ob0_refs.specs.Laws.{FieldsAreDefined, FieldsAreRenamedThere, FieldsHaveHovers, IsOnField}
+use Rattle.ob0_refs.specs.Questions.{at_field, declared, field_hover, name_or_field, named_at, or_else, references_at, row_hover}
 use Rattle.ob0_refs.specs.Shown.{name_hover_at}
 use Rattle.ob0_refs.specs.declared.answers.At as told
 use Rattle.ob0_refs.specs.declared.answers.Of as of

@@ -1,6 +1,5 @@
 -- The declaring identifiers after that of a procedure are those of its parameters.
-use Rattle.std.proofs.Common.{◌≡◌, ℕ, suc, ◌+◌, ◌-◌, ◌≤◌, false, if◌then◌else◌, List, [], ◌∷◌, ◌++◌, map, length, take, drop, nat_lt, slice_get, Some, None, Option, refl, sym, ap, ◌∙◌, subst, arith, append_assoc, append-nil, All, add-one, le-ltb}
-use Rattle.std.proofs.lemmas.List.{map-append}
+use Rattle.std.proofs.Common.{◌≡◌, ℕ, suc, ◌+◌, ◌-◌, false, if◌then◌else◌, List, [], ◌∷◌, ◌++◌, map, length, take, drop, nat_lt, slice_get, Some, None, refl, sym, ap, ◌∙◌, subst, arith, append_assoc, append-nil, All, le-ltb}
 use Rattle.std.proofs.lemmas.List.Elements.{All-append, All-cons, All-nil, All-weaker}
 use Rattle.ob0_tree.specs.declared.tree.Role.{Role}
 use Rattle.ob0_tree.specs.declared.tree.Role.TheVariants as role
@@ -8,10 +7,9 @@ use Rattle.ob0_tree.specs.Parsed.{Parsed, tree_of}
 use Rattle.ob0_tree.specs.Places.{text_at}
 use Rattle.ob0_tree.specs.Tree.{Sort, Tree, block, declares, declares_procedure, end, formals, further_name, further_section, has_body, identifiers, is_module, item, items, listed, maybe, module_text, more, names, no_formals, none, one, procedure, section, some_formals, then_name, then_section, value_section, variable_section, written_type}
 use Rattle.ob0_scope_rules.specs.Parts.{formal_names, formal_sections, further_names, module_block, names_listed, section_names}
-use Rattle.ob0_scope_rules.specs.Resolution.{declaring_only, token_declaring}
+use Rattle.ob0_scope_rules.specs.Resolution.{declaring_only}
 use Rattle.ob0_scope_rules.proofs.Plain.{declares_nothing, declaring_only-append}
 use Rattle.ob0_refs.specs.HoverLaws.{HasParametersAfter, ParametersFollow, block_headings, headings, procedure_headings}
-use Rattle.ob0_refs.specs.Declarations.{names_after}
 
 -- ---- the identifiers of formal parameters
 
