@@ -191,6 +191,16 @@ fn operations(c: &Chain, level: &Level<'_>, cells: &[i32]) -> Result<i32, Ending
     Ok(left)
 }
 
+/// The value of a right operand that is neither a literal nor a variable. It is called, so that an operation is small enough to
+/// be inlined.
+#[inline(never)]
+#[cycle(evaluation)]
+fn operand(n: &Number, level: &Level<'_>, cells: &[i32]) -> Evaluated<i32>
+    ensures { outcome_of result ≡ number (levels_of level.now) cells.now (number_of n.now) }
+{
+    flat(evaluate_number(n, level, cells))
+}
+
 /// An operation on a number.
 #[inline(always)]
 #[cycle(evaluation)]
@@ -201,31 +211,31 @@ fn apply(link: &Link, left: i32, level: &Level<'_>, cells: &[i32]) -> Result<i32
         Link::SumLiteral(n) => add(left, *n),
         Link::SumVariable(v) => add(left, value_of(*v, level, cells)),
         Link::Sum(n) => {
-            let right = evaluate_number(n, level, cells)?;
+            let right = unpacked(operand(n, level, cells))?;
             add(left, right)
         }
         Link::DifferenceLiteral(n) => subtract(left, *n),
         Link::DifferenceVariable(v) => subtract(left, value_of(*v, level, cells)),
         Link::Difference(n) => {
-            let right = evaluate_number(n, level, cells)?;
+            let right = unpacked(operand(n, level, cells))?;
             subtract(left, right)
         }
         Link::ProductLiteral(n) => multiply(left, *n),
         Link::ProductVariable(v) => multiply(left, value_of(*v, level, cells)),
         Link::Product(n) => {
-            let right = evaluate_number(n, level, cells)?;
+            let right = unpacked(operand(n, level, cells))?;
             multiply(left, right)
         }
         Link::QuotientLiteral(n) => divide(left, *n),
         Link::QuotientVariable(v) => divide(left, value_of(*v, level, cells)),
         Link::Quotient(n) => {
-            let right = evaluate_number(n, level, cells)?;
+            let right = unpacked(operand(n, level, cells))?;
             divide(left, right)
         }
         Link::RemainderLiteral(n) => modulo(left, *n),
         Link::RemainderVariable(v) => modulo(left, value_of(*v, level, cells)),
         Link::Remainder(n) => {
-            let right = evaluate_number(n, level, cells)?;
+            let right = unpacked(operand(n, level, cells))?;
             modulo(left, right)
         }
     }

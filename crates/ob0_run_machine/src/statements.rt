@@ -300,7 +300,7 @@ fn run_loop<F: Fn(&mut Machine<'_>, usize, &Level<'_>) -> Result<(), Stop>>(
             return Ok(());
         }
         if left == 0 {
-            return Err(Stop::Ended(Ending::TurnBound));
+            return Err(Stop::TurnBound);
         }
         left -= 1;
         sequence(&w.body, level, turns, machine, enter)?;
@@ -328,7 +328,7 @@ fn until<F: Fn(&mut Machine<'_>, usize, &Level<'_>) -> Result<(), Stop>>(
             return Ok(());
         }
         if further == 0 {
-            return Err(Stop::Ended(Ending::TurnBound));
+            return Err(Stop::TurnBound);
         }
         further -= 1;
     }
