@@ -19,7 +19,7 @@ use crate::operators::as_cell;
 use crate::passing::pass_all;
 
 #[tactic(auto, unfolding(crate::specs::Execution::execute))]
-#[inline(never)]
+#[inline(always)]
 fn store_number(
     place: &Place,
     n: &Number,
@@ -39,7 +39,7 @@ fn store_number(
 
 /// An assignment to a variable.
 #[tactic(auto, unfolding(crate::specs::Execution::execute))]
-#[inline(never)]
+#[inline(always)]
 fn store_variable(
     variable: Variable,
     n: &Number,
@@ -58,7 +58,7 @@ fn store_variable(
 
 /// A variable becomes the result of an operation on it.
 #[tactic(auto, unfolding(crate::specs::Execution::execute))]
-#[inline(never)]
+#[inline(always)]
 fn update(
     variable: Variable,
     link: &Link,
@@ -76,7 +76,7 @@ fn update(
 }
 
 #[tactic(auto, unfolding(crate::specs::Execution::execute))]
-#[inline(never)]
+#[inline(always)]
 fn store_truth(
     place: &Place,
     t: &Truth,
