@@ -160,9 +160,21 @@ fn opposite(operand: &Number, level: &Level<'_>, cells: &[i32]) -> Evaluated<i32
     }
 }
 
+/// An operation. On a variable, as most are, it needs no registers to be saved.
 #[inline(never)]
 #[cycle(evaluation)]
 fn operation(o: &Operation, level: &Level<'_>, cells: &[i32]) -> Evaluated<i32>
+    ensures { outcome_of result ≡ number (levels_of level.now) cells.now (operation_of o.now) }
+{
+    match &o.first {
+        First::Variable(v) => flat(apply(&o.link, value_of(*v, level, cells), level, cells)),
+        _ => any_operation(o, level, cells),
+    }
+}
+
+#[inline(never)]
+#[cycle(evaluation)]
+fn any_operation(o: &Operation, level: &Level<'_>, cells: &[i32]) -> Evaluated<i32>
     ensures { outcome_of result ≡ number (levels_of level.now) cells.now (operation_of o.now) }
 {
     match evaluate_first(&o.first, level, cells) {

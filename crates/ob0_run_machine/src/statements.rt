@@ -259,7 +259,7 @@ pub(crate) fn sequence<F: Fn(&mut Machine<'_>, usize, &Level<'_>) -> Result<(), 
 }
 
 /// IF: the statements after the first condition that is TRUE.
-#[inline(never)]
+#[inline(always)]
 #[cycle(execution)]
 fn branches<F: Fn(&mut Machine<'_>, usize, &Level<'_>) -> Result<(), Stop>>(
     i: &If,
