@@ -58,7 +58,7 @@ fn drop_variables(machine: &mut Machine<'_>, level: &Level<'_>)
 }
 
 /// A call of a procedure, where so many calls more may be open.
-#[inline(always)]
+#[inline(never)]
 pub(crate) fn call(
     program: &Program,
     calls: u32,

@@ -240,6 +240,7 @@ fn statement<F: Fn(&mut Machine<'_>, usize, &Level<'_>) -> Result<(), Stop>>(
 }
 
 /// Statements in order.
+#[inline(never)]
 #[cycle(execution)]
 pub(crate) fn sequence<F: Fn(&mut Machine<'_>, usize, &Level<'_>) -> Result<(), Stop>>(
     statements: &[Statement],
