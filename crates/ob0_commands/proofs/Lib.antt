@@ -1,4 +1,5 @@
 mod Gathering
 mod Lines
+mod Pieces
 mod Renames
 mod Wrong

@@ -1,6 +1,6 @@
 -- What the commands print, in bytes of UTF-8.
 -- Rule: docs/PROTOCOL.md, The program 1 to 4.
-use Rattle.std.specs.Prelude.{◌⊎◌, ◌<◌, ℕ, List, [], ◌∷◌, ◌++◌, Option, Some, None, length, codes, decimal}
+use Rattle.std.specs.Prelude.{◌≡◌, ◌⊎◌, ◌<◌, ℕ, List, [], ◌∷◌, ◌++◌, Option, Some, None, length, codes, decimal}
 use Rattle.std.specs.Fmt.{signed_decimal}
 use Rattle.std.specs.Io.KnownBytes.{Appends}
 use Rattle.std.specs.Str.{chars}
@@ -71,6 +71,12 @@ written_text line_out = codes "\n"
 abbrev pub output_text : List Written → List ℕ
 output_text [] = []
 output_text (w ∷ ws) = written_text w ++ output_text ws
+
+-- known bytes grow by a text but for its end, which is left
+pub record IsWrittenBut (before after : Option (List ℕ)) (text left : List ℕ) : Type 0 where
+  pub written : List ℕ
+  pub grew : Appends before after written
+  pub split : text ≡ written ++ left
 
 -- the line of an end other than Done
 abbrev pub end_line : End → Option (List ℕ)

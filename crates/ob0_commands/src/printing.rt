@@ -101,6 +101,18 @@ impl<W: Write> Output for Flushed<W> {
     }
 }
 
+/// Writes all of a text.
+pub(crate) fn write<W: Output>(out: &mut W, text: &str) -> Result<(), FileFault>
+    ensures written { OnOk result (Appends (W.contents out.old) (W.contents out.new) text.now) }
+    ensures fault { IfErr result (λ fault. fault ≡ faults.Write) }
+    ensures failed { OnErr result (W.has_failed out.new ≡ true) }
+{
+    match out.put_all(text.as_bytes()) {
+        Ok(()) => Ok(()),
+        Err(_) => Err(FileFault::Write),
+    }
+}
+
 /// Writes all of a text, and flushes.
 pub fn print<W: Output>(out: &mut W, text: &str) -> Result<(), FileFault>
     ensures printed { OnOk result (Appends (W.contents out.old) (W.contents out.new) text.now) }
@@ -108,10 +120,7 @@ pub fn print<W: Output>(out: &mut W, text: &str) -> Result<(), FileFault>
     ensures fault { IfErr result (λ fault. fault ≡ faults.Write) }
     ensures failed { OnErr result (W.has_failed out.new ≡ true) }
 {
-    match out.put_all(text.as_bytes()) {
-        Ok(()) => {}
-        Err(_) => return Err(FileFault::Write),
-    }
+    write(out, text)?;
     match out.hand_on() {
         Ok(()) => Ok(()),
         Err(_) => Err(FileFault::Write),

@@ -6,14 +6,14 @@ ghost use Rattle.ob0_tree.specs.Parsed.{named_tree_of};
 ghost use Rattle.ob0_run.specs.Outcomes.{run_of};
 ghost use Rattle.ob0_run.specs.Programs as lowered;
 ghost use Rattle.ob0_run.specs.States.{item_of, items_out};
-ghost use Rattle.ob0_commands.specs.Printed.{PrintsFaults, end_line, output_text, written_text};
+ghost use Rattle.ob0_commands.specs.Printed.{IsWrittenBut, PrintsFaults, end_line, output_text, written_text};
 ghost use Rattle.ob0_commands.specs.Statuses.{StopsPrinting, status_at};
 ghost use Rattle.ob0_commands.specs.TextRuns.{IsLoweredTo, PrintsDone, PrintsOther, RunsAs};
 
 use crate::checking::{print_diagnoses, text_of};
 use crate::faults::{FileFault, print_fault};
 use crate::numbers::read_numbers;
-use crate::printing::{Output, print};
+use crate::printing::{Output, print, write};
 use itoa::Buffer;
 use ob0_analysis::{Analysis, Question, WellTyped, ask};
 use ob0_run::{End, Item, Outcome, Program, execute, lower};
@@ -157,7 +157,7 @@ pub fn print_outcome<O: Output, E: Output>(
     ensures status { IfOk result (λ status. status ≡ status_at end) }
     ensures fault { IfErr result StopsPrinting }
 {
-    print(out, output_of(alloc, output)?.as_str())?;
+    print_items(alloc, output, out)?;
     match line_of(end) {
         Some(line) => {
             let _ = print(err, line);
@@ -167,18 +167,48 @@ pub fn print_outcome<O: Output, E: Output>(
     }
 }
 
-/// A number is a space and its digits, a line a line ending.
-fn output_of(alloc: Global, output: &[Item]) -> Result<String, AllocError>
-    ensures { IfOk result (λ text. string_bytes text ≡ output_text (items_out output.now)) }
+/// How many bytes of text are put together before they are written.
+const PIECE_SIZE: usize = 8192;
+
+/// A space, a sign and ten digits.
+const LONGEST_ITEM: usize = 12;
+
+/// Prints items and flushes. Their text is written in pieces, so that no text of all of them is stored.
+fn print_items<O: Output>(alloc: Global, output: &[Item], out: &mut O) -> Result<(), FileFault>
+    ensures printed { OnOk result
+        (Appends (O.contents out.old) (O.contents out.new) (output_text (items_out output.now))) }
+    ensures flushed { OnOk result (O.is_flushed out.new ≡ true) }
+    ensures fault { IfErr result StopsPrinting }
 {
-    let mut text = String::new(alloc);
+    let mut text = String::with_capacity(alloc, PIECE_SIZE + LONGEST_ITEM)?;
     let mut digits = Buffer::new();
     for item in output {
-        push_item(&mut text, &mut digits, *item)?;
+        append_item(&mut text, &mut digits, *item, out)?;
     }
-    Ok(text)
+    print(out, text.as_str())
 }
 
+/// Puts an item at the end of a text, which is written where it is long.
+fn append_item<O: Output>(
+    text: &mut String,
+    digits: &mut Buffer,
+    item: Item,
+    out: &mut O,
+) -> Result<(), FileFault>
+    ensures written { OnOk result (IsWrittenBut (O.contents out.old) (O.contents out.new)
+        (string_bytes text.old ++ written_text (item_of item)) (string_bytes text.new)) }
+    ensures fault { IfErr result StopsPrinting }
+{
+    push_item(text, digits, item)?;
+    if text.len() < PIECE_SIZE {
+        return Ok(());
+    }
+    write(out, text.as_str())?;
+    text.clear();
+    Ok(())
+}
+
+/// A number is a space and its digits, a line a line ending.
 fn push_item(text: &mut String, digits: &mut Buffer, item: Item) -> Result<(), AllocError>
     ensures { OnOk result
         (string_bytes text.new ≡ string_bytes text.old ++ written_text (item_of item)) }

@@ -18,27 +18,27 @@ fn link(operator: Operator, right: Number) -> Link
         Operator::Sum => match right {
             Number::Literal(n) => Link::SumLiteral(n),
             Number::Variable(v) => Link::SumVariable(v),
-            other => Link::Sum(other),
+            other => Link::Other(Operator::Sum, other),
         },
         Operator::Difference => match right {
             Number::Literal(n) => Link::DifferenceLiteral(n),
             Number::Variable(v) => Link::DifferenceVariable(v),
-            other => Link::Difference(other),
+            other => Link::Other(Operator::Difference, other),
         },
         Operator::Product => match right {
             Number::Literal(n) => Link::ProductLiteral(n),
             Number::Variable(v) => Link::ProductVariable(v),
-            other => Link::Product(other),
+            other => Link::Other(Operator::Product, other),
         },
         Operator::Quotient => match right {
             Number::Literal(n) => Link::QuotientLiteral(n),
             Number::Variable(v) => Link::QuotientVariable(v),
-            other => Link::Quotient(other),
+            other => Link::Other(Operator::Quotient, other),
         },
         Operator::Remainder => match right {
             Number::Literal(n) => Link::RemainderLiteral(n),
             Number::Variable(v) => Link::RemainderVariable(v),
-            other => Link::Remainder(other),
+            other => Link::Other(Operator::Remainder, other),
         },
     }
 }
@@ -136,14 +136,7 @@ pub(crate) fn both(alloc: Global, left: Truth, right: Truth) -> Result<Truth, Al
             };
             all_of(alloc, several, right)
         }
-        Truth::Constant(truth) => pair_of_both(alloc, Truth::Constant(truth), right),
-        Truth::Flag(place) => pair_of_both(alloc, Truth::Flag(place), right),
-        Truth::Negation(truth) => pair_of_both(alloc, Truth::Negation(truth), right),
-        Truth::Either(truths) => pair_of_both(alloc, Truth::Either(truths), right),
-        Truth::Any(several) => pair_of_both(alloc, Truth::Any(several), right),
-        Truth::Related(r, operands) => pair_of_both(alloc, Truth::Related(r, operands), right),
-        Truth::Same(truths) => pair_of_both(alloc, Truth::Same(truths), right),
-        Truth::Different(truths) => pair_of_both(alloc, Truth::Different(truths), right),
+        other => pair_of_both(alloc, other, right),
     }
 }
 
@@ -160,13 +153,6 @@ pub(crate) fn either(alloc: Global, left: Truth, right: Truth) -> Result<Truth, 
             };
             any_of(alloc, several, right)
         }
-        Truth::Constant(truth) => pair_of_either(alloc, Truth::Constant(truth), right),
-        Truth::Flag(place) => pair_of_either(alloc, Truth::Flag(place), right),
-        Truth::Negation(truth) => pair_of_either(alloc, Truth::Negation(truth), right),
-        Truth::Both(truths) => pair_of_either(alloc, Truth::Both(truths), right),
-        Truth::All(several) => pair_of_either(alloc, Truth::All(several), right),
-        Truth::Related(r, operands) => pair_of_either(alloc, Truth::Related(r, operands), right),
-        Truth::Same(truths) => pair_of_either(alloc, Truth::Same(truths), right),
-        Truth::Different(truths) => pair_of_either(alloc, Truth::Different(truths), right),
+        other => pair_of_either(alloc, other, right),
     }
 }

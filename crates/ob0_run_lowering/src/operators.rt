@@ -13,7 +13,7 @@ ghost use Rattle.ob0_run_lowering.specs.Trees.{code_of};
 use crate::chains::{both, either, operation};
 use crate::lowered::Lowered;
 use ob0_run_machine::code;
-use ob0_run_machine::code::{Number, Operands, Operator, Truth, Truths};
+use ob0_run_machine::code::{Number, Operands, Operator, Truth, Truths, Variable};
 use ob0_tree::{AddOperator, MultiplyOperator, Relation, Sign};
 use std::alloc::{AllocError, Global};
 
@@ -185,6 +185,27 @@ fn relation_in(relation: Relation) -> code::Relation
     }
 }
 
+/// A relation of a variable with a number: with a literal and with a variable it is one node.
+fn compare_variable(
+    alloc: Global,
+    relation: code::Relation,
+    variable: Variable,
+    right: Number,
+) -> Result<Truth, AllocError>
+    ensures { IfOk result
+        (λ t. truth_of t ≡ view.compared_by relation variable (number_of right)) }
+{
+    match right {
+        Number::Literal(n) => Ok(Truth::ComparedToLiteral(relation, variable, n)),
+        Number::Variable(other) => Ok(Truth::ComparedToVariable(relation, variable, other)),
+        right => {
+            let left = Number::Variable(variable);
+            let operands = Box::new(alloc, Operands { left, right })?;
+            Ok(Truth::Related(relation, operands))
+        }
+    }
+}
+
 /// A relation of two numbers.
 fn compared(
     alloc: Global,
@@ -195,8 +216,14 @@ fn compared(
     ensures { IfOk result (λ t. truth_of t
         ≡ machine.related (relation_of relation) (number_of left) (number_of right)) }
 {
-    let operands = Box::new(alloc, Operands { left, right })?;
-    Ok(Truth::Related(relation_in(relation), operands))
+    let relation = relation_in(relation);
+    match left {
+        Number::Variable(variable) => compare_variable(alloc, relation, variable, right),
+        left => {
+            let operands = Box::new(alloc, Operands { left, right })?;
+            Ok(Truth::Related(relation, operands))
+        }
+    }
 }
 
 /// `=` or `#` of two truths.

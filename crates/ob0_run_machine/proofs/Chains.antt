@@ -32,19 +32,15 @@ continued ls cells (l ∷ rest) a = linked ls cells l a >>= continued ls cells r
 pub applied_to : (ls : Levels) (cells : List ℤ) (left : lowered.Number) (l : Link) → number ls cells (applied l left) ≡ (number ls cells left >>= linked ls cells l)
 applied_to ls cells left (link.SumLiteral n) = refl
 applied_to ls cells left (link.SumVariable v) = refl
-applied_to ls cells left (link.Sum n) = refl
 applied_to ls cells left (link.DifferenceLiteral n) = refl
 applied_to ls cells left (link.DifferenceVariable v) = refl
-applied_to ls cells left (link.Difference n) = refl
 applied_to ls cells left (link.ProductLiteral n) = refl
 applied_to ls cells left (link.ProductVariable v) = refl
-applied_to ls cells left (link.Product n) = refl
 applied_to ls cells left (link.QuotientLiteral n) = refl
 applied_to ls cells left (link.QuotientVariable v) = refl
-applied_to ls cells left (link.Quotient n) = refl
 applied_to ls cells left (link.RemainderLiteral n) = refl
 applied_to ls cells left (link.RemainderVariable v) = refl
-applied_to ls cells left (link.Remainder n) = refl
+applied_to ls cells left (link.Other o n) = refl
 
 pub chained : (ls : Levels) (cells : List ℤ) (left : lowered.Number) (links : List Link) → number ls cells (chained_from left links) ≡ (number ls cells left >>= continued ls cells links)
 chained ls cells left [] = sym (bind_gives (number ls cells left))

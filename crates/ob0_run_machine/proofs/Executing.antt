@@ -1,5 +1,5 @@
 -- Steps of statements: what is left of a statement, from one step of the machine to the next.
-use Rattle.std.proofs.Common.{◌≡◌, ℕ, zero, suc, arith, Bool, true, false, ℤ, ◌+◌, ◌-◌, ◌<◌, ◌≤◌, ◌≢◌, List, [], ◌∷◌, map, length, get_or, drop, refl, sym, ap, ◌∙◌, subst, Ok, Err, None, Some, Result}
+use Rattle.std.proofs.Common.{◌≡◌, ℕ, zero, suc, arith, Bool, true, false, ℤ, ◌+◌, ◌-◌, ◌<◌, ◌≤◌, ◌≢◌, List, [], ◌∷◌, map, length, get_or, drop, refl, sym, ap, ◌∙◌, subst, Ok, Err, None, Option, Some, Result}
 use Rattle.std.proofs.lemmas.List.{drop_all, drop_more}
 use Rattle.ob0_run_machine.specs.declared.code.Argument.{Argument}
 use Rattle.ob0_run_machine.specs.declared.level.Level as level
@@ -11,43 +11,41 @@ use Rattle.ob0_run_machine.specs.declared.code.Repeat.{Repeat}
 use Rattle.ob0_run_machine.specs.declared.code.Statement.{Statement}
 use Rattle.ob0_run_machine.specs.declared.code.While.{While}
 use Rattle.ob0_run_machine.specs.declared.ending.Ending.{Ending}
-use Rattle.ob0_run_machine.specs.declared.ending.Ending.TheVariants as ending
 use Rattle.ob0_run_machine.specs.declared.ending.Stop.{Stop}
 use Rattle.ob0_run_machine.specs.declared.ending.Stop.TheVariants as stop
 use Rattle.ob0_run_machine.specs.declared.machine.Machine.{Machine}
 use Rattle.ob0_run_machine.specs.declared.memory.Memory.{Memory}
 use Rattle.ob0_run_machine.specs.Allocations.{has_failed}
-use Rattle.ob0_run_machine.specs.Answers.{end_of}
-use Rattle.ob0_run_machine.specs.Evaluation.{Levels, Outcome, TurnBound, ends, gives, truth}
-use Rattle.ob0_run_machine.specs.Execution.{Calls, Progress, State, choose, entered, execute, execute_all, execute_branches, continue_with, pass_all, running, stopped, turns, turns_until, use_in}
+use Rattle.ob0_run_machine.specs.Answers.{end_at, end_of}
+use Rattle.ob0_run_machine.specs.Evaluation.{End, Levels, Outcome, TurnBound, ends, gives, truth}
+use Rattle.ob0_run_machine.specs.Execution.{Calls, Passed, Progress, State, choose, entered, execute, execute_all, execute_branches, continue_with, pass_all, running, stopped, turns, turns_until, use_in}
 use Rattle.ob0_run_machine.specs.Lowered as lowered
-use Rattle.ob0_run_machine.specs.Machines.{MachineDoes, Doing, Passes, Performs, Post, MachineSteps, executed, executed_all, entering, items_out, moved, passed_in, state_of}
+use Rattle.ob0_run_machine.specs.Machines.{MachineDoes, Doing, Performs, Post, MachineSteps, Stops, StopsPassing, executed, executed_all, entering, items_out, passed_in, state_of}
 use Rattle.ob0_run_machine.specs.View.{all_branches, argument_of, branches_in, call_of, repeat_of, sequence_of, statement_of, truth_of, while_of}
 
+stopped_then : (o : Option End) (m : Machine) (p : Progress) (k : State → Progress) → Stops o m p → Stops o m (continue_with p k)
+stopped_then (Some x) m p k h = ap (λ p. continue_with p k) h
+stopped_then None m p k h = h
+
 failed_then : (e : Stop) (m : Machine) (p : Progress) (k : State → Progress) → MachineSteps (Err e) m p → MachineSteps (Err e) m (continue_with p k)
-failed_then (stop.Ended x) m p k h = ap (λ p. continue_with p k) h
-failed_then stop.Memory m p k h = h
+failed_then e = stopped_then (end_at e)
 
 -- the exit of a `?`
 pub leaving : {post : Post} {r : Result (Unit {0}) Stop} {e : Stop} {m m' : Machine} {f : Doing} → (y : Stop) × (r ≡ Err y) × (y ≡ e) → MachineDoes post (Err e) m m' f → MachineDoes post r m m' f
 leaving {post = post} {r = r} {m = m} {m' = m'} {f = f} q h = subst (λ r. MachineDoes post r m m' f) (sym q.1) (subst (λ y. MachineDoes post (Err y) m m' f) (sym q.2) h)
 
-pub does_as : {post : Post} {r : Result (Unit {0}) Stop} {m m' : Machine} {f g : Doing} → MachineDoes post r m m' f → ((enters : Calls) (s : State) → f enters s ≡ g enters s) → MachineDoes post r m m' g
-does_as {r = r} {m = m} {m' = m'} h e = record { as_defined = λ enters p. subst (MachineSteps r m') (e enters (state_of m)) (h.as_defined enters p) }
+-- what is done ends the run so
+abbrev pub EndsRun : Post → Ending → Machine → Machine → Doing → Type 0
+EndsRun post e m m' f = (enters : Calls) → Performs post enters → f enters (state_of m) ≡ stopped (end_of e) (items_out m'.output.items)
 
-pub does_moved : {post : Post} {m m' : Machine} (r : Result (Unit {0}) Ending) (e : Ending) (f : Doing) → r ≡ Err e → ((enters : Calls) → moved r m' ≡ f enters (state_of m)) → MachineDoes post (Err (stop.Ended e)) m m' f
-does_moved {m' = m'} r e f is h = record { as_defined = λ enters p. sym (h enters) ∙ ap (λ r. moved r m') is }
-
-pub does_done : {post : Post} {m m' : Machine} (u : Unit {0}) (r : Result (Unit {0}) Ending) (f : Doing) → r ≡ Ok u → ((enters : Calls) → moved r m' ≡ f enters (state_of m)) → MachineDoes post (Ok u) m m' f
-does_done {m' = m'} u r f is h = record { as_defined = λ enters p. sym (h enters) ∙ ap (λ r. moved r m') is }
+-- the exit of a `?` at what ends the run
+pub ending_by : {post : Post} {r : Result (Unit {0}) Stop} {m m' : Machine} {f : Doing} (e : Ending) → (y : Stop) × (r ≡ Err y) × (end_at y ≡ Some (end_of e))
+    → EndsRun post e m m' f → MachineDoes post r m m' f
+ending_by {m = m} {m' = m'} {f = f} e q h = leaving (q.0, q.1, refl) record { as_defined = λ enters p. subst (λ o. Stops o m' (f enters (state_of m))) (sym q.2) (h enters p) }
 
 -- a truth that is known
 pub settled : {a b : Bool} {o : Outcome Bool} → gives a ≡ o → a ≡ b → gives b ≡ o
 settled h e = sym (ap gives e) ∙ h
-
--- the exit of a `?` at a condition
-pub stopped_by : {post : Post} {r : Result (Unit {0}) Stop} {m m' : Machine} {f : Doing} (e : Ending) → (y : Stop) × (r ≡ Err y) × (y ≡ stop.Ended e) → MachineDoes post (Err (stop.Ended e)) m m' f → MachineDoes post r m m' f
-stopped_by e q h = leaving q h
 
 pub does_statement : {post : Post} {r : Result (Unit {0}) Stop} {m m' : Machine} (t : ℕ) (ls : Levels) {a b : lowered.Statement} → a ≡ b → MachineDoes post r m m' (executed t ls a) → MachineDoes post r m m' (executed t ls b)
 does_statement {post = post} {r = r} {m = m} {m' = m'} t ls e h = subst (λ a. MachineDoes post r m m' (executed t ls a)) e h
@@ -117,11 +115,10 @@ branches_on {now = now} {t = t} {ls = ls} {i = i} {xs = xs} {k = k} x c less is 
 }
 
 pub branches_fail : {post : Post} {start now : Machine} {t : ℕ} {ls : Levels} {i : If} {xs : List Branch} {k : ℕ} (e : Ending) (x : Branch) → InBranches post start now t ls i xs k → k < length xs → x ≡ get_or xs k x
-    → ends (end_of e) ≡ truth ls now.cells.items (truth_of x.condition) → MachineDoes post (Err (stop.Ended e)) start now (executed t ls (branches_in i))
-branches_fail {now = now} {t = t} {ls = ls} {i = i} {xs = xs} {k = k} e x c less is h = record {
-  as_defined = λ enters p. c.so_far enters p ∙ branch-next enters t ls i xs k x (state_of now) less is
-      ∙ ap (λ o. choose (state_of now) o (execute_all enters t ls (sequence_of x.body.items)) (from_branches enters t ls i (drop (k + 1) xs))) (sym h);
-}
+    → ends (end_of e) ≡ truth ls now.cells.items (truth_of x.condition) → EndsRun post e start now (executed t ls (branches_in i))
+branches_fail {now = now} {t = t} {ls = ls} {i = i} {xs = xs} {k = k} e x c less is h = λ enters p.
+    c.so_far enters p ∙ branch-next enters t ls i xs k x (state_of now) less is
+    ∙ ap (λ o. choose (state_of now) o (execute_all enters t ls (sequence_of x.body.items)) (from_branches enters t ls i (drop (k + 1) xs))) (sym h)
 
 pub branch_taken : {post : Post} {start now m : Machine} {t : ℕ} {ls : Levels} {i : If} {xs : List Branch} {k : ℕ} (r : Result (Unit {0}) Stop) (ss : List Statement) (x : Branch) → InBranches post start now t ls i xs k → k < length xs → x ≡ get_or xs k x
     → gives true ≡ truth ls now.cells.items (truth_of x.condition) → ss ≡ x.body.items → MachineDoes post r now m (executed_all t ls (sequence_of ss)) → MachineDoes post r start m (executed t ls (branches_in i))
@@ -178,15 +175,15 @@ while-chosen : {post : Post} {start now : Machine} {t : ℕ} {ls : Levels} {w : 
 while-chosen {now = now} {t = t} {ls = ls} {w = w} {left = left} o c h enters p = c.so_far enters p ∙ turning-goes enters left t ls w (state_of now) ∙ ap (λ o. choose (state_of now) o (once_more enters left t ls w) running) (sym h)
 
 pub while_fails : {post : Post} {start now : Machine} {t : ℕ} {ls : Levels} {w : While} {left : ℕ} (e : Ending) → InWhile post start now t ls w left → ends (end_of e) ≡ truth ls now.cells.items (truth_of w.condition)
-    → MachineDoes post (Err (stop.Ended e)) start now (executed t ls (while_of w))
-while_fails e c h = record { as_defined = while-chosen (ends (end_of e)) c h }
+    → EndsRun post e start now (executed t ls (while_of w))
+while_fails e c h = while-chosen (ends (end_of e)) c h
 
 pub while_ends : {post : Post} {start now : Machine} {t : ℕ} {ls : Levels} {w : While} {left : ℕ} (u : Unit {0}) → InWhile post start now t ls w left → gives false ≡ truth ls now.cells.items (truth_of w.condition)
     → MachineDoes post (Ok u) start now (executed t ls (while_of w))
 while_ends u c h = record { as_defined = while-chosen (gives false) c h }
 
 pub while_bound : {post : Post} {start now : Machine} {t : ℕ} {ls : Levels} {w : While} {left : ℕ} → InWhile post start now t ls w left → gives true ≡ truth ls now.cells.items (truth_of w.condition) → left ≡ 0
-    → MachineDoes post (Err (stop.Ended ending.TurnBound)) start now (executed t ls (while_of w))
+    → MachineDoes post (Err stop.TurnBound) start now (executed t ls (while_of w))
 while_bound {now = now} {t = t} {ls = ls} {w = w} {left = left} c h e = record { as_defined = λ enters p. while-chosen (gives true) c h enters p ∙ once-none enters left t ls w (state_of now) e }
 
 pub while_on : {post : Post} {start now m : Machine} {t : ℕ} {ls : Levels} {w : While} {left : ℕ} (u : Unit {0}) (ss : List Statement) → InWhile post start now t ls w left → gives true ≡ truth ls now.cells.items (truth_of w.condition) → left ≢ 0
@@ -263,15 +260,15 @@ turned-chosen : {post : Post} {start now : Machine} {t : ℕ} {ls : Levels} {r :
 turned-chosen {now = now} {t = t} {ls = ls} {r = r} {left = left} o c h enters p = c.so_far enters p ∙ ap (λ o. choose (state_of now) o running (again enters left t ls r)) (sym h)
 
 pub repeat_fails : {post : Post} {start now : Machine} {t : ℕ} {ls : Levels} {r : Repeat} {left : ℕ} (e : Ending) → Turned post start now t ls r left → ends (end_of e) ≡ truth ls now.cells.items (truth_of r.condition)
-    → MachineDoes post (Err (stop.Ended e)) start now (executed t ls (repeat_of r))
-repeat_fails e c h = record { as_defined = turned-chosen (ends (end_of e)) c h }
+    → EndsRun post e start now (executed t ls (repeat_of r))
+repeat_fails e c h = turned-chosen (ends (end_of e)) c h
 
 pub repeat_ends : {post : Post} {start now : Machine} {t : ℕ} {ls : Levels} {r : Repeat} {left : ℕ} (u : Unit {0}) → Turned post start now t ls r left → gives true ≡ truth ls now.cells.items (truth_of r.condition)
     → MachineDoes post (Ok u) start now (executed t ls (repeat_of r))
 repeat_ends u c h = record { as_defined = turned-chosen (gives true) c h }
 
 pub repeat_bound : {post : Post} {start now : Machine} {t : ℕ} {ls : Levels} {r : Repeat} {left : ℕ} → Turned post start now t ls r left → gives false ≡ truth ls now.cells.items (truth_of r.condition) → left ≡ 0
-    → MachineDoes post (Err (stop.Ended ending.TurnBound)) start now (executed t ls (repeat_of r))
+    → MachineDoes post (Err stop.TurnBound) start now (executed t ls (repeat_of r))
 repeat_bound {now = now} {t = t} {ls = ls} {r = r} {left = left} c h e = record { as_defined = λ enters p. turned-chosen (gives false) c h enters p ∙ again-none enters left t ls r (state_of now) e }
 
 pub repeat_on : {post : Post} {start now : Machine} {t : ℕ} {ls : Levels} {r : Repeat} {left : ℕ} → Turned post start now t ls r left → gives false ≡ truth ls now.cells.items (truth_of r.condition) → left ≢ 0
@@ -285,17 +282,20 @@ pub call-goes : (t : ℕ) (ls : Levels) (c : call.Call) (enters : Calls) (s : St
 unfolding execute
 call-goes t ls c enters s = refl
 
-pub call_fails : {post : Post} {m m' : Machine} (memory : Memory) (cells : List ℤ) (addresses : List ℕ) (e : Stop) (t : ℕ) (ls : Levels) (c : call.Call) (xs : List Argument) (none : List ℕ)
-    → none ≡ [] → xs ≡ c.arguments.items → Passes (Err e) memory cells addresses (pass_all ls (map argument_of xs) (passed_in m.cells.items none)) → m'.output ≡ m.output → m'.memory ≡ memory
+passing_stops : (m m' : Machine) (o : Option End) (memory : Memory) → m'.output ≡ m.output → m'.memory ≡ memory → (given : Outcome Passed) (next : Passed → Progress)
+    → StopsPassing o memory given → Stops o m' (use_in (state_of m) given next)
+passing_stops m m' (Some x) memory out kept given next h = ap (λ o. use_in (state_of m) o next) h ∙ ap (λ o. stopped x (items_out o.items)) (sym out)
+passing_stops m m' None memory out kept given next h = ap has_failed kept ∙ h
+
+pub call_fails : {post : Post} {m m' : Machine} (memory : Memory) (e : Stop) (t : ℕ) (ls : Levels) (c : call.Call) (xs : List Argument) (none : List ℕ)
+    → none ≡ [] → xs ≡ c.arguments.items → StopsPassing (end_at e) memory (pass_all ls (map argument_of xs) (passed_in m.cells.items none)) → m'.output ≡ m.output → m'.memory ≡ memory
     → MachineDoes post (Err e) m m' (executed t ls (call_of c))
-call_fails {m = m} memory cells addresses (stop.Ended x) t ls c xs none empty same h out kept = record {
-  as_defined = λ enters p.
-      call-goes t ls c enters (state_of m)
+call_fails {m = m} {m' = m'} memory e t ls c xs none empty same h out kept = record {
+  as_defined = λ enters p. subst (Stops (end_at e) m') (sym (call-goes t ls c enters (state_of m)
       ∙ ap (λ o. use_in (state_of m) o (λ p. enters c.procedure (entered ls (length m.cells.items) c.up p) record (state_of m) { cells = p.cells }))
-      (ap (λ xs. pass_all ls (map argument_of xs) (passed_in m.cells.items [])) (sym same) ∙ ap (λ none. pass_all ls (map argument_of xs) (passed_in m.cells.items none)) (sym empty) ∙ h)
-      ∙ ap (λ o. stopped (end_of x) (items_out o.items)) (sym out);
+      (ap (λ xs. pass_all ls (map argument_of xs) (passed_in m.cells.items [])) (sym same) ∙ ap (λ none. pass_all ls (map argument_of xs) (passed_in m.cells.items none)) (sym empty))))
+      (passing_stops m m' (end_at e) memory out kept _ _ h);
 }
-call_fails memory cells addresses stop.Memory t ls c xs none empty same h out kept = record { as_defined = λ enters p. ap has_failed kept ∙ h }
 
 pub call_enters : {post : Post} {m m' : Machine} {r : Result (Unit {0}) Stop} (cells : List ℤ) (addresses : List ℕ) (t : ℕ) (ls inner : Levels) (c : call.Call) (xs : List Argument) (none : List ℕ)
     → none ≡ [] → xs ≡ c.arguments.items → pass_all ls (map argument_of xs) (passed_in m.cells.items none) ≡ gives (passed_in cells addresses)

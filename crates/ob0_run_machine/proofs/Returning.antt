@@ -1,21 +1,22 @@
 -- Calls: the body of a procedure runs, and its cells are given up.
 use Rattle.std.proofs.Common.{◌≡◌, ◌≢◌, ℕ, zero, suc, arith, ◌-◌, ℤ, refl, sym, ap, ◌∙◌, subst, Ok, Err, List, [], ◌++◌, take, Option, None, Some, Result, IsErr}
 use Rattle.ob0_run_machine.specs.declared.code.Program.{Program}
-use Rattle.ob0_run_machine.specs.declared.ending.Ending.TheVariants as ending
 use Rattle.ob0_run_machine.specs.declared.ending.Stop.{Stop}
 use Rattle.ob0_run_machine.specs.declared.ending.Stop.TheVariants as stop
 use Rattle.ob0_run_machine.specs.declared.level.Level as level
 use Rattle.ob0_run_machine.specs.declared.machine.Machine.{Machine}
+use Rattle.ob0_run_machine.specs.Answers.{end_at}
+use Rattle.ob0_run_machine.specs.Evaluation as ending
 use Rattle.ob0_run_machine.specs.Evaluation.{CallBound, Levels, innermost}
 use Rattle.ob0_run_machine.specs.Execution.{Progress, State, Written, activate, call, execute_all, finished, drop_variables, outermost, run, running, stopped, zeros}
 use Rattle.ob0_run_machine.specs.Levels.{levels_of}
 use Rattle.ob0_run_machine.specs.Lowered.{Procedure}
-use Rattle.ob0_run_machine.specs.Machines.{MachineDoes, Enters, Performs, Post, MachineSteps, activated, executed_all, items_out, state_of}
+use Rattle.ob0_run_machine.specs.Machines.{MachineDoes, Enters, Stops, Performs, Post, MachineSteps, activated, executed_all, items_out, state_of}
 use Rattle.ob0_run_machine.specs.declared.machine.Item.{Item}
 use Rattle.ob0_run_machine.specs.Lowered as lowered
 use Rattle.ob0_run_machine.specs.View.{program_of, sequence_of}
 use Rattle.ob0_run_machine.specs.declared.code.Statement.{Statement}
-use Rattle.ob0_run_machine.specs.Outcomes.{IsEndOf, block_run, end_in}
+use Rattle.ob0_run_machine.specs.Outcomes.{EndsAs, IsEndOf, block_run, end_in}
 use Rattle.ob0_run_machine.specs.declared.running.End.{End}
 use Rattle.std.specs.declared.alloc.AllocError.{AllocError}
 use Rattle.std.specs.Prelude.{slice_get}
@@ -32,7 +33,7 @@ call-goes : (ps : List Procedure) (c t k : ℕ) (ls : Levels) (s : State) → c 
 unfolding call
 call-goes ps c t k ls s e = ap (λ c. call ps c t k ls s) (one_less c e)
 
-pub call_ends : (m : Machine) (program : Program) (c t k : ℕ) (l : level.Level) → c ≡ 0 → Enters (Err (stop.Ended ending.CallBound)) m m program c t k l
+pub call_ends : (m : Machine) (program : Program) (c t k : ℕ) (l : level.Level) → c ≡ 0 → Enters (Err stop.CallBound) m m program c t k l
 call_ends m program c t k l e = call-none (program_of program).procedures c t k (levels_of l) (state_of m) e
 
 module _ (m m₂ : Machine) (program : Program) (c t k : ℕ) (l : level.Level) (o : Option Procedure) (post : Post) (more : c ≢ 0) (found : o ≡ slice_get (program_of program).procedures k)
@@ -41,9 +42,12 @@ module _ (m m₂ : Machine) (program : Program) (c t k : ℕ) (l : level.Level) 
   goes = call-goes (program_of program).procedures c t k (levels_of l) (state_of m) more
       ∙ ap (λ o. drop_variables (innermost (levels_of l)).base (activate (call (program_of program).procedures (c - 1) t) t (levels_of l) o (state_of m))) (sym found)
 
+  dropped : (o : Option ending.End) (p : Progress) → Stops o m₂ p → Stops o m₂ (drop_variables (innermost (levels_of l)).base p)
+  dropped (Some x) p h = ap (drop_variables (innermost (levels_of l)).base) h
+  dropped None p h = h
+
   pub call_fails : (e : Stop) → MachineDoes post (Err e) m m₂ (activated o t (levels_of l)) → Enters (Err e) m m₂ program c t k l
-  call_fails (stop.Ended x) d = goes ∙ ap (drop_variables (innermost (levels_of l)).base) (d.as_defined _ performs)
-  call_fails stop.Memory d = d.as_defined (call (program_of program).procedures (c - 1) t) performs
+  call_fails e d = subst (Stops (end_at e) m₂) (sym goes) (dropped (end_at e) _ (d.as_defined _ performs))
 
   pub call_returns : (m₃ : Machine) (u v : Unit {0}) → MachineDoes post (Ok u) m m₂ (activated o t (levels_of l)) → state_of m₃ ≡ record (state_of m₂) { cells = take (innermost (levels_of l)).base m₂.cells.items } → Enters (Ok v) m m₃ program c t k l
   call_returns m₃ u v d cut = goes ∙ ap (drop_variables (innermost (levels_of l)).base) (d.as_defined _ performs) ∙ ap running (sym cut)
@@ -85,11 +89,15 @@ given d (Err e) = d
 ok-same : {A E : Type 0} {a b : A} (r : Result A E) → r ≡ Ok a → r ≡ Ok b → a ≡ b
 ok-same {a = a} r h k = sym (ap (given a) h) ∙ ap (given a) k
 
+ended_at : (o : Option ending.End) (m : Machine) (p : Progress) (r : Result End AllocError) (end : End) → r ≡ Ok end → EndsAs o r → Stops o m p
+    → record { output = items_out m.output.items; ending = end_in end } ≡ finished p
+ended_at (Some e) m p r end is h steps = ap (λ e. record { output = items_out m.output.items; ending = e }) (ap end_in (ok-same r is h.1) ∙ h.2) ∙ sym (ap finished steps)
+ended_at None m p r end is h steps = let no = subst IsErr is h in absurd (cc)
+
 pub ended_by : (m : Machine) (p : Progress) (executed : Result (Unit {0}) Stop) (r : Result End AllocError) (end : End) → r ≡ Ok end → IsEndOf executed r → MachineSteps executed m p
     → record { output = items_out m.output.items; ending = end_in end } ≡ finished p
 ended_by m p (Ok done) r end is h steps = ap (λ e. record { output = items_out m.output.items; ending = end_in e }) (ok-same r is h) ∙ sym (ap finished steps)
-ended_by m p (Err (stop.Ended x)) r end is h steps = ap (λ e. record { output = items_out m.output.items; ending = end_in e }) (ok-same r is h) ∙ sym (ap finished steps)
-ended_by m p (Err stop.Memory) r end is h steps = let no = subst IsErr is h in absurd (cc)
+ended_by m p (Err s) r end is h steps = ended_at (end_at s) m p r end is h steps
 
 pub finishes : (program : lowered.Program) (input : List ℤ) (c t : ℕ) (s : State) (p : Progress) → s ≡ record { cells = zeros program.cells; input = input; output = [] } → block_run program c t s ≡ p → finished p ≡ run program input c t
 unfolding run

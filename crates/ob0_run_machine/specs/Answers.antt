@@ -3,6 +3,8 @@
 use Rattle.std.specs.Prelude.{ℤ, List, Option, Some, None, Ok, Err, Result}
 use Rattle.ob0_run_machine.specs.declared.ending.Ending.{Ending}
 use Rattle.ob0_run_machine.specs.declared.ending.Ending.TheVariants as ending
+use Rattle.ob0_run_machine.specs.declared.ending.Stop.{Stop}
+use Rattle.ob0_run_machine.specs.declared.ending.Stop.TheVariants as stop
 use Rattle.ob0_run_machine.specs.Evaluation as evaluation
 use Rattle.ob0_run_machine.specs.Evaluation.{End, Levels, Outcome, ends, gives, number, operate, ◌>>=◌}
 use Rattle.ob0_run_machine.specs.declared.code.Link.{Link}
@@ -19,6 +21,16 @@ end_of ending.Index = evaluation.Index
 end_of ending.InputEnd = evaluation.InputEnd
 end_of ending.CallBound = evaluation.CallBound
 end_of ending.TurnBound = evaluation.TurnBound
+
+-- the end of a run at a step that gives nothing; none where an allocation failed
+abbrev pub end_at : Stop → Option End
+end_at stop.Overflow = Some evaluation.Overflow
+end_at stop.Divisor = Some evaluation.Divisor
+end_at stop.Index = Some evaluation.Index
+end_at stop.InputEnd = Some evaluation.InputEnd
+end_at stop.CallBound = Some evaluation.CallBound
+end_at stop.TurnBound = Some evaluation.TurnBound
+end_at stop.Memory = None
 
 -- an answer is what a step gives or how it ends the run
 abbrev pub outcome_of_result : {A : Type 0} → Result A Ending → Outcome A

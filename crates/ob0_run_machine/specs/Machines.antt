@@ -1,19 +1,18 @@
 -- What the machine means, and what a step of it says of the run.
 -- Rule: none; for contracts of the machine.
-use Rattle.std.specs.Prelude.{◌≡◌, ℕ, ℤ, List, map, Ok, Err, Option, Result, true}
+use Rattle.std.specs.Prelude.{◌≡◌, ℕ, ℤ, List, map, Ok, Err, None, Option, Some, Result, true}
 use denote.MutBor.{MutBor}
 use denote.Ref.{Bor}
 use Rattle.ob0_run_machine.specs.declared.ending.Ending.{Ending}
 use Rattle.ob0_run_machine.specs.declared.ending.Stop.{Stop}
-use Rattle.ob0_run_machine.specs.declared.ending.Stop.TheVariants as stop
 use Rattle.ob0_run_machine.specs.declared.level.Level as level
 use Rattle.ob0_run_machine.specs.declared.machine.Item.{Item}
 use Rattle.ob0_run_machine.specs.declared.machine.Item.TheVariants as item
 use Rattle.ob0_run_machine.specs.declared.machine.Machine.{Machine}
 use Rattle.ob0_run_machine.specs.declared.memory.Memory.{Memory}
 use Rattle.ob0_run_machine.specs.Allocations.{has_failed}
-use Rattle.ob0_run_machine.specs.Answers.{end_of}
-use Rattle.ob0_run_machine.specs.Evaluation.{Levels, Outcome, ends, gives}
+use Rattle.ob0_run_machine.specs.Answers.{end_at, end_of}
+use Rattle.ob0_run_machine.specs.Evaluation.{End, Levels, Outcome, ends, gives}
 use Rattle.ob0_run_machine.specs.Execution.{Calls, Passed, Progress, State, Written, activate, call, entered, execute, execute_all, line_out, number_out, running, stopped}
 use Rattle.ob0_run_machine.specs.Levels.{levels_of}
 use Rattle.ob0_run_machine.specs.Lowered.{Procedure, Statement, Statements}
@@ -39,11 +38,15 @@ abbrev pub moved : Result (Unit {0}) Ending → Machine → Progress
 moved (Ok done) m = running (state_of m)
 moved (Err e) m = stopped (end_of e) (items_out m.output.items)
 
--- the same of any step; it is out of memory only where an allocation has failed
+-- a step that gives nothing ends the run with what was output; it ends nothing only where an allocation has failed
+abbrev pub Stops : Option End → Machine → Progress → Type 0
+Stops (Some e) m p = p ≡ stopped e (items_out m.output.items)
+Stops None m p = has_failed m.memory ≡ true
+
+-- the same of any step
 abbrev pub MachineSteps : Result (Unit {0}) Stop → Machine → Progress → Type 0
 MachineSteps (Ok done) m p = p ≡ running (state_of m)
-MachineSteps (Err (stop.Ended e)) m p = p ≡ stopped (end_of e) (items_out m.output.items)
-MachineSteps (Err stop.Memory) m p = has_failed m.memory ≡ true
+MachineSteps (Err s) m p = Stops (end_at s) m p
 
 -- what a closure that performs calls does: the machine before it, the procedure, the activation, its answer and the machine after it
 abbrev pub Post : Type 1
@@ -83,11 +86,15 @@ abbrev pub entering : ℕ → ℕ → Levels → ℕ → List ℕ → Doing
 entering k up ls base addresses enters s =
     enters k (entered ls base up (passed_in s.cells addresses)) s
 
--- an argument is passed, or it ends the run; it is out of memory only where an allocation has failed
+-- arguments that can't be passed end the run; they end nothing only where an allocation has failed
+abbrev pub StopsPassing : Option End → Memory → Outcome Passed → Type 0
+StopsPassing (Some e) memory o = o ≡ ends e
+StopsPassing None memory o = has_failed memory ≡ true
+
+-- an argument is passed, or it ends the run
 abbrev pub Passes : Result (Unit {0}) Stop → Memory → List ℤ → List ℕ → Outcome Passed → Type 0
 Passes (Ok done) memory cells addresses o = o ≡ gives (passed_in cells addresses)
-Passes (Err (stop.Ended e)) memory cells addresses o = o ≡ ends (end_of e)
-Passes (Err stop.Memory) memory cells addresses o = has_failed memory ≡ true
+Passes (Err s) memory cells addresses o = StopsPassing (end_at s) memory o
 
 -- the body of a procedure runs, if there is one
 abbrev pub activated : Option Procedure → ℕ → Levels → Doing

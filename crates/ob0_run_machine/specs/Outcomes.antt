@@ -1,13 +1,12 @@
 -- What the code's outcome of a run means.
 -- Rule: none; for contracts: what values of the code mean.
-use Rattle.std.specs.Prelude.{◌≡◌, ℕ, IsErr, Ok, Err, Result}
+use Rattle.std.specs.Prelude.{◌≡◌, ℕ, IsErr, Ok, Err, None, Option, Result, Some}
 use Rattle.std.specs.declared.alloc.AllocError.{AllocError}
 use Rattle.ob0_run_machine.specs.declared.running.End as code_end
 use Rattle.ob0_run_machine.specs.declared.running.End.TheVariants as code
 use Rattle.ob0_run_machine.specs.declared.running.Outcome.{Outcome}
 use Rattle.ob0_run_machine.specs.declared.ending.Stop.{Stop}
-use Rattle.ob0_run_machine.specs.declared.ending.Stop.TheVariants as stop
-use Rattle.ob0_run_machine.specs.Answers.{end_of}
+use Rattle.ob0_run_machine.specs.Answers.{end_at, end_of}
 use Rattle.ob0_run_machine.specs.Evaluation.{Done, End}
 use Rattle.ob0_run_machine.specs.Execution.{Progress, Run, State, call, execute_all, outermost}
 use Rattle.ob0_run_machine.specs.Lowered.{Program}
@@ -18,12 +17,16 @@ abbrev pub end_in : code_end.End → End
 end_in code.Done = Done
 end_in (code.Ended e) = end_of e
 
+-- this end is told, and an error where there is none
+abbrev pub EndsAs : Option End → Result code_end.End AllocError → Type 0
+EndsAs (Some e) r = (x : code_end.End) × (r ≡ Ok x) × (end_in x ≡ e)
+EndsAs None r = IsErr r
+
 -- statements that return have reached the end of the program, a rule that they break ends the run, and nothing else but an
 -- allocation that failed leaves it without an end
 abbrev pub IsEndOf : Result (Unit {0}) Stop → Result code_end.End AllocError → Type 0
 IsEndOf (Ok done) r = r ≡ Ok code.Done
-IsEndOf (Err (stop.Ended e)) r = r ≡ Ok (code.Ended e)
-IsEndOf (Err stop.Memory) r = IsErr r
+IsEndOf (Err s) r = EndsAs (end_at s) r
 
 -- an outcome of the code as a run
 abbrev pub run_of : Outcome → Run

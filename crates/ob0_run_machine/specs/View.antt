@@ -81,26 +81,22 @@ abbrev mutual
   applied (link.SumLiteral n) left = lowered.operation lowered.sum left (lowered.literal n)
   applied (link.SumVariable v) left =
       lowered.operation lowered.sum left (lowered.cell (variable_of v))
-  applied (link.Sum n) left = lowered.operation lowered.sum left (number_of n)
   applied (link.DifferenceLiteral n) left =
       lowered.operation lowered.difference left (lowered.literal n)
   applied (link.DifferenceVariable v) left =
       lowered.operation lowered.difference left (lowered.cell (variable_of v))
-  applied (link.Difference n) left = lowered.operation lowered.difference left (number_of n)
   applied (link.ProductLiteral n) left = lowered.operation lowered.product left (lowered.literal n)
   applied (link.ProductVariable v) left =
       lowered.operation lowered.product left (lowered.cell (variable_of v))
-  applied (link.Product n) left = lowered.operation lowered.product left (number_of n)
   applied (link.QuotientLiteral n) left =
       lowered.operation lowered.quotient left (lowered.literal n)
   applied (link.QuotientVariable v) left =
       lowered.operation lowered.quotient left (lowered.cell (variable_of v))
-  applied (link.Quotient n) left = lowered.operation lowered.quotient left (number_of n)
   applied (link.RemainderLiteral n) left =
       lowered.operation lowered.remainder left (lowered.literal n)
   applied (link.RemainderVariable v) left =
       lowered.operation lowered.remainder left (lowered.cell (variable_of v))
-  applied (link.Remainder n) left = lowered.operation lowered.remainder left (number_of n)
+  applied (link.Other o n) left = lowered.operation (operator_of o) left (number_of n)
 
   -- operations in a row
   pub chained_by : {n : _} → number.Row_of-Link n → lowered.Number → lowered.Number
@@ -139,6 +135,10 @@ relation_of relation.GreaterEqual = lowered.greater_equal
 abbrev pub related_by : Relation → Operands → lowered.Truth
 related_by r o = lowered.related (relation_of r) (number_of o.left) (number_of o.right)
 
+-- a variable that is compared
+abbrev pub compared_by : Relation → Variable → lowered.Number → lowered.Truth
+compared_by r v n = lowered.related (relation_of r) (lowered.cell (variable_of v)) n
+
 abbrev mutual
   pub truth_of : Truth → lowered.Truth
   truth_of (truth.Constant b) = lowered.constant b
@@ -149,6 +149,8 @@ abbrev mutual
   truth_of (truth.All' pointer first shape row) = all_of row (truth_of first)
   truth_of (truth.Any' pointer first shape row) = any_of row (truth_of first)
   truth_of (truth.Related r o) = related_by r o.value
+  truth_of (truth.ComparedToLiteral r v n) = compared_by r v (lowered.literal n)
+  truth_of (truth.ComparedToVariable r v w) = compared_by r v (lowered.cell (variable_of w))
   truth_of (truth.Same' pointer left right) = lowered.same (truth_of left) (truth_of right)
   truth_of (truth.Different' pointer left right) =
       lowered.different (truth_of left) (truth_of right)

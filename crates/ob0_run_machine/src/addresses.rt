@@ -30,6 +30,7 @@ fn three(memory: &mut Memory, a: usize, b: usize, c: usize) -> Result<Addresses,
 
 impl Addresses {
     /// Puts one more at the end.
+    #[inline(always)]
     pub(crate) fn push(&mut self, memory: &mut Memory, address: usize) -> Result<(), AllocError>
         ensures items { OnOk result
             (addresses_in self.new ≡ addresses_in self.old ++ address ∷ []) }

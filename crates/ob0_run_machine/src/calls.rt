@@ -7,7 +7,7 @@ ghost use Rattle.ob0_run_machine.specs.Machines.{MachineDoes, Enters, activated,
 ghost use Rattle.ob0_run_machine.specs.View.{procedure_of, program_of};
 
 use crate::code::{Procedure, Program};
-use crate::ending::{Ending, Stop};
+use crate::ending::Stop;
 use crate::level::Level;
 use crate::machine::Machine;
 use crate::statements::sequence;
@@ -58,6 +58,7 @@ fn drop_variables(machine: &mut Machine<'_>, level: &Level<'_>)
 }
 
 /// A call of a procedure, where so many calls more may be open.
+#[inline(never)]
 pub(crate) fn call(
     program: &Program,
     calls: u32,
@@ -69,7 +70,7 @@ pub(crate) fn call(
     ensures { Enters result machine.old machine.new program.now calls turns procedure level.now }
 {
     if calls == 0 {
-        return Err(Stop::Ended(Ending::CallBound));
+        return Err(Stop::CallBound);
     }
     let left = calls - 1;
     let enter = |machine: &mut Machine<'_>, procedure: usize, level: &Level<'_>|

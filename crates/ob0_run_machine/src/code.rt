@@ -99,19 +99,15 @@ pub struct Chain {
 pub enum Link {
     SumLiteral(i32),
     SumVariable(Variable),
-    Sum(Number),
     DifferenceLiteral(i32),
     DifferenceVariable(Variable),
-    Difference(Number),
     ProductLiteral(i32),
     ProductVariable(Variable),
-    Product(Number),
     QuotientLiteral(i32),
     QuotientVariable(Variable),
-    Quotient(Number),
     RemainderLiteral(i32),
     RemainderVariable(Variable),
-    Remainder(Number),
+    Other(Operator, Number),
 }
 
 /// The relations of numbers.
@@ -146,6 +142,9 @@ pub enum Truth {
     /// Many truths joined by `OR`.
     Any(Box<Several>),
     Related(Relation, Box<Operands>),
+    /// A variable compared with a literal: a `Related` in one step, as the next is.
+    ComparedToLiteral(Relation, Variable, i32),
+    ComparedToVariable(Relation, Variable, Variable),
     Same(Box<Truths>),
     Different(Box<Truths>),
 }

@@ -1,6 +1,6 @@
 //! How runs end.
 
-ghost use Rattle.std.specs.Prelude.{◌≡◌};
+ghost use Rattle.std.specs.Prelude.{◌≡◌, Some};
 
 use std::alloc::{AllocError, AllocFailed};
 
@@ -21,21 +21,34 @@ pub enum Ending {
     TurnBound,
 }
 
-/// Why a step of a run gives nothing.
+/// Why a step of a run gives nothing, in one tag: so a step's result is returned in registers.
 #[derive(Clone, Copy, PartialEq, Eq, Debug)]
 pub(crate) enum Stop {
-    Ended(Ending),
+    Overflow,
+    Divisor,
+    Index,
+    InputEnd,
+    CallBound,
+    TurnBound,
     /// An allocation failed.
     Memory,
 }
 
 impl From<Ending> for Stop {
-    ghost use Rattle.ob0_run_machine.specs.declared.ending.Stop.TheVariants.{Ended};
+    ghost use Rattle.ob0_run_machine.specs.Answers.{end_at, end_of};
 
-    ghost from_gives = { λ x e. e ≡ Ended x };
+    ghost from_gives = { λ x e. end_at e ≡ Some (end_of x) };
 
+    #[inline(always)]
     fn from(ending: Ending) -> Stop {
-        Stop::Ended(ending)
+        match ending {
+            Ending::Overflow => Stop::Overflow,
+            Ending::Divisor => Stop::Divisor,
+            Ending::Index => Stop::Index,
+            Ending::InputEnd => Stop::InputEnd,
+            Ending::CallBound => Stop::CallBound,
+            Ending::TurnBound => Stop::TurnBound,
+        }
     }
 }
 

@@ -7,17 +7,18 @@ ghost use Rattle.ob0_run_machine.specs.Evaluation.{address, cell_at, gives, numb
 ghost use Rattle.ob0_run_machine.specs.declared.code.Truths.{out-Truths};
 ghost use Rattle.ob0_run_machine.specs.Lowered as lowered;
 ghost use Rattle.ob0_run_machine.specs.Levels.{levels_of};
-ghost use Rattle.ob0_run_machine.specs.View.{all_in, any_in, applied, chained_in, element_of, first_of, number_of, operation_of, place_of, related_by, row_of, truth_of, variable_of};
+ghost use Rattle.ob0_run_machine.specs.View.{all_in, any_in, applied, chained_in, compared_by, element_of, first_of, number_of, operation_of, operator_of, place_of, related_by, row_of, truth_of, variable_of};
 
 use crate::code::{
-    Chain, Element, First, Link, Number, Operands, Operation, Place, Relation, Row, Several, Truth,
-    Truths, Variable,
+    Chain, Element, First, Link, Number, Operands, Operation, Operator, Place, Relation, Row,
+    Several, Truth, Truths, Variable,
 };
 use crate::ending::Ending;
 use crate::evaluated::{Evaluated, flat, unpacked};
 use crate::level::{Level, base_at, passed_at};
 use crate::operators::{
-    add, alike, compare, divide, element_at, forward, is_true, modulo, multiply, negative, subtract,
+    add, alike, compare, divide, element_at, forward, is_true, modulo, multiply, negative, operate,
+    subtract,
 };
 
 /// What a cell holds. What isn't there has the value 0.
@@ -159,9 +160,21 @@ fn opposite(operand: &Number, level: &Level<'_>, cells: &[i32]) -> Evaluated<i32
     }
 }
 
+/// An operation. On a variable, as most are, it needs no registers to be saved.
 #[inline(never)]
 #[cycle(evaluation)]
 fn operation(o: &Operation, level: &Level<'_>, cells: &[i32]) -> Evaluated<i32>
+    ensures { outcome_of result ≡ number (levels_of level.now) cells.now (operation_of o.now) }
+{
+    match &o.first {
+        First::Variable(v) => flat(apply(&o.link, value_of(*v, level, cells), level, cells)),
+        _ => any_operation(o, level, cells),
+    }
+}
+
+#[inline(never)]
+#[cycle(evaluation)]
+fn any_operation(o: &Operation, level: &Level<'_>, cells: &[i32]) -> Evaluated<i32>
     ensures { outcome_of result ≡ number (levels_of level.now) cells.now (operation_of o.now) }
 {
     match evaluate_first(&o.first, level, cells) {
@@ -191,7 +204,8 @@ fn operations(c: &Chain, level: &Level<'_>, cells: &[i32]) -> Result<i32, Ending
     Ok(left)
 }
 
-/// An operation on a number.
+/// An operation on a number. It is small, so that it is inlined: a right operand that is neither a literal nor a variable is
+/// evaluated in a call.
 #[inline(always)]
 #[cycle(evaluation)]
 fn apply(link: &Link, left: i32, level: &Level<'_>, cells: &[i32]) -> Result<i32, Ending>
@@ -200,34 +214,35 @@ fn apply(link: &Link, left: i32, level: &Level<'_>, cells: &[i32]) -> Result<i32
     match link {
         Link::SumLiteral(n) => add(left, *n),
         Link::SumVariable(v) => add(left, value_of(*v, level, cells)),
-        Link::Sum(n) => {
-            let right = evaluate_number(n, level, cells)?;
-            add(left, right)
-        }
         Link::DifferenceLiteral(n) => subtract(left, *n),
         Link::DifferenceVariable(v) => subtract(left, value_of(*v, level, cells)),
-        Link::Difference(n) => {
-            let right = evaluate_number(n, level, cells)?;
-            subtract(left, right)
-        }
         Link::ProductLiteral(n) => multiply(left, *n),
         Link::ProductVariable(v) => multiply(left, value_of(*v, level, cells)),
-        Link::Product(n) => {
-            let right = evaluate_number(n, level, cells)?;
-            multiply(left, right)
-        }
         Link::QuotientLiteral(n) => divide(left, *n),
         Link::QuotientVariable(v) => divide(left, value_of(*v, level, cells)),
-        Link::Quotient(n) => {
-            let right = evaluate_number(n, level, cells)?;
-            divide(left, right)
-        }
         Link::RemainderLiteral(n) => modulo(left, *n),
         Link::RemainderVariable(v) => modulo(left, value_of(*v, level, cells)),
-        Link::Remainder(n) => {
-            let right = evaluate_number(n, level, cells)?;
-            modulo(left, right)
-        }
+        Link::Other(o, n) => unpacked(apply_other(*o, left, n, level, cells)),
+    }
+}
+
+/// An operator between a number and an expression.
+#[inline(never)]
+#[cycle(evaluation)]
+fn apply_other(
+    operator: Operator,
+    left: i32,
+    n: &Number,
+    level: &Level<'_>,
+    cells: &[i32],
+) -> Evaluated<i32>
+    ensures { outcome_of result
+        ≡ number (levels_of level.now) cells.now
+        (lowered.operation (operator_of operator) (lowered.literal left) (number_of n.now)) }
+{
+    match evaluate_number(n, level, cells) {
+        Ok(right) => flat(operate(operator, left, right)),
+        Err(ending) => flat(Err(ending)),
     }
 }
 
@@ -247,14 +262,18 @@ pub(crate) fn evaluate_update(
     apply(link, left, level, cells)
 }
 
-/// Whether a truth is TRUE. A constant, a variable and a relation, as most conditions are, are evaluated without a call.
+/// Whether a truth is TRUE. A constant and a comparison of a variable, as most conditions are, are evaluated without a call.
 #[inline(always)]
 pub(crate) fn evaluate_truth(t: &Truth, level: &Level<'_>, cells: &[i32]) -> Result<bool, Ending>
     ensures { outcome_of_result result ≡ truth (levels_of level.now) cells.now (truth_of t.now) }
 {
     match t {
         Truth::Constant(b) => Ok(*b),
-        Truth::Related(relation, operands) => compare_operands(*relation, operands, level, cells),
+        Truth::ComparedToLiteral(r, v, n) => Ok(compare_variable(*r, *v, *n, level, cells)),
+        Truth::ComparedToVariable(r, v, w) => {
+            let right = value_of(*w, level, cells);
+            Ok(compare_variable(*r, *v, right, level, cells))
+        }
         _ => truth(t, level, cells),
     }
 }
@@ -295,9 +314,29 @@ fn any_truth(t: &Truth, level: &Level<'_>, cells: &[i32]) -> Result<bool, Ending
         Truth::All(several) => all(several, level, cells),
         Truth::Any(several) => any(several, level, cells),
         Truth::Related(relation, operands) => compare_operands(*relation, operands, level, cells),
+        Truth::ComparedToLiteral(r, v, n) => Ok(compare_variable(*r, *v, *n, level, cells)),
+        Truth::ComparedToVariable(r, v, w) => {
+            let right = value_of(*w, level, cells);
+            Ok(compare_variable(*r, *v, right, level, cells))
+        }
         Truth::Same(operands) => same(operands, level, cells),
         Truth::Different(operands) => different(operands, level, cells),
     }
+}
+
+/// Whether a relation holds between what a variable holds and a number.
+#[inline(always)]
+fn compare_variable(
+    relation: Relation,
+    variable: Variable,
+    right: i32,
+    level: &Level<'_>,
+    cells: &[i32],
+) -> bool
+    ensures { truth (levels_of level.now) cells.now
+        (compared_by relation variable (lowered.literal right)) ≡ gives result }
+{
+    compare(relation, value_of(variable, level, cells), right)
 }
 
 /// Whether a relation holds between two numbers.

@@ -6,6 +6,9 @@ ghost use Rattle.ob0_run_machine.specs.Allocations.{has_failed};
 
 use std::alloc::{AllocError, Global};
 
+/// The most cells that are put at the end one by one.
+const FEW_CELLS: usize = 8;
+
 /// The allocator, and whether an allocation has failed.
 #[derive(Clone, Copy)]
 pub(crate) struct Memory {
@@ -43,12 +46,27 @@ impl Memory {
         }
     }
 
-    /// Puts so many new cells at the end.
+    /// Puts so many new cells at the end. A few, as most procedures have, are put there one by one, without a call.
+    #[inline(always)]
     pub(crate) fn push_zeros(
         &mut self,
         cells: &mut Vec<i32>,
         count: usize,
     ) -> Result<(), AllocError>
+        ensures items { OnOk result (cells.new.items ≡ cells.old.items ++ zeros count) }
+        ensures failed { OnErr result (has_failed self.new ≡ true) }
+    {
+        if count > FEW_CELLS {
+            return self.push_row_of_zeros(cells, count);
+        }
+        for _cell in 0..count {
+            self.push(cells, 0)?;
+        }
+        Ok(())
+    }
+
+    #[inline(never)]
+    fn push_row_of_zeros(&mut self, cells: &mut Vec<i32>, count: usize) -> Result<(), AllocError>
         ensures items { OnOk result (cells.new.items ≡ cells.old.items ++ zeros count) }
         ensures failed { OnErr result (has_failed self.new ≡ true) }
     {

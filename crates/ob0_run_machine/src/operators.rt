@@ -4,9 +4,9 @@ ghost use Rattle.std.specs.Prelude.{◌≡◌, neg_ℤ};
 ghost use Rattle.ob0_run_machine.specs.Answers.{if_there, outcome_of_result};
 ghost use Rattle.ob0_run_machine.specs.Evaluation.{alike, compare, element_at, forward, in_range, is_true, as_cell, operate};
 ghost use Rattle.ob0_run_machine.specs.Lowered.{difference, product, quotient, remainder, sum};
-ghost use Rattle.ob0_run_machine.specs.View.{relation_of};
+ghost use Rattle.ob0_run_machine.specs.View.{operator_of, relation_of};
 
-use crate::code::Relation;
+use crate::code::{Operator, Relation};
 use crate::ending::Ending;
 
 /// A number where it could be computed in 32 bits, else an overflow.
@@ -42,7 +42,7 @@ pub(crate) fn modulo(left: i32, right: i32) -> Result<i32, Ending>
     Ok(left.rem_euclid(right))
 }
 
-/// The sum; the end Overflow where it isn't of 32 bits. So are the difference, the product and the number with the other sign.
+/// The sum; the end Overflow where it isn't of 32 bits. So are the difference and the product.
 #[inline(always)]
 pub(crate) fn add(left: i32, right: i32) -> Result<i32, Ending>
     ensures { outcome_of_result result ≡ operate sum left right }
@@ -64,6 +64,21 @@ pub(crate) fn multiply(left: i32, right: i32) -> Result<i32, Ending>
     in_range(left.checked_mul(right))
 }
 
+/// The result of an operator.
+#[inline(always)]
+pub(crate) fn operate(operator: Operator, left: i32, right: i32) -> Result<i32, Ending>
+    ensures { outcome_of_result result ≡ operate (operator_of operator) left right }
+{
+    match operator {
+        Operator::Sum => add(left, right),
+        Operator::Difference => subtract(left, right),
+        Operator::Product => multiply(left, right),
+        Operator::Quotient => divide(left, right),
+        Operator::Remainder => modulo(left, right),
+    }
+}
+
+/// The number with the other sign, or the end Overflow.
 #[inline(always)]
 pub(crate) fn negative(number: i32) -> Result<i32, Ending>
     ensures { outcome_of_result result ≡ in_range (neg_ℤ number) }

@@ -15,6 +15,7 @@ use crate::memory::Memory;
 use crate::operators::as_cell;
 
 /// Evaluates an argument and passes it.
+#[inline(always)]
 fn pass(
     memory: &mut Memory,
     argument: &Argument,
@@ -48,6 +49,7 @@ fn pass(
 }
 
 /// Evaluates and passes arguments, from left to right.
+#[inline(always)]
 pub(crate) fn pass_all(
     memory: &mut Memory,
     arguments: &[Argument],

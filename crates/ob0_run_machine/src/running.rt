@@ -53,7 +53,12 @@ fn end_of(executed: Result<(), Stop>) -> Result<End, AllocError>
     match executed {
         Ok(()) => Ok(End::Done),
         Err(stop) => match stop {
-            Stop::Ended(ending) => Ok(End::Ended(ending)),
+            Stop::Overflow => Ok(End::Ended(Ending::Overflow)),
+            Stop::Divisor => Ok(End::Ended(Ending::Divisor)),
+            Stop::Index => Ok(End::Ended(Ending::Index)),
+            Stop::InputEnd => Ok(End::Ended(Ending::InputEnd)),
+            Stop::CallBound => Ok(End::Ended(Ending::CallBound)),
+            Stop::TurnBound => Ok(End::Ended(Ending::TurnBound)),
             Stop::Memory => Err(AllocError),
         },
     }

@@ -240,6 +240,7 @@ fn statement<F: Fn(&mut Machine<'_>, usize, &Level<'_>) -> Result<(), Stop>>(
 }
 
 /// Statements in order.
+#[inline(never)]
 #[cycle(execution)]
 pub(crate) fn sequence<F: Fn(&mut Machine<'_>, usize, &Level<'_>) -> Result<(), Stop>>(
     statements: &[Statement],
@@ -259,7 +260,7 @@ pub(crate) fn sequence<F: Fn(&mut Machine<'_>, usize, &Level<'_>) -> Result<(), 
 }
 
 /// IF: the statements after the first condition that is TRUE.
-#[inline(never)]
+#[inline(always)]
 #[cycle(execution)]
 fn branches<F: Fn(&mut Machine<'_>, usize, &Level<'_>) -> Result<(), Stop>>(
     i: &If,
@@ -300,7 +301,7 @@ fn run_loop<F: Fn(&mut Machine<'_>, usize, &Level<'_>) -> Result<(), Stop>>(
             return Ok(());
         }
         if left == 0 {
-            return Err(Stop::Ended(Ending::TurnBound));
+            return Err(Stop::TurnBound);
         }
         left -= 1;
         sequence(&w.body, level, turns, machine, enter)?;
@@ -328,7 +329,7 @@ fn until<F: Fn(&mut Machine<'_>, usize, &Level<'_>) -> Result<(), Stop>>(
             return Ok(());
         }
         if further == 0 {
-            return Err(Stop::Ended(Ending::TurnBound));
+            return Err(Stop::TurnBound);
         }
         further -= 1;
     }

@@ -24,15 +24,24 @@ operations-loop-link-init t c = let a : SFits w32 c.in_ok-left.left = search rul
 pub evaluate_number-returns-in-Chain : goal.evaluate_number-returns-in-Chain
 evaluate_number-returns-in-Chain t c = c.unpacked-in-Chain.ensures ∙ c.chain.ensures ∙ ap (number (levels_of c.args.level.now) c.args.cells.now) (ap chained_in c.deref-in-Chain.ensures ∙ sym (chain_made c.in-Chain.c) ∙ ap number_of (sym c.in-Chain.is))
 
-pub operation-returns-in-Ok : goal.operation-returns-in-Ok
-operation-returns-in-Ok t c =
+pub any_operation-returns-in-Ok : goal.any_operation-returns-in-Ok
+any_operation-returns-in-Ok t c =
     let ls = levels_of c.args.level.now in
     let o = out-Operation c.args.o.now in
     let a : SFits w32 c.in-Ok.left = search rules in
     c.flat.ensures ∙ c.apply.ensures ∙ ap (linked ls c.args.cells.now o.link) (to_z-of_z a) ∙ ap (λ z. z >>= linked ls c.args.cells.now o.link) c.in-Ok.ensures ∙ sym (applied_to ls c.args.cells.now (first_of o.first) o.link)
 
-pub operation-returns-in-Err : goal.operation-returns-in-Err
-operation-returns-in-Err t c =
+pub any_operation-returns-in-Err : goal.any_operation-returns-in-Err
+any_operation-returns-in-Err t c =
     let ls = levels_of c.args.level.now in
     let o = out-Operation c.args.o.now in
     c.flat-in-Err.ensures ∙ ap (λ z. z >>= linked ls c.args.cells.now o.link) c.in-Err.ensures ∙ sym (applied_to ls c.args.cells.now (first_of o.first) o.link)
+
+pub operation-returns-in-Variable : goal.operation-returns-in-Variable
+operation-returns-in-Variable t c =
+    let ls = levels_of c.args.level.now in
+    let o = out-Operation c.args.o.now in
+    let a : SFits w32 c.value_of.result = search rules in
+    c.flat.ensures ∙ c.apply.ensures ∙ ap (linked ls c.args.cells.now o.link) (to_z-of_z a)
+    ∙ ap (λ z. z >>= linked ls c.args.cells.now o.link) (sym c.value_of.ensures ∙ sym (ap (λ f. number ls c.args.cells.now (first_of f)) c.in-Variable.is))
+    ∙ sym (applied_to ls c.args.cells.now (first_of o.first) o.link)

@@ -2,7 +2,7 @@ use Rattle.std.proofs.Common.{sym, ap, ◌∙◌}
 use Rattle.std.proofs.lemmas.Result.{err_from_is_err_and}
 use Rattle.ob0_run_machine.specs.Levels.{levels_of}
 use Rattle.ob0_run_machine.specs.View.{statement_of}
-use Rattle.ob0_run_machine.proofs.Executing.{branch_taken, branches_begin, does_statement, branches_end, branches_fail, branches_on, leaving, repeat_begins, repeat_body_fails, repeat_bound, repeat_ends, repeat_fails, repeat_on, sequence_begins, sequence_ends, sequence_fails, sequence_on, settled, turn_made, while_begins, while_body_fails, while_bound, while_ends, while_fails, while_on}
+use Rattle.ob0_run_machine.proofs.Executing.{branch_taken, branches_begin, does_statement, ending_by, branches_end, branches_fail, branches_on, leaving, repeat_begins, repeat_body_fails, repeat_bound, repeat_ends, repeat_fails, repeat_on, sequence_begins, sequence_ends, sequence_fails, sequence_on, settled, turn_made, while_begins, while_body_fails, while_bound, while_ends, while_fails, while_on}
 use Rattle.ob0_run_machine.proofs.Viewed.{if_made, repeat_made, while_made}
 use Rattle.ob0_run_machine.proofs.statements.+execution.Goals as goal
 
@@ -10,7 +10,7 @@ pub branches-loop-branch-init : goal.branches-loop-branch-init
 branches-loop-branch-init g t c = branches_begin c.deref-branch-items.ensures.value
 
 pub branches-returns-in_err-evaluate_condition : goal.branches-returns-in_err-evaluate_condition
-branches-returns-in_err-evaluate_condition g t c = leaving (err_from_is_err_and c.from_residual.result c.from_residual.ensures.1)
+branches-returns-in_err-evaluate_condition g t c = ending_by c.in_err-evaluate_condition.field-0.0 (err_from_is_err_and c.from_residual.result c.from_residual.ensures.1)
     (branches_fail c.in_err-evaluate_condition.field-0.0 c.branch-item.result c.loop-branch.invariant c.loop-branch-test.true c.branch-item.is c.in_err-evaluate_condition.ensures)
 
 pub branches-returns-then-branch : goal.branches-returns-then-branch
@@ -28,7 +28,7 @@ pub run_loop-loop-left-init : goal.run_loop-loop-left-init
 run_loop-loop-left-init g t c = while_begins
 
 pub run_loop-returns-in_err-evaluate_condition : goal.run_loop-returns-in_err-evaluate_condition
-run_loop-returns-in_err-evaluate_condition g t c = leaving (err_from_is_err_and c.from_residual.result c.from_residual.ensures.1)
+run_loop-returns-in_err-evaluate_condition g t c = ending_by c.in_err-evaluate_condition.field-0.0 (err_from_is_err_and c.from_residual.result c.from_residual.ensures.1)
     (while_fails c.in_err-evaluate_condition.field-0.0 c.loop-left.invariant c.in_err-evaluate_condition.ensures)
 
 pub run_loop-returns-then-not-branch : goal.run_loop-returns-then-not-branch
@@ -74,7 +74,7 @@ until-returns-in_err-sequence g t c = leaving (err_from_is_err_and c.from_residu
     (repeat_body_fails c.in_err-sequence.field-0.0 _ c.loop-machine.invariant c.deref.ensures.value c.in_err-sequence.ensures)
 
 pub until-returns-in_err-evaluate_condition : goal.until-returns-in_err-evaluate_condition
-until-returns-in_err-evaluate_condition g t c = leaving (err_from_is_err_and c.from_residual-in_err-evaluate_condition.result c.from_residual-in_err-evaluate_condition.ensures.1)
+until-returns-in_err-evaluate_condition g t c = ending_by c.in_err-evaluate_condition.field-0.0 (err_from_is_err_and c.from_residual-in_err-evaluate_condition.result c.from_residual-in_err-evaluate_condition.ensures.1)
     (repeat_fails c.in_err-evaluate_condition.field-0.0 (turn_made c.in_ok-sequence.field-0 _ c.loop-machine.invariant c.deref.ensures.value c.in_ok-sequence.ensures) c.in_err-evaluate_condition.ensures)
 
 pub until-returns-then-branch : goal.until-returns-then-branch

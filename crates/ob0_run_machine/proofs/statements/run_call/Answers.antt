@@ -6,7 +6,7 @@ use Rattle.ob0_run_machine.proofs.statements.run_call.Goals as goal
 
 pub returns-in_err-pass_all : goal.returns-in_err-pass_all
 returns-in_err-pass_all g c = λ t. leaving (err_from_is_err_and c.from_residual.result c.from_residual.ensures.1)
-    (call_fails _ _ _ c.in_err-pass_all.field-0.0 t (levels_of c.args.level.now) c.args.c.now _ _ refl c.as_slice.ensures.value c.in_err-pass_all.ensures refl refl)
+    (call_fails _ c.in_err-pass_all.field-0.0 t (levels_of c.args.level.now) c.args.c.now _ _ refl c.as_slice.ensures.value c.in_err-pass_all.ensures refl refl)
 
 pub returns-in-Empty : goal.returns-in-Empty
 returns-in-Empty g c = λ t. call_enters _ _ t (levels_of c.args.level.now) _ c.args.c.now _ _ refl c.as_slice.ensures.value c.in_ok-pass_all.ensures

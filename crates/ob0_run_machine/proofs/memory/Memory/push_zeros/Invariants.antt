@@ -1,0 +1,7 @@
+use Rattle.std.proofs.Common.{◌≡◌, ◌++◌}
+use Rattle.ob0_run_machine.specs.Execution.{zeros}
+use Rattle.ob0_run_machine.proofs.memory.Memory.push_zeros.Given as goal
+
+-- as many zeros were put there as steps were made
+abbrev pub invariant-loop-cell : goal.invariant-loop-cell
+invariant-loop-cell l = l.cells.items ≡ l.fn.cells.items ++ zeros l._cell
