@@ -11,7 +11,7 @@ use Rattle.std.specs.Fmt.{signed_decimal}
 use Rattle.std.specs.Str.{IsUtf8}
 use Rattle.json.specs.Json as json
 use Rattle.json.specs.Lex.{tokens}
-use Rattle.json.specs.Print.{escape, escape_byte, print, quoted}
+use Rattle.json.specs.Print.{escape, escape_byte, quoted}
 use Rattle.json.specs.Token.{Token}
 use Rattle.json.specs.Tree as tree
 use Rattle.json.proofs.Printed.Decimals.{IsNumber-decimal, IsNumber-signed_decimal}
@@ -21,12 +21,12 @@ use Rattle.json.proofs.Printed.Trees.{ArePrintable-json_tokens, value-json_token
 use Rattle.json.proofs.Printed.Utf8.{are_ascii, IsUtf8-are_ascii, IsUtf8-quoted}
 use Rattle.serde_json.specs.Data.{Data, null, boolean, number, string, array, object, unsigned, Items, no_items, item, Members, no_members, member, depth, items_depth, members_depth, put}
 use Rattle.serde_json.specs.Find.{of_integer}
-use Rattle.serde_json.specs.Read.{read, of_items, of_json, max_depth}
-use Rattle.serde_json.specs.Written.{comma_if, compact_text, items_text, outline, items_outline, members_outline}
+use Rattle.serde_json.specs.Read.{read, of_items, of_json, of_members, max_depth}
+use Rattle.serde_json.specs.Written.{comma_if, compact_text, items_text, members_text, outline, items_outline, members_outline}
 use Rattle.serde_json.proofs.Numbers.{number_of-decimal, number_of-negative}
 use Rattle.serde_json.proofs.Texts.{print-outline}
 use Rattle.ob0_text.specs.declared.position_types.Position.{Position}
-use Rattle.ob0_rpc.specs.Appending.{Appends, AppendsEach, AreReadBack, IsReadBack, listed}
+use Rattle.ob0_rpc.specs.Appending.{Appends, AppendsEach, AppendsItem, AppendsMember, AppendsMembers, AreReadBack, IsReadBack, listed}
 use Rattle.ob0_rpc.specs.Shapes.{position_value, range_value}
 use Rattle.ob0_rpc.specs.Writing.{Writes}
 
@@ -78,7 +78,16 @@ abbrev pub are_plain : List ℕ → Bool
 are_plain [] = true
 are_plain (x ∷ xs) = is_plain_byte x && are_plain xs
 
--- ---- texts and numbers
+-- ---- texts, numbers and words
+
+pub null_written : (old new : List ℕ) → new ≡ old ++ codes "null" → Appends null old new
+null_written old new is = record { text = is; reads = record { reads = refl; numbers = tt; utf8 = IsUtf8-are_ascii _ refl } }
+
+pub true_written : (old new : List ℕ) → new ≡ old ++ codes "true" → Appends (boolean true) old new
+true_written old new is = record { text = is; reads = record { reads = refl; numbers = tt; utf8 = IsUtf8-are_ascii _ refl } }
+
+pub false_written : (old new : List ℕ) → new ≡ old ++ codes "false" → Appends (boolean false) old new
+false_written old new is = record { text = is; reads = record { reads = refl; numbers = tt; utf8 = IsUtf8-are_ascii _ refl } }
 
 escape_plain : (k : List ℕ) → are_plain k ≡ true → escape k ≡ k
 escape_plain [] h = refl
@@ -134,18 +143,6 @@ pub record IsName (k : List ℕ) : Type 0 where
 pub name : (k : List ℕ) → are_plain k ≡ true → are_ascii k ≡ true → IsName k
 name k plain ascii = record { plain = escape_plain k plain; utf8 = IsUtf8-quoted k (IsUtf8-are_ascii k ascii) }
 
-reads_one : (k : List ℕ) (d : Data) → of_json (outline d) ≡ Some d → of_json (outline (object (member k d no_members))) ≡ Some (object (member k d no_members))
-reads_one k d i = rw i refl
-
-reads_two : (k l : List ℕ) (d e : Data) → put l e (member k d no_members) ≡ member k d (member l e no_members) → of_json (outline d) ≡ Some d → of_json (outline e) ≡ Some e
-    → of_json (outline (object (member k d (member l e no_members)))) ≡ Some (object (member k d (member l e no_members)))
-reads_two k l d e order i j = rw (i, j) (ap (λ ms. Some (object ms)) order)
-
-reads_three : (k l m : List ℕ) (d e f : Data) → put m f (put l e (member k d no_members)) ≡ member k d (member l e (member m f no_members))
-    → of_json (outline d) ≡ Some d → of_json (outline e) ≡ Some e → of_json (outline f) ≡ Some f
-    → of_json (outline (object (member k d (member l e (member m f no_members))))) ≡ Some (object (member k d (member l e (member m f no_members))))
-reads_three k l m d e f order i j h = rw (i, j, h) (ap (λ ms. Some (object ms)) order)
-
 brace : IsUtf8 (125 ∷ [])
 brace = IsUtf8-are_ascii _ refl
 
@@ -154,32 +151,6 @@ utf8_member : (before : ℕ) (k t rest : List ℕ) → are_ascii (before ∷ [])
 utf8_member before k t rest ascii uk ut ur =
     IsUtf8-append (before ∷ []) _ (IsUtf8-are_ascii _ ascii) (IsUtf8-append (quoted k) _ uk (IsUtf8-append (58 ∷ []) _ (IsUtf8-are_ascii _ refl) (IsUtf8-append t rest ut ur)))
 
-read_one : (k : List ℕ) (d : Data) → IsUtf8 (quoted k) → IsReadBack d → IsReadBack (object (member k d no_members))
-read_one k d uk r = record {
-  reads = reads_one k d r.reads;
-  numbers = (r.numbers, tt);
-  utf8 = utf8_member 123 k (compact_text d) (125 ∷ []) refl uk r.utf8 brace;
-}
-
-read_two : (k l : List ℕ) (d e : Data) → put l e (member k d no_members) ≡ member k d (member l e no_members) → IsUtf8 (quoted k) → IsUtf8 (quoted l) → IsReadBack d → IsReadBack e
-    → IsReadBack (object (member k d (member l e no_members)))
-read_two k l d e order uk ul r q = record {
-  reads = reads_two k l d e order r.reads q.reads;
-  numbers = (r.numbers, (q.numbers, tt));
-  utf8 = utf8_member 123 k (compact_text d) _ refl uk r.utf8 (utf8_member 44 l (compact_text e) (125 ∷ []) refl ul q.utf8 brace);
-}
-
-read_three : (k l m : List ℕ) (d e f : Data) → put m f (put l e (member k d no_members)) ≡ member k d (member l e (member m f no_members))
-    → IsUtf8 (quoted k) → IsUtf8 (quoted l) → IsUtf8 (quoted m) → IsReadBack d → IsReadBack e → IsReadBack f
-    → IsReadBack (object (member k d (member l e (member m f no_members))))
-read_three k l m d e f order uk ul um r q p = record {
-  reads = reads_three k l m d e f order r.reads q.reads p.reads;
-  numbers = (r.numbers, (q.numbers, (p.numbers, tt)));
-  utf8 =
-      utf8_member 123 k (compact_text d) _ refl uk r.utf8
-      (utf8_member 44 l (compact_text e) _ refl ul q.utf8 (utf8_member 44 m (compact_text f) (125 ∷ []) refl um p.utf8 brace));
-}
-
 -- a name's text, and what follows the colon
 abbrev named : List ℕ → List ℕ → List ℕ
 named k rest = 34 ∷ (k ++ 34 ∷ 58 ∷ rest)
@@ -187,49 +158,72 @@ named k rest = 34 ∷ (k ++ 34 ∷ 58 ∷ rest)
 name_text : (k rest : List ℕ) → IsName k → named k rest ≡ quoted k ++ 58 ∷ rest
 name_text k rest n = rw n.plain (ap (λ t. 34 ∷ t) (sym (append_assoc k (34 ∷ []) (58 ∷ rest))))
 
-pub object_of_one : (k : List ℕ) (d : Data) (t0 t1 t2 t3 : List ℕ) → IsName k → t1 ≡ t0 ++ 123 ∷ named k [] → Appends d t1 t2 → t3 ≡ t2 ++ 125 ∷ []
-    → Appends (object (member k d no_members)) t0 t3
-object_of_one k d t0 t1 t2 t3 n h1 h2 h3 =
-    let c = compact_text d in
-    let put : t3 ≡ t0 ++ 123 ∷ named k (c ++ 125 ∷ []) = rw (h3, h2.text, h1) (simp append_assoc refl) in
-    record { text = put ∙ ap (λ t. t0 ++ 123 ∷ t) (name_text k (c ++ 125 ∷ []) n); reads = read_one k d n.utf8 h2.reads }
+-- names that need no escape
+abbrev pub are_names : Members → Bool
+are_names no_members = true
+are_names (member k d ms) = (are_plain k && are_ascii k) && are_names ms
 
-pub object_of_two : (k l : List ℕ) (d e : Data) (t0 t1 t2 t3 t4 t5 : List ℕ) → put l e (member k d no_members) ≡ member k d (member l e no_members) → IsName k → IsName l
-    → t1 ≡ t0 ++ 123 ∷ named k [] → Appends d t1 t2 → t3 ≡ t2 ++ 44 ∷ named l [] → Appends e t3 t4 → t5 ≡ t4 ++ 125 ∷ []
-    → Appends (object (member k d (member l e no_members))) t0 t5
-object_of_two k l d e t0 t1 t2 t3 t4 t5 order n o h1 h2 h3 h4 h5 =
-    let c = compact_text d in
-    let last = compact_text e ++ 125 ∷ [] in
-    let put : t5 ≡ t0 ++ 123 ∷ named k (c ++ 44 ∷ named l last) = rw (h5, h4.text, h3, h2.text, h1) (simp append_assoc refl) in
-    record {
-      text = put ∙ ap (λ t. t0 ++ 123 ∷ named k (c ++ 44 ∷ t)) (name_text l last o) ∙ ap (λ t. t0 ++ 123 ∷ t) (name_text k (c ++ 44 ∷ (quoted l ++ 58 ∷ last)) n);
-      reads = read_two k l d e order n.utf8 o.utf8 h2.reads h4.reads;
-    }
+-- what reading these members one after another makes
+abbrev pub rebuilt : Members → Members → Members
+rebuilt no_members found = found
+rebuilt (member k d ms) found = rebuilt ms (put k d found)
 
--- three members, of which the second is a text that needs no escape
-pub object_of_three : (k l s m : List ℕ) (d f : Data) (t0 t1 t2 t3 t4 t5 : List ℕ) → put m f (put l (string s) (member k d no_members)) ≡ member k d (member l (string s) (member m f no_members))
-    → IsName k → IsName l → IsName s → IsName m
-    → t1 ≡ t0 ++ 123 ∷ named k [] → Appends d t1 t2 → t3 ≡ t2 ++ 44 ∷ named l (34 ∷ (s ++ 34 ∷ 44 ∷ named m [])) → Appends f t3 t4 → t5 ≡ t4 ++ 125 ∷ []
-    → Appends (object (member k d (member l (string s) (member m f no_members)))) t0 t5
-object_of_three k l s m d f t0 t1 t2 t3 t4 t5 order n o q p h1 h2 h3 h4 h5 =
-    let c = compact_text d in
-    let last = compact_text f ++ 125 ∷ [] in
-    let after = quoted m ++ 58 ∷ last in
-    let put : t5 ≡ t0 ++ 123 ∷ named k (c ++ 44 ∷ named l (34 ∷ (s ++ 34 ∷ 44 ∷ named m last))) = rw (h5, h4.text, h3, h2.text, h1) (simp append_assoc refl) in
-    let text : 34 ∷ (s ++ 34 ∷ 44 ∷ after) ≡ quoted s ++ 44 ∷ after = rw q.plain (ap (λ t. 34 ∷ t) (sym (append_assoc s (34 ∷ []) (44 ∷ after)))) in
+-- members that read back
+record AreMembers (ms : Members) : Type 0 where
+  reads : (found : Members) → of_members (members_outline ms) found ≡ Some (rebuilt ms found)
+  numbers : tree.MembersHaveNumbers (members_outline ms)
+  utf8 : IsUtf8 (members_text true ms)
+
+more_members : (k : List ℕ) (d : Data) (ms : Members) → IsName k → IsReadBack d → AreMembers ms → AreMembers (member k d ms)
+more_members k d ms n r rest = record {
+  reads = λ found. rw r.reads (rest.reads (put k d found));
+  numbers = (r.numbers, rest.numbers);
+  utf8 = utf8_member 44 k (compact_text d) (members_text true ms) refl n.utf8 r.utf8 rest.utf8;
+}
+
+-- the text of a member, and what follows it
+member_text : (before : ℕ) (k : List ℕ) (d : Data) (old mid rest : List ℕ) → IsName k → AppendsMember before k d old mid
+    → mid ++ rest ≡ old ++ before ∷ (quoted k ++ 58 ∷ (compact_text d ++ rest))
+member_text before k d old mid rest n a =
+    let put : mid ++ rest ≡ old ++ before ∷ named k (compact_text d ++ rest) = rw a.text (simp append_assoc refl) in
+    put ∙ ap (λ t. old ++ before ∷ t) (name_text k (compact_text d ++ rest) n)
+
+members_written : (ms : Members) (old new : List ℕ) → are_names ms ≡ true → AppendsMembers 44 ms old new → (new ≡ old ++ members_text true ms) × AreMembers ms
+members_written no_members old new names is = (is, record { reads = λ found. refl; numbers = tt; utf8 = brace })
+members_written (member k d ms) old new names (mid, first, others) =
+    let both = and_parts (are_plain k && are_ascii k) _ names in
+    let n = name k (and_parts (are_plain k) _ both.0).0 (and_parts (are_plain k) _ both.0).1 in
+    let rest = members_written ms mid new both.1 others in
+    (rest.0 ∙ member_text 44 k d old mid (members_text true ms) n first, more_members k d ms n first.reads rest.1)
+
+-- an object was written member by member: its names need no escape, and are in order
+pub object_of : (k : List ℕ) (d : Data) (ms : Members) (old new : List ℕ) → are_names (member k d ms) ≡ true → rebuilt (member k d ms) no_members ≡ member k d ms
+    → AppendsMembers 123 (member k d ms) old new → Appends (object (member k d ms)) old new
+object_of k d ms old new names order (mid, first, others) =
+    let both = and_parts (are_plain k && are_ascii k) _ names in
+    let n = name k (and_parts (are_plain k) _ both.0).0 (and_parts (are_plain k) _ both.0).1 in
+    let rest = members_written ms mid new both.1 others in
+    let are = more_members k d ms n first.reads rest.1 in
     record {
-      text =
-          put ∙ ap (λ t. t0 ++ 123 ∷ named k (c ++ 44 ∷ named l (34 ∷ (s ++ 34 ∷ 44 ∷ t)))) (name_text m last p)
-          ∙ ap (λ t. t0 ++ 123 ∷ named k (c ++ 44 ∷ named l t)) text
-          ∙ ap (λ t. t0 ++ 123 ∷ named k (c ++ 44 ∷ t)) (name_text l (quoted s ++ 44 ∷ after) o)
-          ∙ ap (λ t. t0 ++ 123 ∷ t) (name_text k (c ++ 44 ∷ (quoted l ++ 58 ∷ (quoted s ++ 44 ∷ after))) n);
-      reads = read_three k l m d (string s) f order n.utf8 o.utf8 p.utf8 h2.reads (record { reads = refl; numbers = tt; utf8 = q.utf8 }) h4.reads;
+      text = rest.0 ∙ member_text 123 k d old mid (members_text true ms) n first;
+      reads = record {
+        reads = rw (are.reads no_members, order) refl;
+        numbers = are.numbers;
+        utf8 = utf8_member 123 k (compact_text d) (members_text true ms) refl n.utf8 first.reads.utf8 rest.1.utf8;
+      };
     }
 
 -- an object of one member whose name is a text of its own
 pub object_named : (k : List ℕ) (d : Data) (t0 t1 t2 t3 t4 t5 : List ℕ) → t1 ≡ t0 ++ 123 ∷ [] → Appends (string k) t1 t2 → t3 ≡ t2 ++ 58 ∷ [] → Appends d t3 t4 → t5 ≡ t4 ++ 125 ∷ []
     → Appends (object (member k d no_members)) t0 t5
-object_named k d t0 t1 t2 t3 t4 t5 h1 h2 h3 h4 h5 = record { text = rw (h5, h4.text, h3, h2.text, h1) (simp append_assoc refl); reads = read_one k d h2.reads.utf8 h4.reads }
+object_named k d t0 t1 t2 t3 t4 t5 h1 h2 h3 h4 h5 = record {
+  text = rw (h5, h4.text, h3, h2.text, h1) (simp append_assoc refl);
+  reads = record {
+    reads = rw h4.reads.reads refl;
+    numbers = (h4.reads.numbers, tt);
+    utf8 = utf8_member 123 k (compact_text d) (125 ∷ []) refl h2.reads.utf8 h4.reads.utf8 brace;
+  };
+}
 
 -- the text of an object of two members, before another text
 object_text_of_two : (k l : List ℕ) (d e : Data) (rest : List ℕ) → IsName k → IsName l
@@ -244,9 +238,19 @@ object_text_of_two k l d e rest n o =
 count_read : (n : ℕ) → n < 2 ^ 64 → IsReadBack (number (unsigned n))
 count_read n fits = record { reads = ap (option_map number) (number_of-decimal n fits); numbers = IsNumber-decimal n fits; utf8 = IsUtf8-from_ascii _ (IsAscii-decimal n fits) }
 
+read_two : (k l : List ℕ) (d e : Data) → IsName k → IsName l → rebuilt (member k d (member l e no_members)) no_members ≡ member k d (member l e no_members) → IsReadBack d → IsReadBack e
+    → IsReadBack (object (member k d (member l e no_members)))
+read_two k l d e n o order r q =
+    let last = more_members l e no_members o q (record { reads = λ found. refl; numbers = tt; utf8 = brace }) in
+    record {
+      reads = rw ((more_members k d (member l e no_members) n r last).reads no_members, order) refl;
+      numbers = (r.numbers, last.numbers);
+      utf8 = utf8_member 123 k (compact_text d) (members_text true (member l e no_members)) refl n.utf8 r.utf8 last.utf8;
+    }
+
 pub position_read : (p : Position) → p.character < 2 ^ 64 → p.line < 2 ^ 64 → IsReadBack (position_value p)
 position_read p fits fit =
-    read_two (codes "character") (codes "line") (number (unsigned p.character)) (number (unsigned p.line)) refl (name (codes "character") refl refl).utf8 (name (codes "line") refl refl).utf8
+    read_two (codes "character") (codes "line") (number (unsigned p.character)) (number (unsigned p.line)) (name (codes "character") refl refl) (name (codes "line") refl refl) refl
     (count_read p.character fits) (count_read p.line fit)
 
 -- a position's text, put together from its end on before another text
@@ -264,7 +268,7 @@ range_written start end old new t0 t1 t2 t3 t4 t5 r q none h1 h2 h3 h4 h5 is =
     rw (h5, h4, h3, h2, h1, none) (object_text_of_two (codes "end") (codes "start") (position_value end) (position_value start) [] (name (codes "end") refl refl) (name (codes "start") refl refl)) in
     record {
       text = is ∙ ap (λ t. old ++ t) (all ∙ append-nil _);
-      reads = read_two (codes "end") (codes "start") (position_value end) (position_value start) refl (name (codes "end") refl refl).utf8 (name (codes "start") refl refl).utf8 q r;
+      reads = read_two (codes "end") (codes "start") (position_value end) (position_value start) (name (codes "end") refl refl) (name (codes "start") refl refl) refl q r;
     }
 
 -- ---- lists
@@ -311,12 +315,13 @@ some_taken shown (x ∷ xs) zero h = refl
 some_taken shown (x ∷ xs) (suc i) h = sym (lt-ltb 0 (suc i) (omega arith))
 
 -- the next item of a list
-pub each_next : {A : Type 0} (shown : A → Data) (xs : List A) (i : ℕ) (x : A) (later : Bool) (a b c d : List ℕ) → i < length xs → AppendsEach false (map shown (take i xs)) a b
-    → later ≡ nat_lt 0 i → c ≡ b ++ comma_if later → Appends (shown (get_or xs i x)) c d → AppendsEach false (map shown (take (i + 1) xs)) a d
-each_next shown xs i x later a b c d h each is comma next =
+pub each_next : {A : Type 0} (shown : A → Data) (xs : List A) (i : ℕ) (x : A) (later : Bool) (a b c : List ℕ) → i < length xs → AppendsEach false (map shown (take i xs)) a b
+    → later ≡ nat_lt 0 i → AppendsItem later (shown (get_or xs i x)) b c → AppendsEach false (map shown (take (i + 1) xs)) a c
+each_next shown xs i x later a b c h each is next =
+    let put = next.text ∙ sym (append_assoc b (comma_if later) (compact_text (shown (get_or xs i x)))) in
     rw (add-one, take-suc xs i x h, map-append shown (take i xs) (get_or xs i x ∷ []))
-    (each_joined (map shown (take i xs)) (shown (get_or xs i x) ∷ []) a b c d each
-    (comma ∙ ap (λ l. b ++ comma_if l) (is ∙ sym (some_taken shown xs i h) ∙ sym (and_true _))) (each_one (shown (get_or xs i x)) c d next))
+    (each_joined (map shown (take i xs)) (shown (get_or xs i x) ∷ []) a b (b ++ comma_if later) c each
+    (ap (λ l. b ++ comma_if l) (is ∙ sym (some_taken shown xs i h) ∙ sym (and_true _))) (each_one (shown (get_or xs i x)) (b ++ comma_if later) c (record { text = put; reads = next.reads })))
 
 -- all items of a list
 pub each_done : {A : Type 0} (shown : A → Data) (xs : List A) (i : ℕ) (a b : List ℕ) → length xs ≤ i → AppendsEach false (map shown (take i xs)) a b → AppendsEach false (map shown xs) a b

@@ -1,3 +1,2 @@
 pub mod Appending
 mod Lists
-mod Plain

@@ -1,9 +1,9 @@
 -- JSON values that are written as text, after what is there.
 -- Rule: none; for contracts of writers.
-use Rattle.std.specs.Prelude.{◌≡◌, ◌++◌, ℕ, List, [], ◌∷◌, Bool, true, Some, ⊤}
+use Rattle.std.specs.Prelude.{◌≡◌, ◌++◌, ℕ, List, [], ◌∷◌, Bool, true, Option, Some, None, ⊤}
 use Rattle.std.specs.Str.{IsUtf8}
 use Rattle.json.specs.Tree.{HasNumbers}
-use Rattle.serde_json.specs.Data.{Data}
+use Rattle.serde_json.specs.Data.{Data, Members, member, no_members, null}
 use Rattle.serde_json.specs.Read.{of_json}
 use Rattle.serde_json.specs.Written.{comma_if, compact_text, outline}
 
@@ -32,3 +32,24 @@ pub record Appends (value : Data) (old new : List ℕ) : Type 0 where
 pub record AppendsEach (later : Bool) (values : List Data) (old new : List ℕ) : Type 0 where
   pub text : new ≡ old ++ listed later values
   pub reads : AreReadBack values
+
+-- the value's text is written after the other, and before it a comma where it isn't the first
+pub record AppendsItem (later : Bool) (value : Data) (old new : List ℕ) : Type 0 where
+  pub text : new ≡ old ++ (comma_if later ++ compact_text value)
+  pub reads : IsReadBack value
+
+-- a bracket or a comma, a name between quotes, a colon and the value's text are written after the other
+pub record AppendsMember (before : ℕ) (name : List ℕ) (value : Data) (old new : List ℕ) : Type 0 where
+  pub text : new ≡ old ++ before ∷ 34 ∷ (name ++ 34 ∷ 58 ∷ compact_text value)
+  pub reads : IsReadBack value
+
+-- the members are written one after another, and the bracket that closes them
+abbrev pub AppendsMembers : ℕ → Members → List ℕ → List ℕ → Type 0
+AppendsMembers before no_members old new = new ≡ old ++ 125 ∷ []
+AppendsMembers before (member name value members) old new =
+    (mid : List ℕ) × AppendsMember before name value old mid × AppendsMembers 44 members mid new
+
+-- the value, or null where there is none
+abbrev pub or_null : {A : Type 0} → (A → Data) → Option A → Data
+or_null value (Some a) = value a
+or_null value None = null

@@ -1,8 +1,9 @@
 -- The messages that are written, as JSON values. Members are in byte order of their names.
 -- Rule: docs/PROTOCOL.md, JSON shapes 2; JSON-RPC 2.0, response object.
-use Rattle.std.specs.Prelude.{ℕ, ℤ, List, codes}
+use Rattle.std.specs.Prelude.{ℕ, ℤ, List, codes, string_bytes}
 use Rattle.serde_json.specs.Data.{Data, number, string, object, unsigned, member, no_members}
 use Rattle.serde_json.specs.Find.{of_integer}
+use Rattle.ob0_text.specs.declared.edits.Edit.{Edit}
 use Rattle.ob0_text.specs.declared.position_types.Position.{Position}
 
 -- a text
@@ -52,3 +53,9 @@ abbrev pub range_value : Position → Position → Data
 range_value start end =
     object (member (codes "end") (position_value end)
     (member (codes "start") (position_value start) no_members))
+
+-- {"newText":t,"range":R}
+abbrev pub edit_value : Edit → Data
+edit_value e =
+    object (member (codes "newText") (text (string_bytes e.text))
+    (member (codes "range") (range_value e.range.start e.range.end) no_members))

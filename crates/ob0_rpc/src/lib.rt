@@ -6,18 +6,19 @@ mod calls;
 mod changes;
 mod clients;
 mod incoming;
+mod json_text;
 mod members;
 mod notes;
+mod objects;
 mod outgoing;
 mod ranges;
-mod writing;
 
 pub use calls::{Call, DocumentPosition, request};
 pub use clients::Client;
 pub use incoming::{Id, Incoming, RpcFault, read};
+pub use json_text::{Written, begin_list, end_list, write_item};
 pub use notes::{Note, notice};
-pub use outgoing::{error, notification, result};
-pub use ranges::write_range;
-pub use writing::{
-    Written, result_of, write_comma, write_count, write_integer, write_piece, write_text,
+pub use objects::{Entry, end_object, first_member, next_member};
+pub use outgoing::{
+    ErrorResponse, Notification, Response, ResponseError, content_of, error, notify, result_of,
 };

@@ -1,95 +1,143 @@
-//! The texts of answers.
-ghost use Rattle.std.specs.Prelude.{◌≡◌, ◌≤◌, Some, false, IfOk, option_map};
+//! The messages that a server sends (JSON-RPC 2.0), as types.
+ghost use Rattle.std.specs.Prelude.{◌≤◌, IfOk, option_map};
 ghost use Rattle.serde_json.specs.Data.{depth};
-ghost use Rattle.serde_json.specs.View.{view};
-ghost use Rattle.serde_json.specs.Written.{has_float};
-ghost use Rattle.ob0_rpc.specs.Shapes.{result_message, error_message, notification_message, error_value as error_data};
+ghost use Rattle.ob0_rpc.specs.Shapes.{result_message, error_message, notification_message, error_value};
 ghost use Rattle.ob0_rpc.specs.Seen.{id_data, id_or_null};
 ghost use Rattle.ob0_rpc.specs.Writing.{CanBeSent, Writes};
 
 use crate::incoming::Id;
-use serde_json::{Value, json};
+use crate::json_text::Written;
+use crate::objects::{end_object, first_member, next_member};
 use std::alloc::{AllocError, Global};
 
 /// The answer to a request.
-pub fn result(alloc: Global, id: &Id, value: Value) -> Result<Vec<u8>, AllocError>
-    ensures { IfOk result (λ bytes. CanBeSent (view value)
-        → Writes (result_message (id_data id.now) (view value)) bytes.items) }
-{
-    let message = result_value(alloc, id, value)?;
-    text_of(alloc, &message)
+#[derive(Drop)]
+pub struct Response<'a, W> {
+    pub id: &'a Id,
+    pub result: &'a W,
+}
+
+impl<'a, W: Written> Written for Response<'a, W> {
+    ghost value = { λ r. result_message (id_data r.id.now) (W.value r.result.now) };
+
+    fn write(&self, out: &mut Vec<u8>) -> Result<(), AllocError> {
+        first_member(out, "id", self.id)?;
+        next_member(out, "jsonrpc", &"2.0")?;
+        next_member(out, "result", self.result)?;
+        end_object(out)
+    }
+}
+
+/// Why a request is refused.
+#[derive(Drop)]
+pub struct ResponseError<'a> {
+    pub code: i32,
+    pub message: &'a str,
+}
+
+impl<'a> Written for ResponseError<'a> {
+    ghost value = { λ e. error_value e.code e.message.now };
+
+    fn write(&self, out: &mut Vec<u8>) -> Result<(), AllocError> {
+        first_member(out, "code", &self.code)?;
+        next_member(out, "message", &self.message)?;
+        end_object(out)
+    }
 }
 
 /// The refusal of a request, or of a content that is none.
-pub fn error(alloc: Global, id: Option<&Id>, code: i32, said: &str) -> Result<Vec<u8>, AllocError>
-    ensures { IfOk result (λ bytes. Writes
-        (error_message (id_or_null (option_map (λ i. i.now) id.entry)) code said.now) bytes.items) }
-{
-    let message = error_value(alloc, id, code, said)?;
-    text_of(alloc, &message)
+#[derive(Drop)]
+pub struct ErrorResponse<'a> {
+    pub error: ResponseError<'a>,
+    pub id: Option<&'a Id>,
+}
+
+impl<'a> Written for ErrorResponse<'a> {
+    ghost value = { λ r. error_message (id_or_null (option_map (λ i. i.now) r.id)) r.error.code r.error.message.now };
+
+    fn write(&self, out: &mut Vec<u8>) -> Result<(), AllocError> {
+        first_member(out, "error", &self.error)?;
+        next_member(out, "id", &self.id)?;
+        next_member(out, "jsonrpc", &"2.0")?;
+        end_object(out)
+    }
 }
 
 /// A notification.
-pub fn notification(alloc: Global, method: &str, params: Value) -> Result<Vec<u8>, AllocError>
-    ensures { IfOk result (λ bytes. CanBeSent (view params)
-        → Writes (notification_message method.now (view params)) bytes.items) }
-{
-    let message = notification_value(alloc, method, params)?;
-    text_of(alloc, &message)
+#[derive(Drop)]
+pub struct Notification<'a, W> {
+    pub method: &'a str,
+    pub params: &'a W,
 }
 
-fn result_value(alloc: Global, id: &Id, value: Value) -> Result<Value, AllocError>
-    ensures { IfOk result (λ v. view v ≡ result_message (id_data id.now) (view value)) }
-{
-    let id = id_value(alloc, id)?;
-    json!(in alloc; {"id": id, "jsonrpc": "2.0", "result": value})
-}
+impl<'a, W: Written> Written for Notification<'a, W> {
+    ghost value = { λ n. notification_message n.method.now (W.value n.params.now) };
 
-fn error_value(alloc: Global, id: Option<&Id>, code: i32, said: &str) -> Result<Value, AllocError>
-    ensures { IfOk result (λ v. view v
-        ≡ error_message (id_or_null (option_map (λ i. i.now) id.entry)) code said.now) }
-{
-    let id = id_or_null_value(alloc, id)?;
-    let error = error_part(alloc, code, said)?;
-    json!(in alloc; {"error": error, "id": id, "jsonrpc": "2.0"})
-}
-
-fn error_part(alloc: Global, code: i32, said: &str) -> Result<Value, AllocError>
-    ensures { IfOk result (λ v. view v ≡ error_data code said.now) }
-{
-    json!(in alloc; {"code": code, "message": said})
-}
-
-fn notification_value(alloc: Global, method: &str, params: Value) -> Result<Value, AllocError>
-    ensures { IfOk result (λ v. view v ≡ notification_message method.now (view params)) }
-{
-    json!(in alloc; {"jsonrpc": "2.0", "method": method, "params": params})
-}
-
-fn id_or_null_value(alloc: Global, id: Option<&Id>) -> Result<Value, AllocError>
-    ensures { IfOk result (λ v. view v ≡ id_or_null (option_map (λ i. i.now) id.entry)) }
-{
-    match id {
-        Some(id) => id_value(alloc, id),
-        None => Ok(Value::Null),
+    fn write(&self, out: &mut Vec<u8>) -> Result<(), AllocError> {
+        first_member(out, "jsonrpc", &"2.0")?;
+        next_member(out, "method", &self.method)?;
+        next_member(out, "params", self.params)?;
+        end_object(out)
     }
 }
 
-fn id_value(alloc: Global, id: &Id) -> Result<Value, AllocError>
-    ensures { IfOk result (λ v. view v ≡ id_data id.now) }
-{
-    match id {
-        Id::Signed(n) => Ok(Value::from(*n)),
-        Id::Unsigned(n) => Ok(Value::from(*n)),
-        Id::Text(text) => Value::try_from_str(alloc, text.as_str()),
+impl Written for Id {
+    ghost value = { id_data };
+
+    fn write(&self, out: &mut Vec<u8>) -> Result<(), AllocError> {
+        match self {
+            Id::Signed(n) => n.write(out),
+            Id::Unsigned(n) => n.write(out),
+            Id::Text(text) => text.as_str().write(out),
+        }
     }
 }
 
-fn text_of(alloc: Global, message: &Value) -> Result<Vec<u8>, AllocError>
-    ensures { IfOk result (λ bytes. has_float (view message.now) ≡ false
-        → depth (view message.now) ≤ 127
-        → Writes (view message.now) bytes.items) }
+impl<'a> Written for &'a Id {
+    ghost value = { λ i. id_data i.now };
+
+    fn write(&self, out: &mut Vec<u8>) -> Result<(), AllocError> {
+        Id::write(*self, out)
+    }
+}
+
+/// The text of a message, which reads back as that message.
+pub fn content_of<W: Written>(alloc: Global, message: &W) -> Result<Vec<u8>, AllocError>
+    ensures { IfOk result
+        (λ bytes. depth (W.value message.now) ≤ 127 → Writes (W.value message.now) bytes.items) }
 {
-    let text = message.to_string(alloc)?;
-    Ok(text.into_bytes())
+    let mut out = Vec::new(alloc);
+    message.write(&mut out)?;
+    Ok(out)
+}
+
+/// The answer to a request.
+pub fn result_of<W: Written>(alloc: Global, id: &Id, value: &W) -> Result<Vec<u8>, AllocError>
+    ensures { IfOk result (λ bytes. CanBeSent (W.value value.now)
+        → Writes (result_message (id_data id.now) (W.value value.now)) bytes.items) }
+{
+    content_of(alloc, &Response { id, result: value })
+}
+
+/// The refusal of a request, or of a content that is none.
+pub fn error(
+    alloc: Global,
+    id: Option<&Id>,
+    code: i32,
+    message: &str,
+) -> Result<Vec<u8>, AllocError>
+    ensures { IfOk result (λ bytes. Writes
+        (error_message (id_or_null (option_map (λ i. i.now) id.entry)) code message.now)
+        bytes.items) }
+{
+    let error = ResponseError { code, message };
+    content_of(alloc, &ErrorResponse { error, id })
+}
+
+/// A notification.
+pub fn notify<W: Written>(alloc: Global, method: &str, params: &W) -> Result<Vec<u8>, AllocError>
+    ensures { IfOk result (λ bytes. CanBeSent (W.value params.now)
+        → Writes (notification_message method.now (W.value params.now)) bytes.items) }
+{
+    content_of(alloc, &Notification { method, params })
 }

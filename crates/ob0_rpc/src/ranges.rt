@@ -1,20 +1,49 @@
-//! Ranges of positions, written as text. Each is put together from its end on, so that its digits are where they are made.
+//! Positions, ranges and edits. A range is put together from its end on, so that its digits are where they are made.
 
 ghost use Rattle.std.specs.Prelude.{◌≡◌, ◌++◌, ◌+◌, ◌<◌, ◌≤◌, ◌^◌, OnOk, decimal, drop, length};
 ghost use Rattle.serde_json.specs.Written.{compact_text};
 ghost use Rattle.ob0_rpc.specs.Appending.{Appends, IsReadBack};
-ghost use Rattle.ob0_rpc.specs.Shapes.{position_value, range_value};
+ghost use Rattle.ob0_rpc.specs.Shapes.{edit_value, position_value, range_value};
 
-use crate::writing::write_piece;
+use crate::json_text::{Written, write_piece};
+use crate::objects::{end_object, first_member, next_member};
 use itoa::write_digits;
-use ob0_text::Position;
+use ob0_text::{Edit, Position, Range};
 use std::alloc::AllocError;
 
 /// No text of a range is longer.
 const ROOM: usize = 160;
 
+impl Written for Position {
+    ghost value = { λ p. position_value p };
+
+    fn write(&self, out: &mut Vec<u8>) -> Result<(), AllocError> {
+        first_member(out, "character", &self.character)?;
+        next_member(out, "line", &self.line)?;
+        end_object(out)
+    }
+}
+
+impl Written for Range {
+    ghost value = { λ r. range_value r.start r.end };
+
+    fn write(&self, out: &mut Vec<u8>) -> Result<(), AllocError> {
+        write_range(out, self.start, self.end)
+    }
+}
+
+impl Written for Edit {
+    ghost value = { edit_value };
+
+    fn write(&self, out: &mut Vec<u8>) -> Result<(), AllocError> {
+        first_member(out, "newText", &self.text.as_str())?;
+        next_member(out, "range", &self.range)?;
+        end_object(out)
+    }
+}
+
 /// Writes a range.
-pub fn write_range(out: &mut Vec<u8>, start: Position, end: Position) -> Result<(), AllocError>
+fn write_range(out: &mut Vec<u8>, start: Position, end: Position) -> Result<(), AllocError>
     ensures { OnOk result (Appends (range_value start end) out.old.items out.new.items) }
 {
     let mut room = [0; ROOM];

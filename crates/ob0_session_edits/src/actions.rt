@@ -1,27 +1,25 @@
 //! Code actions on request: a constant is inlined, here or everywhere.
 
-ghost use Rattle.std.specs.Prelude.{◌≡◌, [], ◌∷◌, ◌++◌, ◌&&◌, false, is_some, IfOk, OnOk, map, string_bytes};
+ghost use Rattle.std.specs.Prelude.{◌≡◌, IfOk, map, string_bytes};
 ghost use Rattle.std.specs.List.{list_any};
 ghost use Rattle.std.specs.Str.{chars};
-ghost use Rattle.serde_json.specs.Data.{Data, array, no_items};
-ghost use Rattle.serde_json.specs.Written.{comma_if};
-ghost use Rattle.ob0_rpc.specs.Appending.{AppendsEach};
+ghost use Rattle.serde_json.specs.Data.{Data, array, item, no_items};
 ghost use Rattle.ob0_rpc.specs.Seen.{id_data, kinds_seen};
 ghost use Rattle.ob0_rpc.specs.Shapes.{result_message};
 ghost use Rattle.ob0_rpc.specs.Writing.{Writes};
 ghost use Rattle.ob0_text.specs.Texts.{offset_of};
 ghost use Rattle.ob0_text.specs.Units.{width_of};
 ghost use Rattle.ob0_session_offers.specs.Inlinings.{Inlines};
-ghost use Rattle.ob0_session_edits.specs.Actions.{AnswersActions, FindsInlinings, IsOffered, action_of, action_values, actions_asked, actions_value, allows_inlining as allows, is_of_kind as of_kind, place_of as place_in, title, wants_inlining as wants};
+ghost use Rattle.ob0_session_edits.specs.Actions.{AnswersActions, FindsInlinings, IsOffered, action_of, actions_asked, actions_value, allows_inlining as allows, is_of_kind as of_kind, place_of as place_in, title, wants_inlining as wants};
+ghost use Rattle.ob0_session_json.specs.Made.{action_in};
 ghost use Rattle.ob0_session_offers.specs.declared.inlining.Inlining.TheVariants as how;
 
 use ob0_analysis::{Analysis, Question, WellTyped, ask};
 use ob0_inline::{inline_all, inline_here};
-use ob0_rpc::{Client, Id, Written, result, result_of, write_comma, write_piece};
-use ob0_session_json::writing::{DocumentEdits, write_action};
+use ob0_rpc::{Client, Id, result_of};
+use ob0_session_json::edits::{CodeAction, WorkspaceEdit};
 use ob0_session_offers::Inlining;
 use ob0_text::{Edit, EditRefusal, Position, Range, TextStore};
-use serde_json::Value;
 use std::alloc::{AllocError, Global};
 
 /// The edits of each inlining that isn't refused.
@@ -134,7 +132,8 @@ fn no_actions(alloc: Global, id: &Id) -> Result<Vec<u8>, AllocError>
     ensures { IfOk result
         (λ bytes. Writes (result_message (id_data id.now) (array no_items)) bytes.items) }
 {
-    result(alloc, id, Value::Array(Vec::new(alloc)))
+    let none: [CodeAction<'_>; 0] = [];
+    result_of(alloc, id, &none.as_slice())
 }
 
 /// Whether the client takes actions that aren't commands, and these among them.
@@ -171,40 +170,7 @@ fn is_of_kind(kind: &str) -> bool
     kind == "" || kind == "refactor" || kind == "refactor.inline"
 }
 
-/// What is offered, as a list of actions.
-#[derive(Drop)]
-struct Actions<'a> {
-    request: &'a ActionsRequest<'a>,
-    found: &'a Inlinings,
-}
-
-impl<'a> Written for Actions<'a> {
-    ghost value = { λ a. actions_value (actions_asked a.request.now) a.found.now.here a.found.now.everywhere };
-
-    fn write(&self, out: &mut Vec<u8>) -> Result<(), AllocError> {
-        write_piece(out, b"[")?;
-        write_offered(out, self.request, Inlining::Here, &self.found.here)?;
-        write_between(out, self.found)?;
-        write_offered(
-            out,
-            self.request,
-            Inlining::Everywhere,
-            &self.found.everywhere,
-        )?;
-        write_piece(out, b"]")
-    }
-}
-
-/// Writes a comma where both are offered.
-fn write_between(out: &mut Vec<u8>, found: &Inlinings) -> Result<(), AllocError>
-    ensures { OnOk result (out.new.items
-        ≡ out.old.items ++ comma_if (is_some found.now.here && is_some found.now.everywhere)) }
-{
-    let both = found.here.is_some() && found.everywhere.is_some();
-    write_comma(out, both)
-}
-
-/// The actions, inlining here before inlining everywhere.
+/// The actions that are offered: inlining here before inlining everywhere.
 fn list_actions(
     alloc: Global,
     request: &ActionsRequest<'_>,
@@ -214,42 +180,51 @@ fn list_actions(
         (actions_value (actions_asked request.now) found.now.here found.now.everywhere))
         bytes.items) }
 {
-    result_of(alloc, request.id, &Actions { request, found })
-}
-
-/// Writes the action that makes these edits; nothing where there are none.
-fn write_offered(
-    out: &mut Vec<u8>,
-    request: &ActionsRequest<'_>,
-    how: Inlining,
-    edits: &Option<Vec<Edit>>,
-) -> Result<(), AllocError>
-    ensures { OnOk result (AppendsEach false
-        (action_values (actions_asked request.now) how edits.now) out.old.items out.new.items) }
-{
-    match edits {
-        Some(edits) => write_inlining(out, request, how, edits.as_slice()),
-        None => Ok(()),
+    match (&found.here, &found.everywhere) {
+        (Some(here), Some(everywhere)) => {
+            let actions = [
+                action(request, Inlining::Here, here.as_slice()),
+                action(request, Inlining::Everywhere, everywhere.as_slice()),
+            ];
+            result_of(alloc, request.id, &actions.as_slice())
+        }
+        (Some(here), None) => one_action(alloc, request, Inlining::Here, here.as_slice()),
+        (None, Some(everywhere)) => one_action(
+            alloc,
+            request,
+            Inlining::Everywhere,
+            everywhere.as_slice(),
+        ),
+        (None, None) => no_actions(alloc, request.id),
     }
 }
 
-/// Writes the action that makes these edits.
-fn write_inlining(
-    out: &mut Vec<u8>,
+fn one_action(
+    alloc: Global,
     request: &ActionsRequest<'_>,
     how: Inlining,
     edits: &[Edit],
-) -> Result<(), AllocError>
-    ensures { OnOk result (AppendsEach false
-        (action_of (actions_asked request.now) how edits.now ∷ []) out.old.items out.new.items) }
+) -> Result<Vec<u8>, AllocError>
+    ensures { IfOk result (λ bytes. Writes (result_message (id_data request.now.id.now)
+        (array (item (action_of (actions_asked request.now) how edits.now) no_items)))
+        bytes.items) }
 {
-    let edits = DocumentEdits {
+    let actions = [action(request, how, edits)];
+    result_of(alloc, request.id, &actions.as_slice())
+}
+
+/// The action that makes these edits.
+fn action<'a>(request: &'a ActionsRequest<'a>, how: Inlining, edits: &'a [Edit]) -> CodeAction<'a>
+    ensures { action_in result ≡ action_of (actions_asked request.now) how edits.now }
+{
+    let edit = WorkspaceEdit {
         client: request.client,
         uri: request.uri,
         version: request.version,
         edits,
     };
-    write_action(out, &edits, title_of(how))
+    let title = title_of(how);
+    CodeAction { edit, title }
 }
 
 fn title_of(how: Inlining) -> &'static str

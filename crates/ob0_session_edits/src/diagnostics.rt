@@ -2,18 +2,16 @@
 
 ghost use Rattle.std.specs.Prelude.{◌≡◌, List, IfOk, map};
 ghost use Rattle.std.specs.Str.{chars};
-ghost use Rattle.serde_json.specs.View.{view};
 ghost use Rattle.ob0_analysis.specs.Diagnosed.{complaint_in};
-ghost use Rattle.ob0_session_json.specs.Shapes.{DiagnosticsAre};
+ghost use Rattle.ob0_session_json.specs.Made.{DiagnosticsAre, diagnostic_in};
 ghost use Rattle.ob0_session_edits.specs.Diagnostics.{Diagnoses, diagnostic_of};
-ghost use Rattle.ob0_session_json.specs.Shapes.{Diagnostic, diagnostic_value};
+ghost use Rattle.ob0_session_json.specs.Shapes.{Diagnostic as Reported};
 ghost use Rattle.ob0_text.specs.Texts.{position_of};
 ghost use Rattle.ob0_text.specs.Units.{width_of};
 
 use ob0_analysis::{Analysis, Diagnosis};
-use ob0_session_json::results::range_value;
-use ob0_text::{Position, TextStore};
-use serde_json::{Value, json};
+use ob0_session_json::publication::Diagnostic;
+use ob0_text::{Position, Range, TextStore};
 use std::alloc::{AllocError, Global};
 
 /// The list that is published for a text.
@@ -21,9 +19,9 @@ pub fn diagnostics<T: TextStore>(
     alloc: Global,
     store: &T,
     analysis: &Analysis,
-) -> Result<Vec<Value>, AllocError>
+) -> Result<Vec<Diagnostic>, AllocError>
     requires { T.content store.now ≡ chars analysis.now }
-    ensures { IfOk result (λ list. (ds : List Diagnostic)
+    ensures { IfOk result (λ list. (ds : List Reported)
         × Diagnoses (T.unit_of store.now) (T.content store.now) ds
         × DiagnosticsAre ds list.items) }
 {
@@ -36,7 +34,7 @@ fn all_diagnostics<T: TextStore>(
     alloc: Global,
     store: &T,
     told: &[Diagnosis],
-) -> Result<Vec<Value>, AllocError>
+) -> Result<Vec<Diagnostic>, AllocError>
     ensures { IfOk result (λ list. DiagnosticsAre (map
         (λ d. diagnostic_of (T.unit_of store.now) (T.content store.now) (complaint_in d)) told.now)
         list.items) }
@@ -64,7 +62,7 @@ fn list_diagnostics<T: TextStore>(
     offsets: &[usize],
     positions: &[Position],
     told: &[Diagnosis],
-) -> Result<Vec<Value>, AllocError>
+) -> Result<Vec<Diagnostic>, AllocError>
     requires { positions.now
         ≡ map (position_of (width_of (T.unit_of store.now)) (T.content store.now)) offsets.now }
     ensures { IfOk result (λ list. DiagnosticsAre (map
@@ -102,16 +100,17 @@ fn diagnostic(
     diagnosis: &Diagnosis,
     start: Position,
     end: Position,
-) -> Result<Value, AllocError>
-    ensures { IfOk result (λ v. view v ≡ diagnostic_value (record {
+) -> Result<Diagnostic, AllocError>
+    ensures { IfOk result (λ d. diagnostic_in d ≡ record {
       code = (complaint_in diagnosis.now).code;
       said = (complaint_in diagnosis.now).said;
       start = start;
       end = end;
-    })) }
+    }) }
 {
-    let code = diagnosis.code;
-    let said = diagnosis.message.as_str();
-    let range = range_value(alloc, start, end)?;
-    json!(in alloc; {"code": code, "message": said, "range": range, "severity": 1u8})
+    Ok(Diagnostic {
+        code: diagnosis.code,
+        message: String::from_str(alloc, diagnosis.message.as_str())?,
+        range: Range { start, end },
+    })
 }

@@ -12,8 +12,7 @@ use ob0_analysis::{Analysis, Question, WellTyped, ask};
 use ob0_layout::format;
 use ob0_layout::laws::{gaps_make_the_layout, lexemes_stay, module_stays};
 use ob0_rpc::{Id, result_of};
-use ob0_session_json::results::{refused, refused_ill_typed};
-use ob0_session_json::writing::Edits;
+use ob0_session_json::refusals::{refused, refused_ill_typed};
 use ob0_text::{Edit, EditRefusal, Indent, TextStore};
 use std::alloc::{AllocError, Global};
 
@@ -68,10 +67,7 @@ pub fn format_document<T: TextStore>(
 {
     match ask(alloc, analysis, &Formatting { store, indent })? {
         Some(outcome) => match outcome {
-            Ok(edits) => {
-                let edits = edits.as_slice();
-                result_of(alloc, id, &Edits { edits })
-            }
+            Ok(edits) => result_of(alloc, id, &edits.as_slice()),
             Err(refusal) => refused(alloc, id, refusal.text(alloc)?.as_str()),
         },
         None => refused_ill_typed(alloc, id),

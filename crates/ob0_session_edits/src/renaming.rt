@@ -11,8 +11,8 @@ ghost use Rattle.ob0_session_edits.specs.Renamed.{AnswersRenaming, asked_of, edi
 use ob0_analysis::Analysis;
 use ob0_rename::rename_in;
 use ob0_rpc::{Client, DocumentPosition, Id, result_of};
-use ob0_session_json::results::{refused_because, refused_ill_typed};
-use ob0_session_json::writing::DocumentEdits;
+use ob0_session_json::edits::WorkspaceEdit;
+use ob0_session_json::refusals::{refused_because, refused_ill_typed};
 use ob0_text::{Edit, TextStore};
 use std::alloc::{AllocError, Global};
 
@@ -58,7 +58,7 @@ fn edits_answer(
     ensures { IfOk result (λ bytes. Writes (result_message (id_data request.now.id.now)
         (edits_for_client (asked_of request.now) edits.now)) bytes.items) }
 {
-    let edits = DocumentEdits {
+    let edits = WorkspaceEdit {
         client: request.client,
         uri: request.place.uri.as_str(),
         version: request.version,

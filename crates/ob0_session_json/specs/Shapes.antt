@@ -1,13 +1,13 @@
 -- The messages that a server writes, as JSON values. Members are in byte order of their names.
 -- Rule: docs/PROTOCOL.md, JSON shapes 2, Capabilities.
-use Rattle.std.specs.Prelude.{◌≡◌, ℕ, ℤ, List, true, Bool, Option, Some, None, if◌then◌else◌, codes, map, string_bytes}
+use Rattle.std.specs.Prelude.{ℕ, ℤ, List, true, Bool, Option, Some, None, if◌then◌else◌, codes, map}
 use Rattle.serde_json.specs.Data.{Data, boolean, number, array, object, unsigned, Members, member, no_members, item, no_items}
-use Rattle.serde_json.specs.View.{items_view, items_of}
-use Rattle.serde_json.specs.declared.value.Value.{Value}
+use Rattle.serde_json.specs.View.{items_of}
 use Rattle.ob0_text.specs.declared.position_types.Position.{Position}
 use Rattle.ob0_text.specs.declared.position_types.Range.{Range}
 use Rattle.ob0_text.specs.declared.edits.Edit.{Edit}
 use Rattle.ob0_rpc.specs.Faults.{minus}
+pub use Rattle.ob0_rpc.specs.Shapes.{edit_value}
 use Rattle.ob0_rpc.specs.Shapes.{text, whole_number, range_value, error_message, notification_message}
 use Rattle.ob0_rpc.specs.declared.clients.Client.{Client}
 
@@ -30,28 +30,32 @@ action_provider =
     object (member (codes "codeActionKinds")
     (array (item (text (codes "refactor.inline")) no_items)) no_members)
 
--- "definitionProvider":true,"documentFormattingProvider":true,"hoverProvider":true,"referencesProvider":true,"renameProvider":R,"textDocumentSync":{..},
--- and "positionEncoding":"utf-8" in its place for a client that offers that
-abbrev pub providers : Client → Members
-providers client =
-    let last =
-    member (codes "referencesProvider") (boolean true) (member (codes "renameProvider") (rename_provider client.prepares_renames)
+-- "referencesProvider":true,"renameProvider":R,"textDocumentSync":{..}
+abbrev pub last_members : Client → Members
+last_members client =
+    member (codes "referencesProvider") (boolean true) (member (codes "renameProvider")
+    (rename_provider client.prepares_renames)
     (member (codes "textDocumentSync") synchronisation no_members))
-    in
-    member (codes "definitionProvider") (boolean true) (member (codes "documentFormattingProvider") (boolean true) (member (codes "hoverProvider") (boolean true)
-    (if client.counts_utf8 then member (codes "positionEncoding") (text (codes "utf-8")) last else last)))
 
--- these, and before them "codeActionProvider":{..} for a client that takes actions that aren't commands
-abbrev pub server_members : Client → Members
-server_members client =
-    if client.takes_literal_actions
-    then member (codes "codeActionProvider") action_provider (providers client)
-    else providers client
+-- "documentFormattingProvider":true,"hoverProvider":true, and "positionEncoding":"utf-8" for a client that offers that; then those
+abbrev pub further_members : Client → Members
+further_members client =
+    member (codes "documentFormattingProvider") (boolean true) (member (codes "hoverProvider") (boolean true)
+    (if client.counts_utf8 then member (codes "positionEncoding") (text (codes "utf-8")) (last_members client) else last_members client))
+
+-- "definitionProvider":true and those, and before them "codeActionProvider":{..} for a client that takes actions that aren't commands
+abbrev pub server_capabilities : Client → Data
+server_capabilities client =
+    let members = member (codes "definitionProvider") (boolean true) (further_members client) in
+    object
+    (if client.takes_literal_actions
+    then member (codes "codeActionProvider") action_provider members
+    else members)
 
 -- {"capabilities":{..}}
 abbrev pub capabilities : Client → Data
 capabilities client =
-    object (member (codes "capabilities") (object (server_members client)) no_members)
+    object (member (codes "capabilities") (server_capabilities client) no_members)
 
 -- ---- diagnostics
 
@@ -81,12 +85,6 @@ plain_text said =
 abbrev pub hover_value : List ℕ → Data → Data
 hover_value said range =
     object (member (codes "contents") (plain_text said) (member (codes "range") range no_members))
-
--- {"newText":t,"range":R}
-abbrev pub edit_value : Edit → Data
-edit_value e =
-    object (member (codes "newText") (text (string_bytes e.text))
-    (member (codes "range") (range_value e.range.start e.range.end) no_members))
 
 -- `[E,..]`
 abbrev pub edits_value : List Edit → Data
@@ -132,10 +130,6 @@ diagnostic_value d =
 -- `[D,..]`
 abbrev pub diagnostics_value : List Diagnostic → Data
 diagnostics_value ds = array (items_of (map diagnostic_value ds))
-
--- the values in a list are these diagnostics
-abbrev pub DiagnosticsAre : List Diagnostic → List Value → Type 0
-DiagnosticsAre ds values = items_view values ≡ items_of (map diagnostic_value ds)
 
 -- {"diagnostics":[D,..],"uri":u,"version":v}, without `version` after a close
 abbrev pub publication_params : List ℕ → Option ℤ → List Diagnostic → Data

@@ -1,6 +1,9 @@
-//! How results look as JSON (docs/PROTOCOL.md, JSON shapes): capabilities, diagnostics, places, edits and actions, as values
-//! and as text.
+//! How results look as JSON (docs/PROTOCOL.md, JSON shapes), as types: capabilities, diagnostics, places, edits and
+//! actions.
 #![tactic(auto)]
 
-pub mod results;
-pub mod writing;
+pub mod capabilities;
+pub mod edits;
+pub mod places;
+pub mod publication;
+pub mod refusals;

@@ -2,7 +2,6 @@
 use Rattle.std.proofs.Common.{◌≡◌, ◌≤◌, ℕ, List, [], ◌∷◌, false, Option, Some, None, map, option_map, inl, inr, refl, sym, subst, arith}
 use Rattle.std.specs.Str.{chars, IsUtf8}
 use Rattle.serde_json.specs.Data.{Data, null, array, items_depth}
-use Rattle.serde_json.specs.Written.{items_have_float}
 use Rattle.serde_json.specs.View.{items_of}
 use Rattle.ob0_rpc.specs.Requesting.{At}
 use Rattle.ob0_rpc.specs.Writing.{CanBeSent}
@@ -32,37 +31,9 @@ found_of bytes text is None u same h = subst (λ (t : List ℕ). IsWellTypedModu
 
 -- ---- what can be sent
 
-one_or_none : {A : Type 0} (shown : A → Data) (found : Option A) → ((a : A) → CanBeSent (shown a)) → CanBeSent (or_null (option_map shown found))
-one_or_none shown None each = record { whole = refl; shallow = omega arith }
-one_or_none shown (Some a) each = each a
-
-plain_locations : (unit : Unit) (uri text : List ℕ) (spans : List Span) → items_have_float (items_of (map (location_at unit uri text) spans)) ≡ false
-plain_locations unit uri text [] = refl
-plain_locations unit uri text (s ∷ ss) = plain_locations unit uri text ss
-
 shallow_locations : (unit : Unit) (uri text : List ℕ) (spans : List Span) → items_depth (items_of (map (location_at unit uri text) spans)) ≤ 3
 shallow_locations unit uri text [] = omega arith
 shallow_locations unit uri text (s ∷ ss) = omega (arith, shallow_locations unit uri text ss)
 
 pub locations_can_be_sent : (unit : Unit) (uri text : List ℕ) (spans : List Span) → CanBeSent (array (items_of (map (location_at unit uri text) spans)))
-locations_can_be_sent unit uri text spans = record { whole = plain_locations unit uri text spans; shallow = omega (arith, shallow_locations unit uri text spans) }
-
-answer_can : (unit : Unit) (text : List ℕ) (at : At) (question : NameQuestion) (names : Resolution) (value : Data) → AnswersIn unit text at question names value → CanBeSent value
-answer_can unit text at Hover names value is =
-    subst CanBeSent (sym is) (one_or_none (hover_at unit text) (hover_at_place names (place_in unit text at)) (λ (shown : HoverText). record { whole = refl; shallow = omega arith }))
-answer_can unit text at Definition names value is =
-    subst CanBeSent (sym is) (one_or_none (location_at unit at.uri text) (definition_at names (place_in unit text at)) (λ (span : Span). record { whole = refl; shallow = omega arith }))
-answer_can unit text at (References include) names value (spans, are, is) =
-    subst CanBeSent (sym is) (locations_can_be_sent unit at.uri text spans)
-answer_can unit text at PrepareRename names value is =
-    subst CanBeSent (sym is) (one_or_none (range_at unit text) (renamable_in names (place_in unit text at)) (λ (span : Span). record { whole = refl; shallow = omega arith }))
-
-none_can : (question : NameQuestion) → CanBeSent (no_answer question)
-none_can Hover = record { whole = refl; shallow = omega arith }
-none_can Definition = record { whole = refl; shallow = omega arith }
-none_can (References include) = record { whole = refl; shallow = omega arith }
-none_can PrepareRename = record { whole = refl; shallow = omega arith }
-
-pub name_can_be_sent : (unit : Unit) (text : List ℕ) (at : At) (question : NameQuestion) (value : Data) → AnswersName unit text at question value → CanBeSent value
-name_can_be_sent unit text at question value (inl h) = answer_can unit text at question h.0 value h.2
-name_can_be_sent unit text at question value (inr h) = subst CanBeSent (sym h.1) (none_can question)
+locations_can_be_sent unit uri text spans = record { shallow = omega (arith, shallow_locations unit uri text spans) }

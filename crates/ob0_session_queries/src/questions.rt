@@ -3,24 +3,24 @@
 ghost use Rattle.std.specs.Prelude.{◌≡◌, IfOk, option_map, map};
 ghost use Rattle.std.specs.Str.{chars};
 ghost use Rattle.serde_json.specs.Data.{Data, array};
-ghost use Rattle.serde_json.specs.View.{view, items_of};
+ghost use Rattle.serde_json.specs.View.{items_of};
 ghost use Rattle.ob0_rpc.specs.Seen.{at_seen, id_data};
 ghost use Rattle.ob0_rpc.specs.Shapes.{result_message};
 ghost use Rattle.ob0_rpc.specs.Writing.{Writes};
+ghost use Rattle.ob0_text.specs.Units.{width_of};
+ghost use Rattle.ob0_edits.specs.Ranges.{range_of};
 ghost use Rattle.ob0_refs.specs.Parts.{hover_in};
 ghost use Rattle.ob0_refs.specs.Questions.{AreReferencesAt, hover_at_place, definition_at};
 ghost use Rattle.ob0_session_queries.specs.Questions.{AnswersName, can_be_renamed, hover_at, renamable_in, location_at, range_at, or_null};
-ghost use Rattle.ob0_session_queries.specs.declared.questions.NameQuestion.TheVariants.{Hover, Definition, References, PrepareRename};
+ghost use Rattle.ob0_session_queries.specs.declared.questions.NameQuestion.TheVariants as asks;
 
 use ob0_analysis::{Analysis, Question, WellTyped, ask};
 use ob0_edits::ranges;
 use ob0_refs::{Of, at, definition, hover, references};
-use ob0_rpc::{DocumentPosition, Id, result, result_of};
+use ob0_rpc::{DocumentPosition, Id, result_of};
 use ob0_scan::Span;
-use ob0_session_json::results::{hover_value, location_value, range_value};
-use ob0_session_json::writing::Locations;
-use ob0_text::TextStore;
-use serde_json::Value;
+use ob0_session_json::places::{Hover, Location, Locations, MarkupContent};
+use ob0_text::{Range, TextStore};
 use std::alloc::{AllocError, Global};
 
 /// What is asked about a name or a field.
@@ -128,54 +128,48 @@ pub fn answer_question<T: TextStore>(
         × Writes (result_message (id_data id.now) value) bytes.items) }
 {
     match question {
-        NameQuestion::Hover => result(alloc, id, name_hover_value(alloc, store, analysis, place)?),
-        NameQuestion::Definition => result(
-            alloc,
-            id,
-            definition_value(alloc, store, analysis, place)?,
-        ),
+        NameQuestion::Hover => hover_answer(alloc, id, store, analysis, place),
+        NameQuestion::Definition => definition_answer(alloc, id, store, analysis, place),
         NameQuestion::References {
             include_declaration,
         } => references_answer(alloc, id, store, analysis, place, include_declaration),
-        NameQuestion::PrepareRename => result(
-            alloc,
-            id,
-            renamable_value(alloc, store, analysis, place)?,
-        ),
+        NameQuestion::PrepareRename => renamable_answer(alloc, id, store, analysis, place),
     }
 }
 
-fn name_hover_value<T: TextStore>(
+fn hover_answer<T: TextStore>(
     alloc: Global,
+    id: &Id,
     store: &T,
     analysis: &Analysis,
     place: &DocumentPosition,
-) -> Result<Value, AllocError>
+) -> Result<Vec<u8>, AllocError>
     requires { T.content store.now ≡ chars analysis.now }
-    ensures { IfOk result (λ v. AnswersName (T.unit_of store.now) (T.content store.now)
-        (at_seen place.now) Hover (view v)) }
+    ensures { IfOk result (λ bytes. (value : Data) × AnswersName (T.unit_of store.now) (T.content store.now) (at_seen place.now) asks.Hover value
+        × Writes (result_message (id_data id.now) value) bytes.items) }
 {
     let offset = store.offset(place.position);
     match ask(alloc, analysis, &HoverAt { offset })? {
-        Some(found) => hover_or_null(alloc, store, found),
-        None => Ok(Value::Null),
+        Some(found) => hover_or_null(alloc, id, store, found),
+        None => result_of(alloc, id, &()),
     }
 }
 
-fn definition_value<T: TextStore>(
+fn definition_answer<T: TextStore>(
     alloc: Global,
+    id: &Id,
     store: &T,
     analysis: &Analysis,
     place: &DocumentPosition,
-) -> Result<Value, AllocError>
+) -> Result<Vec<u8>, AllocError>
     requires { T.content store.now ≡ chars analysis.now }
-    ensures { IfOk result (λ v. AnswersName (T.unit_of store.now) (T.content store.now)
-        (at_seen place.now) Definition (view v)) }
+    ensures { IfOk result (λ bytes. (value : Data) × AnswersName (T.unit_of store.now) (T.content store.now) (at_seen place.now) asks.Definition value
+        × Writes (result_message (id_data id.now) value) bytes.items) }
 {
     let offset = store.offset(place.position);
     match ask(alloc, analysis, &DefinitionAt { offset })? {
-        Some(found) => location_or_null(alloc, store, place.uri.as_str(), found),
-        None => Ok(Value::Null),
+        Some(found) => location_or_null(alloc, id, store, place.uri.as_str(), found),
+        None => result_of(alloc, id, &()),
     }
 }
 
@@ -188,94 +182,104 @@ fn references_answer<T: TextStore>(
     include_declaration: bool,
 ) -> Result<Vec<u8>, AllocError>
     requires { T.content store.now ≡ chars analysis.now }
-    ensures { IfOk result (λ bytes. (value : Data) × AnswersName (T.unit_of store.now) (T.content store.now) (at_seen place.now) (References include_declaration) value
+    ensures { IfOk result (λ bytes. (value : Data) × AnswersName (T.unit_of store.now) (T.content store.now) (at_seen place.now) (asks.References include_declaration) value
         × Writes (result_message (id_data id.now) value) bytes.items) }
 {
+    let uri = place.uri.as_str();
     let question = ReferencesAt {
         offset: store.offset(place.position),
         include_declaration,
     };
     match ask(alloc, analysis, &question)? {
-        Some(found) => locations(alloc, id, store, place.uri.as_str(), found.as_slice()),
-        None => {
-            let none = Vec::new(alloc);
-            result(alloc, id, Value::Array(none))
-        }
+        Some(found) => locations(alloc, id, store, uri, found.as_slice()),
+        None => locations(alloc, id, store, uri, &[]),
     }
 }
 
-fn renamable_value<T: TextStore>(
+fn renamable_answer<T: TextStore>(
     alloc: Global,
+    id: &Id,
     store: &T,
     analysis: &Analysis,
     place: &DocumentPosition,
-) -> Result<Value, AllocError>
+) -> Result<Vec<u8>, AllocError>
     requires { T.content store.now ≡ chars analysis.now }
-    ensures { IfOk result (λ v. AnswersName (T.unit_of store.now) (T.content store.now)
-        (at_seen place.now) PrepareRename (view v)) }
+    ensures { IfOk result (λ bytes. (value : Data) × AnswersName (T.unit_of store.now) (T.content store.now) (at_seen place.now) asks.PrepareRename value
+        × Writes (result_message (id_data id.now) value) bytes.items) }
 {
     let offset = store.offset(place.position);
     match ask(alloc, analysis, &RenamableAt { offset })? {
-        Some(found) => range_or_null(alloc, store, found),
-        None => Ok(Value::Null),
+        Some(found) => range_or_null(alloc, id, store, found),
+        None => result_of(alloc, id, &()),
     }
 }
 
 fn hover_or_null<T: TextStore>(
     alloc: Global,
+    id: &Id,
     store: &T,
     found: Option<ob0_refs::Hover>,
-) -> Result<Value, AllocError>
-    ensures { IfOk result (λ v. view v
-        ≡ or_null (option_map (hover_at (T.unit_of store.now) (T.content store.now))
-        (option_map hover_in found))) }
+) -> Result<Vec<u8>, AllocError>
+    ensures { IfOk result (λ bytes. Writes (result_message (id_data id.now)
+        (or_null (option_map (hover_at (T.unit_of store.now) (T.content store.now))
+        (option_map hover_in found)))) bytes.items) }
 {
     match found {
-        Some(shown) => hover_value(
-            alloc,
-            shown.text.as_str(),
-            span_value(alloc, store, shown.span)?,
-        ),
-        None => Ok(Value::Null),
+        Some(shown) => {
+            let contents = MarkupContent {
+                value: shown.text.as_str(),
+            };
+            let range = range_of_span(store, shown.span);
+            result_of(alloc, id, &Hover { contents, range })
+        }
+        None => result_of(alloc, id, &()),
     }
 }
 
 fn location_or_null<T: TextStore>(
     alloc: Global,
+    id: &Id,
     store: &T,
     uri: &str,
     found: Option<Span>,
-) -> Result<Value, AllocError>
-    ensures { IfOk result (λ v. view v
-        ≡ or_null
-        (option_map (location_at (T.unit_of store.now) uri.now (T.content store.now)) found)) }
+) -> Result<Vec<u8>, AllocError>
+    ensures { IfOk result (λ bytes. Writes (result_message (id_data id.now)
+        (or_null
+        (option_map (location_at (T.unit_of store.now) uri.now (T.content store.now)) found)))
+        bytes.items) }
 {
     match found {
-        Some(span) => location_value(alloc, uri, span_value(alloc, store, span)?),
-        None => Ok(Value::Null),
+        Some(span) => {
+            let range = range_of_span(store, span);
+            result_of(alloc, id, &Location { range, uri })
+        }
+        None => result_of(alloc, id, &()),
     }
 }
 
 fn range_or_null<T: TextStore>(
     alloc: Global,
+    id: &Id,
     store: &T,
     found: Option<Span>,
-) -> Result<Value, AllocError>
-    ensures { IfOk result (λ v. view v
-        ≡ or_null (option_map (range_at (T.unit_of store.now) (T.content store.now)) found)) }
+) -> Result<Vec<u8>, AllocError>
+    ensures { IfOk result (λ bytes. Writes (result_message (id_data id.now)
+        (or_null (option_map (range_at (T.unit_of store.now) (T.content store.now)) found)))
+        bytes.items) }
 {
     match found {
-        Some(span) => span_value(alloc, store, span),
-        None => Ok(Value::Null),
+        Some(span) => result_of(alloc, id, &range_of_span(store, span)),
+        None => result_of(alloc, id, &()),
     }
 }
 
-/// The range of a span.
-fn span_value<T: TextStore>(alloc: Global, store: &T, span: Span) -> Result<Value, AllocError>
-    ensures { IfOk result
-        (λ v. view v ≡ range_at (T.unit_of store.now) (T.content store.now) span) }
+fn range_of_span<T: TextStore>(store: &T, span: Span) -> Range
+    ensures { result ≡ range_of (width_of (T.unit_of store.now)) (T.content store.now) span }
 {
-    range_value(alloc, store.position(span.start), store.position(span.end))
+    Range {
+        start: store.position(span.start),
+        end: store.position(span.end),
+    }
 }
 
 /// Spans in text order as places of a document, found in one pass.
@@ -293,5 +297,5 @@ fn locations<T: TextStore>(
 {
     let ranges = ranges(alloc, store, spans)?;
     let ranges = ranges.as_slice();
-    result_of(alloc, id, &Locations { uri, ranges })
+    result_of(alloc, id, &Locations { ranges, uri })
 }

@@ -1,15 +1,9 @@
 //! Messages from outside: what they mean, and which are none; and the bytes of answers.
 
-ghost use Rattle.std.specs.Prelude.{negsuc};
-ghost use Rattle.serde_json.specs.Data.{number, string, unsigned};
-ghost use Rattle.serde_json.specs.Find.{of_integer};
-ghost use Rattle.ob0_rpc.specs.Shapes.{range_value};
-
 use ob0_rpc::{
-    Call, Client, Id, Incoming, RpcFault, Written, error, notification, read, request, result,
-    result_of, write_count, write_integer, write_range, write_text,
+    Call, Client, Entry, Id, Incoming, RpcFault, error, notify, read, request, result_of,
 };
-use ob0_text::{Indent, Position};
+use ob0_text::{Indent, Position, Range};
 use serde_json::Value;
 use std::alloc::{AllocError, Global};
 use std::process::Abort;
@@ -266,7 +260,7 @@ fn is_written(written: Result<Vec<u8>, AllocError>, wanted: &str) -> bool {
 
 #[test]
 fn answers_are_written(rt: HostRuntime) {
-    let answer = result(rt.alloc(), &Id::Signed(-7), Value::Null);
+    let answer = result_of(rt.alloc(), &Id::Signed(-7), &());
     let wanted = "{\"id\":-7,\"jsonrpc\":\"2.0\",\"result\":null}";
     assert!(rt; is_written(answer, wanted));
     let refusal = error(
@@ -278,64 +272,9 @@ fn answers_are_written(rt: HostRuntime) {
     let wanted =
         "{\"error\":{\"code\":-32700,\"message\":\"not JSON\"},\"id\":null,\"jsonrpc\":\"2.0\"}";
     assert!(rt; is_written(refusal, wanted));
-    let note = notification(rt.alloc(), "m", Value::Null);
+    let note = notify(rt.alloc(), "m", &());
     let wanted = "{\"jsonrpc\":\"2.0\",\"method\":\"m\",\"params\":null}";
     assert!(rt; is_written(note, wanted));
-}
-
-/// A text that is written as it is.
-#[derive(Drop)]
-struct Said<'a> {
-    text: &'a str,
-}
-
-impl<'a> Written for Said<'a> {
-    ghost value = { λ said. string said.text.now };
-
-    fn write(&self, out: &mut Vec<u8>) -> Result<(), AllocError> {
-        write_text(out, self.text)
-    }
-}
-
-/// A count that is written as it is.
-#[derive(Drop)]
-struct Counted {
-    count: u64,
-}
-
-impl Written for Counted {
-    ghost value = { λ counted. number (unsigned counted.count) };
-
-    fn write(&self, out: &mut Vec<u8>) -> Result<(), AllocError> {
-        write_count(out, self.count)
-    }
-}
-
-/// The least whole number.
-#[derive(Drop)]
-struct Least {}
-
-impl Written for Least {
-    ghost value = { λ _. number (of_integer (negsuc 9223372036854775807)) };
-
-    fn write(&self, out: &mut Vec<u8>) -> Result<(), AllocError> {
-        write_integer(out, -9223372036854775808)
-    }
-}
-
-/// A range that is written as it is.
-#[derive(Drop)]
-struct Reached {
-    start: Position,
-    end: Position,
-}
-
-impl Written for Reached {
-    ghost value = { λ reached. range_value reached.start reached.end };
-
-    fn write(&self, out: &mut Vec<u8>) -> Result<(), AllocError> {
-        write_range(out, self.start, self.end)
-    }
 }
 
 fn position(line: u64, character: u64) -> Position {
@@ -344,7 +283,7 @@ fn position(line: u64, character: u64) -> Position {
 
 #[test]
 fn ranges_are_written_as_text(rt: HostRuntime) {
-    let reached = Reached {
+    let reached = Range {
         start: position(0, 9),
         end: position(10, 12345),
     };
@@ -353,7 +292,7 @@ fn ranges_are_written_as_text(rt: HostRuntime) {
         "{\"id\":1,\"jsonrpc\":\"2.0\",\"result\":{\"end\":{\"character\":12345,\"line\":10},\"start\":{\"character\":9,\"line\":0}}}";
     assert!(rt; is_written(answer, wanted));
     let most = position(u64::MAX, u64::MAX);
-    let reached = Reached {
+    let reached = Range {
         start: most,
         end: most,
     };
@@ -365,16 +304,24 @@ fn ranges_are_written_as_text(rt: HostRuntime) {
 
 #[test]
 fn values_are_written_as_text(rt: HostRuntime) {
-    let said = Said { text: "a\"\n" };
-    let answer = result_of(rt.alloc(), &Id::Signed(-7), &said);
-    let wanted = "{\"id\":-7,\"jsonrpc\":\"2.0\",\"result\":\"a\\\"\\n\"}";
+    let answer = result_of(rt.alloc(), &Id::Signed(-7), &"a\"\n\u{1}");
+    let wanted = "{\"id\":-7,\"jsonrpc\":\"2.0\",\"result\":\"a\\\"\\n\\u0001\"}";
     assert!(rt; is_written(answer, wanted));
-    let counted = Counted { count: u64::MAX };
-    let answer = result_of(rt.alloc(), &Id::Unsigned(0), &counted);
+    let answer = result_of(rt.alloc(), &Id::Unsigned(0), &u64::MAX);
     let wanted = "{\"id\":0,\"jsonrpc\":\"2.0\",\"result\":18446744073709551615}";
     assert!(rt; is_written(answer, wanted));
-    let answer = result_of(rt.alloc(), &Id::Unsigned(u64::MAX), &Least {});
+    let answer = result_of(rt.alloc(), &Id::Unsigned(u64::MAX), &i64::MIN);
     let wanted =
         "{\"id\":18446744073709551615,\"jsonrpc\":\"2.0\",\"result\":-9223372036854775808}";
+    assert!(rt; is_written(answer, wanted));
+    let answer = result_of(rt.alloc(), &Id::Signed(0), &[true, false].as_slice());
+    let wanted = "{\"id\":0,\"jsonrpc\":\"2.0\",\"result\":[true,false]}";
+    assert!(rt; is_written(answer, wanted));
+    let entry = Entry {
+        key: "a b",
+        value: Some(position(1, 2)),
+    };
+    let answer = result_of(rt.alloc(), &Id::Signed(0), &entry);
+    let wanted = "{\"id\":0,\"jsonrpc\":\"2.0\",\"result\":{\"a b\":{\"character\":2,\"line\":1}}}";
     assert!(rt; is_written(answer, wanted));
 }

@@ -1,7 +1,6 @@
 use Rattle.std.proofs.Common.{◌∙◌, ap, arith}
 use Rattle.ob0_analysis.specs.Diagnosed.{complaint_in}
 use Rattle.ob0_session_edits.specs.Diagnostics.{diagnostic_of}
-use Rattle.ob0_session_json.specs.Shapes.{diagnostic_value}
 use Rattle.ob0_analysis.specs.declared.diagnoses.Diagnosis.{Diagnosis}
 use Rattle.ob0_session_edits.proofs.Lists.{diagnostics_next}
 use Rattle.ob0_session_edits.proofs.diagnostics.list_diagnostics.Goals as goal
@@ -14,4 +13,4 @@ loop-diagnosis-preserved g c =
     let this = complaint_in c.diagnosis-item.result in
     rw c.in_ok-push.ensures.items
     (diagnostics_next shown c.args.told.now c.loop-diagnosis.diagnosis-index c.diagnosis-item.result c.loop-diagnosis.list.items c.in_ok-diagnostic.field-0 (omega arith) c.loop-diagnosis.invariant
-    (c.in_ok-diagnostic.ensures ∙ ((λ i. diagnostic_value (record { code = this.code; said = this.said; start = c.position_at-start.ensures i; end = c.position_at-end.ensures i })) ∙ ap (λ d. diagnostic_value (shown d)) c.diagnosis-item.is)))
+    (c.in_ok-diagnostic.ensures ∙ ((λ i. record { code = this.code; said = this.said; start = c.position_at-start.ensures i; end = c.position_at-end.ensures i }) ∙ ap shown c.diagnosis-item.is)))

@@ -1,6 +1,6 @@
 use Rattle.std.proofs.Common.{map, take}
 use Rattle.ob0_analysis.specs.Diagnosed.{complaint_in}
-use Rattle.ob0_session_json.specs.Shapes.{DiagnosticsAre}
+use Rattle.ob0_session_json.specs.Made.{DiagnosticsAre}
 use Rattle.ob0_session_edits.specs.Diagnostics.{diagnostic_of}
 use Rattle.ob0_session_edits.proofs.diagnostics.list_diagnostics.Given as goal
 

@@ -21,11 +21,11 @@ returns-in-Ok g c =
     let found = found_of unit c.args.indent c.args.analysis.now text c.in_ok-outcome.field-0 c.in_ok-outcome.ensures.utf8 (sym c.requires) c.in_ok-outcome.ensures.found in
     let outcome = subst (λ (o : Option (Result (Vec Edit Global) EditRefusal)). FoundOf unit c.args.indent text o) c.in-Some.is found in
     let laid = subst (λ (o : Result (Vec Edit Global) EditRefusal). Formats unit c.args.indent text o) c.in-Ok.is outcome in
-    let is = ap edits_value c.as_slice-edits.ensures.value in
+    let is = ap edits_value c.as_slice.ensures.value in
     IfOk-weaker c.result_of.result _ _ (λ bytes sent. (
       result_message (id_data c.args.id.now) (edits_value c.in-Ok.edits.items),
       inl (c.in-Ok.edits.items, laid, refl),
-      subst (λ (d : Data). Writes (result_message (id_data c.args.id.now) d) bytes.items) is (sent (edits_can_be_sent c.as_slice-edits.result.now)),
+      subst (λ (d : Data). Writes (result_message (id_data c.args.id.now) d) bytes.items) is (sent (edits_can_be_sent c.as_slice.result.now)),
     )) c.result_of.ensures
 
 pub returns-in_ok-text-in-Err : goal.returns-in_ok-text-in-Err

@@ -1,16 +1,14 @@
-use Rattle.std.proofs.Common.{◌≡◌, ◌∙◌, ℕ, List, Option, Vec, Global, ap, map, inl, inr, refl, arith, subst, sym}
+use Rattle.std.proofs.Common.{◌≡◌, ℕ, List, Option, Vec, Global, map, inl, inr, refl, subst, sym}
 use Rattle.std.proofs.lemmas.Result.{IfOk-weaker}
 use Rattle.serde_json.specs.Data.{Data, array}
-use Rattle.serde_json.specs.View.{items_of, items_view}
-use Rattle.serde_json.specs.declared.value.Value.{Value}
+use Rattle.serde_json.specs.View.{items_of}
 use Rattle.ob0_rpc.specs.Seen.{at_seen, id_data}
 use Rattle.ob0_rpc.specs.Shapes.{result_message}
-use Rattle.ob0_rpc.specs.Writing.{CanBeSent, Writes}
+use Rattle.ob0_rpc.specs.Writing.{Writes}
 use Rattle.ob0_scan.specs.declared.lexeme.Span.{Span}
 use Rattle.ob0_refs.specs.Questions.{AreReferencesAt}
 use Rattle.ob0_scope_rules.specs.Resolution.{Resolution}
 use Rattle.ob0_session_queries.specs.Questions.{location_at}
-use Rattle.ob0_session_json.proofs.Values.{view-Array}
 use Rattle.ob0_session_queries.proofs.Naming.{FoundOf, found_of}
 use Rattle.ob0_session_queries.proofs.questions.references_answer.Goals as goal
 
@@ -25,7 +23,7 @@ returns-in-Some g c =
     let there = subst (λ (a : Option (Vec Span Global)). FoundOf text is a) c.in-Some.is found in
     let spans = c.in-Some.found.items in
     let are = subst (λ (offset : ℕ). AreReferencesAt there.0 offset c.args.include_declaration spans) c.offset.ensures there.2 in
-    let same : array (items_of (map (location_at unit c.as_str.result.now text) c.as_slice.result.now)) ≡ array (items_of (map (location_at unit at.uri text) spans)) = (λ i. array (items_of (map (location_at unit (c.as_str.ensures.value i) text) (c.as_slice.ensures.value i)))) in
+    let same : array (items_of (map (location_at unit c.as_str-uri.result.now text) c.as_slice.result.now)) ≡ array (items_of (map (location_at unit at.uri text) spans)) = (λ i. array (items_of (map (location_at unit (c.as_str-uri.ensures.value i) text) (c.as_slice.ensures.value i)))) in
     IfOk-weaker c.locations.result _ _ (λ bytes sent. (
       array (items_of (map (location_at unit at.uri text) spans)),
       inl (there.0, there.1, (spans, are, refl)),
@@ -35,13 +33,6 @@ returns-in-Some g c =
 pub returns-in-None : goal.returns-in-None
 returns-in-None g c =
     let text : List ℕ = g.T.TextStore.content c.args.store.now in
-    let id = id_data c.args.id.now in
     let is = λ (r : Resolution) (found : Vec Span Global). AreReferencesAt r c.offset.result c.args.include_declaration found.items in
     let found = found_of c.args.analysis.now text is c.in_ok-found.field-0 c.in_ok-found.ensures.utf8 (sym c.requires) c.in_ok-found.ensures.found in
-    let none = view-Array _ ∙ ap (λ (vs : List Value). array (items_view vs)) c.new-none.ensures.items in
-    let can = subst CanBeSent (sym none) (record { whole = refl; shallow = omega arith }) in
-    IfOk-weaker c.result.result _ _ (λ bytes sent. (
-      _,
-      inr (subst (λ (a : Option (Vec Span Global)). FoundOf text is a) c.in-None.is found, none),
-      sent can,
-    )) c.result.ensures
+    IfOk-weaker c.locations-in-None.result _ _ (λ bytes sent. (_, inr (subst (λ (a : Option (Vec Span Global)). FoundOf text is a) c.in-None.is found, refl), sent)) c.locations-in-None.ensures

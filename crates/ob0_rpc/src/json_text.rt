@@ -1,0 +1,237 @@
+//! What is written as JSON, straight into the text of a message.
+ghost use Rattle.std.specs.Prelude.{◌≡◌, ◌<◌, ◌++◌, [], ◌∷◌, true, false, IfOk, OnOk, map};
+ghost use Rattle.std.specs.Char.{digit_char};
+ghost use Rattle.json.specs.Print.{escape, escape_byte, escape_letter};
+ghost use Rattle.serde_json.specs.Data.{Data, array, boolean, null, number, string, unsigned};
+ghost use Rattle.serde_json.specs.Find.{of_integer};
+ghost use Rattle.serde_json.specs.View.{items_of};
+ghost use Rattle.serde_json.specs.Written.{comma_if};
+ghost use Rattle.ob0_rpc.specs.Appending.{Appends, AppendsEach, AppendsItem, or_null};
+
+use std::alloc::AllocError;
+
+/// What is written as a JSON value.
+pub trait Written {
+    /// The value that is written.
+    ghost value: { Self → Data };
+
+    fn write(&self, out: &mut Vec<u8>) -> Result<(), AllocError>
+        ensures { OnOk result (Appends (value self.now) out.old.items out.new.items) };
+}
+
+impl Written for () {
+    ghost value = { λ _. null };
+
+    fn write(&self, out: &mut Vec<u8>) -> Result<(), AllocError> {
+        write_piece(out, b"null")
+    }
+}
+
+impl Written for bool {
+    ghost value = { λ b. boolean b };
+
+    fn write(&self, out: &mut Vec<u8>) -> Result<(), AllocError> {
+        if *self {
+            write_piece(out, b"true")
+        } else {
+            write_piece(out, b"false")
+        }
+    }
+}
+
+impl Written for u64 {
+    ghost value = { λ n. number (unsigned n) };
+
+    fn write(&self, out: &mut Vec<u8>) -> Result<(), AllocError> {
+        write_count(out, *self)
+    }
+}
+
+impl Written for i32 {
+    ghost value = { λ z. number (of_integer z) };
+
+    fn write(&self, out: &mut Vec<u8>) -> Result<(), AllocError> {
+        write_integer(out, i64::from(*self))
+    }
+}
+
+impl Written for i64 {
+    ghost value = { λ z. number (of_integer z) };
+
+    fn write(&self, out: &mut Vec<u8>) -> Result<(), AllocError> {
+        write_integer(out, *self)
+    }
+}
+
+impl<'a> Written for &'a str {
+    ghost value = { λ t. string t.now };
+
+    fn write(&self, out: &mut Vec<u8>) -> Result<(), AllocError> {
+        write_text(out, *self)
+    }
+}
+
+impl<W: Written> Written for Option<W> {
+    ghost value = { λ o. or_null W.value o };
+
+    fn write(&self, out: &mut Vec<u8>) -> Result<(), AllocError> {
+        match self {
+            Some(value) => value.write(out),
+            None => ().write(out),
+        }
+    }
+}
+
+impl<'a, W: Written> Written for &'a [W] {
+    ghost value = { λ l. array (items_of (map W.value l.now)) };
+
+    fn write(&self, out: &mut Vec<u8>) -> Result<(), AllocError> {
+        begin_list(out)?;
+        write_each(out, *self)?;
+        end_list(out)
+    }
+}
+
+fn write_each<W: Written>(out: &mut Vec<u8>, values: &[W]) -> Result<(), AllocError>
+    ensures { OnOk result
+        (AppendsEach false (map W.value values.now) out.old.items out.new.items) }
+{
+    let mut later = false;
+    for value in values {
+        write_item(out, later, value)?;
+        later = true;
+    }
+    Ok(())
+}
+
+/// Writes the bracket that opens a list.
+pub fn begin_list(out: &mut Vec<u8>) -> Result<(), AllocError>
+    ensures { OnOk result (out.new.items ≡ out.old.items ++ 91 ∷ []) }
+{
+    write_piece(out, b"[")
+}
+
+/// Writes an item of a list, after a comma where it isn't the first.
+#[inline(always)]
+pub fn write_item<W: Written>(out: &mut Vec<u8>, later: bool, value: &W) -> Result<(), AllocError>
+    ensures { OnOk result (AppendsItem later (W.value value.now) out.old.items out.new.items) }
+{
+    if later {
+        write_piece(out, b",")?;
+    }
+    value.write(out)
+}
+
+/// Writes the bracket that closes a list.
+pub fn end_list(out: &mut Vec<u8>) -> Result<(), AllocError>
+    ensures { OnOk result (out.new.items ≡ out.old.items ++ 93 ∷ []) }
+{
+    write_piece(out, b"]")
+}
+
+/// Writes a piece of text as it is: brackets, names of members and what is between.
+pub(crate) fn write_piece(out: &mut Vec<u8>, piece: &[u8]) -> Result<(), AllocError>
+    ensures { OnOk result (out.new.items ≡ out.old.items ++ piece.now) }
+{
+    out.extend_from_slice(piece)
+}
+
+/// Writes a text.
+fn write_text(out: &mut Vec<u8>, text: &str) -> Result<(), AllocError>
+    ensures { OnOk result (Appends (string text.now) out.old.items out.new.items) }
+{
+    write_piece(out, b"\"")?;
+    write_escaped(out, text.as_bytes())?;
+    write_piece(out, b"\"")
+}
+
+fn write_escaped(out: &mut Vec<u8>, text: &[u8]) -> Result<(), AllocError>
+    ensures { OnOk result (out.new.items ≡ out.old.items ++ escape text.now) }
+{
+    if is_plain(text) {
+        return write_piece(out, text);
+    }
+    write_each_byte(out, text)
+}
+
+/// Whether no byte of a text has an escape.
+fn is_plain(text: &[u8]) -> bool
+    ensures plain { result ≡ true → escape text.now ≡ text.now }
+{
+    for byte in text {
+        if *byte < 32 || *byte == b'"' || *byte == b'\\' {
+            return false;
+        }
+    }
+    true
+}
+
+fn write_each_byte(out: &mut Vec<u8>, text: &[u8]) -> Result<(), AllocError>
+    ensures { OnOk result (out.new.items ≡ out.old.items ++ escape text.now) }
+{
+    for byte in text {
+        write_byte(out, *byte)?;
+    }
+    Ok(())
+}
+
+/// Writes a byte of a text: two that have a meaning of their own, and those of control characters, by their escape.
+fn write_byte(out: &mut Vec<u8>, byte: u8) -> Result<(), AllocError>
+    ensures { OnOk result (out.new.items ≡ out.old.items ++ escape_byte byte) }
+{
+    let short = letter(byte);
+    if short != 0 {
+        return write_piece(out, &[b'\\', short]);
+    }
+    if byte < 32 {
+        return write_piece(
+            out,
+            &[b'\\', b'u', b'0', b'0', digit(byte / 16), digit(byte % 16)],
+        );
+    }
+    out.push(byte)?;
+    Ok(())
+}
+
+/// The letter of a byte's short escape, or 0 where it has none.
+fn letter(byte: u8) -> u8
+    ensures { result ≡ escape_letter byte }
+{
+    match byte {
+        b'"' | b'\\' => byte,
+        8 => b'b',
+        9 => b't',
+        10 => b'n',
+        12 => b'f',
+        13 => b'r',
+        _ => 0,
+    }
+}
+
+/// A hexadecimal digit.
+fn digit(value: u8) -> u8
+    requires { value < 16 }
+    ensures { result ≡ digit_char value }
+{
+    if value < 10 {
+        b'0' + value
+    } else {
+        b'a' - 10 + value
+    }
+}
+
+/// Writes a whole number that isn't negative.
+fn write_count(out: &mut Vec<u8>, count: u64) -> Result<(), AllocError>
+    ensures { OnOk result (Appends (number (unsigned count)) out.old.items out.new.items) }
+{
+    let mut digits = itoa::Buffer::new();
+    write_piece(out, digits.format(count).as_bytes())
+}
+
+/// Writes a whole number.
+fn write_integer(out: &mut Vec<u8>, whole: i64) -> Result<(), AllocError>
+    ensures { OnOk result (Appends (number (of_integer whole)) out.old.items out.new.items) }
+{
+    let mut digits = itoa::Buffer::new();
+    write_piece(out, digits.format(whole).as_bytes())
+}

@@ -1,0 +1,58 @@
+//! Objects, member by member. A name is written as it is, so it is one that needs no escape.
+ghost use Rattle.std.specs.Prelude.{◌≡◌, ◌++◌, [], ◌∷◌, OnOk};
+ghost use Rattle.serde_json.specs.Data.{member, no_members, object};
+ghost use Rattle.ob0_rpc.specs.Appending.{Appends, AppendsMember};
+
+use crate::json_text::{Written, write_piece};
+use std::alloc::AllocError;
+
+/// Writes the first member of an object, after the bracket that opens it.
+#[inline(always)]
+pub fn first_member<W: Written>(out: &mut Vec<u8>, name: &str, value: &W) -> Result<(), AllocError>
+    ensures { OnOk result
+        (AppendsMember 123 name.now (W.value value.now) out.old.items out.new.items) }
+{
+    write_piece(out, b"{\"")?;
+    write_piece(out, name.as_bytes())?;
+    write_piece(out, b"\":")?;
+    value.write(out)
+}
+
+/// Writes a further member of an object.
+#[inline(always)]
+pub fn next_member<W: Written>(out: &mut Vec<u8>, name: &str, value: &W) -> Result<(), AllocError>
+    ensures { OnOk result
+        (AppendsMember 44 name.now (W.value value.now) out.old.items out.new.items) }
+{
+    write_piece(out, b",\"")?;
+    write_piece(out, name.as_bytes())?;
+    write_piece(out, b"\":")?;
+    value.write(out)
+}
+
+/// Writes the bracket that closes an object.
+#[inline(always)]
+pub fn end_object(out: &mut Vec<u8>) -> Result<(), AllocError>
+    ensures { OnOk result (out.new.items ≡ out.old.items ++ 125 ∷ []) }
+{
+    write_piece(out, b"}")
+}
+
+/// An object of one member, whose name is a text that may need escapes.
+#[derive(Drop)]
+pub struct Entry<'a, W> {
+    pub key: &'a str,
+    pub value: W,
+}
+
+impl<'a, W: Written> Written for Entry<'a, W> {
+    ghost value = { λ e. object (member e.key.now (W.value e.value) no_members) };
+
+    fn write(&self, out: &mut Vec<u8>) -> Result<(), AllocError> {
+        write_piece(out, b"{")?;
+        self.key.write(out)?;
+        write_piece(out, b":")?;
+        self.value.write(out)?;
+        write_piece(out, b"}")
+    }
+}

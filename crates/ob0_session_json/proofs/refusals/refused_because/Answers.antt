@@ -1,0 +1,11 @@
+use Rattle.std.proofs.Common.{◌∙◌, ℕ, List, subst}
+use Rattle.std.proofs.lemmas.Result.{IfOk-weaker}
+use Rattle.ob0_rpc.specs.Seen.{id_data}
+use Rattle.ob0_rpc.specs.Writing.{Writes}
+use Rattle.ob0_session_json.specs.Shapes.{edit_refused}
+use Rattle.ob0_session_json.proofs.refusals.refused_because.Goals as goal
+
+pub returns : goal.returns
+returns c =
+    let told = c.as_str.ensures.value ∙ c.in_ok-text.ensures in
+    IfOk-weaker c.refused.result _ _ (λ bytes sent. subst (λ (said : List ℕ). Writes (edit_refused (id_data c.args.id.now) said) bytes.items) told sent) c.refused.ensures

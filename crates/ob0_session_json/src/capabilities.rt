@@ -1,0 +1,129 @@
+//! What the server can do for a client.
+ghost use Rattle.std.specs.Prelude.{IfOk, OnOk};
+ghost use Rattle.ob0_rpc.specs.Appending.{AppendsMembers};
+ghost use Rattle.ob0_rpc.specs.Seen.{id_data};
+ghost use Rattle.ob0_rpc.specs.Shapes.{result_message};
+ghost use Rattle.ob0_rpc.specs.Writing.{Writes};
+ghost use Rattle.ob0_session_json.specs.Shapes.{action_provider, capabilities, further_members, last_members, rename_provider, server_capabilities, synchronisation};
+
+use ob0_rpc::{Client, Id, Written, end_object, first_member, next_member, result_of};
+use std::alloc::{AllocError, Global};
+
+/// The answer to `initialize`.
+pub fn initialize_answer(alloc: Global, id: &Id, client: Client) -> Result<Vec<u8>, AllocError>
+    ensures { IfOk result
+        (λ bytes. Writes (result_message (id_data id.now) (capabilities client)) bytes.items) }
+{
+    let capabilities = ServerCapabilities { client };
+    result_of(alloc, id, &InitializeResult { capabilities })
+}
+
+/// What the server can do, in an object of its own.
+#[derive(Drop)]
+pub struct InitializeResult {
+    pub capabilities: ServerCapabilities,
+}
+
+impl Written for InitializeResult {
+    ghost value = { λ r. capabilities r.capabilities.client };
+
+    fn write(&self, out: &mut Vec<u8>) -> Result<(), AllocError> {
+        first_member(out, "capabilities", &self.capabilities)?;
+        end_object(out)
+    }
+}
+
+/// What the server can do, which goes by what the client can.
+#[derive(Drop)]
+pub struct ServerCapabilities {
+    pub client: Client,
+}
+
+impl Written for ServerCapabilities {
+    ghost value = { λ c. server_capabilities c.client };
+
+    fn write(&self, out: &mut Vec<u8>) -> Result<(), AllocError> {
+        if self.client.takes_literal_actions {
+            first_member(out, "codeActionProvider", &CodeActionOptions {})?;
+            next_member(out, "definitionProvider", &true)?;
+            self.write_further(out)
+        } else {
+            first_member(out, "definitionProvider", &true)?;
+            self.write_further(out)
+        }
+    }
+}
+
+impl ServerCapabilities {
+    fn write_further(&self, out: &mut Vec<u8>) -> Result<(), AllocError>
+        ensures { OnOk result
+            (AppendsMembers 44 (further_members self.now.client) out.old.items out.new.items) }
+    {
+        next_member(out, "documentFormattingProvider", &true)?;
+        next_member(out, "hoverProvider", &true)?;
+        if self.client.counts_utf8 {
+            next_member(out, "positionEncoding", &"utf-8")?;
+            self.write_last(out)
+        } else {
+            self.write_last(out)
+        }
+    }
+
+    fn write_last(&self, out: &mut Vec<u8>) -> Result<(), AllocError>
+        ensures { OnOk result
+            (AppendsMembers 44 (last_members self.now.client) out.old.items out.new.items) }
+    {
+        let prepares = self.client.prepares_renames;
+        next_member(out, "referencesProvider", &true)?;
+        next_member(out, "renameProvider", &RenameProvider { prepares })?;
+        next_member(out, "textDocumentSync", &TextDocumentSyncOptions {})?;
+        end_object(out)
+    }
+}
+
+/// The kinds of code actions.
+#[derive(Drop)]
+pub struct CodeActionOptions {}
+
+impl Written for CodeActionOptions {
+    ghost value = { λ _. action_provider };
+
+    fn write(&self, out: &mut Vec<u8>) -> Result<(), AllocError> {
+        let kinds = ["refactor.inline"];
+        first_member(out, "codeActionKinds", &kinds.as_slice())?;
+        end_object(out)
+    }
+}
+
+/// That names can be changed, and whether a client may ask where.
+#[derive(Drop)]
+pub struct RenameProvider {
+    pub prepares: bool,
+}
+
+impl Written for RenameProvider {
+    ghost value = { λ p. rename_provider p.prepares };
+
+    fn write(&self, out: &mut Vec<u8>) -> Result<(), AllocError> {
+        if self.prepares {
+            first_member(out, "prepareProvider", &true)?;
+            end_object(out)
+        } else {
+            true.write(out)
+        }
+    }
+}
+
+/// How documents are kept in step: opened, changed by ranges, and closed.
+#[derive(Drop)]
+pub struct TextDocumentSyncOptions {}
+
+impl Written for TextDocumentSyncOptions {
+    ghost value = { λ _. synchronisation };
+
+    fn write(&self, out: &mut Vec<u8>) -> Result<(), AllocError> {
+        first_member(out, "change", &2u64)?;
+        next_member(out, "openClose", &true)?;
+        end_object(out)
+    }
+}

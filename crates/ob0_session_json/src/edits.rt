@@ -1,0 +1,92 @@
+//! Edits of documents, and the actions that make them.
+ghost use Rattle.ob0_session_json.specs.Made.{action_in, workspace_edit_of};
+ghost use Rattle.ob0_session_json.specs.Shapes.{document_edit, versioned_document};
+
+use ob0_rpc::{Client, Entry, Written, end_object, first_member, next_member};
+use ob0_text::Edit;
+use std::alloc::AllocError;
+
+/// The edits of one document, in the form that a client takes: with the version of the document, or by its uri alone.
+#[derive(Drop)]
+pub struct WorkspaceEdit<'a> {
+    pub client: Client,
+    pub uri: &'a str,
+    pub version: i64,
+    pub edits: &'a [Edit],
+}
+
+impl<'a> Written for WorkspaceEdit<'a> {
+    ghost value = { workspace_edit_of };
+
+    fn write(&self, out: &mut Vec<u8>) -> Result<(), AllocError> {
+        if self.client.takes_document_changes {
+            let text_document = VersionedDocument {
+                uri: self.uri,
+                version: self.version,
+            };
+            let changes = [TextDocumentEdit {
+                edits: self.edits,
+                text_document,
+            }];
+            first_member(out, "documentChanges", &changes.as_slice())?;
+            end_object(out)
+        } else {
+            let key = self.uri;
+            let value = self.edits;
+            first_member(out, "changes", &Entry { key, value })?;
+            end_object(out)
+        }
+    }
+}
+
+/// The edits of a version of a document.
+#[derive(Drop)]
+struct TextDocumentEdit<'a> {
+    edits: &'a [Edit],
+    text_document: VersionedDocument<'a>,
+}
+
+impl<'a> Written for TextDocumentEdit<'a> {
+    ghost value = { λ e. document_edit e.text_document.uri.now e.text_document.version e.edits.now };
+
+    fn write(&self, out: &mut Vec<u8>) -> Result<(), AllocError> {
+        first_member(out, "edits", &self.edits)?;
+        next_member(out, "textDocument", &self.text_document)?;
+        end_object(out)
+    }
+}
+
+/// A version of a document.
+#[derive(Drop)]
+struct VersionedDocument<'a> {
+    uri: &'a str,
+    version: i64,
+}
+
+impl<'a> Written for VersionedDocument<'a> {
+    ghost value = { λ d. versioned_document d.uri.now d.version };
+
+    fn write(&self, out: &mut Vec<u8>) -> Result<(), AllocError> {
+        first_member(out, "uri", &self.uri)?;
+        next_member(out, "version", &self.version)?;
+        end_object(out)
+    }
+}
+
+/// An action that makes these edits, under a title.
+#[derive(Drop)]
+pub struct CodeAction<'a> {
+    pub edit: WorkspaceEdit<'a>,
+    pub title: &'a str,
+}
+
+impl<'a> Written for CodeAction<'a> {
+    ghost value = { action_in };
+
+    fn write(&self, out: &mut Vec<u8>) -> Result<(), AllocError> {
+        first_member(out, "edit", &self.edit)?;
+        next_member(out, "kind", &"refactor.inline")?;
+        next_member(out, "title", &self.title)?;
+        end_object(out)
+    }
+}

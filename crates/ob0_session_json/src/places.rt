@@ -1,0 +1,91 @@
+//! Places in documents, and what is displayed of them.
+ghost use Rattle.std.specs.Prelude.{false, OnOk, map};
+ghost use Rattle.serde_json.specs.Data.{array};
+ghost use Rattle.serde_json.specs.View.{items_of};
+ghost use Rattle.ob0_rpc.specs.Appending.{AppendsEach};
+ghost use Rattle.ob0_rpc.specs.Shapes.{range_value};
+ghost use Rattle.ob0_session_json.specs.Shapes.{hover_value, location_in, plain_text};
+
+use ob0_rpc::{Written, begin_list, end_list, end_object, first_member, next_member, write_item};
+use ob0_text::Range;
+use std::alloc::AllocError;
+
+/// A range of a document.
+#[derive(Drop)]
+pub struct Location<'a> {
+    pub range: Range,
+    pub uri: &'a str,
+}
+
+impl<'a> Written for Location<'a> {
+    ghost value = { λ l. location_in l.uri.now l.range };
+
+    fn write(&self, out: &mut Vec<u8>) -> Result<(), AllocError> {
+        first_member(out, "range", &self.range)?;
+        next_member(out, "uri", &self.uri)?;
+        end_object(out)
+    }
+}
+
+/// Ranges of a document, as a list of places.
+#[derive(Drop)]
+pub struct Locations<'a> {
+    pub ranges: &'a [Range],
+    pub uri: &'a str,
+}
+
+impl<'a> Written for Locations<'a> {
+    ghost value = { λ l. array (items_of (map (location_in l.uri.now) l.ranges.now)) };
+
+    fn write(&self, out: &mut Vec<u8>) -> Result<(), AllocError> {
+        begin_list(out)?;
+        write_locations(out, self.uri, self.ranges)?;
+        end_list(out)
+    }
+}
+
+fn write_locations(out: &mut Vec<u8>, uri: &str, ranges: &[Range]) -> Result<(), AllocError>
+    ensures { OnOk result
+        (AppendsEach false (map (location_in uri.now) ranges.now) out.old.items out.new.items) }
+{
+    let mut later = false;
+    for range in ranges {
+        let location = Location { range: *range, uri };
+        write_item(out, later, &location)?;
+        later = true;
+    }
+    Ok(())
+}
+
+/// Plain text that is displayed of a range.
+#[derive(Drop)]
+pub struct Hover<'a> {
+    pub contents: MarkupContent<'a>,
+    pub range: Range,
+}
+
+impl<'a> Written for Hover<'a> {
+    ghost value = { λ h. hover_value h.contents.value.now (range_value h.range.start h.range.end) };
+
+    fn write(&self, out: &mut Vec<u8>) -> Result<(), AllocError> {
+        first_member(out, "contents", &self.contents)?;
+        next_member(out, "range", &self.range)?;
+        end_object(out)
+    }
+}
+
+/// A text that is displayed as it is.
+#[derive(Drop)]
+pub struct MarkupContent<'a> {
+    pub value: &'a str,
+}
+
+impl<'a> Written for MarkupContent<'a> {
+    ghost value = { λ m. plain_text m.value.now };
+
+    fn write(&self, out: &mut Vec<u8>) -> Result<(), AllocError> {
+        first_member(out, "kind", &"plaintext")?;
+        next_member(out, "value", &self.value)?;
+        end_object(out)
+    }
+}

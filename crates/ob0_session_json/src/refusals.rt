@@ -1,0 +1,34 @@
+//! The refusals of requests for edits.
+ghost use Rattle.std.specs.Prelude.{IfOk, codes};
+ghost use Rattle.ob0_rpc.specs.Seen.{id_data};
+ghost use Rattle.ob0_rpc.specs.Writing.{Writes};
+ghost use Rattle.ob0_session_json.specs.Shapes.{edit_refused};
+ghost use Rattle.ob0_text.specs.RefusalTexts.{refusal_text};
+
+use ob0_rpc::{Id, error};
+use ob0_text::EditRefusal;
+use std::alloc::{AllocError, Global};
+
+/// The refusal of a request that asks for edits.
+pub fn refused(alloc: Global, id: &Id, said: &str) -> Result<Vec<u8>, AllocError>
+    ensures { IfOk result (λ bytes. Writes (edit_refused (id_data id.now) said.now) bytes.items) }
+{
+    error(alloc, Some(id), -32803, said)
+}
+
+/// The refusal of such a request for a reason that is reported.
+pub fn refused_because(alloc: Global, id: &Id, refusal: EditRefusal) -> Result<Vec<u8>, AllocError>
+    ensures { IfOk result
+        (λ bytes. Writes (edit_refused (id_data id.now) (refusal_text refusal)) bytes.items) }
+{
+    let text = refusal.text(alloc)?;
+    refused(alloc, id, text.as_str())
+}
+
+/// The refusal of such a request where the text isn't a well-typed module.
+pub fn refused_ill_typed(alloc: Global, id: &Id) -> Result<Vec<u8>, AllocError>
+    ensures { IfOk result
+        (λ bytes. Writes (edit_refused (id_data id.now) (codes "ill-typed")) bytes.items) }
+{
+    refused(alloc, id, "ill-typed")
+}
