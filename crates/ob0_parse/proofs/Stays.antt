@@ -40,8 +40,8 @@ tree_stays old new parsed tree short same =
     let places = ap (λ (t : Tree ℕ module_text). spell t ++ (EndOfText ∷ [])) tree ∙ parsed.places ∙ sym (same_lexemes _ _ same) in
     record {
       module_of = module_spelled new.source (tree_of new) short
-        (subst (λ (t : Tree ℕ module_text). nesting t ≤ max_nesting) (sym tree)
-        (subst (λ n. n ≤ max_nesting) (nesting_mapped (text_at old.source) (value_at old.source) (tree_of old)) parsed.module_of.shallow))
-        places;
+          (subst (λ (t : Tree ℕ module_text). nesting t ≤ max_nesting) (sym tree)
+          (subst (λ n. n ≤ max_nesting) (nesting_mapped (text_at old.source) (value_at old.source) (tree_of old)) parsed.module_of.shallow))
+          places;
       places = places;
     }
