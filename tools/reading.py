@@ -218,7 +218,7 @@ class Source:
             generics = head[: close_angle(head)] if head[:1] == ["<"] else []
             head = head[len(generics) :]
             cut = head.index("for") if "for" in head else None
-            owner = next(it for it in head[0 if cut is None else cut + 1 :] if it.isidentifier())
+            owner = next((it for it in head[0 if cut is None else cut + 1 :] if it.isidentifier()), "()")
             hidden = {"mut", "dyn", "for", *generics}
             said = tuple(it for it in dict.fromkeys(head) if it.isidentifier() and it not in hidden)
             inner = scope.inside(owner=owner, trait="" if cut is None else head[0], impl_words=() if cut is None else said)
