@@ -66,7 +66,7 @@ module _ (w : Numbering) (fit : PartsFit) where
       let c = fit.constants p before (text_at w.source) (meanings as_names env) e (agrees_where_seen w p true before n scope env st fit e placed.1) (none_both v.faults [] a.0).0 in
       let given : constant_value (meanings as_names env) (named w.source e) ≡ Some c.value = ap (λ s. constant_value (meanings as_names env) (mapped (text_at w.source) (value_at s) e)) (sym st.source) ∙ c.given in
       let d = defined w p before n (a_constant v.known) x st.ordinals st.room st.table placed.0 in
-      let next = stands_defined w p q before n scope env (a_constant v.known) (text_at w.source x) (meant.a_constant c.value) st d (c.value, c.known, refl, c.scalar) in
+      let next = stands_defined w p q before n scope env (a_constant v.known) (text_at w.source x) (meant.a_constant c.value) st d refl (c.value, c.known, refl, c.scalar) in
       declared_then w n (suc n) (after_names (suc n) (constant_names cs)) k k k p q (reported_constants q cs).known before before (scope_behind w (suc n) (constant_names cs) ((text_at w.source x, n) ∷ scope))
       (constant_value (meanings as_names env) (named w.source e)) c.value (λ v. declare_constants as_names ((text_at w.source x, meant.a_constant v) ∷ env) (named w.source cs)) (next_le n) given (apart_same k k before refl) d.later
       (constants_declare cs k (suc n) q before ((text_at w.source x, n) ∷ scope) ((text_at w.source x, meant.a_constant c.value) ∷ env) next placed.2 a.1)
@@ -82,7 +82,7 @@ module _ (w : Numbering) (fit : PartsFit) where
       let s = type_denotes w fit n scope env k t p before st placed.1 (none_both u.faults [] a.0).0 in
       let behind = stands_later w n n n p u.known.behind before s.after scope env (le_refl n) (le_refl n) st s.later in
       let d = defined w u.known.behind s.after n (a_type u.known.of) x behind.ordinals behind.room behind.table placed.0 in
-      let next = stands_defined w u.known.behind q s.after n scope env (a_type u.known.of) (text_at w.source x) (meant.a_type s.shape) behind d (s.shape, s.known, refl) in
+      let next = stands_defined w u.known.behind q s.after n scope env (a_type u.known.of) (text_at w.source x) (meant.a_type s.shape) behind d refl (s.shape, s.known, refl) in
       let own : ℕ = constructors (named w.source t) in
       let others : ℕ = types_constructors (named w.source ds) in
       subst (λ l. Declared w n (after_names (suc n) (named_types ds)) k l p (reported_types q ds).known before (scope_behind w (suc n) (named_types ds) ((text_at w.source x, n) ∷ scope)) (declare_types as_names env k (named w.source (more (declares_type x t) ds)))) (more_constructors k own others)
@@ -107,7 +107,7 @@ module _ (w : Numbering) (fit : PartsFit) where
       let a = none_both (u.faults ++ []) (reported_variables q gs).faults h in
       let s = type_denotes w fit n scope env k t p before st placed.1 (none_both u.faults [] a.0).0 in
       let behind = stands_later w n n n p u.known.behind before s.after scope env (le_refl n) (le_refl n) st s.later in
-      let all = all_defined w u.known.behind s.after n scope env (a_variable u.known.of) xs (meant.a_variable s.shape) behind placed.0 (s.shape, s.known, refl) in
+      let all = all_defined w u.known.behind s.after n scope env (a_variable u.known.of) xs (meant.a_variable s.shape) behind placed.0 refl (s.shape, s.known, refl) in
       let own : names_listed (named w.source ns) ≡ map (text_at w.source) xs = names_listed-mapped (text_at w.source) (value_at w.source) ns in
       let rest = variables_declare gs (k + constructors (named w.source t)) (after_names n xs) q s.after (scope_behind w n xs scope) (bind_names (map (text_at w.source) xs) (meant.a_variable s.shape) env) all.stands placed.2 a.1 in
       let one : ℕ = constructors (named w.source t) in

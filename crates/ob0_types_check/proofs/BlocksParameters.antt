@@ -55,7 +55,7 @@ parameters_over shapes declared k scope env [] (p ∷ ps) below h = absurd h
 parameters_over shapes declared k scope env (x ∷ xs) [] below h = absurd h
 parameters_over shapes declared k scope env (x ∷ xs) (p ∷ ps) below h =
     parameters_over shapes declared (suc k) ((x, k) ∷ scope) ((p.name, meant.a_variable p.formal.shape) ∷ env) xs ps
-    (le_refl (suc k), h.0, h.1, names_later shapes shapes declared declared k (suc k) (λ t s e. e) (λ j less. refl) (le_of_lt (le_refl (suc k))) scope env below) h.2
+    (le_refl (suc k), h.0, h.1, λ le. refl, names_later shapes shapes declared declared k (suc k) (λ t s e. e) (λ j less. refl) (le_of_lt (le_refl (suc k))) scope env below) h.2
 
 parameters_both : (shapes : List Shape) (declared : List (Option (Meaning TypeId))) (k : ℕ) (xs ys : List Name) (ps qs : List (TypedParameter Name)) → ParametersStand shapes declared k xs ps → ParametersStand shapes declared (after_names k xs) ys qs → ParametersStand shapes declared k (xs ++ ys) (ps ++ qs)
 parameters_both shapes declared k [] ys [] qs h next = next
@@ -91,8 +91,8 @@ own_stand w p shapes n scope env mode t s (x ∷ xs) is st placed =
     let q : SoFar = define p (a_variable t) x in
     let o : meant.Object Shape Signature = meant.a_variable s in
     let d = defined w p shapes n (a_variable t) x st.ordinals st.room st.table placed.0 in
-    let next = stands_defined w p q shapes n scope env (a_variable t) (text_at w.source x) o st d (s, is, refl) in
-    let rest = all_defined w q shapes (suc n) ((text_at w.source x, n) ∷ scope) ((text_at w.source x, o) ∷ env) (a_variable t) xs o next placed.1 (s, is, refl) in
+    let next = stands_defined w p q shapes n scope env (a_variable t) (text_at w.source x) o st d refl (s, is, refl) in
+    let rest = all_defined w q shapes (suc n) ((text_at w.source x, n) ∷ scope) ((text_at w.source x, o) ∷ env) (a_variable t) xs o next placed.1 refl (s, is, refl) in
     let slot : slice_index_or (define_all q (a_variable t) xs).declared n None ≡ Some (a_variable t) = rest.later.kept n (le_refl (suc n)) ∙ d.here in (
       refl,
       subst (λ z. MeansAlike (shape_in shapes) z (Some o)) (sym slot) (s, is, refl),
@@ -127,7 +127,7 @@ module _ (w : Numbering) (fit : PartsFit) where
       let u : TypedAfter = (reported_type h.behind t).known in
       let s = type_denotes w fit n scope env k t h.behind before st seen none in
       let behind = stands_later w n n n h.behind u.behind before s.after scope env (le_refl n) (le_refl n) st s.later in
-      let all = all_defined w u.behind s.after n scope env (a_variable u.of) xs (meant.a_variable s.shape) behind placed (s.shape, s.known, refl) in
+      let all = all_defined w u.behind s.after n scope env (a_variable u.of) xs (meant.a_variable s.shape) behind placed refl (s.shape, s.known, refl) in
       record {
         shape = s.shape;
         given_is = s.given_is;

@@ -43,7 +43,7 @@ module _ (w : Numbering) (fit : PartsFit) (fine : PartsRight) where
       let c = fit.constants p before (text_at w.source) (meanings as_names env) e agrees untold in
       let given : value ≡ Some c.value = ap (λ s. constant_value (meanings as_names env) (mapped (text_at w.source) (value_at s) e)) (sym st.source) ∙ c.given in
       let d = defined w p before n (a_constant t.known) x st.ordinals st.room st.table placed.0 in
-      let behind = stands_defined w p q before n scope env (a_constant t.known) (text_at w.source x) (meant.a_constant c.value) st d (c.value, c.known, refl, c.scalar) in
+      let behind = stands_defined w p q before n scope env (a_constant t.known) (text_at w.source x) (meant.a_constant c.value) st d refl (c.value, c.known, refl, c.scalar) in
       none-of-both (t.faults ++ []) (reported_constants q cs).faults (none-of-both t.faults [] untold refl)
       (constants_right cs (suc n) q before ((text_at w.source x, n) ∷ scope) ((text_at w.source x, meant.a_constant c.value) ∷ env) behind placed.2 after (given-again next value c.value (Some after) given h))
 
@@ -61,7 +61,7 @@ module _ (w : Numbering) (fit : PartsFit) (fine : PartsRight) where
       let s = type_denotes w fit n scope env k t p before st placed.1 untold in
       let behind = stands_later w n n n p u.known.behind before s.after scope env (le_refl n) (le_refl n) st s.later in
       let d = defined w u.known.behind s.after n (a_type u.known.of) x behind.ordinals behind.room behind.table placed.0 in
-      let next_stands = stands_defined w u.known.behind q s.after n scope env (a_type u.known.of) (text_at w.source x) (meant.a_type s.shape) behind d (s.shape, s.known, refl) in
+      let next_stands = stands_defined w u.known.behind q s.after n scope env (a_type u.known.of) (text_at w.source x) (meant.a_type s.shape) behind d refl (s.shape, s.known, refl) in
       none-of-both (u.faults ++ []) (reported_types q ds).faults (none-of-both u.faults [] untold refl)
       (types_right ds (k + constructors (named w.source t)) (suc n) q s.after ((text_at w.source x, n) ∷ scope) ((text_at w.source x, meant.a_type s.shape) ∷ env) next_stands placed.2 after (given-again next given s.shape (Some after) s.given_is h))
 
@@ -79,7 +79,7 @@ module _ (w : Numbering) (fit : PartsFit) (fine : PartsRight) where
       let untold = type_right w fit fine n scope env k t p before st placed.1 r hr in
       let s = type_denotes w fit n scope env k t p before st placed.1 untold in
       let behind = stands_later w n n n p u.known.behind before s.after scope env (le_refl n) (le_refl n) st s.later in
-      let all = all_defined w u.known.behind s.after n scope env (a_variable u.known.of) xs (meant.a_variable s.shape) behind placed.0 (s.shape, s.known, refl) in
+      let all = all_defined w u.known.behind s.after n scope env (a_variable u.known.of) xs (meant.a_variable s.shape) behind placed.0 refl (s.shape, s.known, refl) in
       let own : names_listed (named w.source ns) ≡ map (text_at w.source) xs = names_listed-mapped (text_at w.source) (value_at w.source) ns in
       let last : rest (map (text_at w.source) xs) s.shape ≡ Some after = ap (λ ys. rest ys s.shape) (sym own) ∙ given-again (rest (names_listed (named w.source ns))) given s.shape (Some after) s.given_is h in
       none-of-both (u.faults ++ []) (reported_variables q gs).faults (none-of-both u.faults [] untold refl)

@@ -1,6 +1,6 @@
 -- What is known while faults are reported, and what names and types are by the definitions of types: where they agree.
 -- Rule: none; for laws: what is known against what names and types are.
-use Rattle.std.specs.Prelude.{◌≡◌, ℕ, true, List, [], ◌∷◌, Option, Some, None, option_map, option_and_then, is_some, slice_get}
+use Rattle.std.specs.Prelude.{◌≡◌, ℕ, Bool, true, false, List, [], ◌∷◌, Option, Some, None, option_map, option_and_then, is_some, slice_get}
 use Rattle.ob0_scope_rules.specs.Names.{Name}
 use Rattle.ob0_types_table.specs.declared.types.TypeId.{TypeId}
 use Rattle.ob0_types_table.specs.declared.types.TypeId.TheVariants as type
@@ -60,6 +60,23 @@ MeaningAgrees shape (a_variable t) o =
     (s : Shape) × (shape t ≡ Some s) × (o ≡ Some (meant.a_variable s))
 MeaningAgrees shape (a_procedure fs) o =
     (signature : Signature) × (signature_of o ≡ Some signature) × FormalsAgree shape fs signature
+
+-- a predeclared procedure
+abbrev pub is_standard : Option (meant.Object Shape Signature) → Bool
+is_standard None = false
+is_standard (Some (meant.a_type s)) = false
+is_standard (Some (meant.a_constant v)) = false
+is_standard (Some (meant.a_variable s)) = false
+is_standard (Some (meant.a_procedure signature)) = false
+is_standard (Some (meant.a_standard p)) = true
+
+-- what is known of a declaration is what it is; where there is none, nothing is known
+abbrev pub DeclarationAgrees : (TypeId → Option Shape)
+    → Option (Meaning TypeId)
+    → Option (meant.Object Shape Signature)
+    → Type 0
+DeclarationAgrees shape None o = o ≡ None
+DeclarationAgrees shape (Some m) o = MeaningAgrees shape m o
 
 -- a name means something, and that is known
 abbrev pub MeansAlike : {T : Type 0}
