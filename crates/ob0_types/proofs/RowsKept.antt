@@ -14,7 +14,8 @@ use Rattle.ob0_types_table.specs.KnownTables.{Tables, declared_in, shapes_of}
 use Rattle.ob0_selections.specs.FieldRows.{AreRowsBy, is_at, is_row_at, rows_over}
 use Rattle.ob0_selections.specs.SelectionParts.{selection_in}
 use Rattle.ob0_selections.specs.declared.selecting.Selection.{Selection}
-use Rattle.ob0_types.specs.CheckedModules.{CheckedModule, HasDeclarations, IsChecked}
+use Rattle.ob0_types.specs.CheckedModules.{CheckedModule, IsChecked}
+use Rattle.ob0_types_check.specs.ModuleLaws.{HasDeclarations}
 use Rattle.ob0_types.specs.RowsOfFields.{AreRowsBeside, AreRowsOf, row_of}
 
 rows_of : (r : Resolution) (t : Tables) (fields : Listed) (rows : List Selection) → HasDeclarations (named_tree_of r.module_read) t → AreFields r fields → AreRowsBeside fields t r rows → AreRowsOf r t rows

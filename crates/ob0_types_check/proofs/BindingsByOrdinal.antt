@@ -300,10 +300,15 @@ mutual
 predeclared-below : TypedBelow 7 (typed_outermost as_names)
 predeclared-below = (lit< tt, (lit< tt, (lit< tt, (lit< tt, (lit< tt, (lit< tt, (lit< tt, tt)))))))
 
+-- the block of a module that fits
+pub module-block : (x : Name) (b : Tree Name block) (closing : Name) → fits_over as_names (is_module x b closing) ≡ true
+    → Ordered 7 (after_block 7 b) (block_bindings as_names (outermost as_names) 0 b) (block_bindings as_labels (outermost as_labels) 0 (relabel_block as_names (as_label as_names) (typed_scope (typed_outermost as_names)) 7 b))
+unfolding fits_over
+module-block x b closing h = block-ordered (typed_outermost as_names) 0 7 predeclared-below b h
+
 -- all of a module that fits
 pub module-ordered : (m : Tree Name module_text) → fits_over as_names m ≡ true → Ordered 0 (after_block 7 (module_block m)) (module_bindings as_names m) (module_bindings as_labels (numbered m))
-unfolding fits_over
 module-ordered (is_module x b closing) h =
     ordered-append 0 7 (after_block 7 b) (block_bindings as_names (outermost as_names) 0 b) (outermost as_names) (block_bindings as_labels (outermost as_labels) 0 (relabel_block as_names (as_label as_names) (typed_scope (typed_outermost as_names)) 7 b)) (outermost as_labels)
-    (block-ordered (typed_outermost as_names) 0 7 predeclared-below b h)
+    (module-block x b closing h)
     (record { noted = typed_outermost as_names; by_name = refl; by_label = refl; in_order = (refl, (refl, (refl, (refl, (refl, (refl, (refl, refl))))))) })

@@ -1,21 +1,21 @@
 -- After a module of which nothing is reported, what each declaration is is known.
-use Rattle.std.proofs.Common.{◌≡◌, ℕ, ◌<◌, ◌≤◌, ◌==◌, Bool, true, false, cond, nat_lt, List, [], ◌∷◌, length, map, Option, Some, None, slice_index_or, le_refl, refl, sym, ap, ◌∙◌, subst, arith, eq-eqb, eqb-true, true≢false}
+use Rattle.std.proofs.Common.{◌≡◌, ℕ, ◌<◌, ◌≤◌, ◌==◌, Bool, true, false, cond, nat_lt, List, [], ◌∷◌, ◌++◌, length, map, Option, Some, None, slice_index_or, le_refl, refl, sym, ap, ◌∙◌, subst, arith, eq-eqb, eqb-true, true≢false}
 use Rattle.std.proofs.lemmas.Bool.{ltb-false, ltb-true, ne_eqb}
 use Rattle.std.proofs.lemmas.List.{get_or_past}
 use Rattle.std.specs.List.{filter}
 use Rattle.ob0_tree.specs.Parsed.{named_tree_of, tree_of}
 use Rattle.ob0_tree.specs.Places.{text_at, value_at}
-use Rattle.ob0_tree.specs.Tree.{Tree, block}
+use Rattle.ob0_tree.specs.Tree.{Tree, block, is_module, module_text}
 use Rattle.ob0_scope_rules.specs.Names.{Label, Name, as_labels, as_names, declared}
 use Rattle.ob0_scope_rules.specs.Parts.{module_block}
 use Rattle.ob0_scope_rules.specs.Resolution.{is_of_occurrences}
-use Rattle.ob0_scope_rules.specs.Scopes.{after_block, numbered, predeclared_scope}
-use Rattle.ob0_types_rules.specs.Bindings.{block_bindings, module_bindings, object_bound}
+use Rattle.ob0_scope_rules.specs.Scopes.{after_block, as_label, numbered, predeclared_scope, relabel_block}
+use Rattle.ob0_types_rules.specs.Bindings.{block_bindings, declared_object, module_bindings, object_bound}
 use Rattle.ob0_types_rules.specs.Environments.{from_binding, outermost}
 use Rattle.ob0_types_rules.specs.Expressions as meant
 use Rattle.ob0_types_rules.specs.WellTyped.{Signature, TypeEnvironment, fits_over}
 use Rattle.ob0_types_rules.proofs.Bound.{newest-if}
-use Rattle.ob0_types_rules.proofs.TypesByOrdinal.{TypeNoted, typed_by_name, typed_by_ordinal}
+use Rattle.ob0_types_rules.proofs.TypesByOrdinal.{TypeNoted, typed_by_name, typed_by_ordinal, typed_outermost, typed_scope}
 use Rattle.ob0_types_table.specs.declared.types.TypeId.{TypeId}
 use Rattle.ob0_values.specs.Values.{Shape}
 use Rattle.ob0_types_check.specs.Agreement.{DeclarationAgrees, MeansAlike, is_standard, shape_in}
@@ -23,7 +23,7 @@ use Rattle.ob0_types_check.specs.DeclarationFaults.{reported_block, reported_mod
 use Rattle.ob0_types_check.specs.Known.{Meaning}
 use Rattle.ob0_types_check.specs.ModuleLaws.{DeclarationsKnown}
 use Rattle.ob0_types_check.specs.SoFar.{SoFar, at_first}
-use Rattle.ob0_types_check.proofs.BindingsByOrdinal.{InOrder, Ordered, module-ordered}
+use Rattle.ob0_types_check.proofs.BindingsByOrdinal.{InOrder, Ordered, module-block, module-ordered}
 use Rattle.ob0_types_check.proofs.BlocksBound.{BindingsStand, bindings_both, bindings_later, names_bind}
 use Rattle.ob0_types_check.proofs.BlocksFit.{block_told, first_stands, room_first}
 use Rattle.ob0_types_check.proofs.DeclaredModules.{module_counted, module_placed, numbering_of}
@@ -81,6 +81,25 @@ module _ (shapes : List Shape) (known : List (Option (Meaning TypeId))) (m : ℕ
   every_own : (k : ℕ) → 7 ≤ k → is_standard (object_bound labels k) ≡ false
   every_own k own = either k m (λ less. (below k less).1 own) (λ le. ap is_standard (past k le).0)
 
+above_first : (n m : ℕ) (noted : TypeNoted Name) → InOrder n m noted → n ≤ m
+above_first n m [] order = omega (arith, order)
+above_first n m (b ∷ noted) order = omega (arith, order.0, above_first n b.ordinal noted order.1)
+
+-- what isn't bound in a block is bound as before
+bound_before : (n m : ℕ) (noted : TypeNoted Name) → InOrder n m noted → (env : TypeEnvironment Label) (k : ℕ) → k < n → object_bound (typed_by_ordinal noted ++ env) k ≡ object_bound env k
+bound_before n m [] order env k less = refl
+bound_before n m (b ∷ noted) order env k less =
+    newest-if (k == b.ordinal) (declared b.ordinal) b.object (typed_by_ordinal noted ++ env) (from_binding as_labels (typed_by_ordinal noted ++ env) (declared k))
+    ∙ (ap (λ t. cond t (Some b.object) (object_bound (typed_by_ordinal noted ++ env) k)) (ne_eqb k b.ordinal (λ e. omega (arith, e, less, above_first n b.ordinal noted order.1)))
+    ∙ bound_before n b.ordinal noted order.1 env k less)
+
+first_bound : (n m : ℕ) (names : TypeEnvironment Name) (labels env : TypeEnvironment Label) → Ordered n m names labels → (k : ℕ) → k < n → object_bound (labels ++ env) k ≡ object_bound env k
+first_bound n m names labels env all k less = ap (λ z. object_bound (z ++ env) k) all.by_label ∙ bound_before n m all.noted all.in_order env k less
+
+predeclared_bound : (m : Tree Name module_text) → fits_over as_names m ≡ true → (k : ℕ) → k < 7 → declared_object m k ≡ object_bound (outermost as_labels) k
+predeclared_bound (is_module x b closing) h k less =
+    first_bound 7 (after_block 7 b) (block_bindings as_names (outermost as_names) 0 b) (block_bindings as_labels (outermost as_labels) 0 (relabel_block as_names (as_label as_names) (typed_scope (typed_outermost as_names)) 7 b)) (outermost as_labels) (module-block x b closing h) k less
+
 pub declarations_known-holds : DeclarationsKnown
 unfolding reported_module fits_over
 declarations_known-holds r is h =
@@ -90,7 +109,7 @@ declarations_known-holds r is h =
     let q : SoFar = (reported_block (at_first r) b).known in
     let a = none_both (filter is_of_occurrences r.faults) (reported_block (at_first r) b).faults h in
     let st = first_stands r in
-    let f = block_told (numbering_of r) parts_fit b 0 7 (at_first r) [] (predeclared_scope as_names) (outermost as_names) st (module_placed r is a.0) a.1 in
+    let f = block_told (numbering_of r) parts_fit b 0 7 (at_first r) [] (predeclared_scope as_names) (outermost as_names) refl st (module_placed r is a.0) a.1 in
     let first : BindingsStand f.after q.declared 0 7 (outermost as_names) =
     bindings_later [] f.after (at_first r).declared q.declared 0 7 7 f.later.longer f.later.kept (le_refl 7) (outermost as_names) (names_bind [] (at_first r).declared 7 0 7 (map as_names.predeclared (0 ∷ 1 ∷ 2 ∷ 3 ∷ 4 ∷ 5 ∷ 6 ∷ [])) [] [] (outermost as_names) refl refl st.names) in
     let bound : BindingsStand f.after q.declared 0 last (module_bindings as_names (named_tree_of m)) =
@@ -103,4 +122,6 @@ declarations_known-holds r is h =
       table = f.later.table;
       declared = every_agrees f.after q.declared last (module_bindings as_names (named_tree_of m)) (module_bindings as_labels (numbered (named_tree_of m))) all bound room;
       standards = every_own f.after q.declared last (module_bindings as_names (named_tree_of m)) (module_bindings as_labels (numbered (named_tree_of m))) all bound room;
+      predeclared = predeclared_bound (named_tree_of m) f.right;
+      room = omega (arith, f.later.room, room_first r.declarations);
     }

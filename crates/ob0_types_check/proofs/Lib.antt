@@ -27,6 +27,8 @@ pub mod BindingsByOrdinal
 pub mod BlocksBound
 pub mod BlocksFit
 pub mod BlocksKnown
+pub mod TableKnown
+pub mod Reported
 pub mod EqualShapes
 pub mod TypedOperands
 pub mod TypedExpressions
