@@ -2,14 +2,13 @@
 use Rattle.std.proofs.Common.{◌≡◌, ℕ, zero, suc, ◌+◌, ◌<◌, ◌≤◌, List, [], ◌∷◌, ◌++◌, Some, None, Option, option_map, slice_get, slice_index_or, length, take, drop, get_or, sym, refl, ap, ◌∙◌, subst, arith, append_assoc, append-nil, if◌then◌else◌, true, false, Bool, zero-add, add-zero, add-one, ℤ, ◌⊎◌, inl, inr, option_and_then, nat_lt}
 use Rattle.std.proofs.lemmas.Bool.Decides.{nat_tests}
 use Rattle.std.proofs.lemmas.Option.{slice_get_past}
-use Rattle.std.proofs.lemmas.List.{drop_all, drop_more, take_all}
+use Rattle.std.proofs.lemmas.List.{drop_all, drop_more, get_or_past, take_all}
 use Rattle.std.proofs.Math.Seq.{take-suc}
 use Rattle.std.specs.Borrow.{Bor}
 use Rattle.ob0_scope_rules.specs.Names.{Name, same_name}
 use Rattle.ob0_run_machine.specs.Evaluation as machine
 use Rattle.ob0_types_rules.specs.Expressions.{a_constant}
 use Rattle.ob0_types_table.specs.KnownTables.{Tables, declared_in, shapes_of}
-use Rattle.ob0_types_table.specs.declared.known.Entry.{Entry}
 use Rattle.ob0_types_table.specs.FieldPlaces.{field_selected, place_of_field}
 use Rattle.ob0_types_table.specs.Tables.{fields_shape, made_shape, no_shape, object_in, only_array, only_record, shapes_from, type_shape}
 use Rattle.ob0_types_table.proofs.Tables.{shapes_from-push}
@@ -194,8 +193,8 @@ either_side (suc k) (suc n) = elim (either_side k n) [ inl h ↦ inl (omega arit
 pub small_goes_on : (t : Tables) (n : ℕ) → SmallBelow t n → ((z : ℤ) → declared_in t n ≡ Some (a_constant (number z)) → machine.fits z ≡ true) → SmallBelow t (n + 1)
 small_goes_on t n h here k z less e = elim (either_side k n) [ inl below ↦ h k z below e | inr past ↦ let same : n ≡ k = omega arith in here z (ap (declared_in t) same ∙ e) ]
 
-none_past : (t : Tables) (k : ℕ) (z : ℤ) → length t.entries ≤ k → declared_in t k ≡ Some (a_constant (number z)) → ⊥
-none_past t k z past e = let none : None ≡ Some (a_constant (number z)) = sym (ap (option_and_then (λ (x : Entry). object_in (shapes_of t) x.object)) (slice_get_past t.entries k past)) ∙ e in absurd (cc)
+none_past : (t : Tables) (k : ℕ) (z : ℤ) → length t.objects ≤ k → declared_in t k ≡ Some (a_constant (number z)) → ⊥
+none_past t k z past e = let none : None ≡ Some (a_constant (number z)) = sym (ap (option_and_then (object_in (shapes_of t))) (get_or_past t.objects k None past)) ∙ e in absurd (cc)
 
-pub small_ends : (t : Tables) (n last : ℕ) → SmallBelow t n → last ≤ n → last ≡ length t.entries → (k : ℕ) (z : ℤ) → declared_in t k ≡ Some (a_constant (number z)) → machine.fits z ≡ true
+pub small_ends : (t : Tables) (n last : ℕ) → SmallBelow t n → last ≤ n → last ≡ length t.objects → (k : ℕ) (z : ℤ) → declared_in t k ≡ Some (a_constant (number z)) → machine.fits z ≡ true
 small_ends t n last h all count k z e = elim (either_side k n) [ inl below ↦ h k z below e | inr past ↦ absurd (none_past t k z (omega (arith, count, all, past)) e) ]

@@ -1,23 +1,18 @@
 -- What is reported of a module: nothing exactly where it is well-typed.
-use Rattle.std.proofs.Common.{◌≤◌, ◌≡◌, ◌↔◌, ◌+◌, ◌&&◌, ◌||◌, if◌then◌else◌, Bool, true, false, not, List, [], ◌∷◌, ◌++◌, IfSome, is_some, Option, Some, None, length, refl, sym, ap, ◌∙◌, subst, true≢false, arith, length-append}
+use Rattle.std.proofs.Common.{◌≤◌, ◌≡◌, ◌↔◌, ◌+◌, ◌&&◌, ◌||◌, if◌then◌else◌, Bool, true, false, not, List, [], ◌∷◌, ◌++◌, IfSome, MatchOption, is_some, Option, Some, None, length, refl, sym, ap, ◌∙◌, subst, true≢false, arith, length-append}
 use Rattle.std.proofs.lemmas.List.{nil_from_length}
 use Rattle.std.specs.List.{filter, list_any}
 use Rattle.ob0_scan.specs.declared.fault.Fault.{Fault}
-use Rattle.ob0_scope_rules.specs.Names.{as_labels, as_names}
+use Rattle.ob0_scope_rules.specs.Names.{as_names}
 use Rattle.ob0_scope_rules.specs.DeclaredOnce.{declared_once}
 use Rattle.ob0_scope_rules.specs.Resolution.{IsResolution, Resolution, is_of_declarations}
-use Rattle.ob0_tree.specs.Parsed.{named_tree_of, tree_of}
+use Rattle.ob0_tree.specs.Parsed.{named_tree_of}
 use Rattle.ob0_types_check.specs.DeclarationFaults.{reported_module}
-use Rattle.ob0_types_check.specs.ModuleLaws.{ModulesFit}
+use Rattle.ob0_types_check.specs.ModuleLaws.{HasDeclarations, ModulesFit}
 use Rattle.ob0_types_check.specs.WellTypedLaws.{NoFaultInModules}
-use Rattle.ob0_types.specs.FaultOrder.{AreFirstOf}
-use Rattle.ob0_types.specs.FoundFaults.{faults_found, types_found}
+use Rattle.ob0_types.specs.FaultOrder.{AreFirstOf, faults_in}
 use Rattle.ob0_types.specs.CheckedModules.{IsChecked, IsReported}
-use Rattle.ob0_types_rules.specs.Bindings.{module_bindings, object_bound}
-use Rattle.ob0_checker.specs.Checking.{Keeps}
-use Rattle.ob0_types_rules.specs.InLabels.{in_labels}
 use Rattle.ob0_types_table.specs.KnownTables.{Tables}
-use Rattle.ob0_types_rules.specs.Laws.{FitsByOrdinal}
 use Rattle.ob0_types_rules.specs.WellTyped.{WellTyped, fits_over}
 
 length-nil : (xs : List Fault) → xs ≡ [] → length xs ≡ 0
@@ -72,41 +67,37 @@ once_from false any e f = absurd (true≢false (sym e ∙ f))
 from_once : (b : Bool) (any : Bool) → any ≡ not b → b ≡ true → any ≡ false
 from_once b any e t = e ∙ ap not t
 
-if_some : {A : Type 0} {P Q : A → Type 0} (o : Option A) → ((a : A) → P a → Q a) → IfSome o P → IfSome o Q
-if_some None f h = tt
-if_some (Some a) f h = f a h
+-- what is known, where there is no fault of types
+known_declares : (none : Type 0) (known : Option Tables) (P : Tables → Type 0) → MatchOption known (none → ⊥) (λ t. none × P t) → IfSome known P
+known_declares none None P h = tt
+known_declares none (Some t) P h = h.1
 
--- a fault of types is reported exactly of a module that doesn't fit
-types_told : ModulesFit → (fits : Bool) (r : Resolution) → IsResolution r → fits ≡ fits_over as_names (named_tree_of r.module_read) → IsReported fits (types_found fits r)
-types_told law true r h e = (λ none. refl, λ right. refl)
-types_told law false r h e = (λ none. e ∙ law r h none, λ right. absurd (true≢false (sym right)))
-
--- what is found of the types is what is reported of them: of a well-typed module nothing is
-types_reported : NoFaultInModules → (fits : Bool) (r : Resolution) → IsResolution r → fits ≡ fits_over as_names (named_tree_of r.module_read) → types_found fits r ≡ reported_module r
-types_reported law true r h e = sym (law r h (sym e))
-types_reported law false r h e = refl
+known_there : (none : Type 0) (known : Option Tables) (P : Tables → Type 0) → MatchOption known (none → ⊥) (λ t. none × P t) → none → is_some known ≡ true
+known_there none None P h n = absurd (h n)
+known_there none (Some t) P h n = refl
 
 -- where nothing is reported exactly of a module that fits and declares each name once, it is reported exactly of a well-typed one
-pub checked_told : (r : Resolution) (fits : Bool) (faults : List Fault) → FitsByOrdinal → ModulesFit → NoFaultInModules → IsResolution r → fits ≡ fits_over as_labels (in_labels r (tree_of r.module_read))
-    → ((faults ≡ []) ↔ (faults_found fits r ≡ []))
-    → (known : Option Tables) → fits ≡ is_some known → IfSome known (Keeps (module_bindings as_labels (in_labels r (tree_of r.module_read)))) → length faults ≤ 100 → AreFirstOf (faults_found fits r) faults → IsChecked (record { names = r; faults = faults; known = known })
+pub checked_told : (r : Resolution) (faults : List Fault) → ModulesFit → NoFaultInModules → IsResolution r → ((faults ≡ []) ↔ (faults_in r ≡ []))
+    → (known : Option Tables) → MatchOption known (reported_module r ≡ [] → ⊥) (λ t. (reported_module r ≡ []) × HasDeclarations (named_tree_of r.module_read) t) → length faults ≤ 100 → AreFirstOf (faults_in r) faults
+    → IsChecked (record { names = r; faults = faults; known = known })
 unfolding WellTyped
-checked_told r fits faults law told_law none_law h e alike known some keeps few first =
+checked_told r faults told_law none_law h alike known knows few first =
     let m = named_tree_of r.module_read in
+    let fits : Bool = fits_over as_names m in
     let any = list_any is_of_declarations r.faults in
-    let by_names : fits ≡ fits_over as_names m = e ∙ ap (fits_over as_labels) (sym h.numbering) ∙ sym (law m) in
-    let whole : IsReported (fits && not any) (faults_found fits r) = told_with fits (types_found fits r) r.faults (types_told told_law fits r h by_names) in
+    let of_types : IsReported fits (reported_module r) = (told_law r h, none_law r h) in
+    let whole : IsReported (fits && not any) (faults_in r) = told_with fits (reported_module r) r.faults of_types in
     let told : IsReported (fits && not any) faults = ((λ none. whole.0 (alike.0 none)), (λ right. alike.1 (whole.1 right))) in
     record {
       resolved = h;
       told = (
         (λ none.
             let right = told.0 none in
-            (once_from (declared_once m) any h.told.declared_twice (second_right fits any right), sym by_names ∙ first_right fits any right)),
-        (λ w. told.1 (both_right fits any (by_names ∙ w.1) (from_once (declared_once m) any h.told.declared_twice w.0))),
+            (once_from (declared_once m) any h.told.declared_twice (second_right fits any right), first_right fits any right)),
+        (λ w. told.1 (both_right fits any w.1 (from_once (declared_once m) any h.told.declared_twice w.0))),
       );
-      holds = if_some known (λ t kept d. sym (kept d) ∙ ap (λ z. object_bound (module_bindings as_labels z) d) (sym h.numbering)) keeps;
-      kept = λ none. sym some ∙ first_right fits any (told.0 none);
+      holds = known_declares (reported_module r ≡ []) known (HasDeclarations m) knows;
+      kept = λ none. known_there (reported_module r ≡ []) known (HasDeclarations m) knows (none_law r h (first_right fits any (told.0 none)));
       few = few;
-      first = subst (λ fs. AreFirstOf (fs ++ filter is_of_declarations r.faults) faults) (types_reported none_law fits r h by_names) first;
+      first = first;
     }

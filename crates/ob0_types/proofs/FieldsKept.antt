@@ -4,7 +4,8 @@ use Rattle.ob0_types_fields.specs.Listed.{AreFields, Listed, listed_by}
 use Rattle.ob0_types_fields.proofs.ListedFields.{listed_fields}
 use Rattle.ob0_types_table.specs.KnownTables.{Tables}
 use Rattle.ob0_tree.specs.Parsed.{named_tree_of}
-use Rattle.ob0_types.specs.CheckedModules.{CheckedModule, HasDeclarations, IsChecked}
+use Rattle.ob0_types.specs.CheckedModules.{CheckedModule, IsChecked}
+use Rattle.ob0_types_check.specs.ModuleLaws.{HasDeclarations}
 
 pub fields_kept : (c : CheckedModule) → IsChecked c → (fields : Listed) → IfSome c.known (λ t. fields ≡ listed_by t c.names) → c.faults ≡ [] → AreFields c.names fields
 fields_kept c is fields listed none = go c.known (is.kept none) is.holds listed

@@ -7,8 +7,8 @@ use Rattle.ob0_scope_rules.specs.Resolution.{Resolution, IsResolution}
 use Rattle.ob0_scope_rules.specs.Names.{Name}
 use Rattle.ob0_tree.specs.Parsed.{named_tree_of}
 use Rattle.ob0_tree.specs.Tree.{Tree, module_text}
-use Rattle.ob0_types_rules.specs.Bindings.{declared_object}
-use Rattle.ob0_types_table.specs.KnownTables.{Tables, declared_in}
+use Rattle.ob0_types_check.specs.ModuleLaws.{HasDeclarations}
+use Rattle.ob0_types_table.specs.KnownTables.{Tables}
 use Rattle.ob0_types_rules.specs.WellTyped.{WellTyped}
 use Rattle.ob0_types.specs.FaultOrder.{AreFirstFaults}
 use Rattle.ob0_types.specs.declared.checked.ModuleTypes.{ModuleTypes}
@@ -19,10 +19,6 @@ pub record CheckedModule : Type 0 where
   pub names : Resolution
   pub faults : List Fault
   pub known : Option Tables
-
--- a table holds what each declaration of a module is, in scope or not
-abbrev pub HasDeclarations : Tree Name module_text → Tables → Type 0
-HasDeclarations m t = (k : ℕ) → declared_in t k ≡ declared_object m k
 
 -- nothing is reported exactly where all is right
 abbrev pub IsReported : Bool → List Fault → Type 0

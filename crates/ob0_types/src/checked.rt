@@ -3,19 +3,16 @@
 ghost use Rattle.ob0_scope_rules.specs.Resolution.{is_of_declarations};
 ghost use Rattle.ob0_types.specs.CheckedModules.{AreTypesOf, IsChecked, checked_by};
 ghost use Rattle.ob0_types.specs.FaultOrder.{AreFirstOf};
-ghost use Rattle.ob0_types.specs.FoundFaults.{faults_found, types_found};
 ghost use Rattle.std.specs.List.{filter};
 ghost use Rattle.std.specs.Prelude.{◌≡◌, ◌≤◌, ◌↔◌, ◌++◌, [], length, IfOk, IfSome, OnOk, MatchOption};
 ghost use Rattle.ob0_types_fields.specs.Listed.{listed_by};
 ghost use Rattle.ob0_scan.specs.Scanned.{max_faults};
 
-use ob0_checker::decide;
 use ob0_scan::{Code, Fault, MAX_FAULTS};
 use ob0_scope_rules::{PREDECLARED, Resolved};
 use ob0_types_check::laws::{modules_fit, no_fault_in_modules};
-use ob0_types_check::report_faults;
+use ob0_types_check::{Report, report_faults};
 use ob0_types_fields::{FieldList, typed_field};
-use ob0_types_rules::laws::fits_by_ordinal;
 use ob0_types_table::{FieldOf, Known, Parts, TypeId};
 use ob0_values::Scalar;
 use std::alloc::{AllocError, Global};
@@ -106,14 +103,14 @@ pub fn check<'t>(alloc: Global, resolved: &'t Resolved<'t>) -> Result<Checked<'t
 pub fn types_of<'t>(alloc: Global, resolved: &'t Resolved<'t>) -> Result<ModuleTypes, AllocError>
     ensures { IfOk result (AreTypesOf resolved.now) }
 {
-    fits_by_ordinal();
     modules_fit();
     no_fault_in_modules();
     // For the proof: what the contract of this call says.
     let _module = resolved.module();
-    let known = decide(alloc, resolved)?;
+    let report = report_faults(alloc, resolved)?;
+    let Report { faults, known } = report;
+    let faults = faults_of(resolved, faults)?;
     let fields = known_fields(alloc, resolved, &known)?;
-    let faults = faults_of(alloc, resolved, known.is_some())?;
     Ok(ModuleTypes {
         known,
         fields,
@@ -137,37 +134,19 @@ fn known_fields<'t>(
 }
 
 /// The faults of scopes and types, sorted by start, end and number, the first 100. Names that nothing binds are reported with
-/// the types.
-fn faults_of<'t>(
-    alloc: Global,
-    resolved: &'t Resolved<'t>,
-    fits: bool,
-) -> Result<Vec<Fault>, AllocError>
-    ensures none { IfOk result
-        (λ faults. (faults.items ≡ []) ↔ (faults_found fits resolved.now ≡ [])) }
+/// the types, which were looked for before.
+fn faults_of<'t>(resolved: &'t Resolved<'t>, of_types: Vec<Fault>) -> Result<Vec<Fault>, AllocError>
+    ensures none { IfOk result (λ faults. (faults.items ≡ [])
+        ↔ (of_types.items ++ filter is_of_declarations resolved.now.faults ≡ [])) }
     ensures few { IfOk result (λ faults. length faults.items ≤ max_faults) }
-    ensures first { IfOk result
-        (λ faults. AreFirstOf (faults_found fits resolved.now) faults.items) }
+    ensures first { IfOk result (λ faults. AreFirstOf
+        (of_types.items ++ filter is_of_declarations resolved.now.faults) faults.items) }
 {
-    let mut faults = of_types(alloc, resolved, fits)?;
+    let mut faults = of_types;
     add_declarations(&mut faults, resolved.faults())?;
     faults.sort_by_key(|fault| (fault.span.start, fault.span.end, fault.code))?;
     faults.truncate(MAX_FAULTS);
     Ok(faults)
-}
-
-/// The faults of types. Of a well-typed module there are none, so nothing is looked for.
-fn of_types<'t>(
-    alloc: Global,
-    resolved: &'t Resolved<'t>,
-    fits: bool,
-) -> Result<Vec<Fault>, AllocError>
-    ensures { IfOk result (λ faults. faults.items ≡ types_found fits resolved.now) }
-{
-    if fits {
-        return Ok(Vec::new(alloc));
-    }
-    report_faults(alloc, resolved)
 }
 
 /// Adds names that are declared twice, and closing names that differ.
@@ -265,7 +244,8 @@ impl<'t> Checked<'t> {
 impl<'t> WellTyped<'t> {
     ghost use Rattle.std.specs.Prelude.{option_map};
     ghost use Rattle.ob0_tree.specs.Parsed.{named_tree_of};
-    ghost use Rattle.ob0_types.specs.CheckedModules.{HasDeclarations, IsWellTyped};
+    ghost use Rattle.ob0_types.specs.CheckedModules.{IsWellTyped};
+    ghost use Rattle.ob0_types_check.specs.ModuleLaws.{HasDeclarations};
     ghost use Rattle.ob0_types_fields.specs.Listed.{AreFields};
     ghost use Rattle.ob0_types_rules.specs.ConstantValues.{value_of_constant};
     ghost use Rattle.ob0_types_rules.specs.Bindings.{declared_object};

@@ -1,5 +1,5 @@
 -- Constants, types, variables and parameters of which nothing is reported are declared.
-use Rattle.std.proofs.Common.{◌≡◌, ℕ, suc, ◌+◌, ◌≤◌, true, List, [], ◌∷◌, ◌++◌, map, Option, Some, option_and_then, refl, sym, ap, ◌∙◌, subst, subst₂, le_refl, le_of_lt, arith}
+use Rattle.std.proofs.Common.{◌≡◌, ℕ, suc, ◌+◌, ◌≤◌, true, List, [], ◌∷◌, ◌++◌, length, map, Option, Some, option_and_then, refl, sym, ap, ◌∙◌, subst, subst₂, le_refl, le_of_lt, arith}
 use Rattle.std.proofs.lemmas.List.{map-append}
 use Rattle.ob0_tree.specs.Places.{named, text_at, value_at}
 use Rattle.ob0_tree.specs.Tree.{Tree, constant, declares_constant, declares_type, declares_variable, end, items, mapped, more, type_name, variable}
@@ -66,50 +66,50 @@ module _ (w : Numbering) (fit : PartsFit) where
       let c = fit.constants p before (text_at w.source) (meanings as_names env) e (agrees_where_seen w p true before n scope env st fit e placed.1) (none_both v.faults [] a.0).0 in
       let given : constant_value (meanings as_names env) (named w.source e) ≡ Some c.value = ap (λ s. constant_value (meanings as_names env) (mapped (text_at w.source) (value_at s) e)) (sym st.source) ∙ c.given in
       let d = defined w p before n (a_constant v.known) x st.ordinals st.room st.table placed.0 in
-      let next = stands_defined w p q before n scope env (a_constant v.known) (text_at w.source x) (meant.a_constant c.value) st d (c.value, c.known, refl, c.scalar) in
+      let next = stands_defined w p q before n scope env (a_constant v.known) (text_at w.source x) (meant.a_constant c.value) st d refl (c.value, c.known, refl, c.scalar) in
       declared_then w n (suc n) (after_names (suc n) (constant_names cs)) k k k p q (reported_constants q cs).known before before (scope_behind w (suc n) (constant_names cs) ((text_at w.source x, n) ∷ scope))
       (constant_value (meanings as_names env) (named w.source e)) c.value (λ v. declare_constants as_names ((text_at w.source x, meant.a_constant v) ∷ env) (named w.source cs)) (next_le n) given (apart_same k k before refl) d.later
       (constants_declare cs k (suc n) q before ((text_at w.source x, n) ∷ scope) ((text_at w.source x, meant.a_constant c.value) ∷ env) next placed.2 a.1)
 
-  pub types_declare : (ds : Tree ℕ (items type_name)) (k n : ℕ) (p : SoFar) (before : List Shape) (scope : Scope Name) (env : TypeEnvironment Name) → Stands w p before n scope env → TypesPlaced w scope n ds → (reported_types p ds).faults ≡ []
+  pub types_declare : (ds : Tree ℕ (items type_name)) (k n : ℕ) (p : SoFar) (before : List Shape) (scope : Scope Name) (env : TypeEnvironment Name) → length before ≡ k → Stands w p before n scope env → TypesPlaced w scope n ds → (reported_types p ds).faults ≡ []
       → Declared w n (after_names n (named_types ds)) k (k + types_constructors (named w.source ds)) p (reported_types p ds).known before (scope_behind w n (named_types ds) scope) (declare_types as_names env k (named w.source ds))
   unfolding reported_types type_declared declare_types
-  types_declare end k n p before scope env st placed h = nothing_declared w n k (k + 0) (omega arith) p before scope env st
-  types_declare (more (declares_type x t) ds) k n p before scope env st placed h =
-      let u : Reported TypedAfter = reported_type p t in
+  types_declare end k n p before scope env at st placed h = nothing_declared w n k (k + 0) (omega arith) p before scope env st
+  types_declare (more (declares_type x t) ds) k n p before scope env at st placed h =
+      let u : Reported TypedAfter = reported_type 0 p t in
       let q : SoFar = define u.known.behind (a_type u.known.of) x in
       let a = none_both (u.faults ++ []) (reported_types q ds).faults h in
-      let s = type_denotes w fit n scope env k t p before st placed.1 (none_both u.faults [] a.0).0 in
+      let s = type_denotes w fit n scope env 0 k t p before (omega (arith, at)) st placed.1 (none_both u.faults [] a.0).0 in
       let behind = stands_later w n n n p u.known.behind before s.after scope env (le_refl n) (le_refl n) st s.later in
       let d = defined w u.known.behind s.after n (a_type u.known.of) x behind.ordinals behind.room behind.table placed.0 in
-      let next = stands_defined w u.known.behind q s.after n scope env (a_type u.known.of) (text_at w.source x) (meant.a_type s.shape) behind d (s.shape, s.known, refl) in
+      let next = stands_defined w u.known.behind q s.after n scope env (a_type u.known.of) (text_at w.source x) (meant.a_type s.shape) behind d refl (s.shape, s.known, refl) in
       let own : ℕ = constructors (named w.source t) in
       let others : ℕ = types_constructors (named w.source ds) in
       subst (λ l. Declared w n (after_names (suc n) (named_types ds)) k l p (reported_types q ds).known before (scope_behind w (suc n) (named_types ds) ((text_at w.source x, n) ∷ scope)) (declare_types as_names env k (named w.source (more (declares_type x t) ds)))) (more_constructors k own others)
       (declared_then w n (suc n) (after_names (suc n) (named_types ds)) k (k + own) (k + own + others) p q (reported_types q ds).known before s.after (scope_behind w (suc n) (named_types ds) ((text_at w.source x, n) ∷ scope))
       (denoted (meanings as_names env) k (named w.source t)) s.shape (λ s. declare_types as_names ((text_at w.source x, meant.a_type s) ∷ env) (k + constructors (named w.source t)) (named w.source ds)) (next_le n) s.given_is s.apart
       (later_then n n p u.known.behind q before s.after s.after (le_refl n) s.later d.later)
-      (types_declare ds (k + constructors (named w.source t)) (suc n) q s.after ((text_at w.source x, n) ∷ scope) ((text_at w.source x, meant.a_type s.shape) ∷ env) next placed.2 a.1))
+      (types_declare ds (k + constructors (named w.source t)) (suc n) q s.after ((text_at w.source x, n) ∷ scope) ((text_at w.source x, meant.a_type s.shape) ∷ env) (omega (arith, at, s.apart.counted)) next placed.2 a.1))
 
   behind-append : (n : ℕ) (xs ys : List ℕ) (scope : Scope Name) → scope_behind w (after_names n xs) ys (scope_behind w n xs scope) ≡ scope_behind w n (xs ++ ys) scope
   behind-append n xs ys scope =
       sym (ap (λ zs. declare_names n zs scope) (map-append (text_at w.source) xs ys) ∙ (declare_names-append n (map (text_at w.source) xs) (map (text_at w.source) ys) scope
       ∙ (λ i. declare_names (after_names-map (text_at w.source) n xs i) (map (text_at w.source) ys) (declare_names n (map (text_at w.source) xs) scope))))
 
-  pub variables_declare : (gs : Tree ℕ (items variable)) (k n : ℕ) (p : SoFar) (before : List Shape) (scope : Scope Name) (env : TypeEnvironment Name) → Stands w p before n scope env → VariablesPlaced w scope n gs → (reported_variables p gs).faults ≡ []
+  pub variables_declare : (gs : Tree ℕ (items variable)) (k n : ℕ) (p : SoFar) (before : List Shape) (scope : Scope Name) (env : TypeEnvironment Name) → length before ≡ k → Stands w p before n scope env → VariablesPlaced w scope n gs → (reported_variables p gs).faults ≡ []
       → Declared w n (after_names n (variable_names gs)) k (k + variables_constructors (named w.source gs)) p (reported_variables p gs).known before (scope_behind w n (variable_names gs) scope) (declare_typed as_names k (named w.source gs) env)
   unfolding reported_variables variables_declared declare_typed
-  variables_declare end k n p before scope env st placed h = nothing_declared w n k (k + 0) (omega arith) p before scope env st
-  variables_declare (more (declares_variable ns t) gs) k n p before scope env st placed h =
+  variables_declare end k n p before scope env at st placed h = nothing_declared w n k (k + 0) (omega arith) p before scope env st
+  variables_declare (more (declares_variable ns t) gs) k n p before scope env at st placed h =
       let xs : List ℕ = names_listed ns in
-      let u : Reported TypedAfter = reported_type p t in
+      let u : Reported TypedAfter = reported_type 0 p t in
       let q : SoFar = define_all u.known.behind (a_variable u.known.of) xs in
       let a = none_both (u.faults ++ []) (reported_variables q gs).faults h in
-      let s = type_denotes w fit n scope env k t p before st placed.1 (none_both u.faults [] a.0).0 in
+      let s = type_denotes w fit n scope env 0 k t p before (omega (arith, at)) st placed.1 (none_both u.faults [] a.0).0 in
       let behind = stands_later w n n n p u.known.behind before s.after scope env (le_refl n) (le_refl n) st s.later in
-      let all = all_defined w u.known.behind s.after n scope env (a_variable u.known.of) xs (meant.a_variable s.shape) behind placed.0 (s.shape, s.known, refl) in
+      let all = all_defined w u.known.behind s.after n scope env (a_variable u.known.of) xs (meant.a_variable s.shape) behind placed.0 refl (s.shape, s.known, refl) in
       let own : names_listed (named w.source ns) ≡ map (text_at w.source) xs = names_listed-mapped (text_at w.source) (value_at w.source) ns in
-      let rest = variables_declare gs (k + constructors (named w.source t)) (after_names n xs) q s.after (scope_behind w n xs scope) (bind_names (map (text_at w.source) xs) (meant.a_variable s.shape) env) all.stands placed.2 a.1 in
+      let rest = variables_declare gs (k + constructors (named w.source t)) (after_names n xs) q s.after (scope_behind w n xs scope) (bind_names (map (text_at w.source) xs) (meant.a_variable s.shape) env) (omega (arith, at, s.apart.counted)) all.stands placed.2 a.1 in
       let one : ℕ = constructors (named w.source t) in
       let others : ℕ = variables_constructors (named w.source gs) in
       let whole = declared_then w n (after_names n xs) (after_names (after_names n xs) (variable_names gs)) k (k + one) (k + one + others) p q (reported_variables q gs).known before s.after (scope_behind w (after_names n xs) (variable_names gs) (scope_behind w n xs scope))

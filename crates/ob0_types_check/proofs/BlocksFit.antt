@@ -8,8 +8,9 @@ use Rattle.ob0_tree.specs.Tree.{Tree, begins, block, body, constants, declares, 
 use Rattle.ob0_scope_rules.specs.Names.{Name, as_names}
 use Rattle.ob0_scope_rules.specs.Parts.{constant_names, formal_names, formal_sections, module_block, named_types, procedure_formals, procedure_name, section_constants, section_types, section_variables, variable_names}
 use Rattle.ob0_scope_rules.specs.Resolution.{Resolution, is_of_occurrences}
-use Rattle.ob0_scope_rules.specs.Scopes.{Scope, after_names, after_procedure, first_procedure, first_type, first_variable, predeclared_scope}
+use Rattle.ob0_scope_rules.specs.Scopes.{Scope, after_block, after_names, after_procedure, after_procedures, first_procedure, first_type, first_variable, predeclared_scope}
 use Rattle.ob0_scope_rules.proofs.Ordinals.{le-after_names, le-after_procedure}
+use Rattle.ob0_types_rules.specs.Bindings.{block_bindings, for_some, procedure_bindings, procedures_bindings, since}
 use Rattle.ob0_types_rules.specs.Declarations.{after_types, after_variables, block_constructors, declare_constants, declare_first, declare_types, formals_constructors, procedure_constructors, procedures_constructors, types_constructors, variables_constructors}
 use Rattle.ob0_types_rules.specs.Environments.{meanings, outermost}
 use Rattle.ob0_types_rules.specs.Expressions as meant
@@ -26,15 +27,19 @@ use Rattle.ob0_types_check.proofs.DeclaredNames.{AreSeen, BlockPlaced, Constants
 use Rattle.ob0_types_check.proofs.DeclaredStanding.{Later, NamesStand, Stands, agrees_where_seen, defined, later_of, later_same, later_then, stands_defined, stands_later}
 use Rattle.ob0_types_check.proofs.DeclaredTypes.{none_both}
 use Rattle.ob0_types_check.proofs.BlocksDeclared.{Declared, constants_declare, declared_then, more_constructors, next_le, types_declare, variables_declare}
+use Rattle.ob0_types_check.proofs.BindingsByOrdinal.{procedure-listed, procedures-listed}
+use Rattle.ob0_types_check.proofs.BlocksBound.{BindingsStand, as_long, bindings_both, bindings_later, heading_since, names_bind, sections_bind}
 use Rattle.ob0_types_check.proofs.MadeOnce.{Apart, apart_same, apart_then, apart_to}
 use Rattle.ob0_types_check.proofs.BlocksParameters.{formals_of, parameters_kept, parameters_over, sections_declare}
 
--- it fits, and what is known after it, with the constructors from k on, up to l
-pub record FitsLater (n k l : ℕ) (p q : SoFar) (before : List Shape) (fits : Bool) : Type 0 where
+-- it fits, and what is known after it, with the constructors from k on, up to l, and the bindings of the ordinals from n on,
+-- up to m
+pub record FitsLater (n m k l : ℕ) (p q : SoFar) (before : List Shape) (fits : Bool) (bindings : TypeEnvironment Name) : Type 0 where
   pub right : fits ≡ true
   pub after : List Shape
   pub apart : Apart k l before after
   pub later : Later n p q before after
+  pub bound : BindingsStand after q.declared n m bindings
 
 -- a procedure that fits, and what is known after it
 pub record ProcedureFits (w : Numbering) (n : ℕ) (p q : SoFar) (before : List Shape) (scope : Scope Name) (env : TypeEnvironment Name) (k : ℕ) (d : Tree ℕ (item procedure)) : Type 0 where
@@ -45,6 +50,7 @@ pub record ProcedureFits (w : Numbering) (n : ℕ) (p q : SoFar) (before : List 
   pub apart : Apart k (k + procedure_constructors (named w.source d)) before after
   pub later : Later n p q before after
   pub stands : Stands w q after (after_procedure (suc n) d) (behind_procedure w scope n d) (heading (procedure_name (named w.source d)) parameters env)
+  pub bound : BindingsStand after q.declared n (after_procedure (suc n) d) (procedure_bindings as_names env k (named w.source d))
 
 -- what is known after a procedure's heading, where its parameters and it are known
 abbrev pub heading_known : SoFar → ℕ → Tree ℕ (maybe formals) → SoFar
@@ -80,7 +86,7 @@ module _ (w : Numbering) (fit : PartsFit) where
       ∙ fit.statements p before (text_at w.source) (meanings as_names env) s (agrees_where_seen w p false before n scope env st fit s seen) h
 
   -- a block's constants, types and variables
-  pub declarations_told : (cs : Tree ℕ (maybe constants)) (ts : Tree ℕ (maybe type_names)) (vs : Tree ℕ (maybe variables)) (ps : Tree ℕ (items procedure)) (statements : Tree ℕ (maybe body)) (k n : ℕ) (p : SoFar) (before : List Shape) (scope : Scope Name) (env : TypeEnvironment Name) → Stands w p before n scope env
+  pub declarations_told : (cs : Tree ℕ (maybe constants)) (ts : Tree ℕ (maybe type_names)) (vs : Tree ℕ (maybe variables)) (ps : Tree ℕ (items procedure)) (statements : Tree ℕ (maybe body)) (k n : ℕ) (p : SoFar) (before : List Shape) (scope : Scope Name) (env : TypeEnvironment Name) → length before ≡ k → Stands w p before n scope env
       → ConstantsPlaced w scope n (section_constants cs)
       → TypesPlaced w (behind_constants w scope n (has_body (declares cs ts vs ps) statements)) (first_type n (has_body (declares cs ts vs ps) statements)) (section_types ts)
       → VariablesPlaced w (behind_types w scope n (has_body (declares cs ts vs ps) statements)) (first_variable n (has_body (declares cs ts vs ps) statements)) (section_variables vs)
@@ -90,7 +96,7 @@ module _ (w : Numbering) (fit : PartsFit) where
       → Declared w n (first_procedure n (has_body (declares cs ts vs ps) statements)) k (after_variables k (named w.source (has_body (declares cs ts vs ps) statements))) p (reported_variables (reported_types (reported_constants p (section_constants cs)).known (section_types ts)).known (section_variables vs)).known before (behind_variables w scope n (has_body (declares cs ts vs ps) statements))
       (option_and_then (declare_typed as_names (after_types k (named w.source (has_body (declares cs ts vs ps) statements))) (section_variables (named w.source vs))) (declare_first as_names env k (named w.source (has_body (declares cs ts vs ps) statements))))
   unfolding declare_first
-  declarations_told cs ts vs ps statements k n p before scope env st placed₀ placed₁ placed₂ none₀ none₁ none₂ =
+  declarations_told cs ts vs ps statements k n p before scope env at st placed₀ placed₁ placed₂ none₀ none₁ none₂ =
       let text : ℕ → Name = text_at w.source in
       let value : ℕ → ℕ = value_at w.source in
       let b : Tree ℕ block = has_body (declares cs ts vs ps) statements in
@@ -99,42 +105,45 @@ module _ (w : Numbering) (fit : PartsFit) where
       let p₂ : SoFar = (reported_types p₁ (section_types ts)).known in
       let p₃ : SoFar = (reported_variables p₂ (section_variables vs)).known in
       let dc = constants_declare w fit (section_constants cs) k n p before scope env st placed₀ none₀ in
-      let dt = types_declare w fit (section_types ts) k (first_type n b) p₁ dc.after (behind_constants w scope n b) dc.env dc.stands placed₁ none₁ in
+      let dt = types_declare w fit (section_types ts) k (first_type n b) p₁ dc.after (behind_constants w scope n b) dc.env (omega (arith, at, dc.apart.counted)) dc.stands placed₁ none₁ in
       let le₁ : n ≤ first_type n b = le-after_names n (constant_names (section_constants cs)) in
       let le₂ : n ≤ first_variable n b = le_trans le₁ (le-after_names (first_type n b) (named_types (section_types ts))) in
       let first : Declared w n (first_variable n b) k (after_types k nb) p p₂ before (behind_types w scope n b) (declare_first as_names env k nb) =
       declared_then w n (first_type n b) (first_variable n b) k k (after_types k nb) p p₁ p₂ before dc.after (behind_types w scope n b) (declare_constants as_names env (section_constants (named w.source cs))) dc.env (λ e. declare_types as_names e k (section_types (named w.source ts))) le₁
       (ap (declare_constants as_names env) (constants-mapped text value cs) ∙ dc.given_is) dc.apart dc.later
       (subst (λ z. Declared w (first_type n b) (first_variable n b) k (k + types_constructors z) p₁ p₂ dc.after (behind_types w scope n b) (declare_types as_names dc.env k z)) (sym (types-mapped text value ts)) dt) in
-      let dv = variables_declare w fit (section_variables vs) (after_types k nb) (first_variable n b) p₂ first.after (behind_types w scope n b) first.env first.stands placed₂ none₂ in
+      let dv = variables_declare w fit (section_variables vs) (after_types k nb) (first_variable n b) p₂ first.after (behind_types w scope n b) first.env (omega (arith, at, first.apart.counted)) first.stands placed₂ none₂ in
       declared_then w n (first_variable n b) (first_procedure n b) k (after_types k nb) (after_variables k nb) p p₂ p₃ before first.after (behind_variables w scope n b) (declare_first as_names env k nb) first.env (declare_typed as_names (after_types k nb) (section_variables (named w.source vs))) le₂ first.given_is first.apart first.later
       (subst (λ z. Declared w (first_variable n b) (first_procedure n b) (after_types k nb) (after_types k nb + variables_constructors z) p₂ p₃ first.after (behind_variables w scope n b) (declare_typed as_names (after_types k nb) z first.env)) (sym (variables-mapped text value vs)) dv)
 
   -- a block after its declarations
-  block_then : (p v q : SoFar) (before : List Shape) (n m k j l : ℕ) (scope : Scope Name) (given : Option (TypeEnvironment Name)) (statements : Tree ℕ (maybe body)) (test : TypeEnvironment Name → Bool) → n ≤ m → (d : Declared w n m k j p v before scope given) → FitsLater m j l v q d.after (test d.env)
-      → FitsLater n k l p (reported_body q statements).known before (some_and given test)
-  block_then p v q before n m k j l scope given statements test le d f =
-      subst (λ z. FitsLater n k l p z before (some_and given test)) (sym (body_known q statements)) (record {
+  block_then : (p v q : SoFar) (before : List Shape) (n m i k j l : ℕ) (scope : Scope Name) (env : TypeEnvironment Name) (given : Option (TypeEnvironment Name)) (statements : Tree ℕ (maybe body)) (test : TypeEnvironment Name → Bool) (bindings : TypeEnvironment Name → TypeEnvironment Name) → n ≤ m → (d : Declared w n m k j p v before scope given)
+      → BindingsStand d.after v.declared n m (since env d.env) → FitsLater m i j l v q d.after (test d.env) (bindings d.env)
+      → FitsLater n i k l p (reported_body q statements).known before (some_and given test) (for_some given (λ inner. bindings inner ++ since env inner))
+  block_then p v q before n m i k j l scope env given statements test bindings le d own f =
+      subst (λ z. FitsLater n i k l p z before (some_and given test) (for_some given (λ inner. bindings inner ++ since env inner))) (sym (body_known q statements)) (record {
         right = ap (λ o. some_and o test) d.given_is ∙ f.right;
         after = f.after;
         apart = apart_then k j l before d.after f.after d.apart f.apart;
         later = later_then n m p v q before d.after f.after le d.later f.later;
+        bound = subst (BindingsStand f.after q.declared n i) (sym (ap (λ o. for_some o (λ inner. bindings inner ++ since env inner)) d.given_is))
+            (bindings_both f.after q.declared n m i (bindings d.env) (since env d.env) f.bound (bindings_later d.after f.after v.declared q.declared n m m f.later.longer f.later.kept (le_refl m) (since env d.env) own));
       })
 
   -- a procedure's heading, and what is known after it
-  pub heading_told : (x : ℕ) (fs : Tree ℕ (maybe formals)) (k n : ℕ) (p : SoFar) (before : List Shape) (scope : Scope Name) (env : TypeEnvironment Name) → Stands w p before n scope env → IsPlaced w n x → SectionsPlaced w scope (suc n) (formal_sections fs)
+  pub heading_told : (x : ℕ) (fs : Tree ℕ (maybe formals)) (k n : ℕ) (p : SoFar) (before : List Shape) (scope : Scope Name) (env : TypeEnvironment Name) → length before ≡ k → Stands w p before n scope env → IsPlaced w n x → SectionsPlaced w scope (suc n) (formal_sections fs)
       → (reported_sections (record { formals = []; behind = p }) (formal_sections fs)).faults ≡ [] → HeadingKnown w n p before scope env k x fs
-  heading_told x fs k n p before scope env st placed sections untold =
+  heading_told x fs k n p before scope env at st placed sections untold =
       let text : ℕ → Name = text_at w.source in
       let start : KnownHeading = record { formals = []; behind = p } in
       let g : KnownHeading = (reported_sections start (formal_sections fs)).known in
       let q₁ : SoFar = heading_known p x fs in
       let weak = stands_later w n n (suc n) p p before before scope env (le_refl n) (next_le n) st (later_same n p before st.table) in
-      let ps = sections_declare w fit (formal_sections fs) k (suc n) start before scope env weak sections untold in
+      let ps = sections_declare w fit (formal_sections fs) k (suc n) start before scope env at weak sections untold in
       let signature : Signature = formals_of ps.parameters in
       let outer = stands_later w n (suc n) n p g.behind before ps.after scope env (next_le n) (le_refl n) st ps.later in
       let made = defined w g.behind ps.after n (a_procedure g.formals) x outer.ordinals outer.room outer.table placed in
-      let own = stands_defined w g.behind q₁ ps.after n scope env (a_procedure g.formals) (text x) (meant.a_procedure signature) outer made (signature, refl, ps.formals [] tt) in
+      let own = stands_defined w g.behind q₁ ps.after n scope env (a_procedure g.formals) (text x) (meant.a_procedure signature) outer made refl (signature, refl, ps.formals [] tt) in
       let names : List ℕ = formal_names (formal_sections fs) in
       let xs : List Name = map text names in
       let kept = parameters_kept ps.after ps.after g.behind.declared q₁.declared (suc n) (after_names (suc n) xs) (λ t s e. e) (λ j from to. made.others j (above j n from)) xs ps.parameters (le_refl (after_names (suc n) xs)) ps.own in
@@ -155,14 +164,33 @@ module _ (w : Numbering) (fit : PartsFit) where
         };
       }
 
-  mutual
-    unfolding reported_block block_fits
+  -- a procedure's name and parameters
+  heading_bound : (x : ℕ) (fs : Tree ℕ (maybe formals)) (n : ℕ) (scope : Scope Name) (env : TypeEnvironment Name) (p : SoFar) (before : List Shape) {k : ℕ} → NamesStand before p.declared n scope env → (e : HeadingKnown w n p before scope env k x fs)
+      → BindingsStand e.after (heading_known p x fs).declared n (after_names (suc n) (formal_names (formal_sections fs))) (bind_typed e.parameters (heading (text_at w.source x) e.parameters []))
+  heading_bound x fs n scope env p before names e =
+      let text : ℕ → Name = text_at w.source in
+      let xs : List ℕ = formal_names (formal_sections fs) in
+      let m : ℕ = after_names (suc n) xs in
+      subst (BindingsStand e.after (heading_known p x fs).declared n m) (heading_since e.parameters (text x, meant.a_procedure (formals_of e.parameters)) env)
+      (names_bind e.after (heading_known p x fs).declared m n m (text x ∷ map text xs) scope env (bind_typed e.parameters (heading (text x) e.parameters env)) (after_names-map text (suc n) xs) (as_long before p.declared n scope env names) e.inside.names)
 
-    pub block_told : (b : Tree ℕ block) (k n : ℕ) (p : SoFar) (before : List Shape) (scope : Scope Name) (env : TypeEnvironment Name) → Stands w p before n scope env → BlockPlaced w scope n b → (reported_block p b).faults ≡ []
-        → FitsLater n k (k + block_constructors (named w.source b)) p (reported_block p b).known before (block_fits as_names env k (named w.source b))
-    block_told (has_body (declares cs ts vs ps) statements) k n p before scope env st placed h =
+  -- the bindings of a procedure and those after it
+  procedures_bound : (d : Tree ℕ (item procedure)) (rest : Tree ℕ (items procedure)) (k : ℕ) (env : TypeEnvironment Name) (parameters : List (TypedParameter Name)) → typed_parameters as_names env k (procedure_formals (named w.source d)) ≡ Some parameters
+      → procedure_fits as_names (bind_typed parameters (heading (procedure_name (named w.source d)) parameters env)) k (named w.source d) ≡ true
+      → procedures_bindings as_names env k (named w.source (more d rest)) ≡ procedures_bindings as_names (heading (procedure_name (named w.source d)) parameters env) (k + procedure_constructors (named w.source d)) (named w.source rest) ++ procedure_bindings as_names env k (named w.source d)
+  unfolding block_fits
+  procedures_bound (declares_procedure x fs b closing) rest k env parameters typed right =
+      procedures-listed as_names env k (text_at w.source x) (named w.source fs) (named w.source b) (text_at w.source closing) (named w.source rest) parameters typed right
+
+  mutual
+    unfolding reported_block block_fits block_bindings
+
+    pub block_told : (b : Tree ℕ block) (k n : ℕ) (p : SoFar) (before : List Shape) (scope : Scope Name) (env : TypeEnvironment Name) → length before ≡ k → Stands w p before n scope env → BlockPlaced w scope n b → (reported_block p b).faults ≡ []
+        → FitsLater n (after_block n b) k (k + block_constructors (named w.source b)) p (reported_block p b).known before (block_fits as_names env k (named w.source b)) (block_bindings as_names env k (named w.source b))
+    block_told (has_body (declares cs ts vs ps) statements) k n p before scope env at st placed h =
         let b : Tree ℕ block = has_body (declares cs ts vs ps) statements in
         let nb : Tree Name block = named w.source b in
+        let text : ℕ → Name = text_at w.source in
         let t₁ : Reported SoFar = reported_constants p (section_constants cs) in
         let t₂ : Reported SoFar = reported_types t₁.known (section_types ts) in
         let t₃ : Reported SoFar = reported_variables t₂.known (section_variables vs) in
@@ -172,24 +200,27 @@ module _ (w : Numbering) (fit : PartsFit) where
         let a₂ = none_both t₂.faults (t₃.faults ++ (t₄.faults ++ t₅.faults)) a₁.1 in
         let a₃ = none_both t₃.faults (t₄.faults ++ t₅.faults) a₂.1 in
         let a₄ = none_both t₄.faults t₅.faults a₃.1 in
-        let d = declarations_told cs ts vs ps statements k n p before scope env st placed.0 placed.1 placed.2 a₁.0 a₂.0 a₃.0 in
+        let d = declarations_told cs ts vs ps statements k n p before scope env at st placed.0 placed.1 placed.2 a₁.0 a₂.0 a₃.0 in
         let le : n ≤ first_procedure n b = le_trans (le-after_names n (constant_names (section_constants cs))) (le_trans (le-after_names (first_type n b) (named_types (section_types ts))) (le-after_names (first_variable n b) (variable_names (section_variables vs)))) in
-        let rest = procedures_told ps statements (after_variables k nb) (first_procedure n b) t₃.known d.after (behind_variables w scope n b) d.env d.stands placed.3 a₄.0 a₄.1 in
+        let rest = procedures_told ps statements (after_variables k nb) (first_procedure n b) t₃.known d.after (behind_variables w scope n b) d.env (omega (arith, at, d.apart.counted)) d.stands placed.3 a₄.0 a₄.1 in
         let l : ℕ = after_variables k nb + procedures_constructors (named w.source ps) in
-        subst (λ j. FitsLater n k j p (reported_block p (has_body (declares cs ts vs ps) statements)).known before (block_fits as_names env k (named w.source (has_body (declares cs ts vs ps) statements))))
+        let own = sections_bind d.after t₃.known.declared (first_procedure n b) n (first_type n b) (first_variable n b) (first_procedure n b) (map text (constant_names (section_constants cs))) (map text (named_types (section_types ts))) (map text (variable_names (section_variables vs))) scope env d.env
+        (after_names-map text n (constant_names (section_constants cs))) (after_names-map text (first_type n b) (named_types (section_types ts))) (after_names-map text (first_variable n b) (variable_names (section_variables vs)))
+        (as_long before p.declared n scope env st.names) d.stands.names in
+        subst (λ j. FitsLater n (after_block n b) k j p (reported_block p (has_body (declares cs ts vs ps) statements)).known before (block_fits as_names env k (named w.source (has_body (declares cs ts vs ps) statements))) (block_bindings as_names env k (named w.source (has_body (declares cs ts vs ps) statements))))
         (block_end k (types_constructors (section_types (named w.source ts))) (variables_constructors (section_variables (named w.source vs))) (procedures_constructors (named w.source ps)))
-        (block_then p t₃.known t₄.known before n (first_procedure n b) k (after_variables k nb) l (behind_variables w scope n b) (option_and_then (declare_typed as_names (after_types k nb) (section_variables (named w.source vs))) (declare_first as_names env k nb)) statements
-        (λ inner. procedures_fit as_names inner (after_variables k nb) (named w.source statements) (named w.source ps)) le d rest)
+        (block_then p t₃.known t₄.known before n (first_procedure n b) (after_block n b) k (after_variables k nb) l (behind_variables w scope n b) env (option_and_then (declare_typed as_names (after_types k nb) (section_variables (named w.source vs))) (declare_first as_names env k nb)) statements
+        (λ inner. procedures_fit as_names inner (after_variables k nb) (named w.source statements) (named w.source ps)) (λ inner. procedures_bindings as_names inner (after_variables k nb) (named w.source ps)) le d own rest)
 
-    procedures_told : (ps : Tree ℕ (items procedure)) (statements : Tree ℕ (maybe body)) (k n : ℕ) (p : SoFar) (before : List Shape) (scope : Scope Name) (env : TypeEnvironment Name) → Stands w p before n scope env → ProceduresPlaced w scope n statements ps → (reported_procedures p ps).faults ≡ []
-        → (reported_body (reported_procedures p ps).known statements).faults ≡ [] → FitsLater n k (k + procedures_constructors (named w.source ps)) p (reported_procedures p ps).known before (procedures_fit as_names env k (named w.source statements) (named w.source ps))
-    procedures_told end statements k n p before scope env st placed h last = record { right = body_told statements n p before scope env st placed last; after = before; apart = apart_same k (k + 0) before (omega arith); later = later_same n p before st.table }
-    procedures_told (more d rest) statements k n p before scope env st placed h last =
+    procedures_told : (ps : Tree ℕ (items procedure)) (statements : Tree ℕ (maybe body)) (k n : ℕ) (p : SoFar) (before : List Shape) (scope : Scope Name) (env : TypeEnvironment Name) → length before ≡ k → Stands w p before n scope env → ProceduresPlaced w scope n statements ps → (reported_procedures p ps).faults ≡ []
+        → (reported_body (reported_procedures p ps).known statements).faults ≡ [] → FitsLater n (after_procedures n ps) k (k + procedures_constructors (named w.source ps)) p (reported_procedures p ps).known before (procedures_fit as_names env k (named w.source statements) (named w.source ps)) (procedures_bindings as_names env k (named w.source ps))
+    procedures_told end statements k n p before scope env at st placed h last = record { right = body_told statements n p before scope env st placed last; after = before; apart = apart_same k (k + 0) before (omega arith); later = later_same n p before st.table; bound = refl }
+    procedures_told (more d rest) statements k n p before scope env at st placed h last =
         let nd : Tree Name (item procedure) = named w.source d in
         let q : SoFar = (reported_procedure p d).known in
         let a = none_both (reported_procedure p d).faults (reported_procedures q rest).faults h in
-        let f = procedure_told d k n p before scope env st placed.0 a.0 in
-        let others = procedures_told rest statements (k + procedure_constructors nd) (after_procedure (suc n) d) q f.after (behind_procedure w scope n d) (heading (procedure_name nd) f.parameters env) f.stands placed.1 a.1 last in
+        let f = procedure_told d k n p before scope env at st placed.0 a.0 in
+        let others = procedures_told rest statements (k + procedure_constructors nd) (after_procedure (suc n) d) q f.after (behind_procedure w scope n d) (heading (procedure_name nd) f.parameters env) (omega (arith, at, f.apart.counted)) f.stands placed.1 a.1 last in
         record {
           right = ap (λ o. some_and o (λ ps. procedure_fits as_names (bind_typed ps (heading (procedure_name nd) ps env)) k nd && procedures_fit as_names (heading (procedure_name nd) ps env) (k + procedure_constructors nd) (named w.source statements) (named w.source rest))) f.typed
               ∙ (λ i. f.right i && others.right i);
@@ -197,21 +228,24 @@ module _ (w : Numbering) (fit : PartsFit) where
           apart = apart_to k (k + procedure_constructors nd + procedures_constructors (named w.source rest)) (k + (procedure_constructors nd + procedures_constructors (named w.source rest))) before others.after (more_constructors k (procedure_constructors nd) (procedures_constructors (named w.source rest)))
               (apart_then k (k + procedure_constructors nd) (k + procedure_constructors nd + procedures_constructors (named w.source rest)) before f.after others.after f.apart others.apart);
           later = later_then n (after_procedure (suc n) d) p q (reported_procedures q rest).known before f.after others.after (le_trans (next_le n) (le-after_procedure (suc n) d)) f.later others.later;
+          bound = subst (BindingsStand others.after (reported_procedures q rest).known.declared n (after_procedures n (more d rest))) (sym (procedures_bound d rest k env f.parameters f.typed f.right))
+              (bindings_both others.after (reported_procedures q rest).known.declared n (after_procedure (suc n) d) (after_procedures n (more d rest)) (procedures_bindings as_names (heading (procedure_name nd) f.parameters env) (k + procedure_constructors nd) (named w.source rest)) (procedure_bindings as_names env k nd) others.bound
+              (bindings_later f.after others.after q.declared (reported_procedures q rest).known.declared n (after_procedure (suc n) d) (after_procedure (suc n) d) others.later.longer others.later.kept (le_refl (after_procedure (suc n) d)) (procedure_bindings as_names env k nd) f.bound));
         }
 
-    pub procedure_told : (d : Tree ℕ (item procedure)) (k n : ℕ) (p : SoFar) (before : List Shape) (scope : Scope Name) (env : TypeEnvironment Name) → Stands w p before n scope env → ProcedurePlaced w scope n d → (reported_procedure p d).faults ≡ []
+    pub procedure_told : (d : Tree ℕ (item procedure)) (k n : ℕ) (p : SoFar) (before : List Shape) (scope : Scope Name) (env : TypeEnvironment Name) → length before ≡ k → Stands w p before n scope env → ProcedurePlaced w scope n d → (reported_procedure p d).faults ≡ []
         → ProcedureFits w n p (reported_procedure p d).known before scope env k d
-    procedure_told (declares_procedure x fs b closing) k n p before scope env st placed h =
+    procedure_told (declares_procedure x fs b closing) k n p before scope env at st placed h =
         let d : Tree ℕ (item procedure) = declares_procedure x fs b closing in
         let text : ℕ → Name = text_at w.source in
         let q₁ : SoFar = heading_known p x fs in
         let q : SoFar = (reported_block q₁ b).known in
         let a = none_both (reported_sections (record { formals = []; behind = p }) (formal_sections fs)).faults (reported_block q₁ b).faults h in
-        let e = heading_told x fs k n p before scope env st placed.0 placed.1 a.0 in
+        let e = heading_told x fs k n p before scope env at st placed.0 placed.1 a.0 in
         let first : ℕ = k + formals_constructors (formal_sections (named w.source fs)) in
         let own : ℕ = block_constructors (named w.source b) in
         let m : ℕ = after_names (suc n) (formal_names (formal_sections fs)) in
-        let f = block_told b first m q₁ e.after (scope_behind w (suc n) (formal_names (formal_sections fs)) ((text x, n) ∷ scope)) (bind_typed e.parameters (heading (text x) e.parameters env)) e.inside placed.2 a.1 in
+        let f = block_told b first m q₁ e.after (scope_behind w (suc n) (formal_names (formal_sections fs)) ((text x, n) ∷ scope)) (bind_typed e.parameters (heading (text x) e.parameters env)) (omega (arith, at, e.apart.counted)) e.inside placed.2 a.1 in
         let le : suc n ≤ m = le-after_names (suc n) (formal_names (formal_sections fs)) in
         record {
           parameters = e.parameters;
@@ -222,9 +256,12 @@ module _ (w : Numbering) (fit : PartsFit) where
               (apart_then k first (first + own) before e.after f.after e.apart f.apart);
           later = later_then n m p q₁ q before e.after f.after (le_trans (next_le n) le) e.later f.later;
           stands = stands_later w (suc n) m (after_procedure (suc n) d) q₁ q e.after f.after ((text x, n) ∷ scope) (heading (text x) e.parameters env) le (le-after_procedure (suc n) d) e.stands f.later;
+          bound = subst (BindingsStand f.after q.declared n (after_procedure (suc n) d)) (sym (procedure-listed as_names env k (text x) (named w.source fs) (named w.source b) (text closing) e.parameters e.typed))
+              (bindings_both f.after q.declared n m (after_procedure (suc n) d) (block_bindings as_names (bind_typed e.parameters (heading (text x) e.parameters env)) first (named w.source b)) (bind_typed e.parameters (heading (text x) e.parameters [])) f.bound
+              (bindings_later e.after f.after q₁.declared q.declared n m m f.later.longer f.later.kept (le_refl m) (bind_typed e.parameters (heading (text x) e.parameters [])) (heading_bound x fs n scope env p before st.names e)));
         }
 
-room_first : (xs : List ℕ) → length (predeclared_meanings ++ map (λ token. None) xs) ≡ 7 + length xs
+pub room_first : (xs : List ℕ) → length (predeclared_meanings ++ map (λ token. None) xs) ≡ 7 + length xs
 room_first xs =
     let later : List (Option (Meaning TypeId)) = map (λ token. None) xs in
     let count : length later ≡ length xs = length-map {B = Option (Meaning TypeId)} xs (λ token. None) in
@@ -241,27 +278,33 @@ first_stands r = record {
     lit< tt,
     refl,
     ([], refl, tt),
+    λ le. absurd (omega (arith, le)),
     (
       lit< tt,
       refl,
       (record { mode = by_value; shape = integer_shape } ∷ [], refl, (refl, refl, tt)),
+      λ le. absurd (omega (arith, le)),
       (
         lit< tt,
         refl,
         (record { mode = by_place; shape = integer_shape } ∷ [], refl, (refl, refl, tt)),
+        λ le. absurd (omega (arith, le)),
         (
           lit< tt,
           refl,
           (truth false, refl, refl, refl),
+          λ le. refl,
           (
             lit< tt,
             refl,
             (truth true, refl, refl, refl),
+            λ le. refl,
             (
               lit< tt,
               refl,
               (boolean_shape, refl, refl),
-              (lit< tt, refl, (integer_shape, refl, refl), tt),
+              λ le. refl,
+              (lit< tt, refl, (integer_shape, refl, refl), λ le. refl, tt),
             ),
           ),
         ),
@@ -275,4 +318,4 @@ unfolding reported_module fits_over
 modules_fit-holds r is h =
     let m = r.module_read in
     let a = none_both (filter is_of_occurrences r.faults) (reported_block (at_first r) (module_block (tree_of m))).faults h in
-    (block_told (numbering_of r) parts_fit (module_block (tree_of m)) 0 7 (at_first r) [] (predeclared_scope as_names) (outermost as_names) (first_stands r) (module_placed r is a.0) a.1).right
+    (block_told (numbering_of r) parts_fit (module_block (tree_of m)) 0 7 (at_first r) [] (predeclared_scope as_names) (outermost as_names) refl (first_stands r) (module_placed r is a.0) a.1).right

@@ -1,5 +1,5 @@
 -- Formal parameters of which nothing is reported have the types of a signature.
-use Rattle.std.proofs.Common.{◌≡◌, ℕ, suc, ◌+◌, ◌<◌, ◌≤◌, Bool, true, false, List, [], ◌∷◌, ◌++◌, map, Option, Some, None, option_and_then, slice_index_or, refl, sym, ap, ◌∙◌, subst, subst₂, le_refl, le_of_lt, le_trans, append_assoc, append-nil, arith}
+use Rattle.std.proofs.Common.{◌≡◌, ℕ, suc, ◌+◌, ◌<◌, ◌≤◌, Bool, true, false, List, [], ◌∷◌, ◌++◌, length, map, Option, Some, None, option_and_then, slice_index_or, refl, sym, ap, ◌∙◌, subst, subst₂, le_refl, le_of_lt, le_trans, append_assoc, append-nil, arith}
 use Rattle.std.proofs.lemmas.List.{map-append}
 use Rattle.ob0_tree.specs.Places.{named, text_at, value_at}
 use Rattle.ob0_tree.specs.Tree.{Tree, end, further_section, items, more, then_section, value_section, variable_section, written_type}
@@ -55,7 +55,7 @@ parameters_over shapes declared k scope env [] (p ∷ ps) below h = absurd h
 parameters_over shapes declared k scope env (x ∷ xs) [] below h = absurd h
 parameters_over shapes declared k scope env (x ∷ xs) (p ∷ ps) below h =
     parameters_over shapes declared (suc k) ((x, k) ∷ scope) ((p.name, meant.a_variable p.formal.shape) ∷ env) xs ps
-    (le_refl (suc k), h.0, h.1, names_later shapes shapes declared declared k (suc k) (λ t s e. e) (λ j less. refl) (le_of_lt (le_refl (suc k))) scope env below) h.2
+    (le_refl (suc k), h.0, h.1, λ le. refl, names_later shapes shapes declared declared k (suc k) (λ t s e. e) (λ j less. refl) (le_of_lt (le_refl (suc k))) scope env below) h.2
 
 parameters_both : (shapes : List Shape) (declared : List (Option (Meaning TypeId))) (k : ℕ) (xs ys : List Name) (ps qs : List (TypedParameter Name)) → ParametersStand shapes declared k xs ps → ParametersStand shapes declared (after_names k xs) ys qs → ParametersStand shapes declared k (xs ++ ys) (ps ++ qs)
 parameters_both shapes declared k [] ys [] qs h next = next
@@ -91,8 +91,8 @@ own_stand w p shapes n scope env mode t s (x ∷ xs) is st placed =
     let q : SoFar = define p (a_variable t) x in
     let o : meant.Object Shape Signature = meant.a_variable s in
     let d = defined w p shapes n (a_variable t) x st.ordinals st.room st.table placed.0 in
-    let next = stands_defined w p q shapes n scope env (a_variable t) (text_at w.source x) o st d (s, is, refl) in
-    let rest = all_defined w q shapes (suc n) ((text_at w.source x, n) ∷ scope) ((text_at w.source x, o) ∷ env) (a_variable t) xs o next placed.1 (s, is, refl) in
+    let next = stands_defined w p q shapes n scope env (a_variable t) (text_at w.source x) o st d refl (s, is, refl) in
+    let rest = all_defined w q shapes (suc n) ((text_at w.source x, n) ∷ scope) ((text_at w.source x, o) ∷ env) (a_variable t) xs o next placed.1 refl (s, is, refl) in
     let slot : slice_index_or (define_all q (a_variable t) xs).declared n None ≡ Some (a_variable t) = rest.later.kept n (le_refl (suc n)) ∙ d.here in (
       refl,
       subst (λ z. MeansAlike (shape_in shapes) z (Some o)) (sym slot) (s, is, refl),
@@ -121,13 +121,13 @@ pub record OneType (w : Numbering) (n m k l : ℕ) (h g : KnownHeading) (before 
   pub formals : (signature : Signature) → FormalsAgree (shape_in before) h.formals signature → FormalsAgree (shape_in after) g.formals (signature ++ formals_of (map (typed_as mode shape) xs))
 
 module _ (w : Numbering) (fit : PartsFit) where
-  pub one_type : (by : Bool) (xs : List ℕ) (t : Tree ℕ written_type) (k n : ℕ) (h : KnownHeading) (before : List Shape) (scope : Scope Name) (env : TypeEnvironment Name) → Stands w h.behind before n scope env → NamesPlaced w n xs → AreSeen w scope t → (reported_type h.behind t).faults ≡ []
-      → OneType w n (after_names n xs) k (k + constructors (named w.source t)) h (with_parameters h by xs (reported_type h.behind t).known) before (scope_behind w n xs scope) env (mode_of by) (map (text_at w.source) xs) (denoted (meanings as_names env) k (named w.source t))
-  one_type by xs t k n h before scope env st placed seen none =
-      let u : TypedAfter = (reported_type h.behind t).known in
-      let s = type_denotes w fit n scope env k t h.behind before st seen none in
+  pub one_type : (by : Bool) (xs : List ℕ) (t : Tree ℕ written_type) (k n : ℕ) (h : KnownHeading) (before : List Shape) (scope : Scope Name) (env : TypeEnvironment Name) → length before ≡ k → Stands w h.behind before n scope env → NamesPlaced w n xs → AreSeen w scope t → (reported_type 0 h.behind t).faults ≡ []
+      → OneType w n (after_names n xs) k (k + constructors (named w.source t)) h (with_parameters h by xs (reported_type 0 h.behind t).known) before (scope_behind w n xs scope) env (mode_of by) (map (text_at w.source) xs) (denoted (meanings as_names env) k (named w.source t))
+  one_type by xs t k n h before scope env at st placed seen none =
+      let u : TypedAfter = (reported_type 0 h.behind t).known in
+      let s = type_denotes w fit n scope env 0 k t h.behind before (omega (arith, at)) st seen none in
       let behind = stands_later w n n n h.behind u.behind before s.after scope env (le_refl n) (le_refl n) st s.later in
-      let all = all_defined w u.behind s.after n scope env (a_variable u.of) xs (meant.a_variable s.shape) behind placed (s.shape, s.known, refl) in
+      let all = all_defined w u.behind s.after n scope env (a_variable u.of) xs (meant.a_variable s.shape) behind placed refl (s.shape, s.known, refl) in
       record {
         shape = s.shape;
         given_is = s.given_is;
@@ -163,10 +163,10 @@ module _ (w : Numbering) (fit : PartsFit) where
             (rest.formals (signature ++ formals_of own) (one.formals signature agree));
       }
 
-  pub sections_declare : (fs : Tree ℕ (items further_section)) (k n : ℕ) (h : KnownHeading) (before : List Shape) (scope : Scope Name) (env : TypeEnvironment Name) → Stands w h.behind before n scope env → SectionsPlaced w scope n fs → (reported_sections h fs).faults ≡ []
+  pub sections_declare : (fs : Tree ℕ (items further_section)) (k n : ℕ) (h : KnownHeading) (before : List Shape) (scope : Scope Name) (env : TypeEnvironment Name) → length before ≡ k → Stands w h.behind before n scope env → SectionsPlaced w scope n fs → (reported_sections h fs).faults ≡ []
       → Parameters n k (k + formals_constructors (named w.source fs)) h (reported_sections h fs).known before (map (text_at w.source) (formal_names fs)) (typed_parameters as_names env k (named w.source fs))
   unfolding reported_sections reported_section reported_parameters typed_parameters
-  sections_declare end k n h before scope env st placed none = record {
+  sections_declare end k n h before scope env at st placed none = record {
     parameters = [];
     given_is = refl;
     after = before;
@@ -175,25 +175,25 @@ module _ (w : Numbering) (fit : PartsFit) where
     own = tt;
     formals = λ signature agree. subst (FormalsAgree (shape_in before) h.formals) (sym (append-nil signature)) agree;
   }
-  sections_declare (more (then_section (value_section ns t)) fs) k n h before scope env st placed none =
+  sections_declare (more (then_section (value_section ns t)) fs) k n h before scope env at st placed none =
       let xs : List ℕ = names_listed ns in
-      let u : Reported TypedAfter = reported_type h.behind t in
+      let u : Reported TypedAfter = reported_type 0 h.behind t in
       let g : KnownHeading = with_parameters h false xs u.known in
       let a = none_both (u.faults ++ []) (reported_sections g fs).faults none in
-      let one = one_type false xs t k n h before scope env st placed.0 placed.1 (none_both u.faults [] a.0).0 in
-      let rest = sections_declare fs (k + constructors (named w.source t)) (after_names n xs) g one.after (scope_behind w n xs scope) (bind_names (map (text_at w.source) xs) (meant.a_variable one.shape) env) one.stands placed.2 a.1 in
+      let one = one_type false xs t k n h before scope env at st placed.0 placed.1 (none_both u.faults [] a.0).0 in
+      let rest = sections_declare fs (k + constructors (named w.source t)) (after_names n xs) g one.after (scope_behind w n xs scope) (bind_names (map (text_at w.source) xs) (meant.a_variable one.shape) env) (omega (arith, at, one.apart.counted)) one.stands placed.2 a.1 in
       let own : ℕ = constructors (named w.source t) in
       let others : ℕ = formals_constructors (named w.source fs) in
       subst₂ (λ l ys. Parameters n k l h (reported_sections g fs).known before ys (typed_parameters as_names env k (named w.source (more (then_section (value_section ns t)) fs)))) (more_constructors k own others) (sym (map-append (text_at w.source) xs (formal_names fs)))
       (parameters_then by_value xs (names_listed (named w.source ns)) (map (text_at w.source) (formal_names fs)) n k (k + own) (k + own + others) h g (reported_sections g fs).known before scope env (denoted (meanings as_names env) k (named w.source t))
       (λ e. typed_parameters as_names e (k + constructors (named w.source t)) (named w.source fs)) (names_listed-mapped (text_at w.source) (value_at w.source) ns) one rest)
-  sections_declare (more (then_section (variable_section ns t)) fs) k n h before scope env st placed none =
+  sections_declare (more (then_section (variable_section ns t)) fs) k n h before scope env at st placed none =
       let xs : List ℕ = names_listed ns in
-      let u : Reported TypedAfter = reported_type h.behind t in
+      let u : Reported TypedAfter = reported_type 0 h.behind t in
       let g : KnownHeading = with_parameters h true xs u.known in
       let a = none_both (u.faults ++ []) (reported_sections g fs).faults none in
-      let one = one_type true xs t k n h before scope env st placed.0 placed.1 (none_both u.faults [] a.0).0 in
-      let rest = sections_declare fs (k + constructors (named w.source t)) (after_names n xs) g one.after (scope_behind w n xs scope) (bind_names (map (text_at w.source) xs) (meant.a_variable one.shape) env) one.stands placed.2 a.1 in
+      let one = one_type true xs t k n h before scope env at st placed.0 placed.1 (none_both u.faults [] a.0).0 in
+      let rest = sections_declare fs (k + constructors (named w.source t)) (after_names n xs) g one.after (scope_behind w n xs scope) (bind_names (map (text_at w.source) xs) (meant.a_variable one.shape) env) (omega (arith, at, one.apart.counted)) one.stands placed.2 a.1 in
       let own : ℕ = constructors (named w.source t) in
       let others : ℕ = formals_constructors (named w.source fs) in
       subst₂ (λ l ys. Parameters n k l h (reported_sections g fs).known before ys (typed_parameters as_names env k (named w.source (more (then_section (variable_section ns t)) fs)))) (more_constructors k own others) (sym (map-append (text_at w.source) xs (formal_names fs)))

@@ -1,5 +1,5 @@
 -- In a module where every name is bound, all names are placed.
-use Rattle.std.proofs.Common.{◌≡◌, ℕ, suc, ◌+◌, ◌≤◌, Option, Some, None, List, [], ◌∷◌, ◌++◌, map, length, refl, sym, ap, ◌∙◌, arith, length-append, if◌then◌else◌}
+use Rattle.std.proofs.Common.{◌≡◌, ℕ, suc, ◌+◌, Option, Some, None, List, [], ◌∷◌, ◌++◌, map, length, refl, sym, ap, ◌∙◌, arith, length-append, if◌then◌else◌}
 use Rattle.std.specs.List.{filter}
 use Rattle.ob0_scan.specs.declared.fault.Code.TheVariants as code
 use Rattle.ob0_scan.specs.declared.fault.Fault.{Fault}
@@ -116,14 +116,19 @@ all_bound n (x ∷ xs) e =
 abbrev pub numbering_of : Resolution → Numbering
 numbering_of r = record { source = r.module_read.source; ordinals = r.ordinals; room = 7 + length r.declarations }
 
+-- each declaring name has an ordinal of its own
+pub module_counted : (r : Resolution) → IsResolution r → after_block 7 (module_block (tree_of r.module_read)) ≡ 7 + length r.declarations
+module_counted r is =
+    let b : Tree ℕ block = module_block (tree_of r.module_read) in
+    let ids = identifiers role.Declaring b in
+    let last : List (Role × ℕ) = (role.ModuleName, r.module_read.closing) ∷ [] in
+    omega (arith, (counts_block 7 b).counts, ap length is.declaring, ap length (declaring_only-append ids last), length-append (declaring_only ids) [])
+
 pub module_placed : (r : Resolution) → IsResolution r → filter is_of_occurrences r.faults ≡ [] → BlockPlaced (numbering_of r) (predeclared_scope as_names) 7 (module_block (tree_of r.module_read))
 module_placed r is nothing =
     let m = r.module_read in
     let n : Numbering = numbering_of r in
     let b : Tree ℕ block = module_block (tree_of m) in
-    let ids = identifiers role.Declaring b in
     let bound : unbound_at m.source (occurrences (tree_of m)) (map (label_at m.source r.ordinals) (occurrences (tree_of m))) ≡ [] =
     ap (unbound_at m.source (occurrences (tree_of m))) (sym (bindings_by_table m r.ordinals is.numbering)) ∙ (sym is.told.undeclared ∙ nothing) in
-    let declared : length (declaring_only ids) ≤ length r.declarations =
-    omega (arith, ap length is.declaring, ap length (declaring_only-append ids ((role.ModuleName, m.closing) ∷ [])), length-append (declaring_only ids) []) in
-    block_placed n (predeclared_scope as_names) 7 b (ap module_block is.binding) (all_bound n (occurrences b) bound) (omega (arith, (counts_block 7 b).counts, declared))
+    block_placed n (predeclared_scope as_names) 7 b (ap module_block is.binding) (all_bound n (occurrences b) bound) (omega (arith, module_counted r is))

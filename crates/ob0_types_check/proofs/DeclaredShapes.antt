@@ -1,17 +1,15 @@
 -- Tables of types and their shapes: one more array or record changes none before it, and sizes are those of the shapes.
-use Rattle.std.proofs.Common.{◌≡◌, ℕ, zero, suc, ◌+◌, ◌*◌, max, Bool, true, false, ◌&&◌, List, [], ◌∷◌, ◌++◌, length, Option, Some, None, option_map, option_and_then, slice_get, nat_le, if◌then◌else◌, is_some, map, true≢false, refl, sym, ap, ◌∙◌, subst, arith}
+use Rattle.std.proofs.Common.{◌≡◌, ℕ, zero, suc, ◌+◌, ◌*◌, max, true, ◌&&◌, List, [], ◌∷◌, ◌++◌, length, Option, Some, None, option_and_then, slice_get, nat_le, if◌then◌else◌, map, refl, sym, ap, ◌∙◌, subst, append_assoc, append-nil, arith}
 use Rattle.std.proofs.Math.Nat.{max_comm, mul_comm}
-use Rattle.std.proofs.lemmas.Bool.{false_from_ne_true}
-use Rattle.std.proofs.lemmas.Slice.Eq.{bytes_eq-Decides}
 use Rattle.ob0_tree.specs.Places.{text_at}
-use Rattle.ob0_scope_rules.specs.Names.{Name, same_name}
+use Rattle.ob0_scope_rules.specs.Names.{Name}
 use Rattle.ob0_types_table.specs.declared.types.TypeId.{TypeId}
 use Rattle.ob0_types_table.specs.declared.types.TypeId.TheVariants as type
-use Rattle.ob0_types_rules.specs.Typing.{depth, field_depth, field_scalars, scalars, shape_of_field, with_fields, within_limits}
+use Rattle.ob0_types_rules.specs.Typing.{depth, field_depth, field_scalars, scalars, with_fields, within_limits}
 use Rattle.ob0_values.specs.Values.{FieldShapes, Shape, array_shape, boolean_shape, integer_shape, next_field_shape, no_field_shape, record_shape}
-use Rattle.ob0_types_check.specs.SoFar.{MadeType, PartTypes, Size, is_within, of_elements, of_fields, one_scalar, size_at, size_made}
-use Rattle.ob0_types_check.specs.WrittenTypeFaults.{Gathered, array_size, record_size, with_field, with_name, with_names}
-use Rattle.ob0_types_check.specs.Agreement.{EachMade, MadeAgrees, PartsAgree, TableAgrees, as_array, as_record, shape_in}
+use Rattle.ob0_types_check.specs.SoFar.{MadeType, PartTypes, Size, TypedField, is_within, of_elements, of_fields, one_scalar, size_at, size_made}
+use Rattle.ob0_types_check.specs.WrittenTypeFaults.{Gathered, array_size, record_size, with_name, with_names}
+use Rattle.ob0_types_check.specs.Agreement.{EachMade, FieldsAgree, MadeAgrees, PartsAgree, TableAgrees, as_array, as_record, shape_in}
 
 -- what has a shape keeps it
 abbrev pub Longer : List Shape → List Shape → Type 0
@@ -35,56 +33,50 @@ longer_more shapes later (type.Array i) s e = got_before shapes later i as_array
 longer_more shapes later (type.Record i) s e = got_before shapes later i as_record s e
 longer_more shapes later type.Unknown s e = absurd (cc)
 
--- a field that has a shape
-field_kept : (before after : List Shape) → Longer before after → (t : Option TypeId) (s : Option Shape) → option_map (shape_in before) t ≡ option_map Some s → option_map (shape_in after) t ≡ option_map Some s
-field_kept before after longer None None e = refl
-field_kept before after longer None (Some s) e = absurd (cc)
-field_kept before after longer (Some t) None e = absurd (cc)
-field_kept before after longer (Some t) (Some s) e = ap Some (longer t s (ap (λ o. elim o [ None ↦ None | Some x ↦ x ]) e))
+pub fields_kept : (before after : List Shape) → Longer before after → (fields : List TypedField) (fs : FieldShapes) → FieldsAgree (shape_in before) fields fs → FieldsAgree (shape_in after) fields fs
+fields_kept before after longer [] no_field_shape h = tt
+fields_kept before after longer [] (next_field_shape x s fs) h = absurd h
+fields_kept before after longer (f ∷ fields) no_field_shape h = absurd h
+fields_kept before after longer (f ∷ fields) (next_field_shape x s fs) h = (h.0, longer f.of s h.1, fields_kept before after longer fields fs h.2)
 
--- fields that are known are those of shapes
-abbrev pub FieldsAgree : List Shape → (Name → Option TypeId) → FieldShapes → Type 0
-FieldsAgree shapes fields fs = (x : Name) → option_map (shape_in shapes) (fields x) ≡ option_map Some (shape_of_field fs x)
+parts_kept : (before after : List Shape) → Longer before after → (k : ℕ) (p : PartTypes) (s : Shape) → PartsAgree (shape_in before) k p s → PartsAgree (shape_in after) k p s
+parts_kept before after longer k (of_elements n t) s (u, e, h) = (u, e, longer t u h)
+parts_kept before after longer k (of_fields fields) s (fs, e, h) = (fs, e, fields_kept before after longer fields fs h)
 
-pub fields_kept : (before after : List Shape) → Longer before after → (fields : Name → Option TypeId) (fs : FieldShapes) → FieldsAgree before fields fs → FieldsAgree after fields fs
-fields_kept before after longer fields fs h x = field_kept before after longer (fields x) (shape_of_field fs x) (h x)
+pub made_kept : (before after : List Shape) → Longer before after → (m : MadeType) (s : Shape) → MadeAgrees (shape_in before) m s → MadeAgrees (shape_in after) m s
+made_kept before after longer m s h = record { parts = parts_kept before after longer m.ordinal m.parts s h.parts; scalars = h.scalars; depth = h.depth }
 
-parts_kept : (before after : List Shape) → Longer before after → (p : PartTypes) (s : Shape) → PartsAgree (shape_in before) p s → PartsAgree (shape_in after) p s
-parts_kept before after longer (of_elements t) s (k, n, u, e, h) = (k, n, u, e, longer t u h)
-parts_kept before after longer (of_fields fields) s (k, fs, e, h) = (k, fs, e, fields_kept before after longer fields fs h)
-
-made_kept : (before after : List Shape) → Longer before after → (m : MadeType) (s : Shape) → MadeAgrees (shape_in before) m s → MadeAgrees (shape_in after) m s
-made_kept before after longer m s h = record { parts = parts_kept before after longer m.parts s h.parts; scalars = h.scalars; depth = h.depth }
-
-each_kept : (before after : List Shape) → Longer before after → (ms : List MadeType) (ss : List Shape) → EachMade (shape_in before) ms ss → EachMade (shape_in after) ms ss
-each_kept before after longer [] [] h = tt
-each_kept before after longer [] (s ∷ ss) h = absurd h
-each_kept before after longer (m ∷ ms) [] h = absurd h
-each_kept before after longer (m ∷ ms) (s ∷ ss) h = (made_kept before after longer m s h.0, each_kept before after longer ms ss h.1)
-
-each_more : (shape : TypeId → Option Shape) (ms : List MadeType) (ss : List Shape) (m : MadeType) (s : Shape) → EachMade shape ms ss → MadeAgrees shape m s → EachMade shape (ms ++ m ∷ []) (ss ++ s ∷ [])
-each_more shape [] [] m s h one = (one, tt)
-each_more shape [] (x ∷ ss) m s h one = absurd h
-each_more shape (x ∷ ms) [] m s h one = absurd h
-each_more shape (x ∷ ms) (y ∷ ss) m s h one = (h.0, each_more shape ms ss m s h.1 one)
+each_more : (known : List Shape) (ms : List MadeType) (ss : List Shape) (m : MadeType) (s : Shape) → EachMade known ms ss → MadeAgrees (shape_in (known ++ ss)) m s → EachMade known (ms ++ m ∷ []) (ss ++ s ∷ [])
+each_more known [] [] m s h one = (subst (λ z. MadeAgrees (shape_in z) m s) (append-nil known) one, tt)
+each_more known [] (x ∷ ss) m s h one = absurd h
+each_more known (x ∷ ms) [] m s h one = absurd h
+each_more known (x ∷ ms) (y ∷ ss) m s h one = (h.0, each_more (known ++ y ∷ []) ms ss m s h.1 (subst (λ z. MadeAgrees (shape_in z) m s) (sym (append_assoc known (y ∷ []) ss)) one))
 
 -- one more
 pub table_more : (ms : List MadeType) (shapes : List Shape) (m : MadeType) (s : Shape) → TableAgrees ms shapes → MadeAgrees (shape_in shapes) m s → TableAgrees (ms ++ m ∷ []) (shapes ++ s ∷ [])
-table_more ms shapes m s h one =
-    let longer = longer_more shapes (s ∷ []) in
-    each_more (shape_in (shapes ++ s ∷ [])) ms shapes m s (each_kept shapes (shapes ++ s ∷ []) longer ms shapes h) (made_kept shapes (shapes ++ s ∷ []) longer m s one)
+table_more ms shapes m s h one = each_more [] ms shapes m s h one
 
-last_shape : (shape : TypeId → Option Shape) (ms : List MadeType) (shapes : List Shape) (s : Shape) → EachMade shape ms shapes → slice_get (shapes ++ s ∷ []) (length ms) ≡ Some s
-last_shape shape [] [] s h = refl
-last_shape shape [] (x ∷ shapes) s h = absurd h
-last_shape shape (m ∷ ms) [] s h = absurd h
-last_shape shape (m ∷ ms) (x ∷ shapes) s h = last_shape shape ms shapes s h.1
+each_long : (known : List Shape) (ms : List MadeType) (ss : List Shape) → EachMade known ms ss → length ms ≡ length ss
+each_long known [] [] h = refl
+each_long known [] (s ∷ ss) h = absurd h
+each_long known (m ∷ ms) [] h = absurd h
+each_long known (m ∷ ms) (s ∷ ss) h = ap suc (each_long (known ++ s ∷ []) ms ss h.1)
+
+-- as many are known as were made
+pub table_long : (ms : List MadeType) (shapes : List Shape) → TableAgrees ms shapes → length ms ≡ length shapes
+table_long ms shapes h = each_long [] ms shapes h
+
+last_shape : (shapes : List Shape) (n : ℕ) (s : Shape) → n ≡ length shapes → slice_get (shapes ++ s ∷ []) n ≡ Some s
+last_shape [] zero s e = refl
+last_shape [] (suc n) s e = absurd (cc)
+last_shape (x ∷ shapes) zero s e = absurd (cc)
+last_shape (x ∷ shapes) (suc n) s e = last_shape shapes n s (omega (arith, e))
 
 pub last_array : (ms : List MadeType) (shapes : List Shape) (k n : ℕ) (u : Shape) → TableAgrees ms shapes → shape_in (shapes ++ array_shape k n u ∷ []) (type.Array (length ms)) ≡ Some (array_shape k n u)
-last_array ms shapes k n u h = ap (option_and_then as_array) (last_shape (shape_in shapes) ms shapes (array_shape k n u) h)
+last_array ms shapes k n u h = ap (option_and_then as_array) (last_shape shapes (length ms) (array_shape k n u) (table_long ms shapes h))
 
 pub last_record : (ms : List MadeType) (shapes : List Shape) (k : ℕ) (fs : FieldShapes) → TableAgrees ms shapes → shape_in (shapes ++ record_shape k fs ∷ []) (type.Record (length ms)) ≡ Some (record_shape k fs)
-last_record ms shapes k fs h = ap (option_and_then as_record) (last_shape (shape_in shapes) ms shapes (record_shape k fs) h)
+last_record ms shapes k fs h = ap (option_and_then as_record) (last_shape shapes (length ms) (record_shape k fs) (table_long ms shapes h))
 
 -- a size is that of a shape
 pub record SizeAgrees (z : Size) (s : Shape) : Type 0 where
@@ -92,10 +84,10 @@ pub record SizeAgrees (z : Size) (s : Shape) : Type 0 where
   pub depth_is : z.depth ≡ depth s
 
 -- the entry of a shape
-pub record Entered (shape : TypeId → Option Shape) (m : Option MadeType) (s : Shape) : Type 0 where
+pub record Entered (m : Option MadeType) (s : Shape) : Type 0 where
   pub entry : MadeType
   pub there : m ≡ Some entry
-  pub agrees : MadeAgrees shape entry s
+  pub sizes : SizeAgrees entry.size s
 
 some_same : (x y : Shape) → Some x ≡ Some y → x ≡ y
 some_same x y e = ap (λ o. elim o [ None ↦ x | Some z ↦ z ]) e
@@ -112,21 +104,21 @@ record_is boolean_shape s e = absurd (cc)
 record_is (array_shape k n u) s e = absurd (cc)
 record_is (record_shape k fs) s e = some_same (record_shape k fs) s e
 
-entered : (shape : TypeId → Option Shape) (f : Shape → Option Shape) → ((x s : Shape) → f x ≡ Some s → x ≡ s) → (ms : List MadeType) (ss : List Shape) (i : ℕ) (s : Shape) → EachMade shape ms ss → option_and_then f (slice_get ss i) ≡ Some s → Entered shape (slice_get ms i) s
-entered shape f is [] [] i s h e = absurd (cc)
-entered shape f is [] (x ∷ ss) i s h e = absurd h
-entered shape f is (m ∷ ms) [] i s h e = absurd h
-entered shape f is (m ∷ ms) (x ∷ ss) zero s h e = record { entry = m; there = refl; agrees = subst (MadeAgrees shape m) (is x s e) h.0 }
-entered shape f is (m ∷ ms) (x ∷ ss) (suc i) s h e = entered shape f is ms ss i s h.1 e
+entered : (known : List Shape) (f : Shape → Option Shape) → ((x s : Shape) → f x ≡ Some s → x ≡ s) → (ms : List MadeType) (ss : List Shape) (i : ℕ) (s : Shape) → EachMade known ms ss → option_and_then f (slice_get ss i) ≡ Some s → Entered (slice_get ms i) s
+entered known f is [] [] i s h e = absurd (cc)
+entered known f is [] (x ∷ ss) i s h e = absurd h
+entered known f is (m ∷ ms) [] i s h e = absurd h
+entered known f is (m ∷ ms) (x ∷ ss) zero s h e = record { entry = m; there = refl; sizes = subst (SizeAgrees m.size) (is x s e) (record { scalars_are = h.0.scalars; depth_is = h.0.depth }) }
+entered known f is (m ∷ ms) (x ∷ ss) (suc i) s h e = entered (known ++ x ∷ []) f is ms ss i s h.1 e
 
-sized : {shape : TypeId → Option Shape} {m : Option MadeType} (s : Shape) → Entered shape m s → SizeAgrees (size_made m) s
-sized s h = subst (λ o. SizeAgrees (size_made o) s) (sym h.there) (record { scalars_are = h.agrees.scalars; depth_is = h.agrees.depth })
+sized : {m : Option MadeType} (s : Shape) → Entered m s → SizeAgrees (size_made m) s
+sized s h = subst (λ o. SizeAgrees (size_made o) s) (sym h.there) h.sizes
 
 pub size_agrees : (ms : List MadeType) (shapes : List Shape) (t : TypeId) (s : Shape) → TableAgrees ms shapes → shape_in shapes t ≡ Some s → SizeAgrees (size_at ms t) s
 size_agrees ms shapes type.Integer s h e = subst (SizeAgrees one_scalar) (some_same integer_shape s e) (record { scalars_are = refl; depth_is = refl })
 size_agrees ms shapes type.Boolean s h e = subst (SizeAgrees one_scalar) (some_same boolean_shape s e) (record { scalars_are = refl; depth_is = refl })
-size_agrees ms shapes (type.Array i) s h e = sized s (entered (shape_in shapes) as_array array_is ms shapes i s h e)
-size_agrees ms shapes (type.Record i) s h e = sized s (entered (shape_in shapes) as_record record_is ms shapes i s h e)
+size_agrees ms shapes (type.Array i) s h e = sized s (entered [] as_array array_is ms shapes i s h e)
+size_agrees ms shapes (type.Record i) s h e = sized s (entered [] as_record record_is ms shapes i s h e)
 size_agrees ms shapes type.Unknown s h e = absurd (cc)
 
 pub is_limited : (z : Size) (s : Shape) → SizeAgrees z s → is_within z ≡ true → within_limits s ≡ Some s
@@ -160,57 +152,16 @@ depth-followed : (fs gs : FieldShapes) → field_depth (followed fs gs) ≡ max 
 depth-followed no_field_shape gs = omega arith
 depth-followed (next_field_shape x s fs) gs = omega (arith, depth-followed fs gs)
 
-abbrev or_else : Option Shape → Option Shape → Option Shape
-or_else None o = o
-or_else (Some s) o = Some s
-
-field-followed : (fs gs : FieldShapes) (x : Name) → shape_of_field (followed fs gs) x ≡ or_else (shape_of_field fs x) (shape_of_field gs x)
-field-followed no_field_shape gs x = refl
-field-followed (next_field_shape y s fs) gs x =
-    elim (same_name x y) as (λ b. (if b then Some s else shape_of_field (followed fs gs) x) ≡ or_else (if b then Some s else shape_of_field fs x) (shape_of_field gs x)) [ true ↦ refl | false ↦ field-followed fs gs x ]
-
--- one field more, where the first of a name stays
-kept_field : (o : Option Shape) (b : Bool) (s : Shape) → (b ≡ true → o ≡ None → ⊥) → or_else o (if b then Some s else None) ≡ o
-kept_field None true s h = absurd (h refl refl)
-kept_field None false s h = refl
-kept_field (Some u) b s h = refl
-
-or_nothing : (o : Option Shape) → or_else o None ≡ o
-or_nothing None = refl
-or_nothing (Some s) = refl
-
-none_of : (o : Option Shape) → None ≡ option_map {U = Option Shape} Some o → o ≡ None
-none_of None e = refl
-none_of (Some s) e = absurd (cc)
-
-not_both : (t : TypeId) (shape : TypeId → Option Shape) → Some (shape t) ≡ None → ⊥
-not_both t shape e = absurd (cc)
-
-module _ (shapes : List Shape) (fields : Name → Option TypeId) (fs : FieldShapes) (agrees : FieldsAgree shapes fields fs) (x : Name) (t : TypeId) (s : Shape) (is : shape_in shapes t ≡ Some s) (y : Name) where
-  by_name : (b : Bool) → same_name x y ≡ b → fields x ≡ None → option_map (shape_in shapes) (if b then Some t else fields y) ≡ option_map Some (or_else (shape_of_field fs y) (if same_name y x then Some s else None))
-  by_name true e first =
-      let same : x ≡ y = (bytes_eq-Decides x y).0 e in
-      let back : same_name y x ≡ true = (bytes_eq-Decides y x).1 (sym same) in
-      let gone : shape_of_field fs y ≡ None = ap (shape_of_field fs) (sym same) ∙ none_of (shape_of_field fs x) (sym (ap (option_map (shape_in shapes)) first) ∙ agrees x) in
-      ap Some is ∙ sym (λ i. option_map {U = Option Shape} Some (or_else (gone i) (if back i then Some s else None)))
-  by_name false e first =
-      let back : same_name y x ≡ false = false_from_ne_true (same_name y x) (λ h. true≢false (sym ((bytes_eq-Decides x y).1 (sym ((bytes_eq-Decides y x).0 h))) ∙ e)) in
-      agrees y ∙ ap (option_map Some) (sym ((λ i. or_else (shape_of_field fs y) (if back i then Some s else None)) ∙ or_nothing (shape_of_field fs y)))
-
-  by_first : (f : Option TypeId) → fields x ≡ f → option_map (shape_in shapes) ((if is_some f then fields else (λ z. if same_name x z then Some t else fields z)) y) ≡ option_map Some (or_else (shape_of_field fs y) (if same_name y x then Some s else None))
-  by_first None e = by_name (same_name x y) refl e
-  by_first (Some u) e =
-      agrees y ∙ ap (option_map Some) (sym (kept_field (shape_of_field fs y) (same_name y x) s (λ same gone.
-      let back : shape_of_field fs x ≡ None = ap (shape_of_field fs) (sym ((bytes_eq-Decides y x).0 same)) ∙ gone in
-      not_both u (shape_in shapes) (sym (ap (option_map (shape_in shapes)) e) ∙ (agrees x ∙ ap (option_map Some) back)))))
-
-pub field_put : (shapes : List Shape) (fields : Name → Option TypeId) (fs : FieldShapes) (x : Name) (t : TypeId) (s : Shape) → FieldsAgree shapes fields fs → shape_in shapes t ≡ Some s → FieldsAgree shapes (with_field fields x t) (followed fs (next_field_shape x s no_field_shape))
-field_put shapes fields fs x t s agrees is y =
-    by_first shapes fields fs agrees x t s is y (fields x) refl ∙ sym (ap (option_map Some) (field-followed fs (next_field_shape x s no_field_shape) y))
+pub field_put : (shapes : List Shape) (fields : List TypedField) (fs : FieldShapes) (x : Name) (t : TypeId) (s : Shape) → FieldsAgree (shape_in shapes) fields fs → shape_in shapes t ≡ Some s
+    → FieldsAgree (shape_in shapes) (fields ++ record { name = x; of = t } ∷ []) (followed fs (next_field_shape x s no_field_shape))
+field_put shapes [] no_field_shape x t s h is = (refl, is, tt)
+field_put shapes [] (next_field_shape y u fs) x t s h is = absurd h
+field_put shapes (f ∷ fields) no_field_shape x t s h is = absurd h
+field_put shapes (f ∷ fields) (next_field_shape y u fs) x t s h is = (h.0, h.1, field_put shapes fields fs x t s h.2 is)
 
 -- the fields of a record so far, and their shapes
 pub record GatheredAgrees (shapes : List Shape) (g : Gathered) (fs : FieldShapes) : Type 0 where
-  pub fields : FieldsAgree shapes g.fields fs
+  pub fields : FieldsAgree (shape_in shapes) g.fields fs
   pub scalars_are : g.size.scalars ≡ field_scalars fs
   pub depth_is : g.size.depth ≡ field_depth fs
 

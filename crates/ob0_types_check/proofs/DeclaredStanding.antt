@@ -16,7 +16,7 @@ use Rattle.ob0_types_rules.specs.WellTyped.{Signature, TypeEnvironment, bind_nam
 use Rattle.ob0_values.specs.Values.{Shape}
 use Rattle.ob0_types_check.specs.Known.{Formal, Meaning, a_constant, a_procedure, a_type, a_variable}
 use Rattle.ob0_types_check.specs.SoFar.{SoFar, define, define_all, facts_at, with_declared}
-use Rattle.ob0_types_check.specs.Agreement.{Agrees, FormalsAgree, MeaningAgrees, MeansAlike, TableAgrees, TokensAgree, shape_in}
+use Rattle.ob0_types_check.specs.Agreement.{Agrees, FormalsAgree, MeaningAgrees, MeansAlike, TableAgrees, TokensAgree, is_standard, shape_in}
 use Rattle.ob0_types_check.proofs.PartsFitting.{PartsFit}
 use Rattle.ob0_types_check.proofs.DeclaredNames.{AreSeen, Each, IsPlaced, IsSeen, NamesPlaced, Numbering, scope_behind}
 use Rattle.ob0_types_check.proofs.DeclaredShapes.{Longer, longer_same, longer_then}
@@ -37,12 +37,14 @@ pub stands_kept : (before after : List Shape) → Longer before after → (m : O
 stands_kept before after longer None o h = absurd h
 stands_kept before after longer (Some m) o h = meaning_kept before after longer m o h
 
--- each name of a scope means the same in the environment beside it, as is known of its declaration; all ordinals are below n
+-- each name of a scope means the same in the environment beside it, as is known of its declaration; all ordinals are below n,
+-- and the standard procedures have those below 7
 abbrev pub NamesStand : List Shape → List (Option (Meaning TypeId)) → ℕ → Scope Name → TypeEnvironment Name → Type 0
 NamesStand shapes declared n [] [] = Unit {0}
 NamesStand shapes declared n [] (c ∷ env) = ⊥
 NamesStand shapes declared n (b ∷ scope) [] = ⊥
-NamesStand shapes declared n (b ∷ scope) (c ∷ env) = (b.1 < n) × (c.0 ≡ b.0) × MeansAlike (shape_in shapes) (slice_index_or declared b.1 None) (Some c.1) × NamesStand shapes declared n scope env
+NamesStand shapes declared n (b ∷ scope) (c ∷ env) =
+    (b.1 < n) × (c.0 ≡ b.0) × MeansAlike (shape_in shapes) (slice_index_or declared b.1 None) (Some c.1) × (7 ≤ b.1 → is_standard (Some c.1) ≡ false) × NamesStand shapes declared n scope env
 
 pub names_later : (before after : List Shape) (old new : List (Option (Meaning TypeId))) (n m : ℕ) → Longer before after → ((k : ℕ) → k < n → slice_index_or new k None ≡ slice_index_or old k None) → n ≤ m → (scope : Scope Name) (env : TypeEnvironment Name) → NamesStand before old n scope env → NamesStand after new m scope env
 names_later before after old new n m longer kept le [] [] h = tt
@@ -52,7 +54,8 @@ names_later before after old new n m longer kept le (b ∷ scope) (c ∷ env) h 
   le_trans h.0 le,
   h.1,
   subst (λ o. MeansAlike (shape_in after) o (Some c.1)) (sym (kept b.1 h.0)) (stands_kept before after longer (slice_index_or old b.1 None) (Some c.1) h.2),
-  names_later before after old new n m longer kept le scope env h.3,
+  h.3,
+  names_later before after old new n m longer kept le scope env h.4,
 )
 
 -- a name that is found in the scope
@@ -71,7 +74,7 @@ name_found shapes declared n [] (c ∷ env) h x k e = absurd h
 name_found shapes declared n (b ∷ scope) [] h x k e = absurd h
 name_found shapes declared n (b ∷ scope) (c ∷ env) h x k e =
     subst (λ v. FoundAlike shapes declared (elim v [ true ↦ c ∷ env | false ↦ from_binding as_names env x ]) k) (ap (same_name x) (sym h.1))
-    (first_found shapes declared b.1 k c env (from_binding as_names env x) (same_name x b.0) (ordinal_of as_names scope x) h.2 (name_found shapes declared n scope env h.3 x k) e)
+    (first_found shapes declared b.1 k c env (from_binding as_names env x) (same_name x b.0) (ordinal_of as_names scope x) h.2 (name_found shapes declared n scope env h.4 x k) e)
 
 -- what is known at a place, beside the scope and the environment there; n is the next ordinal
 pub record Stands (w : Numbering) (p : SoFar) (shapes : List Shape) (n : ℕ) (scope : Scope Name) (env : TypeEnvironment Name) : Type 0 where
@@ -148,9 +151,9 @@ defined w p shapes n m x ordinals room table placed =
       others = λ k other. other_kept p.declared (Some m) n k other;
     })
 
-pub stands_defined : (w : Numbering) (p q : SoFar) (shapes : List Shape) (n : ℕ) (scope : Scope Name) (env : TypeEnvironment Name) (m : Meaning TypeId) (x : Name) (o : meant.Object Shape Signature) → Stands w p shapes n scope env → Defined w p q shapes n m → MeaningAgrees (shape_in shapes) m (Some o)
+pub stands_defined : (w : Numbering) (p q : SoFar) (shapes : List Shape) (n : ℕ) (scope : Scope Name) (env : TypeEnvironment Name) (m : Meaning TypeId) (x : Name) (o : meant.Object Shape Signature) → Stands w p shapes n scope env → Defined w p q shapes n m → is_standard (Some o) ≡ false → MeaningAgrees (shape_in shapes) m (Some o)
     → Stands w q shapes (suc n) ((x, n) ∷ scope) ((x, o) ∷ env)
-stands_defined w p q shapes n scope env m x o h d agrees =
+stands_defined w p q shapes n scope env m x o h d own agrees =
     let less : n < suc n = le_refl (suc n) in
     let rest = stands_later w n n (suc n) p q shapes shapes scope env (le_refl n) (le_of_lt less) h d.later in
     record {
@@ -158,7 +161,7 @@ stands_defined w p q shapes n scope env m x o h d agrees =
       ordinals = rest.ordinals;
       room = rest.room;
       table = rest.table;
-      names = (less, refl, subst (λ z. MeansAlike (shape_in shapes) z (Some o)) (sym d.here) agrees, rest.names);
+      names = (less, refl, subst (λ z. MeansAlike (shape_in shapes) z (Some o)) (sym d.here) agrees, λ le. own, rest.names);
     }
 
 -- an expression or statements where all names are seen
@@ -187,13 +190,13 @@ pub record AllDefined (w : Numbering) (p q : SoFar) (shapes : List Shape) (n m :
   pub later : Later n p q shapes shapes
   pub stands : Stands w q shapes m scope env
 
-pub all_defined : (w : Numbering) (p : SoFar) (shapes : List Shape) (n : ℕ) (scope : Scope Name) (env : TypeEnvironment Name) (m : Meaning TypeId) (xs : List ℕ) (o : meant.Object Shape Signature) → Stands w p shapes n scope env → NamesPlaced w n xs → MeaningAgrees (shape_in shapes) m (Some o)
+pub all_defined : (w : Numbering) (p : SoFar) (shapes : List Shape) (n : ℕ) (scope : Scope Name) (env : TypeEnvironment Name) (m : Meaning TypeId) (xs : List ℕ) (o : meant.Object Shape Signature) → Stands w p shapes n scope env → NamesPlaced w n xs → is_standard (Some o) ≡ false → MeaningAgrees (shape_in shapes) m (Some o)
     → AllDefined w p (define_all p m xs) shapes n (after_names n xs) (scope_behind w n xs scope) (bind_names (map (text_at w.source) xs) o env)
-all_defined w p shapes n scope env m [] o h placed agrees = record { later = later_same n p shapes h.table; stands = h }
-all_defined w p shapes n scope env m (x ∷ xs) o h placed agrees =
+all_defined w p shapes n scope env m [] o h placed own agrees = record { later = later_same n p shapes h.table; stands = h }
+all_defined w p shapes n scope env m (x ∷ xs) o h placed own agrees =
     let one = defined w p shapes n m x h.ordinals h.room h.table placed.0 in
-    let first = stands_defined w p (define p m x) shapes n scope env m (text_at w.source x) o h one agrees in
-    let rest = all_defined w (define p m x) shapes (suc n) ((text_at w.source x, n) ∷ scope) ((text_at w.source x, o) ∷ env) m xs o first placed.1 agrees in
+    let first = stands_defined w p (define p m x) shapes n scope env m (text_at w.source x) o h one own agrees in
+    let rest = all_defined w (define p m x) shapes (suc n) ((text_at w.source x, n) ∷ scope) ((text_at w.source x, o) ∷ env) m xs o first placed.1 own agrees in
     record {
       later = later_then n (suc n) p (define p m x) (define_all (define p m x) m xs) shapes shapes shapes (le_of_lt (le_refl (suc n))) one.later rest.later;
       stands = rest.stands;

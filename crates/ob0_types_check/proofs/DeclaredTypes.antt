@@ -17,13 +17,13 @@ use Rattle.ob0_types_check.specs.Known.{Meaning, Operand, Reported, a_constant, 
 use Rattle.ob0_types_check.specs.Operations.{right}
 use Rattle.ob0_types_check.specs.SoFar.{PartTypes, Size, SoFar, TypedAfter, facts_at, is_within, made, make, of_elements, of_fields, size_at, too_large, type_with}
 use Rattle.ob0_types_check.specs.TypeFaults.{length_of, type_meant}
-use Rattle.ob0_types_check.specs.WrittenTypeFaults.{Gathered, array_made, array_size, gathered_after, nothing_gathered, record_made, record_size, record_word, told_fields, told_groups, reported_type, with_name, with_names, word_before}
+use Rattle.ob0_types_check.specs.WrittenTypeFaults.{Gathered, array_made, array_size, gathered_after, nothing_gathered, record_made, record_size, record_word, told_fields, told_groups, ordinal_here, reported_type, with_name, with_names, word_before}
 use Rattle.ob0_types_check.specs.Agreement.{PartsAgree, MeansAlike, TableAgrees, shape_in}
 use Rattle.ob0_types_check.specs.WellTypedLaws.{constructor_of}
 use Rattle.ob0_types_check.proofs.MadeOnce.{Apart, apart_made, apart_same, apart_then}
 use Rattle.ob0_types_check.proofs.PartsFitting.{PartsFit}
 use Rattle.ob0_types_check.proofs.DeclaredNames.{AreSeen, IsSeen, Numbering, each_part, names_listed-mapped}
-use Rattle.ob0_types_check.proofs.DeclaredShapes.{GatheredAgrees, SizeAgrees, array_sized, followed, followed-assoc, followed-nothing, gathered_kept, is_limited, last_array, last_record, longer_more, longer_then, names_put, record_sized, size_agrees, table_more, with_fields-followed}
+use Rattle.ob0_types_check.proofs.DeclaredShapes.{GatheredAgrees, SizeAgrees, array_sized, followed, followed-assoc, followed-nothing, gathered_kept, is_limited, last_array, last_record, longer_more, longer_then, names_put, record_sized, size_agrees, table_long, table_more, with_fields-followed}
 use Rattle.ob0_types_check.proofs.DeclaredStanding.{Later, Stands, agrees_where_seen, later_same, later_then, seen_stands, stands_later}
 
 -- where nothing is reported of both, nothing is reported of either
@@ -54,12 +54,12 @@ pub record MadeDenotes (n : ℕ) (p : SoFar) (before : List Shape) (k l : ℕ) (
   pub limited : within_limits s ≡ Some s
   pub denotes : Denotes n p before k l (Some s) u
 
-made_denotes : (n : ℕ) (p q : SoFar) (before mid : List Shape) (k l word : ℕ) (parts : PartTypes) (size : Size) (s : Shape) → constructor_of s ≡ Some k → Apart (suc k) l before mid → Later n p q before mid → PartsAgree (shape_in mid) parts s → SizeAgrees size s → shape_in (mid ++ s ∷ []) (type_with parts (length q.made)) ≡ Some s
-    → (make q word parts size).faults ≡ [] → MadeDenotes n p before k l s (make q word parts size).known
-made_denotes n p q before mid k l word parts size s number own later agrees sized last none =
+made_denotes : (n : ℕ) (p q : SoFar) (before mid : List Shape) (k l word ordinal : ℕ) (parts : PartTypes) (size : Size) (s : Shape) → ordinal ≡ k → constructor_of s ≡ Some k → Apart (suc k) l before mid → Later n p q before mid → PartsAgree (shape_in mid) k parts s → SizeAgrees size s → shape_in (mid ++ s ∷ []) (type_with parts (length q.made)) ≡ Some s
+    → (make q word ordinal parts size).faults ≡ [] → MadeDenotes n p before k l s (make q word ordinal parts size).known
+made_denotes n p q before mid k l word ordinal parts size s here number own later agrees sized last none =
     by_size (is_within size) refl none
   where
-    by_size : (b : Bool) → is_within size ≡ b → (if b then right (made q parts size) else too_large q word).faults ≡ [] → MadeDenotes n p before k l s (if b then right (made q parts size) else too_large q word).known
+    by_size : (b : Bool) → is_within size ≡ b → (if b then right (made q ordinal parts size) else too_large q word).faults ≡ [] → MadeDenotes n p before k l s (if b then right (made q ordinal parts size) else too_large q word).known
     by_size false e h = absurd (cc)
     by_size true e h = record {
       limited = is_limited size s sized e;
@@ -74,19 +74,19 @@ made_denotes n p q before mid k l word parts size s number own later agrees size
           room = later.room;
           kept = later.kept;
           longer = longer_then before mid (mid ++ s ∷ []) later.longer (longer_more mid (s ∷ []));
-          table = table_more q.made mid (record { parts = parts; size = size }) s later.table (record { parts = agrees; scalars = sized.scalars_are; depth = sized.depth_is });
+          table = table_more q.made mid (record { ordinal = ordinal; parts = parts; size = size }) s later.table (record { parts = subst (λ j. PartsAgree (shape_in mid) j parts s) (sym here) agrees; scalars = sized.scalars_are; depth = sized.depth_is });
         };
         known = last;
       };
     }
 
 -- an array, of a length and after the type of its elements
-array_denotes : (n : ℕ) (p : SoFar) (before : List Shape) (k l count : ℕ) (o : Operand TypeId) (given : Option Shape) (u : TypedAfter) → Denotes n p before (suc k) l given u → (array_made o (Some count) u).faults ≡ []
-    → Denotes n p before k l (option_and_then (λ s. within_limits (array_shape k count s)) given) (array_made o (Some count) u).known
-array_denotes n p before k l count o given u d none =
+array_denotes : (n : ℕ) (p : SoFar) (before : List Shape) (k l ordinal count : ℕ) (o : Operand TypeId) (given : Option Shape) (u : TypedAfter) → ordinal ≡ k → Denotes n p before (suc k) l given u → (array_made ordinal o (Some count) u).faults ≡ []
+    → Denotes n p before k l (option_and_then (λ s. within_limits (array_shape k count s)) given) (array_made ordinal o (Some count) u).known
+array_denotes n p before k l ordinal count o given u here d none =
     let s : Shape = array_shape k count d.shape in
     let size = array_sized (size_at u.behind.made u.of) k count d.shape (size_agrees u.behind.made d.after u.of d.shape d.later.table d.known) in
-    let m = made_denotes n p u.behind before d.after k l _ (of_elements u.of) (array_size count (size_at u.behind.made u.of)) s refl d.apart d.later (k, count, d.shape, refl, d.known) size (last_array u.behind.made d.after k count d.shape d.later.table) none in
+    let m = made_denotes n p u.behind before d.after k l _ ordinal (of_elements count u.of) (array_size count (size_at u.behind.made u.of)) s here refl d.apart d.later (d.shape, refl, d.known) size (last_array u.behind.made d.after k count d.shape d.later.table) none in
     record {
       shape = m.denotes.shape;
       given_is = ap (option_and_then (λ s. within_limits (array_shape k count s))) d.given_is ∙ (m.limited ∙ m.denotes.given_is);
@@ -96,10 +96,10 @@ array_denotes n p before k l count o given u d none =
       known = m.denotes.known;
     }
 
-sized_array : (n : ℕ) (p : SoFar) (before : List Shape) (k l : ℕ) (o : Operand TypeId) (told : Option ℕ) (count : ℕ) (given : Option Shape) (u : TypedAfter) → told ≡ Some count → Denotes n p before (suc k) l given u → (array_made o told u).faults ≡ []
-    → Denotes n p before k l (option_and_then (λ s. within_limits (array_shape k count s)) given) (array_made o told u).known
-sized_array n p before k l o told count given u e d none =
-    subst (λ z. (array_made o z u).faults ≡ [] → Denotes n p before k l (option_and_then (λ s. within_limits (array_shape k count s)) given) (array_made o z u).known) (sym e) (array_denotes n p before k l count o given u d) none
+sized_array : (n : ℕ) (p : SoFar) (before : List Shape) (k l ordinal : ℕ) (o : Operand TypeId) (told : Option ℕ) (count : ℕ) (given : Option Shape) (u : TypedAfter) → told ≡ Some count → ordinal ≡ k → Denotes n p before (suc k) l given u → (array_made ordinal o told u).faults ≡ []
+    → Denotes n p before k l (option_and_then (λ s. within_limits (array_shape k count s)) given) (array_made ordinal o told u).known
+sized_array n p before k l ordinal o told count given u e here d none =
+    subst (λ z. (array_made ordinal o z u).faults ≡ [] → Denotes n p before k l (option_and_then (λ s. within_limits (array_shape k count s)) given) (array_made ordinal o z u).known) (sym e) (array_denotes n p before k l ordinal count o given u here d) none
 
 -- fields that are gathered, after those before
 pub record Gathers (n : ℕ) (p : SoFar) (before : List Shape) (k l : ℕ) (first : FieldShapes) (own : FieldShapes) (g : Gathered) : Type 0 where
@@ -147,7 +147,7 @@ map-same [] = refl
 map-same (x ∷ xs) = λ i. x ∷ map-same xs i
 
 pub nothing_agrees : (shapes : List Shape) (p : SoFar) → GatheredAgrees shapes (nothing_gathered p) no_field_shape
-nothing_agrees shapes p = record { fields = λ x. refl; scalars_are = refl; depth_is = refl }
+nothing_agrees shapes p = record { fields = tt; scalars_are = refl; depth_is = refl }
 
 nothing_more : (n : ℕ) (g : Gathered) (before : List Shape) (k l : ℕ) → l ≡ k → (first : FieldShapes) → TableAgrees g.behind.made before → GatheredAgrees before g first → Gathers n g.behind before k l first no_field_shape g
 nothing_more n g before k l last first table h = record { after = before; apart = apart_same k l before last; later = later_same n g.behind before table; agrees = subst (GatheredAgrees before g) (sym (followed-nothing first)) h }
@@ -167,12 +167,12 @@ both_gather n p before k m l first given g h others one other = record {
 }
 
 -- a record of all its fields
-record_denotes : (n : ℕ) (p : SoFar) (before : List Shape) (k l word : ℕ) (given : Option FieldShapes) (g : Gathered) → GroupsGather n p before (suc k) l no_field_shape given g → (record_made word g).faults ≡ []
-    → Denotes n p before k l (option_and_then (λ fs. within_limits (record_shape k fs)) given) (record_made word g).known
-record_denotes n p before k l word given g h none =
+record_denotes : (n : ℕ) (p : SoFar) (before : List Shape) (k l word ordinal : ℕ) (given : Option FieldShapes) (g : Gathered) → ordinal ≡ k → GroupsGather n p before (suc k) l no_field_shape given g → (record_made word ordinal g).faults ≡ []
+    → Denotes n p before k l (option_and_then (λ fs. within_limits (record_shape k fs)) given) (record_made word ordinal g).known
+record_denotes n p before k l word ordinal given g here h none =
     let after = h.gathers.after in
     let s : Shape = record_shape k h.own in
-    let m = made_denotes n p g.behind before after k l word (of_fields g.fields) (record_size g.size) s refl h.gathers.apart h.gathers.later (k, h.own, refl, h.gathers.agrees.fields) (record_sized after g k h.own h.gathers.agrees) (last_record g.behind.made after k h.own h.gathers.later.table) none in
+    let m = made_denotes n p g.behind before after k l word ordinal (of_fields g.fields) (record_size g.size) s here refl h.gathers.apart h.gathers.later (h.own, refl, h.gathers.agrees.fields) (record_sized after g k h.own h.gathers.agrees) (last_record g.behind.made after k h.own h.gathers.later.table) none in
     record {
       shape = m.denotes.shape;
       given_is = ap (option_and_then (λ fs. within_limits (record_shape k fs))) h.given_is ∙ (m.limited ∙ m.denotes.given_is);
@@ -206,60 +206,64 @@ module _ (w : Numbering) (fit : PartsFit) (n : ℕ) (scope : Scope Name) (env : 
   mutual
     unfolding reported_type denoted
 
-    pub type_denotes : (k : ℕ) (t : Tree ℕ written_type) (p : SoFar) (before : List Shape) → Stands w p before n scope env → AreSeen w scope t → (reported_type p t).faults ≡ []
-        → Denotes n p before k (k + constructors (named w.source t)) (denoted (meanings as_names env) k (named w.source t)) (reported_type p t).known
-    type_denotes k (named_type x) p before st seen e =
+    pub type_denotes : (around k : ℕ) (t : Tree ℕ written_type) (p : SoFar) (before : List Shape) → length before + around ≡ k → Stands w p before n scope env → AreSeen w scope t → (reported_type around p t).faults ≡ []
+        → Denotes n p before k (k + constructors (named w.source t)) (denoted (meanings as_names env) k (named w.source t)) (reported_type around p t).known
+    type_denotes around k (named_type x) p before at st seen e =
         named_denotes n p p before k (k + 0) (omega arith) x ((facts_at p false).stands_for x) ((meanings as_names env).stands_for (text_at w.source x)) st.table (seen_stands w p false before n scope env st x seen.0) (none_both (type_meant (facts_at p false) x ((facts_at p false).stands_for x)).faults [] e).0
-    type_denotes k (array_type e u) p before st seen h =
+    type_denotes around k (array_type e u) p before at st seen h =
         let parts = each_part (IsSeen w scope) (occurrences e) (occurrences u) seen in
         let o : Operand TypeId = (reported_expression (facts_at p true) e).known in
         let l : Reported (Option ℕ) = length_of (facts_at p false) o in
-        let el : Reported TypedAfter = reported_type p u in
-        let a = none_both (reported_expression (facts_at p true) e).faults (l.faults ++ (el.faults ++ (array_made o l.known el.known).faults)) h in
-        let b = none_both l.faults (el.faults ++ (array_made o l.known el.known).faults) a.1 in
-        let c = none_both el.faults (array_made o l.known el.known).faults b.1 in
+        let el : Reported TypedAfter = reported_type (suc around) p u in
+        let ordinal : ℕ = ordinal_here around p in
+        let here : ordinal ≡ k = omega (arith, table_long p.made before st.table, at) in
+        let a = none_both (reported_expression (facts_at p true) e).faults (l.faults ++ (el.faults ++ (array_made ordinal o l.known el.known).faults)) h in
+        let b = none_both l.faults (el.faults ++ (array_made ordinal o l.known el.known).faults) a.1 in
+        let c = none_both el.faults (array_made ordinal o l.known el.known).faults b.1 in
         let long = fit.lengths p before (text_at w.source) (meanings as_names env) e (agrees_where_seen w p true before n scope env st fit e parts.0) (λ i. a.0 i ++ b.0 i) in
         let given : constant_value (meanings as_names env) (named w.source e) ≡ Some long.value = ap (λ s. constant_value (meanings as_names env) (mapped (text_at w.source) (value_at s) e)) (sym st.source) ∙ long.given in
-        let element = type_denotes (suc k) u p before st parts.1 c.0 in
+        let element = type_denotes (suc around) (suc k) u p before (omega (arith, at)) st parts.1 c.0 in
         let inner : ℕ = constructors (named w.source u) in
-        subst₂ (λ j z. Denotes n p before k j z (array_made o l.known el.known).known) (later_constructor k inner) (sym (array_given k (constant_value (meanings as_names env) (named w.source e)) long.value long.length (denoted (meanings as_names env) (suc k) (named w.source u)) given long.counted))
-        (sized_array n p before k (suc k + inner) o l.known long.length (denoted (meanings as_names env) (suc k) (named w.source u)) el.known long.known element c.1)
-    type_denotes k (record_type g rest) p before st seen h =
+        subst₂ (λ j z. Denotes n p before k j z (array_made ordinal o l.known el.known).known) (later_constructor k inner) (sym (array_given k (constant_value (meanings as_names env) (named w.source e)) long.value long.length (denoted (meanings as_names env) (suc k) (named w.source u)) given long.counted))
+        (sized_array n p before k (suc k + inner) ordinal o l.known long.length (denoted (meanings as_names env) (suc k) (named w.source u)) el.known long.known here element c.1)
+    type_denotes around k (record_type g rest) p before at st seen h =
         let parts = each_part (IsSeen w scope) (occurrences g) (occurrences rest) seen in
         let word : ℕ = word_before g (record_word rest) in
-        let first : Reported Gathered = told_fields (nothing_gathered p) g in
-        let all : Reported Gathered = told_groups first.known rest in
-        let a = none_both first.faults (all.faults ++ (record_made word all.known).faults) h in
-        let b = none_both all.faults (record_made word all.known).faults a.1 in
-        let one = group_gathers (suc k) g (nothing_gathered p) before no_field_shape st parts.0 (nothing_agrees before p) a.0 in
+        let ordinal : ℕ = ordinal_here around p in
+        let here : ordinal ≡ k = omega (arith, table_long p.made before st.table, at) in
+        let first : Reported Gathered = told_fields (suc around) (nothing_gathered p) g in
+        let all : Reported Gathered = told_groups (suc around) first.known rest in
+        let a = none_both first.faults (all.faults ++ (record_made word ordinal all.known).faults) h in
+        let b = none_both all.faults (record_made word ordinal all.known).faults a.1 in
+        let one = group_gathers (suc around) (suc k) g (nothing_gathered p) before no_field_shape (omega (arith, at)) st parts.0 (nothing_agrees before p) a.0 in
         let later = stands_later w n n n p first.known.behind before one.gathers.after scope env (le_refl n) (le_refl n) st one.gathers.later in
-        let other = groups_gather (suc k + group_constructors (named w.source g)) rest first.known one.gathers.after one.own later parts.1 one.gathers.agrees b.0 in
+        let other = groups_gather (suc around) (suc k + group_constructors (named w.source g)) rest first.known one.gathers.after one.own (omega (arith, at, one.gathers.apart.counted)) later parts.1 one.gathers.agrees b.0 in
         let c : ℕ = group_constructors (named w.source g) in
         let d : ℕ = groups_constructors (named w.source rest) in
-        subst₂ (λ j z. Denotes n p before k j z (record_made word all.known).known) (later_groups k c d) (grouped (denoted_groups (meanings as_names env) (suc k + group_constructors (named w.source g)) (named w.source rest)) (λ ys. denoted_group (meanings as_names env) (suc k) ys (named w.source g)) (λ fs. within_limits (record_shape k fs)))
-        (record_denotes n p before k (suc k + c + d) word (option_and_then (λ ys. denoted_group (meanings as_names env) (suc k) ys (named w.source g)) (denoted_groups (meanings as_names env) (suc k + group_constructors (named w.source g)) (named w.source rest))) all.known
+        subst₂ (λ j z. Denotes n p before k j z (record_made word ordinal all.known).known) (later_groups k c d) (grouped (denoted_groups (meanings as_names env) (suc k + group_constructors (named w.source g)) (named w.source rest)) (λ ys. denoted_group (meanings as_names env) (suc k) ys (named w.source g)) (λ fs. within_limits (record_shape k fs)))
+        (record_denotes n p before k (suc k + c + d) word ordinal (option_and_then (λ ys. denoted_group (meanings as_names env) (suc k) ys (named w.source g)) (denoted_groups (meanings as_names env) (suc k + group_constructors (named w.source g)) (named w.source rest))) all.known here
         (both_gather n p before (suc k) (suc k + c) (suc k + c + d) no_field_shape (λ ys. denoted_group (meanings as_names env) (suc k) ys (named w.source g)) first.known all.known (denoted_groups (meanings as_names env) (suc k + group_constructors (named w.source g)) (named w.source rest)) one other) b.1)
 
-    pub group_gathers : (k : ℕ) (t : Tree ℕ fields) (g : Gathered) (before : List Shape) (first : FieldShapes) → Stands w g.behind before n scope env → AreSeen w scope t → GatheredAgrees before g first → (told_fields g t).faults ≡ []
-        → GroupGathers n g.behind before k (k + group_constructors (named w.source t)) first (λ ys. denoted_group (meanings as_names env) k ys (named w.source t)) (told_fields g t).known
-    group_gathers k no_fields g before first st seen agrees h = record { own = no_field_shape; given_is = λ ys. refl; gathers = nothing_more n g before k (k + 0) (omega arith) first st.table agrees }
-    group_gathers k (some_fields ns t) g before first st seen agrees h =
-        let u : Reported TypedAfter = reported_type g.behind t in
-        let d = type_denotes k t g.behind before st seen (none_both u.faults [] h).0 in
+    pub group_gathers : (around k : ℕ) (t : Tree ℕ fields) (g : Gathered) (before : List Shape) (first : FieldShapes) → length before + around ≡ k → Stands w g.behind before n scope env → AreSeen w scope t → GatheredAgrees before g first → (told_fields around g t).faults ≡ []
+        → GroupGathers n g.behind before k (k + group_constructors (named w.source t)) first (λ ys. denoted_group (meanings as_names env) k ys (named w.source t)) (told_fields around g t).known
+    group_gathers around k no_fields g before first at st seen agrees h = record { own = no_field_shape; given_is = λ ys. refl; gathers = nothing_more n g before k (k + 0) (omega arith) first st.table agrees }
+    group_gathers around k (some_fields ns t) g before first at st seen agrees h =
+        let u : Reported TypedAfter = reported_type around g.behind t in
+        let d = type_denotes around k t g.behind before at st seen (none_both u.faults [] h).0 in
         names_gather n w g before k (k + constructors (named w.source t)) first (names_listed ns) (map (λ x. x) (names_listed (named w.source ns))) (denoted (meanings as_names env) k (named w.source t)) u.known st.source
         (map-same (names_listed (named w.source ns)) ∙ names_listed-mapped (text_at w.source) (value_at w.source) ns) agrees d
 
-    pub groups_gather : (k : ℕ) (t : Tree ℕ (items further_fields)) (g : Gathered) (before : List Shape) (first : FieldShapes) → Stands w g.behind before n scope env → AreSeen w scope t → GatheredAgrees before g first → (told_groups g t).faults ≡ []
-        → GroupsGather n g.behind before k (k + groups_constructors (named w.source t)) first (denoted_groups (meanings as_names env) k (named w.source t)) (told_groups g t).known
-    groups_gather k end g before first st seen agrees h = record { own = no_field_shape; given_is = refl; gathers = nothing_more n g before k (k + 0) (omega arith) first st.table agrees }
-    groups_gather k (more (then_fields f) rest) g before first st seen agrees h =
+    pub groups_gather : (around k : ℕ) (t : Tree ℕ (items further_fields)) (g : Gathered) (before : List Shape) (first : FieldShapes) → length before + around ≡ k → Stands w g.behind before n scope env → AreSeen w scope t → GatheredAgrees before g first → (told_groups around g t).faults ≡ []
+        → GroupsGather n g.behind before k (k + groups_constructors (named w.source t)) first (denoted_groups (meanings as_names env) k (named w.source t)) (told_groups around g t).known
+    groups_gather around k end g before first at st seen agrees h = record { own = no_field_shape; given_is = refl; gathers = nothing_more n g before k (k + 0) (omega arith) first st.table agrees }
+    groups_gather around k (more (then_fields f) rest) g before first at st seen agrees h =
         let parts = each_part (IsSeen w scope) (occurrences f) (occurrences rest) seen in
-        let next : Reported Gathered = told_fields g f in
-        let all : Reported Gathered = told_groups next.known rest in
+        let next : Reported Gathered = told_fields around g f in
+        let all : Reported Gathered = told_groups around next.known rest in
         let a = none_both next.faults all.faults h in
-        let one = group_gathers k f g before first st parts.0 agrees a.0 in
+        let one = group_gathers around k f g before first at st parts.0 agrees a.0 in
         let later = stands_later w n n n g.behind next.known.behind before one.gathers.after scope env (le_refl n) (le_refl n) st one.gathers.later in
-        let other = groups_gather (k + group_constructors (named w.source f)) rest next.known one.gathers.after (followed first one.own) later parts.1 one.gathers.agrees a.1 in
+        let other = groups_gather around (k + group_constructors (named w.source f)) rest next.known one.gathers.after (followed first one.own) (omega (arith, at, one.gathers.apart.counted)) later parts.1 one.gathers.agrees a.1 in
         let c : ℕ = group_constructors (named w.source f) in
         let d : ℕ = groups_constructors (named w.source rest) in
         subst (λ j. GroupsGather n g.behind before k j first (denoted_groups (meanings as_names env) k (named w.source (more (then_fields f) rest))) all.known) (more_groups k c d)

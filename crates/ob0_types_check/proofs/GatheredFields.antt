@@ -1,12 +1,8 @@
 -- The fields of a record as they are gathered, name by name and group by group.
-use Rattle.std.proofs.Common.{◌≡◌, ℕ, ◌+◌, ◌-◌, ◌^◌, ◌<◌, ◌≤◌, min, max, Some, None, List, ◌∷◌, length, get_or, drop, refl, sym, ap, ◌∙◌, subst, arith, false, if◌then◌else◌, is_some, Bor}
-use Rattle.std.proofs.lemmas.List.{drop_all, drop_more}
+use Rattle.std.proofs.Common.{◌≡◌, ℕ, ◌+◌, ◌-◌, ◌^◌, ◌<◌, ◌≤◌, min, max, List, [], ◌∷◌, ◌++◌, length, get_or, drop, refl, sym, ap, ◌∙◌, subst, arith, string_bytes, suc, length-append}
+use Rattle.std.proofs.lemmas.List.{drop_all, drop_more, map-append}
 use Rattle.ob0_scan.specs.declared.fault.Fault.{Fault}
-use Rattle.std.proofs.lemmas.Map.Text.{btree_map_updates_str}
-use Rattle.std.specs.BTreeMap.{BTreeMap, UpdatesBy}
-use Rattle.std.specs.Cmp.Lexicographic.{slice_cmp}
-use Rattle.std.specs.Ordering.{nat_cmp}
-use Rattle.ob0_scope_rules.specs.Names.{Name, same_name}
+use Rattle.ob0_types_table.specs.declared.known.Field.{Field}
 use Rattle.ob0_types_table.specs.declared.types.TypeId.{TypeId}
 use Rattle.ob0_tree.specs.Places.{text_at}
 use Rattle.ob0_tree.specs.View.{fields_of, further_fields_of_group}
@@ -17,16 +13,17 @@ use Rattle.ob0_types_check.specs.Known.{Reported}
 use Rattle.ob0_types_check.specs.Operations.{ReportsAfter}
 use Rattle.ob0_types_check.specs.SoFar.{Size, no_scalar, size_at}
 use Rattle.ob0_types_check.specs.SupposedFacts.{Gathers, IsGathered, counted, fields_in, size_of, so_far_in}
-use Rattle.ob0_types_check.specs.WrittenTypeFaults.{Gathered, beside, nothing_gathered, told_fields, told_groups, with_field, with_name, with_names}
+use Rattle.ob0_types_check.specs.WrittenTypeFaults.{Gathered, beside, nothing_gathered, told_fields, told_groups, with_name, with_names}
 use Rattle.ob0_types_check.proofs.Chains.{Chained, chain_goes_on}
 use Rattle.ob0_types_check.proofs.ToldTypes.{group_told, groups_chain}
 
--- a field is put into the map where its name isn't there yet
-pub field_added : (m n : BTreeMap (Bor Name) TypeId) (x : Name) (t : TypeId) → is_some (fields_in m x) ≡ false → UpdatesBy (λ a b. slice_cmp nat_cmp a.now b.now) (λ key. slice_cmp nat_cmp x key.now) m n (Some t)
-    → (y : Name) → fields_in n y ≡ with_field (fields_in m) x t y
-field_added m n x t none updates y =
-    btree_map_updates_str x m n (Some t) updates y
-    ∙ sym (ap (λ b. (if b then fields_in m else (λ z. if same_name x z then Some t else fields_in m z)) y) none)
+-- inside of one more
+pub inside : (xs : List ℕ) (x : ℕ) (ys : List ℕ) → ys ≡ xs ++ x ∷ [] → length ys ≡ suc (length xs)
+inside xs x ys e = omega (arith, ap length e, length-append xs (x ∷ []))
+
+-- a field is put after those before it
+pub field_added : (fs gs : List Field) (f : Field) → gs ≡ fs ++ f ∷ [] → fields_in gs ≡ fields_in fs ++ record { name = string_bytes f.name; of = f.of } ∷ []
+field_added fs gs f e = ap fields_in e ∙ map-append (λ (f : Field). record { name = string_bytes f.name; of = f.of }) fs (f ∷ [])
 
 -- sizes beside one another, counted to the end of `usize`
 beside_counted : (z w : Size) → counted (beside (counted z) w) ≡ counted (beside z w)
@@ -37,10 +34,10 @@ beside_counted z w =
 
 -- one name more
 pub one_more : (g : Gathered) (s : Supposed) (old new : gathering.Gathered) (token : ℕ) (t : TypeId) (w : Size) → IsGathered g s old
-    → ((x : Name) → fields_in new.fields x ≡ with_field (fields_in old.fields) (text_at s.resolved.now.module_read.source token) t x)
+    → fields_in new.fields.items ≡ fields_in old.fields.items ++ record { name = text_at s.resolved.now.module_read.source token; of = t } ∷ []
     → size_of new.size ≡ counted (beside (size_of old.size) w) → w ≡ size_at (so_far_in s).made t → IsGathered (with_name t g token) s new
 one_more g s old new token t w h fields size is = record {
-  fields = (λ j x. fields x j) ∙ (λ j. with_field (h.fields j) (text_at (h.behind j).source token) t);
+  fields = fields ∙ (λ j. h.fields j ++ record { name = text_at (h.behind j).source token; of = t } ∷ []);
   size = size ∙ (λ j. counted (beside (h.size j) (is j))) ∙ beside_counted g.size (size_at (so_far_in s).made t) ∙ ap (λ p. counted (beside g.size (size_at p.made t))) h.behind;
   behind = h.behind;
 }
@@ -65,23 +62,23 @@ names_end {t = t} {s = s} {xs = xs} {done = done} {now = now} n over =
     subst (λ g. IsGathered g s now) (sym (ap (with_names t n.out) (drop_all done xs over)) ∙ n.left) n.is
 
 -- the groups so far, with those left, are all
-pub record GroupsGathered (start : Gathered) (before : List Fault) (xs : List Fields) (done : ℕ) (now : List Fault) (s : Supposed) (gathered : gathering.Gathered) : Type 0 where
+pub record GroupsGathered (around : ℕ) (start : Gathered) (before : List Fault) (xs : List Fields) (done : ℕ) (now : List Fault) (s : Supposed) (gathered : gathering.Gathered) : Type 0 where
   pub out : Gathered
   pub is : IsGathered out s gathered
-  pub told : Chained told_groups further_fields_of_group before start xs done now out
+  pub told : Chained (told_groups around) further_fields_of_group before start xs done now out
 
 pub gathers : {before after : List Fault} {s : Supposed} {gathered : gathering.Gathered} {x : Gathered} {t : Reported Gathered} → ReportsAfter before after x t → IsGathered x s gathered → Gathers before after s gathered t
 gathers {s = s} {gathered = gathered} tells is = record { told = tells.told; now = subst (λ z. IsGathered z s gathered) tells.known is }
 
-pub groups_begin : {before : List Fault} {xs : List Fields} (s : Supposed) (gathered : gathering.Gathered) → ((x : Name) → fields_in gathered.fields x ≡ None) → size_of gathered.size ≡ no_scalar
-    → GroupsGathered (nothing_gathered (so_far_in s)) before xs 0 before s gathered
-groups_begin s gathered fields size = record { out = nothing_gathered (so_far_in s); is = record { fields = λ j x. fields x j; size = size; behind = refl }; told = record { so_far = refl } }
+pub groups_begin : {around : ℕ} {before : List Fault} {xs : List Fields} (s : Supposed) (gathered : gathering.Gathered) → fields_in gathered.fields.items ≡ [] → size_of gathered.size ≡ no_scalar
+    → GroupsGathered around (nothing_gathered (so_far_in s)) before xs 0 before s gathered
+groups_begin s gathered fields size = record { out = nothing_gathered (so_far_in s); is = record { fields = fields; size = size; behind = refl }; told = record { so_far = refl } }
 
-pub groups_go_on : {start : Gathered} {before : List Fault} {xs : List Fields} {done : ℕ} {now next : List Fault} {s s2 : Supposed} {gathered gathered2 : gathering.Gathered} (x : Fields)
-    → GroupsGathered start before xs done now s gathered → done < length xs → x ≡ get_or xs done x
-    → ((g : Gathered) → IsGathered g s gathered → Gathers now next s2 gathered2 (told_fields g (fields_of x))) → GroupsGathered start before xs (done + 1) next s2 gathered2
-groups_go_on {now = now} {next = next} x n less here step =
-    let told = told_fields n.out (fields_of x) in
+pub groups_go_on : {around : ℕ} {start : Gathered} {before : List Fault} {xs : List Fields} {done : ℕ} {now next : List Fault} {s s2 : Supposed} {gathered gathered2 : gathering.Gathered} (x : Fields)
+    → GroupsGathered around start before xs done now s gathered → done < length xs → x ≡ get_or xs done x
+    → ((g : Gathered) → IsGathered g s gathered → Gathers now next s2 gathered2 (told_fields around g (fields_of x))) → GroupsGathered around start before xs (done + 1) next s2 gathered2
+groups_go_on {around = around} {now = now} {next = next} x n less here step =
+    let told = told_fields around n.out (fields_of x) in
     let h = step n.out n.is in
     let tells : ReportsAfter now next told.known told = record { known = refl; told = h.told } in
-    record { out = told.known; is = h.now; told = chain_goes_on x groups_chain n.told less here (subst (ReportsAfter now next told.known) (sym (group_told n.out (fields_of x))) tells) }
+    record { out = told.known; is = h.now; told = chain_goes_on x (groups_chain around) n.told less here (subst (ReportsAfter now next told.known) (sym (group_told around n.out (fields_of x))) tells) }

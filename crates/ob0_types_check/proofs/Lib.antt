@@ -23,7 +23,12 @@ pub mod DeclaredStanding
 pub mod DeclaredTypes
 pub mod BlocksDeclared
 pub mod BlocksParameters
+pub mod BindingsByOrdinal
+pub mod BlocksBound
 pub mod BlocksFit
+pub mod BlocksKnown
+pub mod TableKnown
+pub mod Reported
 pub mod EqualShapes
 pub mod TypedOperands
 pub mod TypedExpressions

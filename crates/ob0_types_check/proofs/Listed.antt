@@ -1,5 +1,5 @@
 -- Faults that are reported one list after the other, and by a loop over what is side by side.
-use Rattle.std.proofs.Common.{◌≡◌, ℕ, ◌+◌, ◌<◌, ◌≤◌, List, [], ◌∷◌, ◌++◌, length, get_or, drop, map, refl, sym, ap, ◌∙◌, append-nil, append_assoc}
+use Rattle.std.proofs.Common.{◌≡◌, ℕ, ◌+◌, ◌<◌, ◌≤◌, List, [], ◌∷◌, ◌++◌, length, get_or, drop, map, refl, sym, ap, ◌∙◌, append-nil, append_assoc, arith}
 use Rattle.std.proofs.lemmas.List.{drop_all, drop_more}
 use Rattle.ob0_scan.specs.declared.fault.Fault.{Fault}
 use Rattle.ob0_types_check.specs.Known.{Reported}
@@ -73,3 +73,7 @@ repeated_on {B = B} {y = y} {xs = xs} {done = done} {now = now} d s less e =
 pub repeated_ends : {A B : Type 0} {y : A} {before : List A} {xs : List B} {done : ℕ} {now : List A} → RepeatedSoFar y before xs done now → length xs ≤ done → now ≡ before ++ map (λ (x : B). y) xs
 repeated_ends {B = B} {y = y} {xs = xs} {done = done} {now = now} s over =
     sym (append-nil now) ∙ sym (ap (λ zs. now ++ map (λ (x : B). y) zs) (drop_all done xs over)) ∙ s.so_far
+
+pub nothing_left : {X : Type 0} (xs : List X) → length xs ≡ 0 → xs ≡ []
+nothing_left [] e = refl
+nothing_left (x ∷ xs) e = absurd (omega (arith, e))

@@ -1,5 +1,5 @@
 -- Each ARRAY and RECORD of the text makes one type: from one place to a later one, types are made by those between them alone.
-use Rattle.std.proofs.Common.{◌≡◌, ℕ, zero, suc, ◌<◌, ◌≤◌, List, [], ◌∷◌, ◌++◌, length, slice_get, Some, refl, sym, ap, ◌∙◌, subst, arith, le_refl, le_trans}
+use Rattle.std.proofs.Common.{◌≡◌, ℕ, zero, suc, ◌+◌, ◌<◌, ◌≤◌, List, [], ◌∷◌, ◌++◌, length, slice_get, Some, refl, sym, ap, ◌∙◌, subst, arith, le_refl, le_trans, length-append}
 use Rattle.ob0_values.specs.Values.{Shape}
 use Rattle.ob0_types_check.specs.WellTypedLaws.{EachOnce, constructor_of}
 use Rattle.ob0_types_check.proofs.Untold.{some-same}
@@ -11,11 +11,12 @@ Lacks j shapes = (i : ℕ) (s : Shape) → slice_get shapes i ≡ Some s → con
 -- the types made from the constructor k on, up to l
 pub record Apart (k l : ℕ) (before after : List Shape) : Type 0 where
   pub le : k ≤ l
+  pub counted : length after + k ≡ length before + l
   pub outside : (j : ℕ) → (k ≤ j → j < l → ⊥) → Lacks j before → Lacks j after
   pub once : ((j : ℕ) → k ≤ j → j < l → Lacks j before) → EachOnce before → EachOnce after
 
 pub apart_same : (k l : ℕ) (shapes : List Shape) → l ≡ k → Apart k l shapes shapes
-apart_same k l shapes e = record { le = omega (arith, e); outside = λ j out h. h; once = λ fresh h. h }
+apart_same k l shapes e = record { le = omega (arith, e); counted = omega (arith, e); outside = λ j out h. h; once = λ fresh h. h }
 
 pub apart_to : (k l m : ℕ) (a b : List Shape) → l ≡ m → Apart k l a b → Apart k m a b
 apart_to k l m a b e h = subst (λ j. Apart k j a b) e h
@@ -26,6 +27,7 @@ not_below m j from to = absurd (omega (arith, from, to))
 pub apart_then : (k m l : ℕ) (a b c : List Shape) → Apart k m a b → Apart m l b c → Apart k l a c
 apart_then k m l a b c f g = record {
   le = le_trans f.le g.le;
+  counted = omega (arith, f.counted, g.counted);
   outside = λ j out h. g.outside j (λ from to. out (le_trans f.le from) to) (f.outside j (λ from to. out from (le_trans to g.le)) h);
   once = λ fresh h. g.once (λ j from to. f.outside j (λ _ below. not_below m j from below) (fresh j (le_trans f.le from) to)) (f.once (λ j from to. fresh j from (le_trans to g.le)) h);
 }
@@ -52,20 +54,23 @@ pushed_once xs x k number lacks h i j c s t at there is also =
 pub apart_made : (k l : ℕ) (before mid : List Shape) (s : Shape) → constructor_of s ≡ Some k → Apart (suc k) l before mid → Apart k l before (mid ++ s ∷ [])
 apart_made k l before mid s number f = record {
   le = omega (arith, f.le);
+  counted = omega (arith, f.counted, length-append mid (s ∷ []));
   outside = λ j out h. pushed_lacks mid s k j number (λ e. out (omega (arith, e)) (omega (arith, e, f.le))) (f.outside j (λ from to. out (omega (arith, from)) to) h);
   once = λ fresh h. pushed_once mid s k number (f.outside k (λ from to. absurd (omega (arith, from))) (fresh k (le_refl k) f.le)) (f.once (λ j from to. fresh j (omega (arith, from)) to) h);
 }
 
 -- where the constructors from k on are still to come
 pub record Fresh (k : ℕ) (shapes : List Shape) : Type 0 where
+  pub counted : length shapes ≡ k
   pub lacks : (j : ℕ) → k ≤ j → Lacks j shapes
   pub once : EachOnce shapes
 
 pub fresh_after : (k l : ℕ) (before after : List Shape) → Apart k l before after → Fresh k before → Fresh l after
 fresh_after k l before after f h = record {
+  counted = omega (arith, f.counted, h.counted);
   lacks = λ j from. f.outside j (λ _ to. not_below l j from to) (h.lacks j (le_trans f.le from));
   once = f.once (λ j from to. h.lacks j from) h.once;
 }
 
-pub fresh_first : (k : ℕ) → Fresh k []
-fresh_first k = record { lacks = λ j from i s at is. absurd (cc); once = λ i j c s t at there is also. absurd (cc) }
+pub fresh_first : Fresh 0 []
+fresh_first = record { counted = refl; lacks = λ j from i s at is. absurd (cc); once = λ i j c s t at there is also. absurd (cc) }

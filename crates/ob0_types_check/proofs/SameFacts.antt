@@ -1,38 +1,37 @@
 -- What is supposed is what is known so far.
-use Rattle.std.proofs.Common.{◌≡◌, ℕ, ◌≤◌, Bool, List, Option, Some, None, map, length, option_map, option_and_then, slice_get, slice_index_or, set, refl, sym, ap, ◌∙◌, arith}
+use Rattle.std.proofs.Common.{◌≡◌, ℕ, ◌≤◌, Bool, List, [], ◌∷◌, if◌then◌else◌, string_bytes, Option, Some, None, map, length, option_map, option_and_then, slice_get, slice_index_or, set, refl, sym, ap, ◌∙◌, arith}
 use Rattle.std.proofs.lemmas.List.{length-map, map-set, set_past}
 use Rattle.std.proofs.lemmas.Option.{slice_get-map}
 use Rattle.std.proofs.Math.ListN.{get_or-map}
-use Rattle.ob0_scope_rules.specs.Names.{Name}
+use Rattle.ob0_scope_rules.specs.Names.{Name, same_name}
 use Rattle.ob0_scope_rules.specs.Resolution.{ordinal_in}
+use Rattle.ob0_types_table.specs.FieldIndex.{first_type}
+use Rattle.ob0_types_table.specs.declared.known.Field.{Field}
+use Rattle.ob0_types_table.specs.declared.known.TypeEntry.{TypeEntry}
+use Rattle.ob0_types_table.specs.declared.known.TypeEntry.TheVariants as made
 use Rattle.ob0_types_table.specs.declared.types.TypeId.{TypeId}
 use Rattle.ob0_types_table.specs.declared.types.TypeId.TheVariants as type
-use Rattle.ob0_types_check.specs.declared.reporting.supposed.Composite.{Composite}
 use Rattle.ob0_types_check.specs.declared.reporting.supposed.Meaning.{Meaning}
-use Rattle.ob0_types_check.specs.declared.reporting.supposed.Parts.{Parts}
-use Rattle.ob0_types_check.specs.declared.reporting.supposed.Parts.TheVariants as parts
 use Rattle.ob0_types_check.specs.declared.reporting.supposed.Supposed.{Supposed}
 use Rattle.ob0_types_check.specs.Known.{a_record, an_array}
-use Rattle.ob0_types_check.specs.SoFar.{elements_at, elements_in, facts_at, field_at, field_in, form_at, same_type}
-use Rattle.ob0_types_check.specs.SupposedFacts.{elements_among, elements_of, facts_in, field_among, field_of, form_in, made_of, meaning_of, parts_of, so_far_in}
+use Rattle.ob0_types_check.specs.SoFar.{elements_at, facts_at, field_at, first_field, form_at, same_type}
+use Rattle.ob0_types_check.specs.SupposedFacts.{elements_of, facts_in, field_of, fields_in, form_in, made_of, meaning_of, so_far_in}
 
-elements_alike : (p : Parts) → elements_among p ≡ elements_in (parts_of p)
-elements_alike (parts.Elements t) = refl
-elements_alike (parts.Fields fields) = refl
-
-elements_same : (o : Option Composite) → elements_of o ≡ elements_at (option_map made_of o)
+elements_same : (o : Option TypeEntry) → elements_of o ≡ elements_at (option_map made_of o)
 elements_same None = refl
-elements_same (Some c) = elements_alike c.parts
+elements_same (Some (made.Array a)) = refl
+elements_same (Some (made.Record r)) = refl
 
-field_alike : (p : Parts) (x : Name) → field_among p x ≡ field_in (parts_of p) x
-field_alike (parts.Elements t) x = refl
-field_alike (parts.Fields fields) x = refl
+field_alike : (fs : List Field) (x : Name) → first_type fs x ≡ first_field (fields_in fs) x
+field_alike [] x = refl
+field_alike (f ∷ fs) x = ap (λ o. if same_name x (string_bytes f.name) then Some f.of else o) (field_alike fs x)
 
-field_same : (o : Option Composite) (x : Name) → field_of o x ≡ field_at (option_map made_of o) x
+field_same : (o : Option TypeEntry) (x : Name) → field_of o x ≡ field_at (option_map made_of o) x
 field_same None x = refl
-field_same (Some c) x = field_alike c.parts x
+field_same (Some (made.Array a)) x = refl
+field_same (Some (made.Record r)) x = field_alike r.fields x
 
-form_same : (cs : List Composite) (t : TypeId) → form_in cs t ≡ form_at (map made_of cs) t
+form_same : (cs : List TypeEntry) (t : TypeId) → form_in cs t ≡ form_at (map made_of cs) t
 form_same cs type.Integer = refl
 form_same cs type.Boolean = refl
 form_same cs (type.Array i) = ap an_array (elements_same (slice_get cs i) ∙ sym (ap elements_at (slice_get-map made_of cs i)))

@@ -1,12 +1,15 @@
 -- What is known of types by what was made is so of their shapes.
-use Rattle.std.proofs.Common.{◌≡◌, ℕ, zero, suc, true, List, [], ◌∷◌, slice_get, Option, Some, option_and_then, refl, sym, ap, ◌∙◌, subst, eqb-true}
+use Rattle.std.proofs.Common.{◌≡◌, ℕ, zero, suc, true, false, List, [], ◌∷◌, ◌++◌, slice_get, if◌then◌else◌, Option, Some, option_map, option_and_then, append_assoc, refl, sym, ap, ◌∙◌, subst, eqb-true}
 use Rattle.std.proofs.lemmas.Option.{option_and_then_some}
 use Rattle.ob0_types_table.specs.declared.types.TypeId.{TypeId}
 use Rattle.ob0_types_table.specs.declared.types.TypeId.TheVariants as type
-use Rattle.ob0_values.specs.Values.{Shape, array_shape, record_shape}
+use Rattle.ob0_scope_rules.specs.Names.{Name, same_name}
+use Rattle.ob0_types_rules.specs.Typing.{shape_of_field}
+use Rattle.ob0_values.specs.Values.{FieldShapes, Shape, array_shape, next_field_shape, no_field_shape, record_shape}
+use Rattle.ob0_types_check.proofs.DeclaredShapes.{longer_more, made_kept}
 use Rattle.ob0_types_check.specs.Known.{a_record, an_array}
-use Rattle.ob0_types_check.specs.SoFar.{MadeType, PartTypes, elements_at, elements_in, field_at, field_in, form_at, of_elements, of_fields, same_type}
-use Rattle.ob0_types_check.specs.Agreement.{EachMade, FormAgrees, MadeAgrees, PartsAgree, TableAgrees, as_array, as_record, shape_in}
+use Rattle.ob0_types_check.specs.SoFar.{MadeType, PartTypes, TypedField, elements_at, elements_in, field_at, field_in, first_field, form_at, of_elements, of_fields, same_type}
+use Rattle.ob0_types_check.specs.Agreement.{EachMade, FieldsAgree, FormAgrees, MadeAgrees, PartsAgree, TableAgrees, as_array, as_record, shape_in}
 use Rattle.ob0_types_check.specs.ReportLaws.{TypesOfTables}
 use Rattle.ob0_types_check.proofs.Untold.{some-none, some-same}
 
@@ -16,20 +19,34 @@ pub record Found (shape : TypeId → Option Shape) (made : List MadeType) (i : �
   pub there : slice_get made i ≡ Some entry
   pub agrees : MadeAgrees shape entry s
 
-pub found : (shape : TypeId → Option Shape) (made : List MadeType) (shapes : List Shape) (i : ℕ) (s : Shape) → EachMade shape made shapes → slice_get shapes i ≡ Some s → Found shape made i s
-found shape [] [] i s each h = absurd (cc)
-found shape [] (u ∷ us) i s each h = absurd each
-found shape (m ∷ ms) [] i s each h = absurd each
-found shape (m ∷ ms) (u ∷ us) zero s each h = record { entry = m; there = refl; agrees = subst (λ u. MadeAgrees shape m u) (some-same u s h) each.0 }
-found shape (m ∷ ms) (u ∷ us) (suc i) s each h = let f = found shape ms us i s each.1 h in record { entry = f.entry; there = f.there; agrees = f.agrees }
+entry-found : (known : List Shape) (made : List MadeType) (shapes : List Shape) (i : ℕ) (s : Shape) → EachMade known made shapes → slice_get shapes i ≡ Some s → Found (shape_in (known ++ shapes)) made i s
+entry-found known [] [] i s each h = absurd (cc)
+entry-found known [] (u ∷ us) i s each h = absurd each
+entry-found known (m ∷ ms) [] i s each h = absurd each
+entry-found known (m ∷ ms) (u ∷ us) zero s each h = record { entry = m; there = refl; agrees = made_kept known (known ++ u ∷ us) (longer_more known (u ∷ us)) m s (subst (λ u. MadeAgrees (shape_in known) m u) (some-same u s h) each.0) }
+entry-found known (m ∷ ms) (u ∷ us) (suc i) s each h =
+    let f = entry-found (known ++ u ∷ []) ms us i s each.1 h in
+    record { entry = f.entry; there = f.there; agrees = subst (λ z. MadeAgrees (shape_in z) f.entry s) (append_assoc known (u ∷ []) us) f.agrees }
 
-array-formed : (shape : TypeId → Option Shape) (p : PartTypes) (r s : Shape) → PartsAgree shape p r → as_array r ≡ Some s → FormAgrees shape (an_array (elements_in p)) s
-array-formed shape (of_elements t) r s (k, n, u, e, known) h = (k, n, u, some-same s (array_shape k n u) (sym h ∙ ap as_array e), known)
-array-formed shape (of_fields fields) r s (k, fs, e, each) h = absurd (some-none s (sym h ∙ ap as_array e))
+pub found : (made : List MadeType) (shapes : List Shape) (i : ℕ) (s : Shape) → TableAgrees made shapes → slice_get shapes i ≡ Some s → Found (shape_in shapes) made i s
+found made shapes i s each h = entry-found [] made shapes i s each h
 
-record-formed : (shape : TypeId → Option Shape) (p : PartTypes) (r s : Shape) → PartsAgree shape p r → as_record r ≡ Some s → FormAgrees shape (a_record (field_in p)) s
-record-formed shape (of_elements t) r s (k, n, u, e, known) h = absurd (some-none s (sym h ∙ ap as_record e))
-record-formed shape (of_fields fields) r s (k, fs, e, each) h = (k, fs, some-same s (record_shape k fs) (sym h ∙ ap as_record e), each)
+array-formed : (shape : TypeId → Option Shape) (k : ℕ) (p : PartTypes) (r s : Shape) → PartsAgree shape k p r → as_array r ≡ Some s → FormAgrees shape (an_array (elements_in p)) s
+array-formed shape k (of_elements n t) r s (u, e, known) h = (k, n, u, some-same s (array_shape k n u) (sym h ∙ ap as_array e), known)
+array-formed shape k (of_fields fields) r s (fs, e, each) h = absurd (some-none s (sym h ∙ ap as_array e))
+
+-- a field by its name
+field-there : (shape : TypeId → Option Shape) (fields : List TypedField) (fs : FieldShapes) → FieldsAgree shape fields fs → (x : Name) → option_map shape (first_field fields x) ≡ option_map Some (shape_of_field fs x)
+field-there shape [] no_field_shape h x = refl
+field-there shape [] (next_field_shape y s fs) h x = absurd h
+field-there shape (f ∷ fields) no_field_shape h x = absurd h
+field-there shape (f ∷ fields) (next_field_shape y s fs) h x =
+    ap (λ z. option_map shape (if same_name x z then Some f.of else first_field fields x)) h.0
+    ∙ (elim (same_name x y) as (λ b. option_map shape (if b then Some f.of else first_field fields x) ≡ option_map Some (if b then Some s else shape_of_field fs x)) [ true ↦ ap Some h.1 | false ↦ field-there shape fields fs h.2 x ])
+
+record-formed : (shape : TypeId → Option Shape) (k : ℕ) (p : PartTypes) (r s : Shape) → PartsAgree shape k p r → as_record r ≡ Some s → FormAgrees shape (a_record (field_in p)) s
+record-formed shape k (of_elements n t) r s (u, e, known) h = absurd (some-none s (sym h ∙ ap as_record e))
+record-formed shape k (of_fields fields) r s (fs, e, each) h = (k, fs, some-same s (record_shape k fs) (sym h ∙ ap as_record e), field-there shape fields fs each)
 
 formed-there : (made : List MadeType) (shapes : List Shape) → TableAgrees made shapes → (t : TypeId) (s : Shape) → shape_in shapes t ≡ Some s → FormAgrees (shape_in shapes) (form_at made t) s
 formed-there made shapes each type.Integer s h = tt
@@ -37,12 +54,12 @@ formed-there made shapes each type.Boolean s h = tt
 formed-there made shapes each type.Unknown s h = absurd (cc)
 formed-there made shapes each (type.Array i) s h =
     option_and_then_some as_array (slice_get shapes i) s h
-    (λ r at is. let f = found (shape_in shapes) made shapes i r each at in
-    subst (λ o. FormAgrees (shape_in shapes) (an_array (elements_at o)) s) (sym f.there) (array-formed (shape_in shapes) f.entry.parts r s f.agrees.parts is))
+    (λ r at is. let f = found made shapes i r each at in
+    subst (λ o. FormAgrees (shape_in shapes) (an_array (elements_at o)) s) (sym f.there) (array-formed (shape_in shapes) f.entry.ordinal f.entry.parts r s f.agrees.parts is))
 formed-there made shapes each (type.Record i) s h =
     option_and_then_some as_record (slice_get shapes i) s h
-    (λ r at is. let f = found (shape_in shapes) made shapes i r each at in
-    subst (λ o. FormAgrees (shape_in shapes) (a_record (field_at o)) s) (sym f.there) (record-formed (shape_in shapes) f.entry.parts r s f.agrees.parts is))
+    (λ r at is. let f = found made shapes i r each at in
+    subst (λ o. FormAgrees (shape_in shapes) (a_record (field_at o)) s) (sym f.there) (record-formed (shape_in shapes) f.entry.ordinal f.entry.parts r s f.agrees.parts is))
 
 same-there : (shapes : List Shape) (s t : TypeId) → same_type s t ≡ true → shape_in shapes s ≡ shape_in shapes t
 same-there shapes type.Integer type.Integer h = refl

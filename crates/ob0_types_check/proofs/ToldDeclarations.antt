@@ -56,7 +56,7 @@ constants_stepped p t ts = refl
 pub constants_chain : IsChain reported_constants constant_declared
 constants_chain = record { ended = constants_ended; stepped = constants_stepped }
 
-pub type_told : (p : SoFar) (x : ℕ) (t : Tree ℕ written_type) → type_declared p (declares_type x t) ≡ (reported_type p t >>= (λ u. right (define u.behind (a_type u.of) x)))
+pub type_told : (p : SoFar) (x : ℕ) (t : Tree ℕ written_type) → type_declared p (declares_type x t) ≡ (reported_type 0 p t >>= (λ u. right (define u.behind (a_type u.of) x)))
 unfolding type_declared
 type_told p x t = refl
 
@@ -71,9 +71,9 @@ types_stepped p t ts = refl
 pub types_chain : IsChain reported_types type_declared
 types_chain = record { ended = types_ended; stepped = types_stepped }
 
-pub variables_told : (p : SoFar) (ns : Names) (t : Tree ℕ written_type) → variables_declared p (declares_variable (names_of ns) t) ≡ (reported_type p t >>= (λ u. right (define_all u.behind (a_variable u.of) (ns.first ∷ ns.more.items))))
+pub variables_told : (p : SoFar) (ns : Names) (t : Tree ℕ written_type) → variables_declared p (declares_variable (names_of ns) t) ≡ (reported_type 0 p t >>= (λ u. right (define_all u.behind (a_variable u.of) (ns.first ∷ ns.more.items))))
 unfolding variables_declared
-variables_told p ns t = ap (λ xs. reported_type p t >>= (λ u. right (define_all u.behind (a_variable u.of) xs))) (names_are ns)
+variables_told p ns t = ap (λ xs. reported_type 0 p t >>= (λ u. right (define_all u.behind (a_variable u.of) xs))) (names_are ns)
 
 pub variables_ended : (p : SoFar) → reported_variables p end ≡ right p
 unfolding reported_variables
@@ -86,14 +86,14 @@ variables_stepped p t ts = refl
 pub variables_chain : IsChain reported_variables variables_declared
 variables_chain = record { ended = variables_ended; stepped = variables_stepped }
 
-parameters_told : (h : KnownHeading) (b : Bool) (ns : Tree ℕ names) (t : Tree ℕ written_type) → reported_section h (then_section (if b then variable_section ns t else value_section ns t)) ≡ (reported_type h.behind t >>= (λ u. right (with_parameters h b (names_listed ns) u)))
+parameters_told : (h : KnownHeading) (b : Bool) (ns : Tree ℕ names) (t : Tree ℕ written_type) → reported_section h (then_section (if b then variable_section ns t else value_section ns t)) ≡ (reported_type 0 h.behind t >>= (λ u. right (with_parameters h b (names_listed ns) u)))
 unfolding reported_section reported_parameters
 parameters_told h true ns t = refl
 parameters_told h false ns t = refl
 
 pub section_told : (h : KnownHeading) (b : Bool) (ns : Names) (t : Tree ℕ written_type)
-    → reported_section h (then_section (if b then variable_section (names_of ns) t else value_section (names_of ns) t)) ≡ (reported_type h.behind t >>= (λ u. right (with_parameters h b (ns.first ∷ ns.more.items) u)))
-section_told h b ns t = parameters_told h b (names_of ns) t ∙ ap (λ xs. reported_type h.behind t >>= (λ u. right (with_parameters h b xs u))) (names_are ns)
+    → reported_section h (then_section (if b then variable_section (names_of ns) t else value_section (names_of ns) t)) ≡ (reported_type 0 h.behind t >>= (λ u. right (with_parameters h b (ns.first ∷ ns.more.items) u)))
+section_told h b ns t = parameters_told h b (names_of ns) t ∙ ap (λ xs. reported_type 0 h.behind t >>= (λ u. right (with_parameters h b xs u))) (names_are ns)
 
 pub sections_listed : (ss : List Section) → formal_sections (one (formals_listed ss)) ≡ items_of further_section_of ss
 sections_listed [] = refl

@@ -1,5 +1,5 @@
 -- What is reported of types as they are written, part by part.
-use Rattle.std.proofs.Common.{◌≡◌, ℕ, false, true, List, [], ◌∷◌, refl}
+use Rattle.std.proofs.Common.{◌≡◌, ℕ, suc, false, true, List, [], ◌∷◌, refl}
 use Rattle.ob0_tree.specs.Tree.{Tree, array_type, end, expression, fields, further_fields, item, items, more, named_type, names, no_fields, some_fields, then_fields, written_type}
 use Rattle.ob0_tree.specs.View.{fields_of, further_fields_of_group, items_of, record_listed}
 use Rattle.ob0_tree.specs.declared.tree.Fields.{Fields}
@@ -8,44 +8,45 @@ use Rattle.ob0_types_check.specs.ExpressionFaults.{reported_expression}
 use Rattle.ob0_types_check.specs.Operations.{right, ◌>>=◌}
 use Rattle.ob0_types_check.specs.SoFar.{SoFar, facts_at}
 use Rattle.ob0_types_check.specs.TypeFaults.{length_of, type_named}
-use Rattle.ob0_types_check.specs.WrittenTypeFaults.{Gathered, array_made, gathered_after, nothing_gathered, record_made, record_word, told_fields, reported_group, told_groups, reported_type, word_before}
+use Rattle.ob0_types_check.specs.WrittenTypeFaults.{Gathered, array_made, gathered_after, nothing_gathered, ordinal_here, record_made, record_word, told_fields, reported_group, told_groups, reported_type, word_before}
 use Rattle.ob0_types_check.proofs.Chains.{IsChain, then_assoc}
 
-pub named_told : (p : SoFar) (x : ℕ) → reported_type p (named_type x) ≡ (type_named (facts_at p false) x >>= (λ t. right (record { of = t; behind = p })))
+pub named_told : (around : ℕ) (p : SoFar) (x : ℕ) → reported_type around p (named_type x) ≡ (type_named (facts_at p false) x >>= (λ t. right (record { of = t; behind = p })))
 unfolding reported_type
-named_told p x = refl
+named_told around p x = refl
 
-pub array_told : (p : SoFar) (e : Tree ℕ expression) (u : Tree ℕ written_type)
-    → reported_type p (array_type e u) ≡ (reported_expression (facts_at p true) e >>= (λ o. length_of (facts_at p false) o >>= (λ n. reported_type p u >>= array_made o n)))
+pub array_told : (around : ℕ) (p : SoFar) (e : Tree ℕ expression) (u : Tree ℕ written_type)
+    → reported_type around p (array_type e u) ≡ (reported_expression (facts_at p true) e >>= (λ o. length_of (facts_at p false) o >>= (λ n. reported_type (suc around) p u >>= array_made (ordinal_here around p) o n)))
 unfolding reported_type
-array_told p e u = refl
+array_told around p e u = refl
 
-pub no_fields_told : (g : Gathered) → told_fields g no_fields ≡ right g
+pub no_fields_told : (around : ℕ) (g : Gathered) → told_fields around g no_fields ≡ right g
 unfolding reported_type
-no_fields_told g = refl
+no_fields_told around g = refl
 
-pub fields_told : (g : Gathered) (ns : Tree ℕ names) (t : Tree ℕ written_type) → told_fields g (some_fields ns t) ≡ (reported_type g.behind t >>= (λ u. right (gathered_after g (names_listed ns) u)))
+pub fields_told : (around : ℕ) (g : Gathered) (ns : Tree ℕ names) (t : Tree ℕ written_type) → told_fields around g (some_fields ns t) ≡ (reported_type around g.behind t >>= (λ u. right (gathered_after g (names_listed ns) u)))
 unfolding reported_type
-fields_told g ns t = refl
+fields_told around g ns t = refl
 
-pub group_told : (g : Gathered) (f : Tree ℕ fields) → reported_group g (then_fields f) ≡ told_fields g f
+pub group_told : (around : ℕ) (g : Gathered) (f : Tree ℕ fields) → reported_group around g (then_fields f) ≡ told_fields around g f
 unfolding reported_group
-group_told g f = refl
+group_told around g f = refl
 
-groups_ended : (g : Gathered) → told_groups g end ≡ right g
+groups_ended : (around : ℕ) (g : Gathered) → told_groups around g end ≡ right g
 unfolding reported_type
-groups_ended g = refl
+groups_ended around g = refl
 
-groups_stepped : (g : Gathered) (t : Tree ℕ (item further_fields)) (ts : Tree ℕ (items further_fields)) → told_groups g (more t ts) ≡ (reported_group g t >>= (λ h. told_groups h ts))
+groups_stepped : (around : ℕ) (g : Gathered) (t : Tree ℕ (item further_fields)) (ts : Tree ℕ (items further_fields)) → told_groups around g (more t ts) ≡ (reported_group around g t >>= (λ h. told_groups around h ts))
 unfolding reported_type reported_group
-groups_stepped g (then_fields f) ts = refl
+groups_stepped around g (then_fields f) ts = refl
 
-pub groups_chain : IsChain told_groups reported_group
-groups_chain = record { ended = groups_ended; stepped = groups_stepped }
+pub groups_chain : (around : ℕ) → IsChain (told_groups around) (reported_group around)
+groups_chain around = record { ended = groups_ended around; stepped = groups_stepped around }
 
 -- a record without groups is one with an empty group
-pub record_told : (p : SoFar) (gs : List Fields)
-    → reported_type p (record_listed gs) ≡ (told_groups (nothing_gathered p) (items_of further_fields_of_group gs) >>= record_made (record_word (items_of further_fields_of_group gs)))
+pub record_told : (around : ℕ) (p : SoFar) (gs : List Fields)
+    → reported_type around p (record_listed gs) ≡ (told_groups (suc around) (nothing_gathered p) (items_of further_fields_of_group gs) >>= record_made (record_word (items_of further_fields_of_group gs)) (ordinal_here around p))
 unfolding reported_type
-record_told p [] = refl
-record_told p (g ∷ gs) = then_assoc (told_fields (nothing_gathered p) (fields_of g)) (λ h. told_groups h (items_of further_fields_of_group gs)) (record_made (word_before (fields_of g) (record_word (items_of further_fields_of_group gs))))
+record_told around p [] = refl
+record_told around p (g ∷ gs) =
+    then_assoc (told_fields (suc around) (nothing_gathered p) (fields_of g)) (λ h. told_groups (suc around) h (items_of further_fields_of_group gs)) (record_made (word_before (fields_of g) (record_word (items_of further_fields_of_group gs))) (ordinal_here around p))

@@ -1,12 +1,12 @@
 -- Blocks, procedures and modules that are well-typed: no fault is reported of them.
-use Rattle.std.proofs.Common.{◌≡◌, ℕ, suc, ◌+◌, Bool, true, ◌&&◌, List, [], ◌∷◌, ◌++◌, Option, Some, option_and_then, refl, sym, ap, ◌∙◌, subst, le_refl}
+use Rattle.std.proofs.Common.{◌≡◌, ℕ, suc, ◌+◌, Bool, true, ◌&&◌, List, [], ◌∷◌, ◌++◌, Option, Some, option_and_then, refl, sym, ap, ◌∙◌, subst, le_refl, arith}
 use Rattle.ob0_tree.specs.Parsed.{tree_of}
 use Rattle.ob0_tree.specs.Places.{named, text_at, value_at}
 use Rattle.ob0_tree.specs.Tree.{Tree, block, body, declares, declares_procedure, end, has_body, item, items, maybe, more, procedure}
 use Rattle.ob0_scope_rules.specs.Names.{Name, as_names}
 use Rattle.ob0_scope_rules.specs.Parts.{formal_names, formal_sections, module_block, procedure_formals, procedure_name, section_constants, section_types, section_variables}
 use Rattle.ob0_scope_rules.specs.Scopes.{Scope, after_names, after_procedure, first_procedure, first_type, first_variable, predeclared_scope}
-use Rattle.ob0_types_rules.specs.Declarations.{after_types, after_variables, declare_constants, declare_first, declare_types, formals_constructors, procedure_constructors}
+use Rattle.ob0_types_rules.specs.Declarations.{after_types, after_variables, declare_constants, declare_first, declare_types, formals_constructors, procedure_constructors, types_constructors}
 use Rattle.ob0_types_rules.specs.Environments.{outermost}
 use Rattle.ob0_types_rules.specs.WellTyped.{TypeEnvironment, TypedParameter, bind_typed, block_fits, declare_typed, fits_over, heading, some_and, procedure_fits, procedures_fit, typed_parameters}
 use Rattle.ob0_values.specs.Values.{Shape}
@@ -57,13 +57,14 @@ module _ (w : Numbering) (fit : PartsFit) (fine : PartsRight) where
         let dc = constants_declare w fit (section_constants cs) k n p before scope env st placed.0 none₁ in
         let c_is : declare_constants as_names env (section_constants (named w.source cs)) ≡ Some dc.env = ap (declare_constants as_names env) (constants-mapped text value cs) ∙ dc.given_is in
         let t_is : types dc.env ≡ Some first = given-again types (declare_constants as_names env (section_constants (named w.source cs))) dc.env (Some first) c_is hf in
-        let none₂ = types_right w fit fine (section_types ts) k (first_type n b) t₁.known dc.after (behind_constants w scope n b) dc.env dc.stands placed.1 first (sym (ap (declare_types as_names dc.env k) (types-mapped text value ts)) ∙ t_is) in
-        let dt = types_declare w fit (section_types ts) k (first_type n b) t₁.known dc.after (behind_constants w scope n b) dc.env dc.stands placed.1 none₂ in
+        let none₂ = types_right w fit fine (section_types ts) k (first_type n b) t₁.known dc.after (behind_constants w scope n b) dc.env (omega (arith, fresh.counted, dc.apart.counted)) dc.stands placed.1 first (sym (ap (declare_types as_names dc.env k) (types-mapped text value ts)) ∙ t_is) in
+        let dt = types_declare w fit (section_types ts) k (first_type n b) t₁.known dc.after (behind_constants w scope n b) dc.env (omega (arith, fresh.counted, dc.apart.counted)) dc.stands placed.1 none₂ in
         let first_is : first ≡ dt.env = some-same first dt.env (sym t_is ∙ (ap (declare_types as_names dc.env k) (types-mapped text value ts) ∙ dt.given_is)) in
         let v_is : declare_typed as_names (after_types k nb) (named w.source (section_variables vs)) dt.env ≡ Some inner =
         (λ i. declare_typed as_names (after_types k nb) (sym (variables-mapped text value vs) i) (sym first_is i)) ∙ hv in
-        let none₃ = variables_right w fit fine (section_variables vs) (after_types k nb) (first_variable n b) t₂.known dt.after (behind_types w scope n b) dt.env dt.stands placed.2 inner v_is in
-        let d = declarations_told w fit cs ts vs ps statements k n p before scope env st placed.0 placed.1 placed.2 none₁ none₂ none₃ in
+        let t_same : types_constructors (section_types (named w.source ts)) ≡ types_constructors (named w.source (section_types ts)) = ap types_constructors (types-mapped text value ts) in
+        let none₃ = variables_right w fit fine (section_variables vs) (after_types k nb) (first_variable n b) t₂.known dt.after (behind_types w scope n b) dt.env (omega (arith, fresh.counted, dc.apart.counted, dt.apart.counted, t_same)) dt.stands placed.2 inner v_is in
+        let d = declarations_told w fit cs ts vs ps statements k n p before scope env fresh.counted st placed.0 placed.1 placed.2 none₁ none₂ none₃ in
         let rest = procedures_right ps statements (after_variables k nb) (first_procedure n b) t₃.known d.after (behind_variables w scope n b) d.env d.stands (fresh_after k (after_variables k nb) before d.after d.apart fresh) placed.3
         (held-again (option_and_then variables (declare_first as_names env k nb)) test d.env d.given_is h) in
         none-of-both t₁.faults (t₂.faults ++ (t₃.faults ++ (t₄.faults ++ (reported_body t₄.known statements).faults))) none₁
@@ -81,7 +82,7 @@ module _ (w : Numbering) (fit : PartsFit) (fine : PartsRight) where
         let given : Option (List (TypedParameter Name)) = typed_parameters as_names env k (procedure_formals nd) in
         let (ps, hp, fitting) = held given (λ ps. own ps && others ps) h in
         let none = procedure_right d k n p before scope env st fresh placed.0 ps hp (each-true (own ps) (others ps) fitting).0 in
-        let f = procedure_told w fit d k n p before scope env st placed.0 none in
+        let f = procedure_told w fit d k n p before scope env fresh.counted st placed.0 none in
         let both = each-true (own f.parameters) (others f.parameters) (held-again given (λ ps. own ps && others ps) f.parameters f.typed h) in
         let last = procedures_right rest statements (k + procedure_constructors nd) (after_procedure (suc n) d) q f.after (behind_procedure w scope n d) (heading (procedure_name nd) f.parameters env) f.stands
         (fresh_after k (k + procedure_constructors nd) before f.after f.apart fresh) placed.1 both.1 in
@@ -93,8 +94,8 @@ module _ (w : Numbering) (fit : PartsFit) (fine : PartsRight) where
     procedure_right (declares_procedure x fs b closing) k n p before scope env st fresh placed ps hp h =
         let text : ℕ → Name = text_at w.source in
         let weak = stands_later w n n (suc n) p p before before scope env (le_refl n) (next_le n) st (later_same n p before st.table) in
-        let none = sections_right w fit fine (formal_sections fs) k (suc n) (record { formals = []; behind = p }) before scope env weak placed.1 ps (sym (ap (typed_parameters as_names env k) (formals-mapped text (value_at w.source) fs)) ∙ hp) in
-        let e = heading_told w fit x fs k n p before scope env st placed.0 placed.1 none in
+        let none = sections_right w fit fine (formal_sections fs) k (suc n) (record { formals = []; behind = p }) before scope env fresh.counted weak placed.1 ps (sym (ap (typed_parameters as_names env k) (formals-mapped text (value_at w.source) fs)) ∙ hp) in
+        let e = heading_told w fit x fs k n p before scope env fresh.counted st placed.0 placed.1 none in
         let same : ps ≡ e.parameters = some-same ps e.parameters (sym hp ∙ e.typed) in
         let first : ℕ = k + formals_constructors (formal_sections (named w.source fs)) in
         let m : ℕ = after_names (suc n) (formal_names (formal_sections fs)) in
@@ -110,4 +111,4 @@ no_fault_in_modules-holds r is h =
     let m = r.module_read in
     let names = names_bound-holds r is h in
     none-of-both _ (reported_block (at_first r) (module_block (tree_of m))).faults names
-    (block_right (numbering_of r) parts_fit parts_right (module_block (tree_of m)) 0 7 (at_first r) [] (predeclared_scope as_names) (outermost as_names) (first_stands r) (fresh_first 0) (module_placed r is names) h)
+    (block_right (numbering_of r) parts_fit parts_right (module_block (tree_of m)) 0 7 (at_first r) [] (predeclared_scope as_names) (outermost as_names) (first_stands r) fresh_first (module_placed r is names) h)

@@ -1,6 +1,6 @@
 -- What is known while faults are reported, and what names and types are by the definitions of types: where they agree.
 -- Rule: none; for laws: what is known against what names and types are.
-use Rattle.std.specs.Prelude.{◌≡◌, ℕ, true, List, [], ◌∷◌, Option, Some, None, option_map, option_and_then, is_some, slice_get}
+use Rattle.std.specs.Prelude.{◌≡◌, ℕ, Bool, true, false, List, [], ◌∷◌, ◌++◌, Option, Some, None, option_map, option_and_then, is_some, slice_get}
 use Rattle.ob0_scope_rules.specs.Names.{Name}
 use Rattle.ob0_types_table.specs.declared.types.TypeId.{TypeId}
 use Rattle.ob0_types_table.specs.declared.types.TypeId.TheVariants as type
@@ -13,9 +13,9 @@ use Rattle.ob0_types_rules.specs.Expressions as meant
 use Rattle.ob0_types_rules.specs.Typing as typing
 use Rattle.ob0_types_rules.specs.Typing.{shape_of_field, value_type}
 use Rattle.ob0_types_rules.specs.WellTyped.{Signature, Typed, signature_of}
-use Rattle.ob0_values.specs.Values.{FieldShapes, Shape, Value, array_shape, boolean_shape, integer_shape, record_shape}
+use Rattle.ob0_values.specs.Values.{FieldShapes, Shape, Value, array_shape, boolean_shape, integer_shape, next_field_shape, no_field_shape, record_shape}
 use Rattle.ob0_types_check.specs.Known.{Facts, Form, Formal, Meaning, Types, a_constant, a_procedure, a_record, a_scalar, a_type, a_variable, an_array, unknown_form}
-use Rattle.ob0_types_check.specs.SoFar.{MadeType, PartTypes, of_elements, of_fields}
+use Rattle.ob0_types_check.specs.SoFar.{MadeType, PartTypes, TypedField, of_elements, of_fields}
 
 -- What is known of a type's parts is so of the parts of a shape. `shape` gives the shapes of types: None where a type is unknown.
 abbrev pub FormAgrees : {T : Type 0} → (T → Option Shape) → Form T → Shape → Type 0
@@ -60,6 +60,23 @@ MeaningAgrees shape (a_variable t) o =
     (s : Shape) × (shape t ≡ Some s) × (o ≡ Some (meant.a_variable s))
 MeaningAgrees shape (a_procedure fs) o =
     (signature : Signature) × (signature_of o ≡ Some signature) × FormalsAgree shape fs signature
+
+-- a predeclared procedure
+abbrev pub is_standard : Option (meant.Object Shape Signature) → Bool
+is_standard None = false
+is_standard (Some (meant.a_type s)) = false
+is_standard (Some (meant.a_constant v)) = false
+is_standard (Some (meant.a_variable s)) = false
+is_standard (Some (meant.a_procedure signature)) = false
+is_standard (Some (meant.a_standard p)) = true
+
+-- what is known of a declaration is what it is; where there is none, nothing is known
+abbrev pub DeclarationAgrees : (TypeId → Option Shape)
+    → Option (Meaning TypeId)
+    → Option (meant.Object Shape Signature)
+    → Type 0
+DeclarationAgrees shape None o = o ≡ None
+DeclarationAgrees shape (Some m) o = MeaningAgrees shape m o
 
 -- a name means something, and that is known
 abbrev pub MeansAlike : {T : Type 0}
@@ -127,24 +144,34 @@ shape_in shapes (type.Array i) = option_and_then as_array (slice_get shapes i)
 shape_in shapes (type.Record i) = option_and_then as_record (slice_get shapes i)
 shape_in shapes type.Unknown = None
 
--- the parts of an array or record that was made are those of its shape
-abbrev pub PartsAgree : (TypeId → Option Shape) → PartTypes → Shape → Type 0
-PartsAgree shape (of_elements t) s = FormAgrees shape (an_array t) s
-PartsAgree shape (of_fields fields) s = FormAgrees shape (a_record fields) s
+-- fields are those of a record's shape, one by one
+abbrev pub FieldsAgree : (TypeId → Option Shape) → List TypedField → FieldShapes → Type 0
+FieldsAgree shape [] no_field_shape = Unit {0}
+FieldsAgree shape [] (next_field_shape x s fs) = ⊥
+FieldsAgree shape (f ∷ fields) no_field_shape = ⊥
+FieldsAgree shape (f ∷ fields) (next_field_shape x s fs) =
+    (f.name ≡ x) × (shape f.of ≡ Some s) × FieldsAgree shape fields fs
+
+-- the parts of an array or record that was made by the word of an ordinal are those of its shape
+abbrev pub PartsAgree : (TypeId → Option Shape) → ℕ → PartTypes → Shape → Type 0
+PartsAgree shape k (of_elements n t) s = (u : Shape) × (s ≡ array_shape k n u) × (shape t ≡ Some u)
+PartsAgree shape k (of_fields fields) s =
+    (fs : FieldShapes) × (s ≡ record_shape k fs) × FieldsAgree shape fields fs
 
 -- what is known of an array or record is as its type says, with its size
 pub record MadeAgrees (shape : TypeId → Option Shape) (m : MadeType) (s : Shape) : Type 0 where
-  pub parts : PartsAgree shape m.parts s
+  pub parts : PartsAgree shape m.ordinal m.parts s
   pub scalars : m.size.scalars ≡ typing.scalars s
   pub depth : m.size.depth ≡ typing.depth s
 
--- each array and record that was made agrees with its type
-abbrev pub EachMade : (TypeId → Option Shape) → List MadeType → List Shape → Type 0
-EachMade shape [] [] = Unit {0}
-EachMade shape [] (s ∷ ss) = ⊥
-EachMade shape (m ∷ ms) [] = ⊥
-EachMade shape (m ∷ ms) (s ∷ ss) = MadeAgrees shape m s × EachMade shape ms ss
+-- each array and record that was made agrees with its type, made of those before it
+abbrev pub EachMade : List Shape → List MadeType → List Shape → Type 0
+EachMade known [] [] = Unit {0}
+EachMade known [] (s ∷ ss) = ⊥
+EachMade known (m ∷ ms) [] = ⊥
+EachMade known (m ∷ ms) (s ∷ ss) =
+    MadeAgrees (shape_in known) m s × EachMade (known ++ s ∷ []) ms ss
 
 -- the arrays and records that were made, and their shapes, one by one
 abbrev pub TableAgrees : List MadeType → List Shape → Type 0
-TableAgrees made shapes = EachMade (shape_in shapes) made shapes
+TableAgrees made shapes = EachMade [] made shapes

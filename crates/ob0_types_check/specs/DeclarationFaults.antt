@@ -35,7 +35,7 @@ reported_constants p (more c rest) = do
 unfoldable pub type_declared : SoFar → Tree ℕ (item type_name) → Reported SoFar
 unfolding reported_type
 type_declared p (declares_type x t) = do
-  u ← reported_type p t
+  u ← reported_type 0 p t
   right (define u.behind (a_type u.of) x)
 
 -- the faults of types, each known after its right side
@@ -50,7 +50,7 @@ reported_types p (more d rest) = do
 unfoldable pub variables_declared : SoFar → Tree ℕ (item variable) → Reported SoFar
 unfolding reported_type
 variables_declared p (declares_variable ns t) = do
-  u ← reported_type p t
+  u ← reported_type 0 p t
   right (define_all u.behind (a_variable u.of) (names_listed ns))
 
 -- the faults of variables, each known after its type
@@ -82,7 +82,7 @@ unfoldable pub reported_parameters : KnownHeading
     → Reported KnownHeading
 unfolding reported_type
 reported_parameters h by_place ns t = do
-  u ← reported_type h.behind t
+  u ← reported_type 0 h.behind t
   right (with_parameters h by_place (names_listed ns) u)
 
 -- the faults of a section of parameters

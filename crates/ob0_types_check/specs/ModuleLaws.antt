@@ -1,11 +1,19 @@
--- The law of what is reported of a module: where nothing is reported, it fits.
+-- The laws of what is reported of a module: where nothing is reported, it fits, and what each declaration is is known.
 -- Rule: none; laws of reported faults.
-use Rattle.std.specs.Prelude.{◌≡◌, true, []}
-use Rattle.ob0_scope_rules.specs.Names.{as_names}
+use Rattle.std.specs.Prelude.{◌≡◌, ℕ, ◌<◌, ◌≤◌, true, false, List, [], None, length, slice_index_or}
+use Rattle.ob0_scope_rules.specs.Names.{Name, as_labels, as_names}
+use Rattle.ob0_scope_rules.specs.Parts.{module_block}
 use Rattle.ob0_scope_rules.specs.Resolution.{IsResolution, Resolution}
-use Rattle.ob0_tree.specs.Parsed.{named_tree_of}
+use Rattle.ob0_tree.specs.Parsed.{named_tree_of, tree_of}
+use Rattle.ob0_tree.specs.Tree.{Tree, module_text}
+use Rattle.ob0_types_rules.specs.Bindings.{declared_object, object_bound}
+use Rattle.ob0_types_rules.specs.Environments.{outermost}
 use Rattle.ob0_types_rules.specs.WellTyped.{fits_over}
-use Rattle.ob0_types_check.specs.DeclarationFaults.{reported_module}
+use Rattle.ob0_types_table.specs.KnownTables.{Tables, declared_in}
+use Rattle.ob0_values.specs.Values.{Shape}
+use Rattle.ob0_types_check.specs.Agreement.{DeclarationAgrees, TableAgrees, is_standard, shape_in}
+use Rattle.ob0_types_check.specs.DeclarationFaults.{reported_block, reported_module}
+use Rattle.ob0_types_check.specs.SoFar.{SoFar, at_first}
 
 -- a module of which nothing is reported fits
 abbrev pub ModulesFit : Type 0
@@ -14,3 +22,27 @@ ModulesFit =
     → IsResolution r
     → reported_module r ≡ []
     → fits_over as_names (named_tree_of r.module_read) ≡ true
+
+-- What is known at the end of a module, and what its declarations are: its arrays and records are types, and of each
+-- ordinal that is known which it is declared as. The predeclared names, and so the standard procedures, have ordinals below
+-- 7.
+pub record KnowsDeclarations (p : SoFar) (m : Tree Name module_text) : Type 0 where
+  pub shapes : List Shape
+  pub table : TableAgrees p.made shapes
+  pub declared : (k : ℕ) → DeclarationAgrees (shape_in shapes) (slice_index_or p.declared k None) (declared_object m k)
+  pub standards : (k : ℕ) → 7 ≤ k → is_standard (declared_object m k) ≡ false
+  pub predeclared : (k : ℕ) → k < 7 → declared_object m k ≡ object_bound (outermost as_labels) k
+  pub room : 7 ≤ length p.declared
+
+-- a table holds what each declaration of a module is
+abbrev pub HasDeclarations : Tree Name module_text → Tables → Type 0
+HasDeclarations m t = (k : ℕ) → declared_in t k ≡ declared_object m k
+
+-- after a module of which nothing is reported, what each declaration is is known
+abbrev pub DeclarationsKnown : Type 0
+DeclarationsKnown =
+    (r : Resolution)
+    → IsResolution r
+    → reported_module r ≡ []
+    → KnowsDeclarations (reported_block (at_first r) (module_block (tree_of r.module_read))).known
+    (named_tree_of r.module_read)

@@ -4,7 +4,7 @@
 use Rattle.std.specs.Prelude.{ℕ, nat_le, Bool, true, false, ◌==◌, ◌&&◌, List, [], ◌∷◌, ◌++◌, length, map, slice_get, slice_index_or, slice_set, if◌then◌else◌, Option, Some, None, option_and_then}
 use Rattle.ob0_scan.specs.declared.fault.Code.TheVariants as code
 use Rattle.ob0_scan.specs.Scanned.{Scanned}
-use Rattle.ob0_scope_rules.specs.Names.{Name}
+use Rattle.ob0_scope_rules.specs.Names.{Name, same_name}
 use Rattle.ob0_scope_rules.specs.Resolution.{Resolution, ordinal_in}
 use Rattle.ob0_types_table.specs.declared.types.TypeId.{TypeId}
 use Rattle.ob0_types_table.specs.declared.types.TypeId.TheVariants as type
@@ -17,13 +17,19 @@ pub record Size : Type 0 where
   pub scalars : ℕ
   pub depth : ℕ
 
--- what an array or a record is made of: the type of its elements, or its fields by their names
-pub data PartTypes : Type 0 where
-  of_elements : TypeId → PartTypes
-  of_fields : (Name → Option TypeId) → PartTypes
+-- a field of a record
+pub record TypedField : Type 0 where
+  pub name : Name
+  pub of : TypeId
 
--- an array or record that was made: its parts and its size
+-- what an array or a record is made of: how many elements of a type, or its fields in order
+pub data PartTypes : Type 0 where
+  of_elements : ℕ → TypeId → PartTypes
+  of_fields : List TypedField → PartTypes
+
+-- an array or record that was made: the ordinal of its word ARRAY or RECORD, its parts and its size
 pub record MadeType : Type 0 where
+  pub ordinal : ℕ
   pub parts : PartTypes
   pub size : Size
 
@@ -46,7 +52,7 @@ same_type _ _ = false
 
 -- the type of an array's elements
 abbrev pub elements_in : PartTypes → TypeId
-elements_in (of_elements t) = t
+elements_in (of_elements n t) = t
 elements_in (of_fields fields) = type.Unknown
 
 -- the type of an array's elements; unknown where there is no array
@@ -54,10 +60,15 @@ abbrev pub elements_at : Option MadeType → TypeId
 elements_at None = type.Unknown
 elements_at (Some m) = elements_in m.parts
 
+-- the type of the first field of a name
+abbrev pub first_field : List TypedField → Name → Option TypeId
+first_field [] x = None
+first_field (f ∷ fields) x = if same_name x f.name then Some f.of else first_field fields x
+
 -- the type of a record's field
 abbrev pub field_in : PartTypes → Name → Option TypeId
-field_in (of_elements t) x = None
-field_in (of_fields fields) x = fields x
+field_in (of_elements n t) x = None
+field_in (of_fields fields) x = first_field fields x
 
 -- the type of a record's field, if there is a record
 abbrev pub field_at : Option MadeType → Name → Option TypeId
@@ -150,19 +161,19 @@ pub record TypedAfter : Type 0 where
 
 -- the type of the array or record at this place of the list
 abbrev pub type_with : PartTypes → ℕ → TypeId
-type_with (of_elements t) k = type.Array k
+type_with (of_elements n t) k = type.Array k
 type_with (of_fields fields) k = type.Record k
 
 -- An array or record of its own, after the others. One that is too large is reported at its word, and unknown.
-abbrev pub made : SoFar → PartTypes → Size → TypedAfter
-made p parts size = record {
+abbrev pub made : SoFar → ℕ → PartTypes → Size → TypedAfter
+made p ordinal parts size = record {
   of = type_with parts (length p.made);
   behind =
       record {
         source = p.source;
         ordinals = p.ordinals;
         declared = p.declared;
-        made = p.made ++ record { parts = parts; size = size } ∷ [];
+        made = p.made ++ record { ordinal = ordinal; parts = parts; size = size } ∷ [];
       };
 }
 
@@ -175,8 +186,9 @@ too_large p word =
     }
 
 -- an array or record of its own, or `TypeTooLarge`
-abbrev pub make : SoFar → ℕ → PartTypes → Size → Reported TypedAfter
-make p word parts size = if is_within size then right (made p parts size) else too_large p word
+abbrev pub make : SoFar → ℕ → ℕ → PartTypes → Size → Reported TypedAfter
+make p word ordinal parts size =
+    if is_within size then right (made p ordinal parts size) else too_large p word
 
 -- the predeclared names: INTEGER, BOOLEAN, TRUE, FALSE, Read, Write, WriteLn
 abbrev pub predeclared_meanings : List (Option (Meaning TypeId))

@@ -1,58 +1,46 @@
 -- What the reporting walk supposes of types and declarations, as facts.
 -- Rule: none; for contracts: what the reporting walk knows.
-use Rattle.std.specs.Prelude.{◌≡◌, ℕ, ◌-◌, ◌^◌, Bool, List, map, ◌++◌, min, slice_get, slice_index_or, Option, Some, None, option_and_then, option_map}
-use Rattle.std.specs.Borrow.{Bor}
-use Rattle.std.specs.BTreeMap.{BTreeMap, get_by}
-use Rattle.std.specs.Cmp.Lexicographic.{slice_cmp}
-use Rattle.std.specs.Ordering.{nat_cmp}
+use Rattle.std.specs.Prelude.{◌≡◌, ℕ, ◌-◌, ◌^◌, Bool, List, map, ◌++◌, min, slice_get, slice_index_or, slice_set, string_bytes, Option, Some, None, option_and_then, option_map}
 use Rattle.ob0_scan.specs.declared.fault.Fault.{Fault}
 use Rattle.ob0_scope_rules.specs.Names.{Name}
 use Rattle.ob0_scope_rules.specs.Resolution.{ordinal_in}
+use Rattle.ob0_types_table.specs.FieldIndex.{first_type}
+use Rattle.ob0_types_table.specs.declared.known.Field.{Field}
 use Rattle.ob0_types_table.specs.declared.known.Formal as formal
+use Rattle.ob0_types_table.specs.declared.known.TypeEntry.{TypeEntry}
+use Rattle.ob0_types_table.specs.declared.known.TypeEntry.TheVariants as made
+use Rattle.ob0_types_table.specs.KnownTables.{Tables}
+use Rattle.ob0_types_table.specs.declared.known.Object as object
+use Rattle.ob0_types_table.specs.declared.known.Object.TheVariants as kind
+use Rattle.ob0_types_table.specs.declared.known.Standard.TheVariants as standards
 use Rattle.ob0_types_table.specs.declared.types.TypeId.{TypeId}
 use Rattle.ob0_types_table.specs.declared.types.TypeId.TheVariants as type
 use Rattle.ob0_values.specs.Scalars.{scalar_value}
 use Rattle.ob0_types_check.specs.declared.reporting.expressions.Operand as operand
-use Rattle.ob0_types_check.specs.declared.reporting.supposed.Composite.{Composite}
 use Rattle.ob0_types_check.specs.declared.reporting.supposed.Meaning as meaning
 use Rattle.ob0_types_check.specs.declared.reporting.supposed.Meaning.TheVariants as declared
-use Rattle.ob0_types_check.specs.declared.reporting.supposed.Parts.TheVariants as parts
-use Rattle.ob0_types_check.specs.declared.reporting.supposed.Parts.{Parts}
 use Rattle.ob0_types_check.specs.declared.reporting.supposed.Size as code_size
 use Rattle.ob0_types_check.specs.declared.reporting.supposed.Supposed.{Supposed}
 use Rattle.ob0_types_check.specs.declared.reporting.written_types.Gathered as gathering
 use Rattle.ob0_types_check.specs.Known.{Facts, Form, Formal, Meaning, Operand, Reported, Types, a_constant, a_procedure, a_record, a_scalar, a_type, a_variable, an_array, unknown_form}
 use Rattle.ob0_types_check.specs.DeclarationFaults.{KnownHeading}
-use Rattle.ob0_types_check.specs.SoFar.{MadeType, Size, SoFar, of_elements, of_fields, same_type}
-use Rattle.ob0_types_check.specs.SoFar as so_far
+use Rattle.ob0_types_check.specs.SoFar.{MadeType, Size, SoFar, TypedField, of_elements, of_fields, same_type}
 use Rattle.ob0_types_check.specs.WrittenTypeFaults.{Gathered}
 
--- the type of an array's elements
-abbrev pub elements_among : Parts → TypeId
-elements_among (parts.Elements t) = t
-elements_among (parts.Fields fields) = type.Unknown
-
 -- the type of an array's elements; unknown where there is no array
-abbrev pub elements_of : Option Composite → TypeId
+abbrev pub elements_of : Option TypeEntry → TypeId
 elements_of None = type.Unknown
-elements_of (Some c) = elements_among c.parts
-
--- the fields of a record as a function
-abbrev pub fields_in : BTreeMap (Bor Name) TypeId → Name → Option TypeId
-fields_in fields x = get_by (λ key. slice_cmp nat_cmp x key.now) fields
-
--- the type of a record's field
-abbrev pub field_among : Parts → Name → Option TypeId
-field_among (parts.Elements t) x = None
-field_among (parts.Fields fields) x = fields_in fields x
+elements_of (Some (made.Array a)) = a.element
+elements_of (Some (made.Record r)) = type.Unknown
 
 -- the type of a record's field, if there is a record
-abbrev pub field_of : Option Composite → Name → Option TypeId
+abbrev pub field_of : Option TypeEntry → Name → Option TypeId
 field_of None x = None
-field_of (Some c) x = field_among c.parts x
+field_of (Some (made.Array a)) x = None
+field_of (Some (made.Record r)) x = first_type r.fields x
 
 -- what a type of the code is
-abbrev pub form_in : List Composite → TypeId → Form TypeId
+abbrev pub form_in : List TypeEntry → TypeId → Form TypeId
 form_in composites type.Integer = a_scalar
 form_in composites type.Boolean = a_scalar
 form_in composites (type.Array i) = an_array (elements_of (slice_get composites i))
@@ -60,7 +48,7 @@ form_in composites (type.Record i) = a_record (field_of (slice_get composites i)
 form_in composites type.Unknown = unknown_form
 
 -- the types that the code knows
-abbrev pub types_in : List Composite → Types TypeId
+abbrev pub types_in : List TypeEntry → Types TypeId
 types_in composites =
     record {
       integer = type.Integer;
@@ -107,18 +95,28 @@ operand_of o =
       last = o.last;
     }
 
--- What is supposed, as what is known so far.
-abbrev pub parts_of : Parts → so_far.PartTypes
-parts_of (parts.Elements t) = of_elements t
-parts_of (parts.Fields fields) = of_fields (fields_in fields)
-
 -- a size of the code
 abbrev pub size_of : code_size.Size → Size
 size_of z = record { scalars = z.scalars; depth = z.depth }
 
--- an array or record of the code
-abbrev pub made_of : Composite → MadeType
-made_of c = record { parts = parts_of c.parts; size = size_of c.size }
+-- fields of the code
+abbrev pub fields_in : List Field → List TypedField
+fields_in fields = map (λ f. record { name = string_bytes f.name; of = f.of }) fields
+
+-- What is supposed, as what is known so far: an array or record of the code.
+abbrev pub made_of : TypeEntry → MadeType
+made_of (made.Array a) =
+    record {
+      ordinal = a.ordinal;
+      parts = of_elements a.length a.element;
+      size = record { scalars = a.scalars; depth = a.depth };
+    }
+made_of (made.Record r) =
+    record {
+      ordinal = r.ordinal;
+      parts = of_fields (fields_in r.fields);
+      size = record { scalars = r.scalars; depth = r.depth };
+    }
 
 -- what the code knows so far
 abbrev pub so_far_in : Supposed → SoFar
@@ -139,7 +137,7 @@ counted z = record { scalars = min z.scalars (2 ^ 64 - 1); depth = min z.depth (
 
 -- the fields that are gathered so far
 pub record IsGathered (g : Gathered) (s : Supposed) (now : gathering.Gathered) : Type 0 where
-  pub fields : fields_in now.fields ≡ g.fields
+  pub fields : fields_in now.fields.items ≡ g.fields
   pub size : size_of now.size ≡ counted g.size
   pub behind : so_far_in s ≡ g.behind
 
@@ -147,3 +145,27 @@ pub record IsGathered (g : Gathered) (s : Supposed) (now : gathering.Gathered) :
 pub record Gathers (before after : List Fault) (s : Supposed) (gathered : gathering.Gathered) (t : Reported Gathered) : Type 0 where
   pub told : after ≡ before ++ t.faults
   pub now : IsGathered t.known s gathered
+
+-- what a declaration of the code is, in the table; where its constant has a fault, it has no value
+abbrev pub object_of : meaning.Meaning → object.Object
+object_of (declared.Named t) = kind.Named t
+object_of (declared.Constant (Some v)) = kind.Constant v
+object_of (declared.Constant None) = kind.FaultyConstant
+object_of (declared.Variable t) = kind.Variable t
+object_of (declared.Procedure fs) = kind.Procedure fs
+
+-- the standard procedures at their ordinals
+abbrev pub with_standards : List (Option object.Object) → List (Option object.Object)
+with_standards objects =
+    slice_set
+    (slice_set (slice_set objects 4 (Some (kind.Standard standards.Read))) 5
+    (Some (kind.Standard standards.Write)))
+    6 (Some (kind.Standard standards.WriteLn))
+
+-- the table that the code has
+abbrev pub table_in : Supposed → Tables
+table_in s =
+    record {
+      shapes = s.composites.items;
+      objects = with_standards (map (option_map object_of) s.meanings.items);
+    }

@@ -1,8 +1,7 @@
 -- The faults of types as they are written, in the order in which they are reported: those of the parts from left to right, then
 -- that the whole is too large.
 -- Rule: docs/LANGUAGE.md, Faults of scopes and types 2, 4, 10, `TypeTooLarge`.
-use Rattle.std.specs.Prelude.{ℕ, ◌+◌, ◌*◌, max, true, false, List, [], ◌∷◌, if◌then◌else◌, is_some, Option, Some, None}
-use Rattle.ob0_scope_rules.specs.Names.{Name, same_name}
+use Rattle.std.specs.Prelude.{ℕ, suc, ◌+◌, ◌*◌, max, true, false, List, [], ◌∷◌, ◌++◌, length, Option, Some, None}
 use Rattle.ob0_scope_rules.specs.Parts.{names_listed}
 use Rattle.ob0_types_table.specs.declared.types.TypeId.{TypeId}
 use Rattle.ob0_types_table.specs.declared.types.TypeId.TheVariants as type
@@ -11,35 +10,35 @@ use Rattle.ob0_tree.specs.Tree.{Tree, array_type, end, fields, further_fields, i
 use Rattle.ob0_types_check.specs.ExpressionFaults.{reported_expression}
 use Rattle.ob0_types_check.specs.Known.{Operand, Reported}
 use Rattle.ob0_types_check.specs.Operations.{right, token_before, ◌>>=◌}
-use Rattle.ob0_types_check.specs.SoFar.{Size, SoFar, TypedAfter, facts_at, make, no_scalar, of_elements, of_fields, size_at}
+use Rattle.ob0_types_check.specs.SoFar.{Size, SoFar, TypedAfter, TypedField, facts_at, make, no_scalar, of_elements, of_fields, size_at}
 use Rattle.ob0_types_check.specs.TypeFaults.{length_of, type_named}
 
 -- so many of the same beside one another, inside an array
 abbrev pub array_size : ℕ → Size → Size
 array_size n z = record { scalars = z.scalars * n; depth = z.depth + 1 }
 
+-- Each ARRAY and RECORD makes one type, those inside it before it. So where nothing is reported, the ordinal of a word is
+-- how many were made before it and how many are around it.
+abbrev pub ordinal_here : ℕ → SoFar → ℕ
+ordinal_here around p = length p.made + around
+
 -- An array of a faulty length is unknown as a whole; the type of its elements is looked at all the same. The word ARRAY is
 -- before the length.
-abbrev pub array_made : Operand TypeId → Option ℕ → TypedAfter → Reported TypedAfter
-array_made o None element = right (record { of = type.Unknown; behind = element.behind })
-array_made o (Some n) element =
-    make element.behind (token_before o.first) (of_elements element.of)
+abbrev pub array_made : ℕ → Operand TypeId → Option ℕ → TypedAfter → Reported TypedAfter
+array_made ordinal o None element = right (record { of = type.Unknown; behind = element.behind })
+array_made ordinal o (Some n) element =
+    make element.behind (token_before o.first) ordinal (of_elements n element.of)
     (array_size n (size_at element.behind.made element.of))
 
 -- the fields of a record so far, their size, and what is known after them
 pub record Gathered : Type 0 where
-  pub fields : Name → Option TypeId
+  pub fields : List TypedField
   pub size : Size
   pub behind : SoFar
 
 -- no field yet
 abbrev pub nothing_gathered : SoFar → Gathered
-nothing_gathered p = record { fields = λ x. None; size = no_scalar; behind = p }
-
--- one field more: the first of a name stays
-abbrev pub with_field : (Name → Option TypeId) → Name → TypeId → Name → Option TypeId
-with_field known x t =
-    if is_some (known x) then known else (λ y. if same_name x y then Some t else known y)
+nothing_gathered p = record { fields = []; size = no_scalar; behind = p }
 
 -- the size of parts side by side
 abbrev pub beside : Size → Size → Size
@@ -49,7 +48,7 @@ beside z w = record { scalars = z.scalars + w.scalars; depth = max z.depth w.dep
 abbrev pub with_name : TypeId → Gathered → ℕ → Gathered
 with_name t g token =
     record {
-      fields = with_field g.fields (text_at g.behind.source token) t;
+      fields = g.fields ++ record { name = text_at g.behind.source token; of = t } ∷ [];
       size = beside g.size (size_at g.behind.made t);
       behind = g.behind;
     }
@@ -84,39 +83,40 @@ record_word end = 0
 record_word (more (then_fields g) rest) = word_before g (record_word rest)
 
 -- a record of its own, or `TypeTooLarge`
-abbrev pub record_made : ℕ → Gathered → Reported TypedAfter
-record_made word g = make g.behind word (of_fields g.fields) (record_size g.size)
+abbrev pub record_made : ℕ → ℕ → Gathered → Reported TypedAfter
+record_made word ordinal g = make g.behind word ordinal (of_fields g.fields) (record_size g.size)
 
+-- the faults of a type that is in so many ARRAY and RECORD
 unfoldable mutual
   unfolding reported_expression
 
-  pub reported_type : SoFar → Tree ℕ written_type → Reported TypedAfter
-  reported_type p (named_type x) = do
+  pub reported_type : ℕ → SoFar → Tree ℕ written_type → Reported TypedAfter
+  reported_type around p (named_type x) = do
     t ← type_named (facts_at p false) x
     right (record { of = t; behind = p })
-  reported_type p (array_type e u) = do
+  reported_type around p (array_type e u) = do
     o ← reported_expression (facts_at p true) e
     n ← length_of (facts_at p false) o
-    element ← reported_type p u
-    array_made o n element
-  reported_type p (record_type g rest) = do
-    first ← told_fields (nothing_gathered p) g
-    all ← told_groups first rest
-    record_made (word_before g (record_word rest)) all
+    element ← reported_type (suc around) p u
+    array_made (ordinal_here around p) o n element
+  reported_type around p (record_type g rest) = do
+    first ← told_fields (suc around) (nothing_gathered p) g
+    all ← told_groups (suc around) first rest
+    record_made (word_before g (record_word rest)) (ordinal_here around p) all
 
-  pub told_fields : Gathered → Tree ℕ fields → Reported Gathered
-  told_fields so_far no_fields = right so_far
-  told_fields so_far (some_fields ns t) = do
-    u ← reported_type so_far.behind t
+  pub told_fields : ℕ → Gathered → Tree ℕ fields → Reported Gathered
+  told_fields around so_far no_fields = right so_far
+  told_fields around so_far (some_fields ns t) = do
+    u ← reported_type around so_far.behind t
     right (gathered_after so_far (names_listed ns) u)
 
-  pub told_groups : Gathered → Tree ℕ (items further_fields) → Reported Gathered
-  told_groups so_far end = right so_far
-  told_groups so_far (more (then_fields g) rest) = do
-    next ← told_fields so_far g
-    told_groups next rest
+  pub told_groups : ℕ → Gathered → Tree ℕ (items further_fields) → Reported Gathered
+  told_groups around so_far end = right so_far
+  told_groups around so_far (more (then_fields g) rest) = do
+    next ← told_fields around so_far g
+    told_groups around next rest
 
 -- one group more
-unfoldable pub reported_group : Gathered → Tree ℕ (item further_fields) → Reported Gathered
+unfoldable pub reported_group : ℕ → Gathered → Tree ℕ (item further_fields) → Reported Gathered
 unfolding reported_type
-reported_group so_far (then_fields g) = told_fields so_far g
+reported_group around so_far (then_fields g) = told_fields around so_far g

@@ -1,6 +1,6 @@
 //! The laws. Each function does nothing: its contract is the law.
 
-ghost use Rattle.ob0_types_check.specs.ModuleLaws.{ModulesFit};
+ghost use Rattle.ob0_types_check.specs.ModuleLaws.{DeclarationsKnown, ModulesFit};
 ghost use Rattle.ob0_types_check.specs.ReportLaws.{ConstantsFit, ExpressionsFit, LengthsFit, StatementsFit, TypesOfTables};
 ghost use Rattle.ob0_types_check.specs.WellTypedLaws.{NamesBound, NoFaultInConstants, NoFaultInExpressions, NoFaultInLengths, NoFaultInModules, NoFaultInStatements, NoFaultInTargets};
 ghost use Rattle.ob0_scope_rules.specs.Names.{Name};
@@ -33,6 +33,11 @@ pub fn types_of_tables()
 /// A module of which nothing is reported fits.
 pub fn modules_fit()
     ensures { ModulesFit }
+{}
+
+/// After a module of which nothing is reported, what each of its declarations is is known.
+pub fn declarations_known()
+    ensures { DeclarationsKnown }
 {}
 
 /// No fault is reported of an expression that has a type.

@@ -1,37 +1,85 @@
-//! Reports the faults of a module's types. It is a walk of its own through the whole module, for modules that were found not
-//! to fit: whether a module fits is not asked here.
+//! Reports the faults of a module's types, and gives what is known of a module without faults: one walk through the whole
+//! module.
 //!
 //! What has a fault is of an unknown type, which raises no second fault.
 
 mod declarations;
 mod expressions;
+mod objects;
 mod statements;
 mod supposed;
 mod written_types;
 
-ghost use Rattle.std.specs.Prelude.{◌≡◌, ◌++◌, IfOk, OnOk, map, option_map, None};
+ghost use Rattle.std.specs.Prelude.{◌≡◌, ◌++◌, [], IfOk, OnOk, MatchOption, map, option_map, None};
 ghost use Rattle.std.specs.List.{filter};
 ghost use Rattle.ob0_scope_rules.specs.Resolution.{is_of_occurrences};
+ghost use Rattle.ob0_tree.specs.Parsed.{named_tree_of};
+ghost use Rattle.ob0_types_table.specs.Tables.{AreMadeInOrder};
+ghost use Rattle.ob0_types_check.specs.ModuleLaws.{HasDeclarations};
 ghost use Rattle.ob0_types_check.specs.DeclarationFaults.{reported_module};
 ghost use Rattle.ob0_types_check.specs.SoFar.{at_first};
-ghost use Rattle.ob0_types_check.specs.SupposedFacts.{meaning_of, so_far_in};
+ghost use Rattle.ob0_types_check.specs.SupposedFacts.{meaning_of, so_far_in, table_in};
 
+use crate::laws::declarations_known;
+use crate::reporting::objects::{define_standards, objects_of};
 use crate::reporting::supposed::{Meaning, Supposed, predeclared};
 use ob0_scan::{Code, Fault};
 use ob0_scope_rules::Resolved;
+use ob0_types_table::Known;
 use std::alloc::{AllocError, Global};
 
-/// The names of a module that nothing binds, in text order, and then the faults of its types. Its second declarations and closing names
-/// aren't looked at.
-pub fn report_faults<'t>(
-    alloc: Global,
-    resolved: &'t Resolved<'t>,
-) -> Result<Vec<Fault>, AllocError>
-    ensures { IfOk result (λ faults. faults.items ≡ reported_module resolved.now) }
+/// What is reported of a module, and what is known of it.
+#[derive(Drop)]
+pub struct Report {
+    /// The names that nothing binds, in text order, and then the faults of types.
+    pub faults: Vec<Fault>,
+    /// What the declarations are, where there is no fault.
+    pub known: Option<Known>,
+}
+
+/// The names of a module that nothing binds, in text order, and then the faults of its types; where there is none, what its
+/// declarations are. Its second declarations and closing names aren't looked at.
+pub fn report_faults<'t>(alloc: Global, resolved: &'t Resolved<'t>) -> Result<Report, AllocError>
+    ensures faults { IfOk result (λ r. r.faults.items ≡ reported_module resolved.now) }
+    ensures known { IfOk result (λ r. MatchOption r.known (reported_module resolved.now ≡ [] → ⊥)
+        (λ t. (reported_module resolved.now ≡ [])
+        × HasDeclarations (named_tree_of resolved.now.module_read) t)) }
 {
+    declarations_known();
     let mut teller = Reporter::new(alloc, resolved)?;
     teller.block(resolved.module().block())?;
-    Ok(teller.into_faults())
+    let Reporter {
+        alloc: _,
+        supposed,
+        faults,
+    } = teller;
+    if faults.is_empty() {
+        let known = known_of(alloc, supposed)?;
+        Ok(Report {
+            faults,
+            known: Some(known),
+        })
+    } else {
+        Ok(Report {
+            faults,
+            known: None,
+        })
+    }
+}
+
+/// What is known, as a table.
+fn known_of<'t>(alloc: Global, supposed: Supposed<'t>) -> Result<Known, AllocError>
+    requires { AreMadeInOrder [] supposed.composites.items }
+    ensures { IfOk result (λ t. t ≡ table_in supposed.entry) }
+{
+    let Supposed {
+        resolved: _,
+        meanings,
+        composites,
+    } = supposed;
+    let mut objects = objects_of(alloc, meanings)?;
+    define_standards(&mut objects);
+    Ok(Known::new(composites, objects))
 }
 
 /// A module on its way through the reporting walk.
@@ -60,17 +108,6 @@ impl<'t> Reporter<'t> {
             supposed,
             faults: unbound(alloc, resolved)?,
         })
-    }
-
-    fn into_faults(self) -> Vec<Fault>
-        ensures { result.items ≡ self.entry.faults.items }
-    {
-        let Reporter {
-            alloc: _,
-            supposed: _,
-            faults,
-        } = self;
-        faults
     }
 }
 

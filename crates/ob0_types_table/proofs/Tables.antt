@@ -12,7 +12,7 @@ use Rattle.ob0_types_table.specs.declared.known.TypeEntry.TheVariants as made
 use Rattle.ob0_types_table.specs.declared.known.Field.{Field}
 use Rattle.ob0_types_table.specs.declared.known.Object as declaration
 use Rattle.ob0_types_table.specs.declared.known.Object.TheVariants as kind
-use Rattle.ob0_types_table.specs.Tables.{AreMadeInOrder, CountsParts, IsEntry, IsMade, ObjectIsMade, PartsAreMade, fields_shape, made_shape, no_shape, only_array, only_record, shapes_from, type_shape}
+use Rattle.ob0_types_table.specs.Tables.{AreMadeInOrder, CountsParts, IsEntry, IsMade, PartsAreMade, fields_shape, made_shape, no_shape, only_array, only_record, shapes_from, type_shape}
 
 pub shapes_from-push : (known : List Shape) (ms : List code.TypeEntry) (m : code.TypeEntry) → shapes_from known (ms ++ m ∷ []) ≡ shapes_from known ms ++ made_shape (shapes_from known ms) m ∷ []
 shapes_from-push known [] m = refl
@@ -88,19 +88,3 @@ in_order-push known (x ∷ ms) m h entry = (h.0, in_order-push (known ++ made_sh
 
 pub length-table : (ms : List code.TypeEntry) → length (shapes_from [] ms) ≡ length ms
 length-table ms = omega (arith, length-shapes_from [] ms)
-
--- what was made stays so
-pub IsMade-more : (n m : ℕ) (t : TypeId) → n ≤ m → IsMade n t → IsMade m t
-IsMade-more n m type.Integer h made = tt
-IsMade-more n m type.Boolean h made = tt
-IsMade-more n m (type.Array i) h made = omega arith
-IsMade-more n m (type.Record i) h made = omega arith
-IsMade-more n m type.Unknown h made = tt
-
-pub ObjectIsMade-more : (n m : ℕ) (o : declaration.Object) → n ≤ m → ObjectIsMade n o → ObjectIsMade m o
-ObjectIsMade-more n m (kind.Named t) h made = IsMade-more n m t h made
-ObjectIsMade-more n m (kind.Constant v) h made = tt
-ObjectIsMade-more n m kind.FaultyConstant h made = tt
-ObjectIsMade-more n m (kind.Variable t) h made = IsMade-more n m t h made
-ObjectIsMade-more n m (kind.Procedure fs) h made = λ k d less. IsMade-more n m (get_or fs.items k d).of h (made k d less)
-ObjectIsMade-more n m (kind.Standard s) h made = tt

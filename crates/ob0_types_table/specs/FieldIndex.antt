@@ -6,6 +6,7 @@ use Rattle.std.specs.BTreeMap.{BTreeMap, get_by_text}
 use Rattle.ob0_scope_rules.specs.Names.{Name, same_name}
 use Rattle.ob0_types_table.specs.declared.field_table.First.{First}
 use Rattle.ob0_types_table.specs.declared.known.Field.{Field}
+use Rattle.ob0_types_table.specs.declared.types.TypeId.{TypeId}
 
 -- the first field of a name among fields from place k on
 abbrev pub first_from : ℕ → List Field → Name → Option First
@@ -14,6 +15,11 @@ first_from k (f ∷ fs) x =
     if same_name x (string_bytes f.name)
     then Some (record { place = k; of = f.of })
     else first_from (suc k) fs x
+
+-- the type of the first field of a name
+abbrev pub first_type : List Field → Name → Option TypeId
+first_type [] x = None
+first_type (f ∷ fs) x = if same_name x (string_bytes f.name) then Some f.of else first_type fs x
 
 -- a map has the first field of each name among fields from a place on
 pub record IsIndexFrom (map : BTreeMap (String Global) First) (k : ℕ) (fields : List Field) : Type 0 where

@@ -5,8 +5,8 @@ use Rattle.ob0_types_table.specs.KnownTables.{Tables}
 use Rattle.ob0_types_table.specs.Tables.{CountsParts, made_shape, no_shape}
 use Rattle.ob0_types_table.specs.declared.known.TypeEntry.{TypeEntry}
 use Rattle.ob0_types_table.specs.declared.known.TypeEntry.TheVariants as made
-use Rattle.ob0_types_table.specs.declared.sameness.Parts.{Parts}
-use Rattle.ob0_types_table.specs.declared.sameness.Parts.TheVariants as parts
+use Rattle.ob0_types_table.specs.declared.type_parts.Parts.{Parts}
+use Rattle.ob0_types_table.specs.declared.type_parts.Parts.TheVariants as parts
 use Rattle.ob0_types_table.specs.declared.types.TypeId.{TypeId}
 use Rattle.ob0_types_table.specs.declared.types.TypeId.TheVariants as type
 use Rattle.ob0_values.specs.Values.{Shape, boolean_shape, integer_shape}

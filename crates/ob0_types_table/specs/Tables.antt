@@ -105,10 +105,3 @@ object_in shapes kind.FaultyConstant = None
 object_in shapes (kind.Variable t) = Some (a_variable (type_shape shapes t))
 object_in shapes (kind.Procedure fs) = Some (a_procedure (map (formal_in shapes) fs.items))
 object_in shapes (kind.Standard s) = Some (a_standard (standard_of s))
-
--- the types of a declaration were made
-abbrev pub ObjectIsMade : ℕ → declaration.Object → Type 0
-ObjectIsMade n (kind.Named t) = IsMade n t
-ObjectIsMade n (kind.Variable t) = IsMade n t
-ObjectIsMade n (kind.Procedure fs) = All (λ f. IsMade n f.of) fs.items
-ObjectIsMade n _ = Unit {0}

@@ -2,7 +2,7 @@
 
 ghost use Rattle.std.specs.Prelude.{◌≡◌, List, IfOk, option_map};
 ghost use Rattle.ob0_values.specs.Values as shape;
-ghost use Rattle.ob0_types_table.specs.FieldIndex.{IsIndex};
+ghost use Rattle.ob0_types_table.specs.FieldIndex.{IsIndex, first_type};
 ghost use Rattle.ob0_types_table.specs.FieldPlaces.{place_of_field};
 ghost use Rattle.ob0_types_table.specs.Tables.{fields_shape, type_shape};
 ghost use Rattle.ob0_types_rules.specs.Typing.{shape_of_field};
@@ -59,7 +59,8 @@ fn first_of(alloc: Global, fields: &[Field]) -> Result<BTreeMap<String, First>, 
 }
 
 impl FieldTable {
-    pub(crate) fn new(fields: Vec<Field>) -> Result<FieldTable, AllocError>
+    /// These fields, with the first of each name.
+    pub fn new(fields: Vec<Field>) -> Result<FieldTable, AllocError>
         ensures { IfOk result (λ t. t ≡ fields.items) }
     {
         let first = first_of(*fields.allocator(), fields.as_slice())?;
@@ -77,8 +78,9 @@ impl FieldTable {
     }
 
     /// The type of the first field of this name.
-    pub(crate) fn find(&self, name: &str) -> Option<TypeId>
-        ensures { (shapes : List shape.Shape)
+    pub fn find(&self, name: &str) -> Option<TypeId>
+        ensures first { result ≡ first_type self.now name.now }
+        ensures shape { (shapes : List shape.Shape)
             → option_map (type_shape shapes) result
             ≡ shape_of_field (fields_shape shapes self.now) name.now }
     {

@@ -1,19 +1,18 @@
-//! What the checker knows of a module: the table of its types and of what its declarations are, and the operators on them.
+//! What is known of a module: the table of its types and of what its declarations are; and the operators of constants.
 #![tactic(auto)]
 
 mod field_table;
 mod known;
 pub mod operators;
-mod sameness;
+mod type_parts;
 mod types;
 mod written;
 
+pub use field_table::FieldTable;
 pub use known::{
     ArrayShape, Field, FieldOf, Formal, Known, MOST_DEPTH, MOST_SCALARS, Object, RecordShape,
-    Shadowed, Standard, TypeEntry,
+    Standard, TypeEntry,
 };
-pub use sameness::Parts;
-pub use types::{
-    TypeId, complement, scalar_type, type_of_product, type_of_relation, type_of_sum, with_sign,
-};
+pub use type_parts::Parts;
+pub use types::{TypeId, scalar_type};
 pub use written::{number_at, text_at};

@@ -1,21 +1,20 @@
 //! What is supposed of types and declarations while faults are reported; each may be unknown, as a whole or in parts.
 
-ghost use Rattle.std.specs.Prelude.{◌≡◌, ◌∷◌, [], ◌++◌, ◌+◌, ◌*◌, map, max, IfOk, OnOk, option_map, slice_get, slice_index_or, None, Some};
+ghost use Rattle.std.specs.Prelude.{◌≡◌, ◌∷◌, [], ◌++◌, ◌+◌, ◌*◌, map, max, length, IfOk, OnOk, option_map, slice_get, slice_index_or, None, Some};
 ghost use Rattle.ob0_scope_rules.specs.Resolution.{span_at};
 ghost use Rattle.ob0_types_table.specs.declared.types.TypeId.TheVariants as type;
 ghost use Rattle.ob0_tree.specs.Places.{text_at};
 ghost use Rattle.ob0_types_check.specs.Known.{a_procedure};
 ghost use Rattle.ob0_types_check.specs.Operations.{ReportsAfter, fault_between, token_after};
 ghost use Rattle.ob0_types_check.specs.SoFar.{define, is_within, make, no_scalar, one_scalar, predeclared_meanings, size_at, type_with, with_declared};
-ghost use Rattle.ob0_types_check.specs.SupposedFacts.{counted, declared_at, elements_of, field_of, meaning_of, parts_of, size_of, so_far_in};
-ghost use Rattle.ob0_types_check.specs.WrittenTypeFaults.{array_size, beside, record_size};
+ghost use Rattle.ob0_types_check.specs.SupposedFacts.{counted, declared_at, elements_of, field_of, made_of, meaning_of, size_of, so_far_in};
+ghost use Rattle.ob0_types_check.specs.WrittenTypeFaults.{array_size, beside, ordinal_here, record_size};
 
 use ob0_scan::{Code, Fault, Span};
 use ob0_scope_rules::{Resolved, token_span};
-use ob0_types_table::{Formal, MOST_DEPTH, MOST_SCALARS, TypeId, text_at};
+use ob0_types_table::{Formal, MOST_DEPTH, MOST_SCALARS, TypeEntry, TypeId, text_at};
 use ob0_values::Scalar;
 use std::alloc::{AllocError, Global};
-use std::collections::BTreeMap;
 
 /// What a declaration is.
 #[derive(Drop)]
@@ -75,20 +74,6 @@ const SCALAR: Size = Size {
     depth: 0,
 };
 
-/// The parts of a type: an array's elements, or the first field of each name.
-#[derive(Drop)]
-pub(crate) enum Parts<'t> {
-    Elements(TypeId),
-    Fields(BTreeMap<&'t str, TypeId>),
-}
-
-/// An array or a record.
-#[derive(Drop)]
-pub(crate) struct Composite<'t> {
-    parts: Parts<'t>,
-    size: Size,
-}
-
 impl Size {
     /// An array of so many of these.
     pub(crate) fn array(self, count: usize) -> Size
@@ -137,7 +122,7 @@ pub(crate) struct Supposed<'t> {
     /// What the declarations so far are, by their ordinals. A name is bound only to what is declared before it.
     pub(crate) meanings: Vec<Option<Meaning>>,
     /// The arrays and records so far, by their places in a `TypeId`.
-    pub(crate) composites: Vec<Composite<'t>>,
+    pub(crate) composites: Vec<TypeEntry>,
 }
 
 impl<'t> Supposed<'t> {
@@ -257,7 +242,7 @@ impl<'t> Supposed<'t> {
     {
         match self.composites.get(place) {
             None => SCALAR,
-            Some(composite) => composite.size,
+            Some(composite) => size_of_entry(composite),
         }
     }
 
@@ -267,9 +252,9 @@ impl<'t> Supposed<'t> {
     {
         match self.composites.get(place) {
             None => TypeId::Unknown,
-            Some(composite) => match &composite.parts {
-                Parts::Elements(element) => *element,
-                Parts::Fields(_) => TypeId::Unknown,
+            Some(composite) => match composite {
+                TypeEntry::Array(array) => array.element,
+                TypeEntry::Record(_) => TypeId::Unknown,
             },
         }
     }
@@ -280,11 +265,18 @@ impl<'t> Supposed<'t> {
     {
         match self.composites.get(place) {
             None => None,
-            Some(composite) => match &composite.parts {
-                Parts::Elements(_) => None,
-                Parts::Fields(fields) => fields.get(name).copied(),
+            Some(composite) => match composite {
+                TypeEntry::Array(_) => None,
+                TypeEntry::Record(record) => record.fields.find(name),
             },
         }
+    }
+
+    /// The ordinal of a word ARRAY or RECORD that is inside of others.
+    pub(crate) fn ordinal_here(&self, around: &Vec<usize>) -> usize
+        ensures { result ≡ ordinal_here (length around.now.items) (so_far_in self.now) }
+    {
+        self.composites.len() + around.len()
     }
 
     /// Makes an array or record, whose word is this token. One that is too large is reported, and unknown.
@@ -292,29 +284,45 @@ impl<'t> Supposed<'t> {
         &mut self,
         faults: &mut Vec<Fault>,
         token: usize,
-        parts: Parts<'t>,
-        size: Size,
+        entry: TypeEntry,
     ) -> Result<TypeId, AllocError>
         ensures { IfOk result (λ t. ReportsAfter faults.old.items faults.new.items
             (record { of = t; behind = so_far_in self.new })
-            (make (so_far_in self.old) token (parts_of parts.entry) (size_of size))) }
+            (make (so_far_in self.old) token (made_of entry).ordinal
+            (made_of entry).parts (made_of entry).size)) }
     {
-        if !size.is_within() {
+        if !size_of_entry(&entry).is_within() {
             self.report_at(faults, Code::TypeTooLarge, token)?;
             return Ok(TypeId::Unknown);
         }
-        let of = type_with(&parts, self.composites.len());
-        self.composites.push(Composite { parts, size })?;
+        let of = type_with(&entry, self.composites.len());
+        self.composites.push(entry)?;
         Ok(of)
     }
 }
 
-/// The type of what is made of these parts and put at this place.
-fn type_with(parts: &Parts, place: usize) -> TypeId
-    ensures { result ≡ type_with (parts_of parts.now) place }
+/// The size of an array or a record.
+fn size_of_entry(entry: &TypeEntry) -> Size
+    ensures { size_of result ≡ (made_of entry.now).size }
 {
-    match parts {
-        Parts::Elements(_) => TypeId::Array(place),
-        Parts::Fields(_) => TypeId::Record(place),
+    match entry {
+        TypeEntry::Array(array) => Size {
+            scalars: array.scalars,
+            depth: array.depth,
+        },
+        TypeEntry::Record(record) => Size {
+            scalars: record.scalars,
+            depth: record.depth,
+        },
+    }
+}
+
+/// The type of an array or record that is put at this place.
+fn type_with(entry: &TypeEntry, place: usize) -> TypeId
+    ensures { result ≡ type_with (made_of entry.now).parts place }
+{
+    match entry {
+        TypeEntry::Array(_) => TypeId::Array(place),
+        TypeEntry::Record(_) => TypeId::Record(place),
     }
 }

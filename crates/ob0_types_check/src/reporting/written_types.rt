@@ -1,7 +1,6 @@
 //! Reports the faults of types as they are written, and finds what is known of them.
 
-ghost use Rattle.std.specs.Prelude.{◌≡◌, ◌∷◌, false, IfOk, OnOk, None, Some};
-ghost use Rattle.ob0_scope_rules.specs.Names.{Name};
+ghost use Rattle.std.specs.Prelude.{◌≡◌, ◌∷◌, ◌++◌, [], length, false, IfOk, OnOk, Some};
 ghost use Rattle.ob0_types_table.specs.declared.types.TypeId.TheVariants as type;
 ghost use Rattle.ob0_tree.specs.Tree.{array_type, some_fields};
 ghost use Rattle.ob0_tree.specs.View.{expression_of, fields_of, further_fields_of_group, items_of, names_of, record_in, type_of};
@@ -12,18 +11,19 @@ ghost use Rattle.ob0_types_check.specs.Operations.{ReportsAfter};
 ghost use Rattle.ob0_types_check.specs.SoFar.{no_scalar};
 ghost use Rattle.ob0_types_check.specs.SupposedFacts.{Gathers, IsGathered, facts_in, fields_in, operand_of, size_of, so_far_in};
 ghost use Rattle.ob0_types_check.specs.TypeFaults.{length_of, type_meant, type_named};
-ghost use Rattle.ob0_types_check.specs.WrittenTypeFaults.{array_made, record_made, record_word, told_fields, reported_type, with_field, with_name, with_names};
+ghost use Rattle.ob0_types_check.specs.WrittenTypeFaults.{array_made, nothing_gathered, record_made, record_word, told_fields, told_groups, reported_type, with_name, with_names};
 ghost use Rattle.ob0_types_check.specs.WrittenTypeFaults as spec;
 
 use crate::reporting::Reporter;
 use crate::reporting::expressions::{Operand, same_type};
-use crate::reporting::supposed::{Meaning, NOTHING, Parts, Size, Supposed};
+use crate::reporting::supposed::{Meaning, NOTHING, Size, Supposed};
 use ob0_scan::{Code, Fault};
 use ob0_tree::{ArrayType, FieldGroup, Fields, Names, RecordType, WrittenType};
-use ob0_types_table::{MOST_SCALARS, TypeId};
+use ob0_types_table::{
+    ArrayShape, Field, FieldTable, MOST_SCALARS, RecordShape, TypeEntry, TypeId,
+};
 use ob0_values::Scalar;
 use std::alloc::{AllocError, Global};
-use std::collections::BTreeMap;
 
 /// The length of an array, from 1 to 65,536.
 fn array_length(value: Scalar) -> Option<usize>
@@ -45,33 +45,31 @@ fn array_length(value: Scalar) -> Option<usize>
     }
 }
 
-/// The fields of a record so far: the first of each name, and the size of all.
+/// The fields of a record so far, in order, and the size of all.
 #[derive(Drop)]
-pub(crate) struct Gathered<'t> {
-    fields: BTreeMap<&'t str, TypeId>,
+pub(crate) struct Gathered {
+    fields: Vec<Field>,
     size: Size,
 }
 
-impl<'t> Gathered<'t> {
-    fn new(alloc: Global) -> Gathered<'t>
-        ensures fields { (x : Name) → fields_in result.fields x ≡ None }
+impl Gathered {
+    fn new(alloc: Global) -> Gathered
+        ensures fields { fields_in result.fields.items ≡ [] }
         ensures size { size_of result.size ≡ no_scalar }
     {
         Gathered {
-            fields: BTreeMap::new(alloc),
+            fields: Vec::new(alloc),
             size: NOTHING,
         }
     }
 
-    fn add(&mut self, name: &'t str, of: TypeId) -> Result<(), AllocError>
-        ensures fields { OnOk result ((x : Name)
-            → fields_in self.new.fields x ≡ with_field (fields_in self.old.fields) name.now of x) }
+    fn add(&mut self, alloc: Global, name: &str, of: TypeId) -> Result<(), AllocError>
+        ensures fields { OnOk result (fields_in self.new.fields.items
+            ≡ fields_in self.old.fields.items ++ record { name = name.now; of = of } ∷ []) }
         ensures size { OnOk result (self.new.size ≡ self.old.size) }
     {
-        if self.fields.contains_key(name) {
-            return Ok(());
-        }
-        self.fields.insert(name, of)?;
+        let name = String::from_str(alloc, name)?;
+        self.fields.push(Field { name, of })?;
         Ok(())
     }
 }
@@ -140,129 +138,218 @@ impl<'t> Supposed<'t> {
 
 impl<'t> Reporter<'t> {
     /// The type that is written, with unknown parts where these have faults.
-    #[cycle(types)]
     pub(crate) fn written_type(&mut self, t: &WrittenType) -> Result<TypeId, AllocError>
         ensures { IfOk result (λ of. ReportsAfter self.old.faults.items self.new.faults.items
             (record { of = of; behind = so_far_in self.new.supposed })
-            (reported_type (so_far_in self.old.supposed) (type_of t.now))) }
+            (reported_type 0 (so_far_in self.old.supposed) (type_of t.now))) }
+    {
+        let mut around = Vec::new(self.alloc);
+        self.type_inside(t, &mut around)
+    }
+
+    /// The same for a type that is inside of others: `around` has a token for each word ARRAY and RECORD around it.
+    #[cycle(types)]
+    fn type_inside(
+        &mut self,
+        t: &WrittenType,
+        around: &mut Vec<usize>,
+    ) -> Result<TypeId, AllocError>
+        ensures reports { IfOk result
+            (λ of. ReportsAfter self.old.faults.items self.new.faults.items
+            (record { of = of; behind = so_far_in self.new.supposed })
+            (reported_type (length around.old.items) (so_far_in self.old.supposed)
+            (type_of t.now))) }
+        ensures around { IfOk result (λ of. around.new.items ≡ around.old.items) }
     {
         match t {
             WrittenType::Named(name) => self.supposed.type_named(&mut self.faults, *name),
-            WrittenType::Array(a) => self.array(a),
-            WrittenType::Record(r) => self.record(r),
+            WrittenType::Array(a) => self.array(a, around),
+            WrittenType::Record(r) => self.record(r, around),
         }
     }
 
     #[cycle(types)]
-    fn array(&mut self, a: &ArrayType) -> Result<TypeId, AllocError>
-        ensures { IfOk result (λ of. ReportsAfter self.old.faults.items self.new.faults.items
+    fn array(&mut self, a: &ArrayType, around: &mut Vec<usize>) -> Result<TypeId, AllocError>
+        ensures reports { IfOk result
+            (λ of. ReportsAfter self.old.faults.items self.new.faults.items
             (record { of = of; behind = so_far_in self.new.supposed }) (reported_type
-            (so_far_in self.old.supposed)
+            (length around.old.items) (so_far_in self.old.supposed)
             (array_type (expression_of a.now.size) (type_of a.now.element.value)))) }
+        ensures around { IfOk result (λ of. around.new.items ≡ around.old.items) }
     {
+        let ordinal = self.supposed.ordinal_here(around);
         let size = self.supposed.expression(&mut self.faults, &a.size, true)?;
         let length = self.supposed.length(&mut self.faults, size)?;
-        let element = self.written_type(&a.element)?;
-        self.make_array(size, length, element)
+        let outside = around.len();
+        around.push(size.first)?;
+        let element = self.type_inside(&a.element, around)?;
+        around.truncate(outside);
+        self.make_array(ordinal, size, length, element)
     }
 
     /// An array of a faulty length is unknown as a whole; the type of its elements was looked at all the same. The word ARRAY
     /// precedes the length.
     fn make_array(
         &mut self,
+        ordinal: usize,
         size: Operand,
         length: Option<usize>,
         element: TypeId,
     ) -> Result<TypeId, AllocError>
         ensures { IfOk result (λ of. ReportsAfter self.old.faults.items self.new.faults.items
-            (record { of = of; behind = so_far_in self.new.supposed }) (array_made (operand_of size)
-            length (record { of = element; behind = so_far_in self.old.supposed }))) }
+            (record { of = of; behind = so_far_in self.new.supposed }) (array_made ordinal
+            (operand_of size) length
+            (record { of = element; behind = so_far_in self.old.supposed }))) }
     {
         match length {
             None => Ok(TypeId::Unknown),
             Some(length) => {
                 let word = size.first.saturating_sub(1);
                 let size = self.supposed.size_of(element).array(length);
+                let array = ArrayShape {
+                    ordinal,
+                    length,
+                    element,
+                    scalars: size.scalars,
+                    depth: size.depth,
+                };
                 self.supposed
-                    .make(&mut self.faults, word, Parts::Elements(element), size)
+                    .make(&mut self.faults, word, TypeEntry::Array(array))
             }
         }
     }
 
     #[cycle(types)]
-    fn record(&mut self, r: &RecordType) -> Result<TypeId, AllocError>
-        ensures { IfOk result (λ of. ReportsAfter self.old.faults.items self.new.faults.items
+    fn record(&mut self, r: &RecordType, around: &mut Vec<usize>) -> Result<TypeId, AllocError>
+        ensures reports { IfOk result
+            (λ of. ReportsAfter self.old.faults.items self.new.faults.items
             (record { of = of; behind = so_far_in self.new.supposed })
-            (reported_type (so_far_in self.old.supposed) (record_in r.now))) }
+            (reported_type (length around.old.items) (so_far_in self.old.supposed)
+            (record_in r.now))) }
+        ensures around { IfOk result (λ of. around.new.items ≡ around.old.items) }
     {
-        let mut gathered = Gathered::new(self.alloc);
-        for group in &r.groups {
-            self.group(group, &mut gathered)?;
-        }
-        self.make_record(record_word(&r.groups), gathered)
+        let ordinal = self.supposed.ordinal_here(around);
+        let word = record_word(&r.groups);
+        let outside = around.len();
+        around.push(word)?;
+        let gathered = self.groups(r.groups.as_slice(), around)?;
+        around.truncate(outside);
+        self.make_record(word, ordinal, gathered)
     }
 
-    fn make_record(&mut self, word: usize, gathered: Gathered<'t>) -> Result<TypeId, AllocError>
+    /// The fields of all groups of a record.
+    #[cycle(types)]
+    fn groups(&mut self, groups: &[Fields], around: &mut Vec<usize>) -> Result<Gathered, AllocError>
+        ensures reports { IfOk result (λ gathered.
+            Gathers self.old.faults.items self.new.faults.items self.new.supposed gathered
+            (told_groups (length around.old.items) (nothing_gathered (so_far_in self.old.supposed))
+            (items_of further_fields_of_group groups.now))) }
+        ensures around { IfOk result (λ gathered. around.new.items ≡ around.old.items) }
+    {
+        let mut gathered = Gathered::new(self.alloc);
+        for group in groups {
+            self.group(group, &mut gathered, around)?;
+        }
+        Ok(gathered)
+    }
+
+    fn make_record(
+        &mut self,
+        word: usize,
+        ordinal: usize,
+        gathered: Gathered,
+    ) -> Result<TypeId, AllocError>
         ensures { (g : spec.Gathered)
-            → IsGathered g self.old.supposed gathered.entry
+            → IsGathered g self.old.supposed gathered
             → IfOk result (λ of. ReportsAfter self.old.faults.items self.new.faults.items
-            (record { of = of; behind = so_far_in self.new.supposed }) (record_made word g)) }
+            (record { of = of; behind = so_far_in self.new.supposed })
+            (record_made word ordinal g)) }
     {
         let Gathered { fields, size } = gathered;
-        self.supposed.make(&mut self.faults, word, Parts::Fields(fields), size.record())
+        let size = size.record();
+        let fields = FieldTable::new(fields)?;
+        let record = RecordShape {
+            ordinal,
+            fields,
+            scalars: size.scalars,
+            depth: size.depth,
+        };
+        self.supposed
+            .make(&mut self.faults, word, TypeEntry::Record(record))
     }
 
     #[cycle(types)]
-    fn group(&mut self, group: &Fields, gathered: &mut Gathered<'t>) -> Result<(), AllocError>
-        ensures { OnOk result ((g : spec.Gathered)
+    fn group(
+        &mut self,
+        group: &Fields,
+        gathered: &mut Gathered,
+        around: &mut Vec<usize>,
+    ) -> Result<(), AllocError>
+        ensures reports { OnOk result ((g : spec.Gathered)
             → IsGathered g self.old.supposed gathered.old
             → Gathers self.old.faults.items self.new.faults.items self.new.supposed gathered.new
-            (told_fields g (fields_of group.now))) }
+            (told_fields (length around.old.items) g (fields_of group.now))) }
+        ensures around { OnOk result (around.new.items ≡ around.old.items) }
     {
         match group {
             Fields::Empty => Ok(()),
-            Fields::Listed(list) => self.listed(list, gathered),
+            Fields::Listed(list) => self.listed(list, gathered, around),
         }
     }
 
     #[cycle(types)]
-    fn listed(&mut self, list: &FieldGroup, gathered: &mut Gathered<'t>) -> Result<(), AllocError>
-        ensures { OnOk result ((g : spec.Gathered)
+    fn listed(
+        &mut self,
+        list: &FieldGroup,
+        gathered: &mut Gathered,
+        around: &mut Vec<usize>,
+    ) -> Result<(), AllocError>
+        ensures reports { OnOk result ((g : spec.Gathered)
             → IsGathered g self.old.supposed gathered.old
             → Gathers self.old.faults.items self.new.faults.items self.new.supposed gathered.new
-            (told_fields g (some_fields (names_of list.now.names) (type_of list.now.written)))) }
+            (told_fields (length around.old.items) g
+            (some_fields (names_of list.now.names) (type_of list.now.written)))) }
+        ensures around { OnOk result (around.new.items ≡ around.old.items) }
     {
-        let of = self.written_type(&list.written)?;
-        self.supposed.gather_all(&list.names, of, gathered)
+        let of = self.type_inside(&list.written, around)?;
+        self.supposed
+            .gather_all(self.alloc, &list.names, of, gathered)
     }
 }
 
 impl<'t> Supposed<'t> {
     fn gather_all(
         &self,
+        alloc: Global,
         names: &Names,
         of: TypeId,
-        gathered: &mut Gathered<'t>,
+        gathered: &mut Gathered,
     ) -> Result<(), AllocError>
         ensures { OnOk result ((g : spec.Gathered)
             → IsGathered g self.now gathered.old
             → IsGathered (with_names of g (names.now.first ∷ names.now.more.items)) self.now
             gathered.new) }
     {
-        self.gather(names.first, of, gathered)?;
+        self.gather(alloc, names.first, of, gathered)?;
         for name in &names.more {
-            self.gather(*name, of, gathered)?;
+            self.gather(alloc, *name, of, gathered)?;
         }
         Ok(())
     }
 
     /// One field more.
-    fn gather(&self, name: usize, of: TypeId, gathered: &mut Gathered<'t>) -> Result<(), AllocError>
+    fn gather(
+        &self,
+        alloc: Global,
+        name: usize,
+        of: TypeId,
+        gathered: &mut Gathered,
+    ) -> Result<(), AllocError>
         ensures { OnOk result ((g : spec.Gathered)
             → IsGathered g self.now gathered.old
             → IsGathered (with_name of g name) self.now gathered.new) }
     {
-        gathered.add(self.text(name), of)?;
+        gathered.add(alloc, self.text(name), of)?;
         gathered.size = gathered.size.and(self.size_of(of));
         Ok(())
     }

@@ -5,4 +5,4 @@ pub loop-ordinal-preserved : goal.loop-ordinal-preserved
 loop-ordinal-preserved c = small_goes_on c.args.known.now c.loop-ordinal.ordinal c.loop-ordinal.invariant c.constant_is_small.ensures
 
 pub returns : goal.returns
-returns c = small_ends c.args.known.now c.loop-ordinal.ordinal c.count-ordinal-end.result c.loop-ordinal.invariant c.loop-ordinal-test.false c.count-ordinal-end.ensures.count
+returns c = small_ends c.args.known.now c.loop-ordinal.ordinal c.count-ordinal-end.result c.loop-ordinal.invariant c.loop-ordinal-test.false c.count-ordinal-end.ensures

@@ -4,20 +4,19 @@ use Rattle.std.specs.List.{filter}
 use Rattle.std.specs.List.Sorted.{IsPermutation}
 use Rattle.ob0_scope_rules.specs.Resolution.{is_of_declarations}
 use Rattle.ob0_types.proofs.AllTold.{empty_alike}
-use Rattle.ob0_types.specs.FoundFaults.{types_found}
 use Rattle.ob0_types.proofs.FaultNumbers.{sorted_by_key}
 use Rattle.ob0_types.proofs.checked.faults_of.Tie as tie
 use Rattle.ob0_types.proofs.checked.faults_of.Goals as goal
 
 pub returns-clause-none : goal.returns-clause-none
 returns-clause-none c =
-    let first = c.in_ok-faults.faults.items in
+    let first = c.args.of_types.items in
     let scopes = filter is_of_declarations c.args.resolved.now.faults in
     let added = c.add_declarations.new.faults in
     let sorted = c.sort_by_key.new.self in
     let kept = c.truncate.new.self in
     let all = c.in_ok-add_declarations.ensures ∙ ap (λ fs. first ++ filter is_of_declarations fs) c.faults.ensures in
-    let joined : added.items ≡ types_found c.args.fits c.args.resolved.now ++ scopes = all ∙ ap (λ fs. fs ++ scopes) c.in_ok-faults.ensures in
+    let joined : added.items ≡ first ++ scopes = all in
     let a = added.ok.0 in
     let s = sorted.ok.0 in
     let k = kept.ok.0 in
@@ -33,14 +32,12 @@ returns-clause-few c =
 
 pub returns-clause-first : goal.returns-clause-first
 returns-clause-first c =
-    let first = c.in_ok-faults.faults.items in
-    let scopes = c.args.resolved.now.faults in
+    let first = c.args.of_types.items in
     let all = c.in_ok-add_declarations.ensures ∙ ap (λ fs. first ++ filter is_of_declarations fs) c.faults.ensures in
-    let joined = all ∙ ap (λ fs. fs ++ filter is_of_declarations scopes) c.in_ok-faults.ensures in
     record {
       all = c.sort_by_key.new.self.items;
-      joined = subst (λ fs. IsPermutation fs c.sort_by_key.new.self.items) joined c.in_ok-sort_by_key.ensures.permutation;
-      in_order = sorted_by_key ((tie.ghosts-7-0-1-2 c.sort_by_key.lifetimes).cmp) c.sort_by_key.new.self.items (λ s e x s₂ e₂ y. refl)
+      joined = subst (λ fs. IsPermutation fs c.sort_by_key.new.self.items) all c.in_ok-sort_by_key.ensures.permutation;
+      in_order = sorted_by_key ((tie.ghosts-5-0-1-2 c.sort_by_key.lifetimes).cmp) c.sort_by_key.new.self.items (λ s e x s₂ e₂ y. refl)
           (c.in_ok-sort_by_key.ensures.sorted (λ x. (x.span.start, x.span.end, x.code)) (answers_always _ _ _ (λ f a r f2 q. search rules)));
       first = c.truncate.ensures.items;
     }

@@ -8,8 +8,8 @@ returns-then-place-len c =
     rw (← c.self.view_is) (record {
       found = ap Some c.index.ensures ∙ sym (slice_get-get_or c.self.inside.shapes.items c.args.place c.index.result.now (grind arith));
       shape = (
-        shape_at-table c.self.inside.shapes.items c.args.place c.index.result.now c.self.invariant.in_order (grind arith) c.index.ensures,
-        counted_at-table c.self.inside.shapes.items c.args.place c.index.result.now c.self.invariant.in_order (grind arith) c.index.ensures,
+        shape_at-table c.self.inside.shapes.items c.args.place c.index.result.now c.self.invariant (grind arith) c.index.ensures,
+        counted_at-table c.self.inside.shapes.items c.args.place c.index.result.now c.self.invariant (grind arith) c.index.ensures,
       );
     })
 

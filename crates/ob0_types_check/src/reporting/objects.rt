@@ -1,0 +1,72 @@
+//! What declarations are, as they are kept in the table of a module without faults.
+
+ghost use Rattle.std.specs.Prelude.{◌≡◌, IfOk, Some, map, option_map, slice_set};
+ghost use Rattle.ob0_types_table.specs.declared.known.Object.TheVariants as kind;
+ghost use Rattle.ob0_types_check.specs.SupposedFacts.{object_of, with_standards};
+
+use crate::reporting::supposed::Meaning;
+use ob0_types_table::{Object, Standard};
+use std::alloc::{AllocError, Global};
+
+/// The ordinals of the standard procedures.
+const READ: usize = 4;
+
+const WRITE: usize = 5;
+
+const WRITE_LN: usize = 6;
+
+/// What each declaration is.
+pub(crate) fn objects_of(
+    alloc: Global,
+    meanings: Vec<Option<Meaning>>,
+) -> Result<Vec<Option<Object>>, AllocError>
+    ensures { IfOk result
+        (λ objects. objects.items ≡ map (option_map object_of) meanings.items) }
+{
+    let mut objects = Vec::new(alloc);
+    for meaning in meanings {
+        objects.push(object_if_any(meaning))?;
+    }
+    Ok(objects)
+}
+
+fn object_if_any(meaning: Option<Meaning>) -> Option<Object>
+    ensures { result ≡ option_map object_of meaning }
+{
+    match meaning {
+        None => None,
+        Some(meaning) => Some(object_of(meaning)),
+    }
+}
+
+fn object_of(meaning: Meaning) -> Object
+    ensures { result ≡ object_of meaning }
+{
+    match meaning {
+        Meaning::Named(of) => Object::Named(of),
+        Meaning::Constant(value) => match value {
+            None => Object::FaultyConstant,
+            Some(value) => Object::Constant(value),
+        },
+        Meaning::Variable(of) => Object::Variable(of),
+        Meaning::Procedure(formals) => Object::Procedure(formals),
+    }
+}
+
+/// The standard procedures, which the walk knows as procedures by their parameters.
+pub(crate) fn define_standards(objects: &mut Vec<Option<Object>>)
+    ensures { objects.new.items ≡ with_standards objects.old.items }
+{
+    define_standard(objects, READ, Standard::Read);
+    define_standard(objects, WRITE, Standard::Write);
+    define_standard(objects, WRITE_LN, Standard::WriteLn);
+}
+
+fn define_standard(objects: &mut Vec<Option<Object>>, ordinal: usize, standard: Standard)
+    ensures { objects.new.items
+        ≡ slice_set objects.old.items ordinal (Some (kind.Standard standard)) }
+{
+    if ordinal < objects.len() {
+        objects[ordinal] = Some(Object::Standard(standard));
+    }
+}

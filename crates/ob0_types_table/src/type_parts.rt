@@ -1,0 +1,49 @@
+//! A type with its parts.
+
+ghost use Rattle.std.specs.Prelude.{◌≡◌};
+ghost use Rattle.ob0_types_table.specs.Parts.{PartsAreCounted, has_parts, is_known_type, parts_shape};
+ghost use Rattle.ob0_types_table.specs.KnownTables.{shapes_of};
+ghost use Rattle.ob0_types_table.specs.Tables.{type_shape};
+
+use crate::known::{ArrayShape, Known, RecordShape, TypeEntry};
+use crate::types::TypeId;
+
+/// A type with its parts. What has a fault is a record without fields.
+#[derive(Clone, Copy)]
+pub enum Parts<'k> {
+    Integer,
+    Boolean,
+    Array(ArrayShape),
+    Record(&'k RecordShape),
+    Faulty,
+}
+
+impl Known {
+    /// A type with its parts. It has none exactly where it is no type of the module.
+    pub fn parts(&self, of: TypeId) -> Parts<'_>
+        ensures shape { parts_shape (shapes_of self.now) result
+            ≡ type_shape (shapes_of self.now) of }
+        ensures counted { PartsAreCounted (shapes_of self.now) result }
+        ensures known { has_parts result ≡ is_known_type self.now of }
+    {
+        match of {
+            TypeId::Integer => Parts::Integer,
+            TypeId::Boolean => Parts::Boolean,
+            TypeId::Array(i) => match self.entry(i) {
+                None => Parts::Faulty,
+                Some(shape) => match shape {
+                    TypeEntry::Array(array) => Parts::Array(*array),
+                    TypeEntry::Record(_) => Parts::Faulty,
+                },
+            },
+            TypeId::Record(i) => match self.entry(i) {
+                None => Parts::Faulty,
+                Some(shape) => match shape {
+                    TypeEntry::Record(record) => Parts::Record(record),
+                    TypeEntry::Array(_) => Parts::Faulty,
+                },
+            },
+            TypeId::Unknown => Parts::Faulty,
+        }
+    }
+}
