@@ -5,7 +5,7 @@ use Rattle.ob0_types_table.specs.KnownTables.{Tables, declared_in, shapes_of}
 use Rattle.ob0_types_fields.specs.FieldTypes.{TypedField, typed_field, typed_field_by}
 use Rattle.ob0_types_fields.specs.Search.{typed_field_in}
 use Rattle.ob0_types_fields.specs.declared.field_types.TypedField as code
-use Rattle.ob0_types.specs.CheckedModules.{HasDeclarations}
+use Rattle.ob0_types_check.specs.ModuleLaws.{HasDeclarations}
 use Rattle.ob0_types.specs.RowsOfFields.{FieldRow}
 use Rattle.ob0_types.proofs.checked.WellTyped.field_row.Goals as goal
 
