@@ -37,3 +37,6 @@ shallow_locations unit uri text (s ∷ ss) = omega (arith, shallow_locations uni
 
 pub locations_can_be_sent : (unit : Unit) (uri text : List ℕ) (spans : List Span) → CanBeSent (array (items_of (map (location_at unit uri text) spans)))
 locations_can_be_sent unit uri text spans = record { shallow = omega (arith, shallow_locations unit uri text spans) }
+
+pub null_can_be_sent : CanBeSent null
+null_can_be_sent = record { shallow = omega arith }

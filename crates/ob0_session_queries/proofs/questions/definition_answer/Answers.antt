@@ -1,11 +1,12 @@
-use Rattle.std.proofs.Common.{◌≡◌, ◌∙◌, ℕ, List, Option, ap, option_map, inl, inr, subst, sym}
+use Rattle.std.proofs.Common.{◌≡◌, ◌∙◌, ℕ, List, Option, ap, option_map, inl, inr, refl, subst, sym}
 use Rattle.std.proofs.lemmas.Result.{IfOk-weaker}
 use Rattle.ob0_rpc.specs.Seen.{at_seen}
 use Rattle.ob0_scan.specs.declared.lexeme.Span.{Span}
 use Rattle.ob0_refs.specs.Questions.{definition_at}
 use Rattle.ob0_scope_rules.specs.Resolution.{Resolution}
+use Rattle.serde_json.specs.Data.{null}
 use Rattle.ob0_session_queries.specs.Questions.{location_at, or_null}
-use Rattle.ob0_session_queries.proofs.Naming.{FoundOf, found_of}
+use Rattle.ob0_session_queries.proofs.Naming.{FoundOf, found_of, null_can_be_sent}
 use Rattle.ob0_session_queries.proofs.questions.definition_answer.Goals as goal
 
 pub returns-in-Some : goal.returns-in-Some
@@ -21,3 +22,10 @@ returns-in-Some g c =
       inl (there.0, there.1, (λ i. or_null (option_map (location_at unit (c.as_str.ensures.value i) text) (same i)))),
       sent,
     )) c.location_or_null.ensures
+
+pub returns-in-None : goal.returns-in-None
+returns-in-None g c =
+    let text : List ℕ = g.T.TextStore.content c.args.store.now in
+    let is = λ (r : Resolution) (found : Option Span). found ≡ definition_at r c.offset-offset.result in
+    let found = found_of c.args.analysis.now text is c.in_ok-found.field-0 c.in_ok-found.ensures.utf8 (sym c.requires) c.in_ok-found.ensures.found in
+    IfOk-weaker c.result_of.result _ _ (λ bytes sent. (null, inr (subst (λ (a : Option (Option Span)). FoundOf text is a) c.in-None.is found, refl), sent null_can_be_sent)) c.result_of.ensures
