@@ -3,7 +3,9 @@
 ghost use Rattle.std.specs.Prelude.{◌≡◌, ◌++◌, IfOk, string_bytes};
 
 use ob0_scan::laws::middle_is_replaced;
-use ob0_scan::{NotRescanned, Rescan, ScanRefusal, Tokens, rescan, rescan_in_place, scan};
+use ob0_scan::{
+    NotRescanned, Rescan, RescanInPlace, ScanRefusal, Tokens, rescan, rescan_in_place, scan,
+};
 use std::alloc::{AllocError, Global};
 use std::process::Abort;
 use std::test::Fail;
@@ -62,9 +64,12 @@ fn compare(again: Result<Rescan, ScanRefusal>, scanned: Result<Tokens, ScanRefus
 }
 
 /// What is found again in place. A text with faults gives back the tokens of the one before.
-fn in_place(found: Result<Rescan, NotRescanned>, old_text: &str) -> Result<Rescan, ScanRefusal> {
+fn in_place(
+    found: Result<RescanInPlace, NotRescanned>,
+    old_text: &str,
+) -> Result<Rescan, ScanRefusal> {
     match found {
-        Ok(found) => Ok(found),
+        Ok(found) => Ok(found.rescan),
         Err(NotRescanned::Faults(faults, old)) => {
             if old.text() == old_text {
                 Err(ScanRefusal::Faults(faults))
@@ -152,6 +157,47 @@ fn a_comment_is_opened_in_front(rt: HostRuntime) -> Result<(), Fail> {
     for row in OPENED {
         let (text, wanted) = *row;
         assert!(rt; change(rt.alloc(), "", "", "(*", text)? == wanted, "{text}");
+    }
+    Ok(())
+}
+
+/// Whether the tokens stay of the same kinds where `other` comes in place of `middle`. None where one of the texts has faults.
+fn kinds_stay(
+    alloc: Global,
+    front: &str,
+    middle: &str,
+    other: &str,
+    behind: &str,
+) -> Result<Option<bool>, AllocError> {
+    middle_is_replaced();
+    let old_text = joined(alloc, front, middle, behind)?;
+    let new_text = joined(alloc, front, other, behind)?;
+    let text = new_text.as_str();
+    let Ok(old) = scan(alloc, old_text.as_str()) else {
+        return Ok(None);
+    };
+    let (from, removed, added) = (front.len(), middle.len(), other.len());
+    match rescan_in_place(alloc, old, text, from, removed, added) {
+        Ok(found) => Ok(Some(found.alike)),
+        Err(_refusal) => Ok(None),
+    }
+}
+
+/// Texts in place of a number, and whether the tokens stay of the same kinds.
+static ALIKE: &[(&str, bool)] = &[
+    ("21", true),
+    ("(* one *) 1", true),
+    ("z", false),
+    ("1 + 1", false),
+    ("", false),
+];
+
+#[test]
+fn tokens_are_alike_where_their_kinds_stay(rt: HostRuntime) -> Result<(), Fail> {
+    for row in ALIKE {
+        let (other, wanted) = *row;
+        let found = kinds_stay(rt.alloc(), "x := ", "1", other, " + y")?;
+        assert!(rt; found == Some(wanted), "{other}");
     }
     Ok(())
 }
