@@ -1,5 +1,5 @@
 -- What is reported of a module depends on its table of ordinals only by the ordinals at its tokens.
-use Rattle.std.proofs.Common.{◌≡◌, ℕ, ◌+◌, Bool, true, false, cond, Option, Some, None, List, [], ◌∷◌, ◌++◌, map, length, refl, ap, subst}
+use Rattle.std.proofs.Common.{◌≡◌, ℕ, suc, ◌+◌, Bool, true, false, cond, Option, Some, None, List, [], ◌∷◌, ◌++◌, map, length, refl, ap, subst}
 use Rattle.std.specs.Prelude.{option_and_then, slice_index_or, slice_set}
 use Rattle.ob0_scan.specs.declared.fault.Code.TheVariants as code
 use Rattle.ob0_scan.specs.declared.fault.Fault.{Fault}
@@ -16,7 +16,7 @@ use Rattle.ob0_types_check.specs.Operations.{at_token, right, token_before}
 use Rattle.ob0_types_check.specs.SoFar.{PartTypes, Size, SoFar, TypedAfter, define, define_all, facts_at, is_within, made, make, of_elements, of_fields, size_at, too_large, type_with, types_at, with_declared}
 use Rattle.ob0_types_check.specs.StatementFaults.{reported_sequence}
 use Rattle.ob0_types_check.specs.TypeFaults.{length_of, reported_constant, type_named}
-use Rattle.ob0_types_check.specs.WrittenTypeFaults.{Gathered, array_made, array_size, beside, gathered_after, nothing_gathered, record_made, record_size, record_word, told_fields, told_groups, reported_type, with_field, with_name, with_names, word_before}
+use Rattle.ob0_types_check.specs.WrittenTypeFaults.{Gathered, array_made, array_size, beside, gathered_after, nothing_gathered, ordinal_here, record_made, record_size, record_word, told_fields, told_groups, reported_type, with_name, with_names, word_before}
 
 -- ---- the same but for tables that have the same ordinals
 
@@ -79,35 +79,35 @@ define_all_like p q m (x ∷ xs) like = define_all_like (define p m x) (define q
 
 -- ---- types
 
-made_like : (p q : SoFar) (parts : PartTypes) (size : Size) → Like p q → TypedLike (made p parts size) (made q parts size)
-made_like p q parts size like = record {
+made_like : (p q : SoFar) (k l : ℕ) (parts : PartTypes) (size : Size) → k ≡ l → Like p q → TypedLike (made p k parts size) (made q l parts size)
+made_like p q k l parts size same like = record {
   of = ap (λ ms. type_with parts (length ms)) like.made;
-  behind = record { source = like.source; ordinals = like.ordinals; declared = like.declared; made = ap (λ ms. ms ++ record { parts = parts; size = size } ∷ []) like.made };
+  behind = record { source = like.source; ordinals = like.ordinals; declared = like.declared; made = λ i. like.made i ++ record { ordinal = same i; parts = parts; size = size } ∷ [] };
 }
 
-make_like : (p q : SoFar) (word : ℕ) (parts : PartTypes) (size : Size) → Like p q → Both TypedLike (make p word parts size) (make q word parts size)
-make_like p q word parts size like = go (is_within size)
+make_like : (p q : SoFar) (word k l : ℕ) (parts : PartTypes) (size : Size) → k ≡ l → Like p q → Both TypedLike (make p word k parts size) (make q word l parts size)
+make_like p q word k l parts size same like = go (is_within size)
   where
-    go : (b : Bool) → Both TypedLike (cond b (right (made p parts size)) (too_large p word)) (cond b (right (made q parts size)) (too_large q word))
-    go true = right_both TypedLike (made p parts size) (made q parts size) (made_like p q parts size like)
+    go : (b : Bool) → Both TypedLike (cond b (right (made p k parts size)) (too_large p word)) (cond b (right (made q l parts size)) (too_large q word))
+    go true = right_both TypedLike (made p k parts size) (made q l parts size) (made_like p q k l parts size same like)
     go false = record { known = record { of = refl; behind = like }; faults = ap (λ (f : Facts TypeId). at_token f code.TypeTooLarge word) (same_facts p q false like) }
 
-array_like : (o : Operand TypeId) (n : Option ℕ) (t u : TypedAfter) → TypedLike t u → Both TypedLike (array_made o n t) (array_made o n u)
-array_like o None t u like = right_both TypedLike _ _ (record { of = refl; behind = like.behind })
-array_like o (Some n) t u like =
-    let parts : of_elements t.of ≡ of_elements u.of = ap of_elements like.of in
+array_like : (k l : ℕ) (o : Operand TypeId) (n : Option ℕ) (t u : TypedAfter) → k ≡ l → TypedLike t u → Both TypedLike (array_made k o n t) (array_made l o n u)
+array_like k l o None t u same like = right_both TypedLike _ _ (record { of = refl; behind = like.behind })
+array_like k l o (Some n) t u same like =
+    let parts : of_elements n t.of ≡ of_elements n u.of = ap (of_elements n) like.of in
     let size : array_size n (size_at t.behind.made t.of) ≡ array_size n (size_at u.behind.made u.of) = λ i. array_size n (size_at (like.behind.made i) (like.of i)) in
-    subst (λ x. Both TypedLike (array_made o (Some n) t) (make u.behind (token_before o.first) x (array_size n (size_at u.behind.made u.of)))) parts
-    (subst (λ z. Both TypedLike (array_made o (Some n) t) (make u.behind (token_before o.first) (of_elements t.of) z)) size
-    (make_like t.behind u.behind (token_before o.first) (of_elements t.of) (array_size n (size_at t.behind.made t.of)) like.behind))
+    subst (λ x. Both TypedLike (array_made k o (Some n) t) (make u.behind (token_before o.first) l x (array_size n (size_at u.behind.made u.of)))) parts
+    (subst (λ z. Both TypedLike (array_made k o (Some n) t) (make u.behind (token_before o.first) l (of_elements n t.of) z)) size
+    (make_like t.behind u.behind (token_before o.first) k l (of_elements n t.of) (array_size n (size_at t.behind.made t.of)) same like.behind))
 
-arrays_like : (o p : Operand TypeId) (n m : Option ℕ) (t u : TypedAfter) → o ≡ p → n ≡ m → TypedLike t u → Both TypedLike (array_made o n t) (array_made p m u)
-arrays_like o p n m t u same sized like =
-    subst (λ x. Both TypedLike (array_made o n t) (array_made x m u)) same (subst (λ x. Both TypedLike (array_made o n t) (array_made o x u)) sized (array_like o n t u like))
+arrays_like : (k l : ℕ) (o p : Operand TypeId) (n m : Option ℕ) (t u : TypedAfter) → k ≡ l → o ≡ p → n ≡ m → TypedLike t u → Both TypedLike (array_made k o n t) (array_made l p m u)
+arrays_like k l o p n m t u here same sized like =
+    subst (λ x. Both TypedLike (array_made k o n t) (array_made l x m u)) same (subst (λ x. Both TypedLike (array_made k o n t) (array_made l o x u)) sized (array_like k l o n t u here like))
 
 name_like : (t u : TypeId) (g h : Gathered) (token : ℕ) → t ≡ u → GatheredLike g h → GatheredLike (with_name t g token) (with_name u h token)
 name_like t u g h token same like = record {
-  fields = λ i. with_field (like.fields i) (text_at (like.behind.source i) token) (same i);
+  fields = λ i. like.fields i ++ record { name = text_at (like.behind.source i) token; of = same i } ∷ [];
   size = λ i. beside (like.size i) (size_at (like.behind.made i) (same i));
   behind = like.behind;
 }
@@ -119,45 +119,49 @@ names_like t u g h (x ∷ xs) same like = names_like t u (with_name t g x) (with
 gathered_like : (g h : Gathered) (tokens : List ℕ) (t u : TypedAfter) → GatheredLike g h → TypedLike t u → GatheredLike (gathered_after g tokens t) (gathered_after h tokens u)
 gathered_like g h tokens t u like typed = names_like t.of u.of _ _ tokens typed.of (record { fields = like.fields; size = like.size; behind = typed.behind })
 
-record_like : (word : ℕ) (g h : Gathered) → GatheredLike g h → Both TypedLike (record_made word g) (record_made word h)
-record_like word g h like =
-    subst (λ x. Both TypedLike (record_made word g) (make h.behind word x (record_size h.size))) (ap of_fields like.fields)
-    (subst (λ z. Both TypedLike (record_made word g) (make h.behind word (of_fields g.fields) (record_size z))) like.size
-    (make_like g.behind h.behind word (of_fields g.fields) (record_size g.size) like.behind))
+record_like : (word k l : ℕ) (g h : Gathered) → k ≡ l → GatheredLike g h → Both TypedLike (record_made word k g) (record_made word l h)
+record_like word k l g h same like =
+    subst (λ x. Both TypedLike (record_made word k g) (make h.behind word l x (record_size h.size))) (ap of_fields like.fields)
+    (subst (λ z. Both TypedLike (record_made word k g) (make h.behind word l (of_fields g.fields) (record_size z))) like.size
+    (make_like g.behind h.behind word k l (of_fields g.fields) (record_size g.size) same like.behind))
+
+here_like : (around : ℕ) (p q : SoFar) → Like p q → ordinal_here around p ≡ ordinal_here around q
+here_like around p q like = λ i. length (like.made i) + around
 
 mutual
   unfolding reported_type
 
-  type_like : (p q : SoFar) (t : Tree ℕ written_type) → Like p q → Both TypedLike (reported_type p t) (reported_type q t)
-  type_like p q (named_type x) like =
+  type_like : (around : ℕ) (p q : SoFar) (t : Tree ℕ written_type) → Like p q → Both TypedLike (reported_type around p t) (reported_type around q t)
+  type_like around p q (named_type x) like =
       let same : type_named (facts_at p false) x ≡ type_named (facts_at q false) x = ap (λ (f : Facts TypeId). type_named f x) (same_facts p q false like) in
       after (ap (λ (r : Reported TypeId). r.faults) same) (right_both TypedLike _ _ (record { of = ap (λ (r : Reported TypeId). r.known) same; behind = like }))
-  type_like p q (array_type e u) like =
+  type_like around p q (array_type e u) like =
       let same : reported_expression (facts_at p true) e ≡ reported_expression (facts_at q true) e = ap (λ (f : Facts TypeId). reported_expression f e) (same_facts p q true like) in
       let operand : (reported_expression (facts_at p true) e).known ≡ (reported_expression (facts_at q true) e).known = ap (λ (r : Reported (Operand TypeId)). r.known) same in
       let sized : length_of (facts_at p false) (reported_expression (facts_at p true) e).known ≡ length_of (facts_at q false) (reported_expression (facts_at q true) e).known =
       λ i. length_of (same_facts p q false like i) (operand i) in
-      let element : Both TypedLike (reported_type p u) (reported_type q u) = type_like p q u like in
+      let element : Both TypedLike (reported_type (suc around) p u) (reported_type (suc around) q u) = type_like (suc around) p q u like in
       after (ap (λ (r : Reported (Operand TypeId)). r.faults) same)
       (after (ap (λ (r : Reported (Option ℕ)). r.faults) sized)
-      (after element.faults (arrays_like _ _ _ _ _ _ operand (ap (λ (r : Reported (Option ℕ)). r.known) sized) element.known)))
-  type_like p q (record_type g rest) like =
-      let first : Both GatheredLike (told_fields (nothing_gathered p) g) (told_fields (nothing_gathered q) g) = fields_like (nothing_gathered p) (nothing_gathered q) g (record { fields = refl; size = refl; behind = like }) in
-      let all : Both GatheredLike (told_groups (told_fields (nothing_gathered p) g).known rest) (told_groups (told_fields (nothing_gathered q) g).known rest) =
-      groups_like (told_fields (nothing_gathered p) g).known (told_fields (nothing_gathered q) g).known rest first.known in
-      after first.faults (after all.faults (record_like (word_before g (record_word rest)) _ _ all.known))
+      (after element.faults (arrays_like (ordinal_here around p) (ordinal_here around q) _ _ _ _ _ _ (here_like around p q like) operand (ap (λ (r : Reported (Option ℕ)). r.known) sized) element.known)))
+  type_like around p q (record_type g rest) like =
+      let first : Both GatheredLike (told_fields (suc around) (nothing_gathered p) g) (told_fields (suc around) (nothing_gathered q) g) =
+      fields_like (suc around) (nothing_gathered p) (nothing_gathered q) g (record { fields = refl; size = refl; behind = like }) in
+      let all : Both GatheredLike (told_groups (suc around) (told_fields (suc around) (nothing_gathered p) g).known rest) (told_groups (suc around) (told_fields (suc around) (nothing_gathered q) g).known rest) =
+      groups_like (suc around) (told_fields (suc around) (nothing_gathered p) g).known (told_fields (suc around) (nothing_gathered q) g).known rest first.known in
+      after first.faults (after all.faults (record_like (word_before g (record_word rest)) (ordinal_here around p) (ordinal_here around q) _ _ (here_like around p q like) all.known))
 
-  fields_like : (g h : Gathered) (t : Tree ℕ fields) → GatheredLike g h → Both GatheredLike (told_fields g t) (told_fields h t)
-  fields_like g h no_fields like = right_both GatheredLike g h like
-  fields_like g h (some_fields ns t) like =
-      let typed : Both TypedLike (reported_type g.behind t) (reported_type h.behind t) = type_like g.behind h.behind t like.behind in
+  fields_like : (around : ℕ) (g h : Gathered) (t : Tree ℕ fields) → GatheredLike g h → Both GatheredLike (told_fields around g t) (told_fields around h t)
+  fields_like around g h no_fields like = right_both GatheredLike g h like
+  fields_like around g h (some_fields ns t) like =
+      let typed : Both TypedLike (reported_type around g.behind t) (reported_type around h.behind t) = type_like around g.behind h.behind t like.behind in
       after typed.faults (right_both GatheredLike _ _ (gathered_like g h (names_listed ns) _ _ like typed.known))
 
-  groups_like : (g h : Gathered) (t : Tree ℕ (items further_fields)) → GatheredLike g h → Both GatheredLike (told_groups g t) (told_groups h t)
-  groups_like g h end like = right_both GatheredLike g h like
-  groups_like g h (more (then_fields t) rest) like =
-      let next : Both GatheredLike (told_fields g t) (told_fields h t) = fields_like g h t like in
-      after next.faults (groups_like (told_fields g t).known (told_fields h t).known rest next.known)
+  groups_like : (around : ℕ) (g h : Gathered) (t : Tree ℕ (items further_fields)) → GatheredLike g h → Both GatheredLike (told_groups around g t) (told_groups around h t)
+  groups_like around g h end like = right_both GatheredLike g h like
+  groups_like around g h (more (then_fields t) rest) like =
+      let next : Both GatheredLike (told_fields around g t) (told_fields around h t) = fields_like around g h t like in
+      after next.faults (groups_like around (told_fields around g t).known (told_fields around h t).known rest next.known)
 
 -- ---- declarations
 
@@ -187,7 +191,7 @@ constants_like p q (more d rest) like =
 type_declared_like : (p q : SoFar) (d : Tree ℕ (item type_name)) → Like p q → Both Like (type_declared p d) (type_declared q d)
 unfolding type_declared
 type_declared_like p q (declares_type x t) like =
-    let typed : Both TypedLike (reported_type p t) (reported_type q t) = type_like p q t like in
+    let typed : Both TypedLike (reported_type 0 p t) (reported_type 0 q t) = type_like 0 p q t like in
     after typed.faults (right_both Like _ _ (type_defined x _ _ typed.known))
 
 types_like : (p q : SoFar) (ds : Tree ℕ (items type_name)) → Like p q → Both Like (reported_types p ds) (reported_types q ds)
@@ -200,7 +204,7 @@ types_like p q (more d rest) like =
 variables_declared_like : (p q : SoFar) (d : Tree ℕ (item variable)) → Like p q → Both Like (variables_declared p d) (variables_declared q d)
 unfolding variables_declared
 variables_declared_like p q (declares_variable ns t) like =
-    let typed : Both TypedLike (reported_type p t) (reported_type q t) = type_like p q t like in
+    let typed : Both TypedLike (reported_type 0 p t) (reported_type 0 q t) = type_like 0 p q t like in
     after typed.faults (right_both Like _ _ (variables_defined (names_listed ns) _ _ typed.known))
 
 variables_like : (p q : SoFar) (ds : Tree ℕ (items variable)) → Like p q → Both Like (reported_variables p ds) (reported_variables q ds)
@@ -219,7 +223,7 @@ parameters_with g h by_place xs t u like typed = record {
 parameters_like : (g h : KnownHeading) (by_place : Bool) (ns : Tree ℕ names) (t : Tree ℕ written_type) → HeadingLike g h → Both HeadingLike (reported_parameters g by_place ns t) (reported_parameters h by_place ns t)
 unfolding reported_parameters
 parameters_like g h by_place ns t like =
-    let typed : Both TypedLike (reported_type g.behind t) (reported_type h.behind t) = type_like g.behind h.behind t like.behind in
+    let typed : Both TypedLike (reported_type 0 g.behind t) (reported_type 0 h.behind t) = type_like 0 g.behind h.behind t like.behind in
     after typed.faults (right_both HeadingLike _ _ (parameters_with g h by_place (names_listed ns) _ _ like typed.known))
 
 section_like : (g h : KnownHeading) (s : Tree ℕ (item further_section)) → HeadingLike g h → Both HeadingLike (reported_section g s) (reported_section h s)
