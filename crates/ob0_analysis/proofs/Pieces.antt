@@ -21,6 +21,6 @@ drop_further xs count n h =
     let next : at + n ≡ length xs - count = omega (arith, h) in
     sym (take-append-drop n (drop at xs)) ∙ ap (λ l. take n (drop at xs) ++ l) (drop-drop n at xs ∙ ap (λ k. drop k xs) next)
 
-pub behind : (a b : Bytes) (count n : ℕ) → count + n ≤ length a → count + n ≤ length b → drop (length a - count) a ≡ drop (length b - count) b
+pub following : (a b : Bytes) (count n : ℕ) → count + n ≤ length a → count + n ≤ length b → drop (length a - count) a ≡ drop (length b - count) b
     → take n (drop (length a - (count + n)) a) ≡ take n (drop (length b - (count + n)) b) → drop (length a - (count + n)) a ≡ drop (length b - (count + n)) b
-behind a b count n in_a in_b before piece = drop_further a count n in_a ∙ (λ i. piece i ++ before i) ∙ sym (drop_further b count n in_b)
+following a b count n in_a in_b before piece = drop_further a count n in_a ∙ (λ i. piece i ++ before i) ∙ sym (drop_further b count n in_b)

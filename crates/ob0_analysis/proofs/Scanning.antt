@@ -31,9 +31,9 @@ OneScan = (s t : Scanned) → IsScan s → IsScan t → s.text ≡ t.text → s 
 scannable : (text : List ℕ) → IsWellTypedModule text → IsScannable text
 scannable text w = subst IsScannable w.text_of.scan.of (w.text_of.scan.scan.short, (w.text_of.scan.scan.lexemes, w.text_of.scan.scan.lexed))
 
-pub finds_lexemes : (text : List ℕ) (faults : List Fault) (told : List Complaint) → (IsScannable text → ⊥) → AreFaults text faults → told ≡ map complaint_of faults
-    → ¬ IsWellTypedModule text × ReportsFaults text told
-finds_lexemes text faults told bad are is =
+pub finds_lexemes : (text : List ℕ) (faults : List Fault) (reported : List Complaint) → (IsScannable text → ⊥) → AreFaults text faults → reported ≡ map complaint_of faults
+    → ¬ IsWellTypedModule text × ReportsFaults text reported
+finds_lexemes text faults reported bad are is =
     (λ w. bad (scannable text w), inl (record { unscannable = bad; faults = faults; of_text = are; all = is }))
 
 -- no tree is a module's where none begins so
@@ -77,12 +77,12 @@ some_of : (faults : List Fault) → (faults ≡ [] → ⊥) → 0 < length fault
 some_of [] some = absurd (some refl)
 some_of (f ∷ fs) some = omega arith
 
-pub finds_types : (c : CheckedModule) (told : List Complaint) → OneScan → OneTree → IsScan c.names.module_read.source → IsChecked c → (c.faults ≡ [] → ⊥) → told ≡ map complaint_of c.faults
-    → ¬ IsWellTypedModule c.names.module_read.source.text × ReportsFaults c.names.module_read.source.text told
-finds_types c told one only scan checked bad is =
+pub finds_types : (c : CheckedModule) (reported : List Complaint) → OneScan → OneTree → IsScan c.names.module_read.source → IsChecked c → (c.faults ≡ [] → ⊥) → reported ≡ map complaint_of c.faults
+    → ¬ IsWellTypedModule c.names.module_read.source.text × ReportsFaults c.names.module_read.source.text reported
+finds_types c reported one only scan checked bad is =
     let s : Scanned = c.names.module_read.source in
     let tree : Tree (List ℕ) module_text = named_tree_of c.names.module_read in
-    let ill : WellTyped tree → ⊥ = λ w. bad (checked.told.1 w) in (
+    let ill : WellTyped tree → ⊥ = λ w. bad (checked.reported.1 w) in (
       ill_typed s tree one only scan checked.resolved.parsed.module_of ill,
       inr (inr (record {
         names = c.names;
@@ -102,7 +102,7 @@ pub faulty_is_none : (text : List ℕ) (c : CheckedModule) (m : Resolution) → 
 faulty_is_none text c m is one only read checked bad =
     let s : Scanned = c.names.module_read.source in
     let here : IsScanOf text s = subst (λ (r : Resolution). IsScanOf text r.module_read.source) (sym is) read in
-    subst (λ (t : List ℕ). IsWellTypedModule t → ⊥) here.of (ill_typed s (named_tree_of c.names.module_read) one only here.scan checked.resolved.parsed.module_of (λ w. bad (checked.told.1 w)))
+    subst (λ (t : List ℕ). IsWellTypedModule t → ⊥) here.of (ill_typed s (named_tree_of c.names.module_read) one only here.scan checked.resolved.parsed.module_of (λ w. bad (checked.reported.1 w)))
 
 -- the module that was checked is that of its text
 pub module_in : (text : List ℕ) (names m : Resolution) → names ≡ m → IsScanOf text m.module_read.source → IsWellTyped names → IsModuleIn text names
@@ -118,13 +118,13 @@ some_or_none [] = inl refl
 some_or_none (f ∷ fs) = inr (λ e. absurd (omega (arith, ap length e)))
 
 -- what is reported of a module with a tree is nothing exactly where it is well-typed
-pub tells_module : (c : CheckedModule) (told : List Complaint) → OneScan → OneTree → IsScan c.names.module_read.source → IsChecked c → told ≡ map complaint_of c.faults
-    → Reports c.names.module_read.source.text told
-tells_module c told one only scan checked is =
+pub reports_module : (c : CheckedModule) (reported : List Complaint) → OneScan → OneTree → IsScan c.names.module_read.source → IsChecked c → reported ≡ map complaint_of c.faults
+    → Reports c.names.module_read.source.text reported
+reports_module c reported one only scan checked is =
     let m : Parsed = c.names.module_read in
     elim (some_or_none c.faults) [
       | inl none ↦
-          let fits : IsWellTyped c.names = record { resolved = checked.resolved; well_typed = checked.told.0 none } in
+          let fits : IsWellTyped c.names = record { resolved = checked.resolved; well_typed = checked.reported.0 none } in
           inl (is_module m.source.text c.names (module_in m.source.text c.names c.names refl (record { of = refl; scan = scan }) fits), is ∙ ap (map complaint_of) none)
-      | inr some ↦ inr (finds_types c told one only scan checked some is)
+      | inr some ↦ inr (finds_types c reported one only scan checked some is)
     ]

@@ -52,11 +52,11 @@ complaint_of fault =
     record { code = code_name fault.code; said = code_message fault.code; span = fault.span }
 
 -- all the faults of its lexemes, of which there are 1 to 100
-pub record ReportsLexemes (text : List ℕ) (told : List Complaint) : Type 0 where
+pub record ReportsLexemes (text : List ℕ) (reported : List Complaint) : Type 0 where
   pub unscannable : IsScannable text → ⊥
   pub faults : List Fault
   pub of_text : AreFaults text faults
-  pub all : told ≡ map complaint_of faults
+  pub all : reported ≡ map complaint_of faults
 
 -- ---- a text with lexemes, and without a tree
 
@@ -85,19 +85,19 @@ IsRefusalAt s (TooDeep token) c = c ≡ too_deep (place_of s token)
 IsRefusalAt s Memory c = ⊥
 
 -- one complaint: the token at which the descent stops, and what it expects there
-pub record ReportsParser (text : List ℕ) (told : List Complaint) : Type 0 where
+pub record ReportsParser (text : List ℕ) (reported : List Complaint) : Type 0 where
   pub scanned : Scanned
   pub scan : IsScanOf text scanned
   pub refusal : ParseRefusal
   pub refused : RefusedBy scanned refusal
   pub complaint : Complaint
   pub says : IsRefusalAt scanned refusal complaint
-  pub alone : told ≡ complaint ∷ []
+  pub alone : reported ≡ complaint ∷ []
 
 -- ---- a text with a tree that isn't well-typed
 
 -- the first hundred faults of its declarations, names and types, of which there is one at least
-pub record ReportsTypes (text : List ℕ) (told : List Complaint) : Type 0 where
+pub record ReportsTypes (text : List ℕ) (reported : List Complaint) : Type 0 where
   pub names : Resolution
   pub resolved : IsResolution names
   pub scan : IsScanOf text names.module_read.source
@@ -106,19 +106,19 @@ pub record ReportsTypes (text : List ℕ) (told : List Complaint) : Type 0 where
   pub first : AreFirstFaults names faults
   pub some : 0 < length faults
   pub few : length faults ≤ max_faults
-  pub all : told ≡ map complaint_of faults
+  pub all : reported ≡ map complaint_of faults
 
 -- ---- every text
 
 -- what is wrong with the lexemes, or else with the tokens, or else with the names and types
 abbrev pub ReportsFaults : List ℕ → List Complaint → Type 0
-ReportsFaults text told =
-    ReportsLexemes text told ⊎ (ReportsParser text told ⊎ ReportsTypes text told)
+ReportsFaults text reported =
+    ReportsLexemes text reported ⊎ (ReportsParser text reported ⊎ ReportsTypes text reported)
 
 -- nothing is reported exactly of a well-typed module
 abbrev pub Reports : List ℕ → List Complaint → Type 0
-Reports text told =
-    (IsWellTypedModule text × (told ≡ [])) ⊎ (¬ IsWellTypedModule text × ReportsFaults text told)
+Reports text reported =
+    (IsWellTypedModule text × (reported ≡ [])) ⊎ (¬ IsWellTypedModule text × ReportsFaults text reported)
 
 -- ---- laws
 

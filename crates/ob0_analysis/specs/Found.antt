@@ -7,11 +7,11 @@ use Rattle.ob0_scan.specs.Scanned.{IsScannable}
 use Rattle.ob0_parse.specs.RefusedBy.{RefusedBy}
 use Rattle.ob0_parse.specs.declared.refusal.ParseRefusal.{ParseRefusal}
 use Rattle.ob0_parse.specs.declared.refusal.ParseRefusal.TheVariants.{Syntax, TooDeep, Memory}
-use Rattle.ob0_analysis.specs.declared.analysis.Found.{Found}
-use Rattle.ob0_analysis.specs.declared.analysis.Found.TheVariants.{NoLexemes, NoTree, Module}
+use Rattle.ob0_analysis.specs.declared.analysis.Findings.{Findings}
+use Rattle.ob0_analysis.specs.declared.analysis.Findings.TheVariants.{NoLexemes, NoTree, Module}
 
 -- the text
-abbrev pub text_of : Found → List ℕ
+abbrev pub text_of : Findings → List ℕ
 text_of (NoLexemes ill) = string_bytes ill.text
 text_of (NoTree tokens refusal) = tokens.text
 text_of (Module m) = m.module_read.source.text
@@ -29,7 +29,7 @@ IsDecided (TooDeep token) = Unit {0}
 IsDecided Memory = ⊥
 
 -- a text without lexemes has these faults, and one without a tree is refused so
-abbrev pub IsFound : Found → Type 0
+abbrev pub IsFound : Findings → Type 0
 IsFound (NoLexemes ill) =
     (IsScannable (string_bytes ill.text) → ⊥) × AreFaults (string_bytes ill.text) ill.faults.items
 IsFound (NoTree tokens refusal) = RefusedBy tokens refusal × IsDecided refusal

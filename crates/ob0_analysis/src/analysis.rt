@@ -31,7 +31,7 @@ pub(crate) struct IllLexed {
 
 /// What a text is found to be.
 #[derive(Drop)]
-pub(crate) enum Found {
+pub(crate) enum Findings {
     NoLexemes(IllLexed),
     NoTree(Tokens, ParseRefusal),
     Module(ModuleParts),
@@ -41,7 +41,7 @@ pub(crate) enum Found {
 /// more can be kept without a change of any of them.
 #[derive(Drop)]
 pub struct Analysis {
-    found: Found,
+    found: Findings,
 }
 
 impl Model for Analysis {
@@ -77,9 +77,9 @@ impl Analysis {
     {
         let Analysis { found } = self;
         match found {
-            Found::NoLexemes(ill) => Analysis::after_faults(alloc, ill, text),
-            Found::NoTree(tokens, _) => Analysis::after_tokens(alloc, tokens, text),
-            Found::Module(parts) => Analysis::after_module(alloc, parts, text),
+            Findings::NoLexemes(ill) => Analysis::after_faults(alloc, ill, text),
+            Findings::NoTree(tokens, _) => Analysis::after_tokens(alloc, tokens, text),
+            Findings::Module(parts) => Analysis::after_module(alloc, parts, text),
         }
     }
 
@@ -158,7 +158,7 @@ impl Analysis {
     {
         let text = String::from_str(alloc, text)?;
         Ok(Analysis {
-            found: Found::NoLexemes(IllLexed { text, faults, last }),
+            found: Findings::NoLexemes(IllLexed { text, faults, last }),
         })
     }
 
@@ -169,7 +169,7 @@ impl Analysis {
             Ok(tree) => Analysis::of_tree(alloc, tokens, tree),
             Err(ParseRefusal::Memory) => Err(AllocError),
             Err(refusal) => Ok(Analysis {
-                found: Found::NoTree(tokens, refusal),
+                found: Findings::NoTree(tokens, refusal),
             }),
         }
     }
@@ -180,7 +180,7 @@ impl Analysis {
     {
         let parts = ModuleParts::of(alloc, tokens, tree)?;
         Ok(Analysis {
-            found: Found::Module(parts),
+            found: Findings::Module(parts),
         })
     }
 
@@ -189,9 +189,9 @@ impl Analysis {
         ensures { result.now ≡ self.now }
     {
         match &self.found {
-            Found::NoLexemes(ill) => ill.text.as_str(),
-            Found::NoTree(tokens, _) => tokens.text(),
-            Found::Module(parts) => parts.tokens().text(),
+            Findings::NoLexemes(ill) => ill.text.as_str(),
+            Findings::NoTree(tokens, _) => tokens.text(),
+            Findings::Module(parts) => parts.tokens().text(),
         }
     }
 
@@ -202,13 +202,13 @@ impl Analysis {
     {
         one_scan();
         match &self.found {
-            Found::NoLexemes(_) => None,
-            Found::NoTree(tokens, _) => {
+            Findings::NoLexemes(_) => None,
+            Findings::NoTree(tokens, _) => {
                 // For the proof: what the contract of this call says.
                 let _text = tokens.text();
                 None
             }
-            Found::Module(parts) => {
+            Findings::Module(parts) => {
                 // For the proof: what the contract of this call says.
                 let _text = parts.tokens().text();
                 Some(parts)
@@ -220,15 +220,15 @@ impl Analysis {
     /// text order, the first hundred, and then nothing else; of a text that has lexemes and no tree the one place at which
     /// the parser refuses it; of one with a tree the faults of names and types, the first hundred.
     pub fn diagnoses(&self, alloc: Global) -> Result<Vec<Diagnosis>, AllocError>
-        ensures told { IfOk result (λ list. Reports self.now (map complaint_in list.items)) }
+        ensures reported { IfOk result (λ list. Reports self.now (map complaint_in list.items)) }
         ensures utf8 { IsUtf8 self.now }
     {
         // For the proof: what the contract of this call says.
         let _text = self.text();
         match &self.found {
-            Found::NoLexemes(ill) => of_faults(alloc, ill.faults.as_slice()),
-            Found::NoTree(tokens, refusal) => diagnose_refusal(alloc, tokens, refusal),
-            Found::Module(parts) => diagnose_module(alloc, parts),
+            Findings::NoLexemes(ill) => of_faults(alloc, ill.faults.as_slice()),
+            Findings::NoTree(tokens, refusal) => diagnose_refusal(alloc, tokens, refusal),
+            Findings::Module(parts) => diagnose_module(alloc, parts),
         }
     }
 }

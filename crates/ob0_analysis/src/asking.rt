@@ -11,11 +11,11 @@ use ob0_scan::laws::one_scan;
 use ob0_types::WellTyped;
 use std::alloc::{AllocError, Global};
 
-/// What is asked of a well-typed module.
+/// A question about a well-typed module.
 pub trait Question {
     type Answer;
 
-    /// What is known of the text, by its bytes, where the question is asked.
+    /// What is known of the text, by its bytes, where the question is put.
     ghost is_about: { Self → List ℕ → Type 0 } = { λ _ _. ⊤ };
 
     /// What an answer says of the module.

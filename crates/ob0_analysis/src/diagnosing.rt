@@ -33,9 +33,9 @@ pub(crate) fn diagnose_refusal(
     one_scan();
     // For the proof: what the contract of this call says.
     let _text = tokens.text();
-    let mut told = Vec::new(alloc);
-    told.push(of_refusal(alloc, tokens, refusal)?)?;
-    Ok(told)
+    let mut reported = Vec::new(alloc);
+    reported.push(of_refusal(alloc, tokens, refusal)?)?;
+    Ok(reported)
 }
 
 /// What is wrong with the names and types of a text that has a tree.
@@ -50,6 +50,6 @@ pub(crate) fn diagnose_module(
     one_tree();
     // For the proof: what the contract of this call says.
     let _text = parts.tokens().text();
-    let told = of_faults(alloc, parts.faults())?;
-    Ok(told)
+    let reported = of_faults(alloc, parts.faults())?;
+    Ok(reported)
 }

@@ -19,11 +19,11 @@ impl Difference {
     {
         let (old, new) = (old.as_bytes(), new.as_bytes());
         let from = common_prefix(old, new);
-        let behind = common_back(old, new, from);
+        let following = common_back(old, new, from);
         Difference {
             from,
-            removed: old.len() - from - behind,
-            added: new.len() - from - behind,
+            removed: old.len() - from - following,
+            added: new.len() - from - following,
         }
     }
 }

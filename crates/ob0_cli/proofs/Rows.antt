@@ -298,10 +298,10 @@ stays_there : (id : Text) (rest : List Rule) (rows : List Row) → is_some (find
 stays_there id [] rows there = there
 stays_there id (a ∷ rest) rows there = stays_there id rest (with_default rows a) (default_there id a rows there)
 
-behind_defaults : (rules : List Rule) (p : Rule → Bool) (a : Rule) (v : Text) (vs : List Text) → find p rules ≡ Some a → a.defaults ≡ v ∷ vs → (rows : List Row)
+following_defaults : (rules : List Rule) (p : Rule → Bool) (a : Rule) (v : Text) (vs : List Text) → find p rules ≡ Some a → a.defaults ≡ v ∷ vs → (rows : List Row)
     → is_some (find (λ r. bytes_eq r.id a.id) (fold with_default rows rules)) ≡ true
-behind_defaults [] p a v vs e is rows = cc
-behind_defaults (b ∷ rest) p a v vs e is rows = go (p b) e (λ f. behind_defaults rest p a v vs f is (with_default rows b))
+following_defaults [] p a v vs e is rows = cc
+following_defaults (b ∷ rest) p a v vs e is rows = go (p b) e (λ f. following_defaults rest p a v vs f is (with_default rows b))
   where
     go : (t : Bool) → (if t then Some b else find p rest) ≡ Some a
         → (find p rest ≡ Some a → is_some (find (λ r. bytes_eq r.id a.id) (fold with_default (with_default rows b) rest)) ≡ true)
@@ -316,7 +316,7 @@ pub default_passed : (s : Shape) (words : List Text) → level_fault s [] nothin
     → (a : Rule) (v : Text) (vs : List Text) → arg_by_id s.rules a.id ≡ Some a → a.defaults ≡ v ∷ vs → HasPassed s.rules (rows_after s.rules [] words) a.id
 default_passed s words e fits a v vs is defaults =
     found_passed s.rules (rows_after s.rules [] words) a.id (rows_kept s words fits e)
-    (behind_defaults s.rules (λ b. bytes_eq b.id a.id) a v vs is defaults (settled s.rules (walk s.rules [] nothing_held words).held).rows)
+    (following_defaults s.rules (λ b. bytes_eq b.id a.id) a v vs is defaults (settled s.rules (walk s.rules [] nothing_held words).held).rows)
 
 -- ---- by the argument
 

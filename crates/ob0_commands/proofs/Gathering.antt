@@ -4,7 +4,7 @@ use Rattle.std.specs.List.{position_or_len, slice_range}
 use Rattle.std.proofs.Math.Seq.{drop-cons}
 use Rattle.std.proofs.lemmas.List.{drop_all, drop-drop, length-drop, take_all}
 use Rattle.std.proofs.lemmas.List.Folds.{drop_split}
-use Rattle.ob0_commands.specs.Numbers.{WritesNumber, WritesNumbers, nothing, space, number, EndsBefore}
+use Rattle.ob0_commands.specs.Numbers.{WritesNumber, WritesNumbers, nothing, space, number, EndsWord}
 use Rattle.ob0_scan.specs.Classes.{is_space}
 
 pub record Gathered (text : List ℕ) (at : ℕ) (ns : List ℤ) : Type 0 where
@@ -23,26 +23,26 @@ space_passed text at ns inside is g =
     }
 
 -- what follows the first word begins with white space, or is nothing
-pub ends_before : (text : List ℕ) → EndsBefore (drop (position_or_len is_space text) text)
+pub ends_before : (text : List ℕ) → EndsWord (drop (position_or_len is_space text) text)
 ends_before [] = tt
 ends_before (b ∷ text) = go (is_space b) refl (ends_before text)
   where
-    go : (s : Bool) → is_space b ≡ s → EndsBefore (drop (position_or_len is_space text) text) → EndsBefore (drop (position_or_len is_space (b ∷ text)) (b ∷ text))
+    go : (s : Bool) → is_space b ≡ s → EndsWord (drop (position_or_len is_space text) text) → EndsWord (drop (position_or_len is_space (b ∷ text)) (b ∷ text))
     go true e more =
         let none : position_or_len is_space (b ∷ text) ≡ 0 = rw e refl in
-        let is : EndsBefore (b ∷ text) = e in
-        subst (λ n. EndsBefore (drop n (b ∷ text))) (sym none) is
+        let is : EndsWord (b ∷ text) = e in
+        subst (λ n. EndsWord (drop n (b ∷ text))) (sym none) is
     go false e more =
         let counted : position_or_len is_space (b ∷ text) ≡ 1 + position_or_len is_space text = rw e refl in
         let further : position_or_len is_space (b ∷ text) ≡ suc (position_or_len is_space text) = counted ∙ omega arith in
-        subst (λ n. EndsBefore (drop n (b ∷ text))) (sym further) more
+        subst (λ n. EndsWord (drop n (b ∷ text))) (sym further) more
 
 pub word_gathered : (text : List ℕ) (at end : ℕ) (ns : List ℤ) (n : ℤ) → at ≤ end → end ≤ length text → end ≡ at + position_or_len is_space (take (length text - at) (drop at text))
     → WritesNumber (slice_range text at end) n → Gathered text at ns → Gathered text end (ns ++ n ∷ [])
 word_gathered text at end ns n forth inside is word g =
     let all : take (length text - at) (drop at text) ≡ drop at text = take_all (length text - at) (drop at text) (omega (arith, length-drop at text)) in
     let len : end ≡ at + position_or_len is_space (drop at text) = is ∙ ap (λ t. at + position_or_len is_space t) all in
-    let ends : EndsBefore (drop end text) = subst EndsBefore (drop-drop (position_or_len is_space (drop at text)) at text ∙ ap (λ i. drop i text) (sym len)) (ends_before (drop at text)) in
+    let ends : EndsWord (drop end text) = subst EndsWord (drop-drop (position_or_len is_space (drop at text)) at text ∙ ap (λ i. drop i text) (sym len)) (ends_before (drop at text)) in
     record {
       within = inside;
       goes_on = λ more h. subst (WritesNumbers text) (sym (append_assoc ns (n ∷ []) more)) (g.goes_on (n ∷ more)

@@ -11,9 +11,9 @@ pub record WritesNumber (word : List ℕ) (n : ℤ) : Type 0 where
   pub value : n ≡ signed_digits_value 10 word
 
 -- a word ends where nothing follows, or white space
-abbrev pub EndsBefore : List ℕ → Type 0
-EndsBefore [] = ⊤
-EndsBefore (b ∷ bs) = IsTrue (is_space b)
+abbrev pub EndsWord : List ℕ → Type 0
+EndsWord [] = ⊤
+EndsWord (b ∷ bs) = IsTrue (is_space b)
 
 -- A text writes numbers: each is a word of its own, and between words is white space: space, tab, CR or LF.
 pub data WritesNumbers : List ℕ → List ℤ → Type 0 where
@@ -25,4 +25,4 @@ pub data WritesNumbers : List ℕ → List ℤ → Type 0 where
   number : {text : List ℕ} {ns : List ℤ} (word after : List ℕ) (n : ℤ)
       → text ≡ word ++ after
       → WritesNumber word n
-      → EndsBefore after → WritesNumbers after ns → WritesNumbers text (n ∷ ns)
+      → EndsWord after → WritesNumbers after ns → WritesNumbers text (n ∷ ns)

@@ -55,10 +55,10 @@ complaint_lines text (c ∷ cs) = complaint_line text c ++ complaint_lines text 
 abbrev pub PrintsFaults : List ℕ → Option (List ℕ) → Option (List ℕ) → Type 0
 PrintsFaults file before after =
     ((max_text < length file) × Appends before after (codes "0:0: TooLong: text too long\n"))
-    ⊎ ((told : List Complaint)
+    ⊎ ((reported : List Complaint)
     × (¬ IsWellTypedModule file)
-    × ReportsFaults file told
-    × Appends before after (complaint_lines file told))
+    × ReportsFaults file reported
+    × Appends before after (complaint_lines file reported))
 
 -- ---- runs
 

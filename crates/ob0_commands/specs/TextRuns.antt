@@ -15,7 +15,7 @@ use Rattle.ob0_commands.specs.Numbers.{WritesNumbers}
 use Rattle.ob0_commands.specs.Printed.{PrintsFaults, output_text}
 
 -- the text is a well-typed module, and this is its run
-pub record RunsAs (text : List ℕ) (input : List ℤ) (c t : ℕ) (r : Run) : Type 0 where
+pub record TextRunsAs (text : List ℕ) (input : List ℤ) (c t : ℕ) (r : Run) : Type 0 where
   pub tree : Tree Name module_text
   pub text_of : IsTextOf tree text
   pub well_typed : WellTyped tree
@@ -32,7 +32,7 @@ pub record IsLoweredTo (text : List ℕ) (program : Program) : Type 0 where
 pub record PrintsRun (file : List ℕ) (given : Option (List ℕ)) (c t : ℕ) (before after : Option (List ℕ)) (r : Run) : Type 0 where
   pub input : List ℤ
   pub written : IfSome given (λ text. WritesNumbers text input)
-  pub runs : RunsAs file input c t r
+  pub runs : TextRunsAs file input c t r
   pub printed : Appends before after (output_text r.output)
 
 -- a run that reaches the end of the module's body is printed

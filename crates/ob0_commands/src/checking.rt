@@ -21,7 +21,7 @@ use std::alloc::{AllocError, Global};
 pub fn check_text<O: Output, E: Output>(alloc: Global, file: &[u8], out: &mut O, err: &mut E) -> u8
     ensures nothing { result ≡ 0 → Reports file.now [] }
     ensures quiet { result ≡ 0 → out.new ≡ out.old }
-    ensures told { result ≡ 1 → PrintsFaults file.now (O.contents out.old) (O.contents out.new) }
+    ensures reported { result ≡ 1 → PrintsFaults file.now (O.contents out.old) (O.contents out.new) }
     ensures flushed { result ≡ 1 → O.is_flushed out.new ≡ true }
     ensures statuses { IsStatus result }
     ensures unreported { result ≡ 4 → CanNotReport file.now (O.has_failed out.new) }
@@ -50,11 +50,11 @@ pub fn check<'f, O: Output>(
     let Some(text) = text_of(file, out)? else {
         return Ok(None);
     };
-    let told = diagnose(alloc, text)?;
-    if told.is_empty() {
+    let reported = diagnose(alloc, text)?;
+    if reported.is_empty() {
         return Ok(Some(text));
     }
-    print_diagnoses(alloc, text, told.as_slice(), out)?;
+    print_diagnoses(alloc, text, reported.as_slice(), out)?;
     Ok(None)
 }
 
@@ -81,45 +81,50 @@ pub fn text_of<'f, O: Output>(file: &'f [u8], out: &mut O) -> Result<Option<&'f 
 pub fn print_diagnoses<O: Output>(
     alloc: Global,
     text: &str,
-    told: &[Diagnosis],
+    reported: &[Diagnosis],
     out: &mut O,
 ) -> Result<(), FileFault>
     ensures printed { OnOk result (Appends (O.contents out.old) (O.contents out.new)
-        (complaint_lines text.now (map complaint_in told.now))) }
+        (complaint_lines text.now (map complaint_in reported.now))) }
     ensures flushed { OnOk result (O.is_flushed out.new ≡ true) }
     ensures fault { IfErr result StopsPrinting }
     ensures failed { IfErr result (IsOfOutput (O.has_failed out.new)) }
 {
-    print(out, lines_of(alloc, text, told)?.as_str())
+    print(out, lines_of(alloc, text, reported)?.as_str())
 }
 
 /// A line for each diagnostic.
-fn lines_of(alloc: Global, text: &str, told: &[Diagnosis]) -> Result<String, AllocError>
+fn lines_of(alloc: Global, text: &str, reported: &[Diagnosis]) -> Result<String, AllocError>
     ensures { IfOk result
-        (λ lines. string_bytes lines ≡ complaint_lines text.now (map complaint_in told.now)) }
+        (λ lines. string_bytes lines ≡ complaint_lines text.now (map complaint_in reported.now)) }
 {
     let store = Lines::from_str(alloc, text)?;
-    let starts = starts_of(alloc, told)?;
+    let starts = starts_of(alloc, reported)?;
     let positions = store.positions(alloc, starts.as_slice())?;
-    lines_at(alloc, told, positions.as_slice())
+    lines_at(alloc, reported, positions.as_slice())
 }
 
 /// Where diagnostics start.
-fn starts_of(alloc: Global, told: &[Diagnosis]) -> Result<Vec<usize>, AllocError>
-    ensures { IfOk result (λ starts. starts.items ≡ map (λ d. d.span.start) told.now) }
+fn starts_of(alloc: Global, reported: &[Diagnosis]) -> Result<Vec<usize>, AllocError>
+    ensures { IfOk result (λ starts. starts.items ≡ map (λ d. d.span.start) reported.now) }
 {
-    told.iter()
+    reported
+        .iter()
         .map(|diagnosis| diagnosis.span.start)
         .collect(alloc)
 }
 
 /// A line for each diagnostic, with its position.
-fn lines_at(alloc: Global, told: &[Diagnosis], positions: &[Position]) -> Result<String, AllocError>
+fn lines_at(
+    alloc: Global,
+    reported: &[Diagnosis],
+    positions: &[Position],
+) -> Result<String, AllocError>
     ensures { IfOk result
-        (λ lines. string_bytes lines ≡ lines_at positions.now (map complaint_in told.now)) }
+        (λ lines. string_bytes lines ≡ lines_at positions.now (map complaint_in reported.now)) }
 {
     let mut lines = String::new(alloc);
-    for (diagnosis, position) in told.iter().zip(positions) {
+    for (diagnosis, position) in reported.iter().zip(positions) {
         let line = line_at(alloc, diagnosis, *position)?;
         lines.push_str(line.as_str())?;
     }

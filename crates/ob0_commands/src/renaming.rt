@@ -89,8 +89,8 @@ fn rename_in_text<O: Output, E: Output>(
     match rename_in(alloc, &store, &analysis, position, new)? {
         Some(outcome) => print_edited(alloc, &store, outcome, out, err),
         None => {
-            let told = analysis.diagnoses(alloc)?;
-            print_diagnoses(alloc, text, told.as_slice(), out)?;
+            let reported = analysis.diagnoses(alloc)?;
+            print_diagnoses(alloc, text, reported.as_slice(), out)?;
             Ok(1)
         }
     }

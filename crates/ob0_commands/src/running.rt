@@ -8,7 +8,7 @@ ghost use Rattle.ob0_run.specs.Programs as lowered;
 ghost use Rattle.ob0_run.specs.States.{item_of, items_out};
 ghost use Rattle.ob0_commands.specs.Printed.{IsWrittenBut, PrintsFaults, end_line, output_text, written_text};
 ghost use Rattle.ob0_commands.specs.Statuses.{StopsPrinting, status_at};
-ghost use Rattle.ob0_commands.specs.TextRuns.{IsLoweredTo, PrintsDone, PrintsOther, RunsAs};
+ghost use Rattle.ob0_commands.specs.TextRuns.{IsLoweredTo, PrintsDone, PrintsOther, TextRunsAs};
 
 use crate::checking::{print_diagnoses, text_of};
 use crate::faults::{FileFault, print_fault};
@@ -22,9 +22,9 @@ use std::io::Read;
 
 /// The program that a text's module is lowered to.
 #[derive(Drop)]
-struct Lowering {}
+struct LoweringQuestion {}
 
-impl Question for Lowering {
+impl Question for LoweringQuestion {
     type Answer = Program;
 
     ghost answers = { λ _ names program. lowered.RunsAs (named_tree_of names.module_read) program };
@@ -102,11 +102,11 @@ fn lower_text<O: Output>(
     ensures flushed { IfOk result (λ found. IfNone found (O.is_flushed out.new ≡ true)) }
 {
     let analysis = Analysis::of(alloc, text)?;
-    match ask(alloc, &analysis, &Lowering {})? {
+    match ask(alloc, &analysis, &LoweringQuestion {})? {
         Some(program) => Ok(Some(program)),
         None => {
-            let told = analysis.diagnoses(alloc)?;
-            print_diagnoses(alloc, text, told.as_slice(), out)?;
+            let reported = analysis.diagnoses(alloc)?;
+            print_diagnoses(alloc, text, reported.as_slice(), out)?;
             Ok(None)
         }
     }
@@ -122,7 +122,7 @@ fn execute_module(
     turns: u32,
 ) -> Result<Outcome, AllocError>
     requires { IsLoweredTo text.now program.now }
-    ensures { IfOk result (λ outcome. RunsAs text.now input.now calls turns (run_of outcome)) }
+    ensures { IfOk result (λ outcome. TextRunsAs text.now input.now calls turns (run_of outcome)) }
 {
     execute(alloc, program, input, calls, turns)
 }

@@ -108,11 +108,11 @@ module _ (s : Scanned) (new places : List ℕ) (total count end i : ℕ) (c : Co
     pub is_token : get_or places i 0 < length s.tokens
     is_token = names_here.1
 
-    pub begins_behind : end ≤ (span_at s.tokens (get_or places i 0)).start
-    begins_behind = chain_here.0
+    pub begins_following : end ≤ (span_at s.tokens (get_or places i 0)).start
+    begins_following = chain_here.0
 
-    pub ends_behind : (span_at s.tokens (get_or places i 0)).start < (span_at s.tokens (get_or places i 0)).end
-    ends_behind = chain_here.1
+    pub ends_following : (span_at s.tokens (get_or places i 0)).start < (span_at s.tokens (get_or places i 0)).end
+    ends_following = chain_here.1
 
     range : IsRangeOf s.text (span_at s.tokens (get_or places i 0))
     range = scan_token_ranges s c.scan (get_or places i 0) _ is_token
@@ -122,7 +122,7 @@ module _ (s : Scanned) (new places : List ℕ) (total count end i : ℕ) (c : Co
 
     all_here : count + (((span_at s.tokens (get_or places i 0)).start - end) + length new + length (pieced s.text (span_at s.tokens (get_or places i 0)).end (map (cut_of s.tokens new) (drop (i + 1) places)))) ≡ total
     all_here =
-        ap (λ n. count + n) (sym (piece_length s.text end (cut_of s.tokens new (get_or places i 0)) (map (cut_of s.tokens new) (drop (i + 1) places)) begins_behind range.start.0))
+        ap (λ n. count + n) (sym (piece_length s.text end (cut_of s.tokens new (get_or places i 0)) (map (cut_of s.tokens new) (drop (i + 1) places)) begins_following range.start.0))
         ∙ ap (λ ps. count + length (pieced s.text end (map (cut_of s.tokens new) ps))) (sym here) ∙ c.sum
 
     pub counted_next : (more : ℕ) → more ≡ count + ((span_at s.tokens (get_or places i 0)).start - end + length new) → more ≤ max_text

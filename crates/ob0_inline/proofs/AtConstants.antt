@@ -128,7 +128,7 @@ pub record Refused (r : Resolution) (c : NamedConstant) (refusal : EditRefusal) 
 
 module _ (r : Resolution) (well : IsWellTyped r) (c : NamedConstant) (constant : IsConstant r.module_read c) (law : ConstantsAreAlone) (scalar_so : IsScalar (scalar_value c.value)) where
   written_there : IsConstantWritten (named_tree_of r.module_read) c.ordinal (scalar_value c.value) (value_factor c.value)
-  written_there = record { value = constant.worth; scalar = scalar_so; literal = literal_of c.value }
+  written_there = record { value = constant.has_value; scalar = scalar_so; literal = literal_of c.value }
 
   pub alone_there : IsAlone r.module_read c.ordinal
   unfolding written_there

@@ -78,7 +78,7 @@ use_is r is offset u h =
     record {
       occurs = h.occurs;
       bound = sym (bound_at r is u.occurrence (Some u.token) (sym there)) ∙ ordinal;
-      worth = h.worth;
+      has_value = h.has_value;
     }
 
 module _ (r : Resolution) (well : IsWellTyped r) (u : Use) (use_so : IsUse r.module_read u) where
@@ -96,7 +96,7 @@ module _ (r : Resolution) (well : IsWellTyped r) (u : Use) (use_so : IsUse r.mod
   are_bound = (((u.occurrence, there), bound_at r well.resolved u.occurrence (Some u.token) (sym there) ∙ use_so.bound), tt)
 
   written : IsScalar (scalar_value u.value) → IsConstantWritten (named_tree_of r.module_read) u.constant (scalar_value u.value) (value_factor u.value)
-  written fits_so = record { value = use_so.worth; scalar = fits_so; literal = literal_of u.value }
+  written fits_so = record { value = use_so.has_value; scalar = fits_so; literal = literal_of u.value }
 
   pub stands : ConstantsAreAlone → IsScalar (scalar_value u.value) → AreAlone r.module_read (u.token ∷ []) u.value
   stands law fits_so =
@@ -226,13 +226,13 @@ named_token found token ordinal e = ap (λ (o : Option named.Named). (elim o as 
 pub use_found : (r : Resolution) → IsWellTyped r → (offset : ℕ) (found : named.Named) (k : ℕ) (value : Scalar) → Some found ≡ name_on r.module_read offset
     → position_from (λ i. i == found.token) 0 r.uses ≡ Some k → option_map scalar_value (Some value) ≡ value_of_constant (named_tree_of r.module_read) found.ordinal
     → IsUseAt r.module_read offset (record { token = found.token; occurrence = k; constant = found.ordinal; value = value })
-use_found r well offset found k value e at worth =
+use_found r well offset found k value e at has_value =
     let h = found_there found.token 0 k r.uses at in
     let same : k ≡ h.0 = omega (arith, h.1) in
     record {
       named = sym e;
       occurs = ap (λ us. slice_get us k) (sym well.resolved.occurring) ∙ (ap (slice_get r.uses) same ∙ h.2);
-      worth = sym worth;
+      has_value = sym has_value;
     }
 
 pub use_is_one : (r : Resolution) → IsWellTyped r → (offset : ℕ) (made u : Use) → IsUseAt r.module_read offset made → Some made ≡ Some u → IsUse r.module_read u

@@ -55,14 +55,14 @@ bound_by_table r is =
 pub late_of : (r : Resolution) → IsResolution r → (d : ℕ) (w : Value) → value_of_constant (named_tree_of r.module_read) d ≡ Some w → spell (tree_of r.module_read) ≡ placed 0 (words_of r.module_read.source)
     → Late d 7 (block_declares (module_block (tree_of r.module_read))) (placed 0 (words_of r.module_read.source)) (spell (gone_module d (tree_of r.module_read))) (occurrences (tree_of r.module_read))
     (map (ordinal_in r.ordinals) (occurrences (tree_of r.module_read)))
-late_of r is d w worth spelled =
+late_of r is d w has_value spelled =
     let m = r.module_read in
     let f = leaf.text_at m.source in
     let g = leaf.value_at m.source in
     let t = tree_of m in
     let labels = block_declares (module_block t) in
     let plain = plain_is f g t in
-    let h = late_module (λ i. None) f g d w (as_many f g) t (ap (λ u. value_of_constant u d) plain ∙ worth) in
+    let h = late_module (λ i. None) f g d w (as_many f g) t (ap (λ u. value_of_constant u d) plain ∙ has_value) in
     let named = subst (λ (l : List (Option ℕ)). Late d 7 labels (spell t) (spell (gone_module d t)) (occurrences t) l) (ap (λ u. occurrences (relabelled as_names forget u)) plain ∙ bound_by_table r is) h in
     late_move d 7 labels (spell t) (placed 0 (words_of m.source)) (spell (gone_module d t)) (spell (gone_module d t)) (occurrences t) (map (ordinal_in r.ordinals) (occurrences t)) (sym spelled) refl named
 
@@ -96,15 +96,15 @@ map_joined ordinals [] ys = refl
 map_joined ordinals (x ∷ xs) ys = λ i. ordinal_in ordinals x ∷ map_joined ordinals xs ys i
 
 -- one bound to d isn't among those that are bound to what was declared before it
-not_in_front : (ordinals : List (Option ℕ)) (d j i : ℕ) (front behind names : List ℕ) → AllLow d (map (ordinal_in ordinals) front) → AllIn behind names → slice_get (front ++ behind) j ≡ Some i → ordinal_in ordinals i ≡ Some d → is_among i names ≡ true
+not_in_front : (ordinals : List (Option ℕ)) (d j i : ℕ) (front following names : List ℕ) → AllLow d (map (ordinal_in ordinals) front) → AllIn following names → slice_get (front ++ following) j ≡ Some i → ordinal_in ordinals i ≡ Some d → is_among i names ≡ true
 not_in_front ordinals d j i [] [] names low among e o = absurd (cc)
-not_in_front ordinals d zero i [] (x ∷ behind) names low among e o = ap (λ n. is_among n names) (sym (ap (λ (z : Option ℕ). elim z [ Some n ↦ n | None ↦ x ]) e)) ∙ among.0
-not_in_front ordinals d (suc j) i [] (x ∷ behind) names low among e o = not_in_front ordinals d j i [] behind names low among.1 e o
-not_in_front ordinals d zero i (x ∷ front) behind names low among e o =
+not_in_front ordinals d zero i [] (x ∷ following) names low among e o = ap (λ n. is_among n names) (sym (ap (λ (z : Option ℕ). elim z [ Some n ↦ n | None ↦ x ]) e)) ∙ among.0
+not_in_front ordinals d (suc j) i [] (x ∷ following) names low among e o = not_in_front ordinals d j i [] following names low among.1 e o
+not_in_front ordinals d zero i (x ∷ front) following names low among e o =
     let here : x ≡ i = ap (λ (z : Option ℕ). elim z [ Some n ↦ n | None ↦ x ]) e in
     let less : d < d = subst (IsLow d) (ap (ordinal_in ordinals) here ∙ o) low.0 in
     absurd (omega (arith, less))
-not_in_front ordinals d (suc j) i (x ∷ front) behind names low among e o = not_in_front ordinals d j i front behind names low.1 among e o
+not_in_front ordinals d (suc j) i (x ∷ front) following names low among e o = not_in_front ordinals d j i front following names low.1 among e o
 
 -- after the last token of a declaration
 names_after : (d k : ℕ) (labels : List ℕ) (left : List (Terminal ℕ)) (ws : List Word) (t : Taken d k labels (placed 0 ws) left) (i : ℕ) → is_among i (lexeme_names t.after) ≡ true → last_token t < i
@@ -113,18 +113,18 @@ names_after d k labels left ws t i e =
     let whole : List (Terminal ℕ) = lexeme.Name t.name ∷ Mark (kind.Symbol symbol.Equal) ∷ (t.right ++ (Mark (kind.Symbol symbol.Semicolon) ∷ [])) in
     let a = cut_words 0 ws (front ++ whole) t.after (t.whole_is ∙ sym (append_assoc front whole t.after)) in
     let n : length (front ++ whole) ≡ suc (last_token t) = length-append front whole ∙ (let z = length-append t.right (Mark (kind.Symbol symbol.Semicolon) ∷ []) in omega (arith, z)) in
-    let there = names_above i (0 + length a.first) a.rest (subst (λ (l : List (Terminal ℕ)). is_among i (lexeme_names l) ≡ true) (sym a.behind_is) e) in
+    let there = names_above i (0 + length a.first) a.rest (subst (λ (l : List (Terminal ℕ)). is_among i (lexeme_names l) ≡ true) (sym a.following_is) e) in
     let count = a.count in
     omega (arith, there, count, n)
 
 -- each occurrence that is bound to the constant follows its declaration
-pub uses_behind : (r : Resolution) → (d : ℕ) (labels : List ℕ) (left : List (Terminal ℕ))
+pub uses_following : (r : Resolution) → (d : ℕ) (labels : List ℕ) (left : List (Terminal ℕ))
     → (h : Late d 7 labels (placed 0 (words_of r.module_read.source)) left (occurrences (tree_of r.module_read)) (map (ordinal_in r.ordinals) (occurrences (tree_of r.module_read))))
     → (j i : ℕ) → slice_get (occurrences (tree_of r.module_read)) j ≡ Some i → ordinal_in r.ordinals i ≡ Some d → last_token h.taken < i
-uses_behind r d labels left h j i e o =
-    let joined : map (ordinal_in r.ordinals) h.front ++ map (ordinal_in r.ordinals) h.behind ≡ h.front_bound ++ h.behind_bound =
-    sym (map_joined r.ordinals h.front h.behind) ∙ (ap (map (ordinal_in r.ordinals)) (sym h.occ_is) ∙ h.bound_is) in
+uses_following r d labels left h j i e o =
+    let joined : map (ordinal_in r.ordinals) h.front ++ map (ordinal_in r.ordinals) h.following ≡ h.front_bound ++ h.following_bound =
+    sym (map_joined r.ordinals h.front h.following) ∙ (ap (map (ordinal_in r.ordinals)) (sym h.occ_is) ∙ h.bound_is) in
     let firsts : map (ordinal_in r.ordinals) h.front ≡ h.front_bound =
-    first_same (map (ordinal_in r.ordinals) h.front) (map (ordinal_in r.ordinals) h.behind) h.front_bound h.behind_bound joined (length-map (ordinal_in r.ordinals) h.front ∙ sym h.count) in
+    first_same (map (ordinal_in r.ordinals) h.front) (map (ordinal_in r.ordinals) h.following) h.front_bound h.following_bound joined (length-map (ordinal_in r.ordinals) h.front ∙ sym h.count) in
     names_after d 7 labels left (words_of r.module_read.source) h.taken i
-    (not_in_front r.ordinals d j i h.front h.behind (lexeme_names h.taken.after) (subst (AllLow d) (sym firsts) h.low) h.among (ap (λ l. slice_get l j) (sym h.occ_is) ∙ e) o)
+    (not_in_front r.ordinals d j i h.front h.following (lexeme_names h.taken.after) (subst (AllLow d) (sym firsts) h.low) h.among (ap (λ l. slice_get l j) (sym h.occ_is) ∙ e) o)

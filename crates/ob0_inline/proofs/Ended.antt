@@ -98,12 +98,12 @@ first_end text k j (t ∷ ts) (x ∷ xs) ys e n =
     ∙ (first_end text (suc k) (j + 1) ts xs ys (heads e).1 (others_no_end x xs n) ∙ ap Some (let z : j + 1 + length xs ≡ j + suc (length xs) = omega arith in z))
 
 -- tokens without those before it
-behind_front : (text : List ℕ) (k : ℕ) (ts : List Token) (front rest : List (Terminal ℕ)) → placed k (map (read_in text) ts) ≡ front ++ rest → placed (k + length front) (map (read_in text) (drop (length front) ts)) ≡ rest
-behind_front text k ts [] rest e = ap (λ n. placed n (map (read_in text) ts)) (let z : k + 0 ≡ k = omega arith in z) ∙ e
-behind_front text k [] (x ∷ front) rest e = absurd (cc)
-behind_front text k (t ∷ ts) (x ∷ front) rest e =
+following_front : (text : List ℕ) (k : ℕ) (ts : List Token) (front rest : List (Terminal ℕ)) → placed k (map (read_in text) ts) ≡ front ++ rest → placed (k + length front) (map (read_in text) (drop (length front) ts)) ≡ rest
+following_front text k ts [] rest e = ap (λ n. placed n (map (read_in text) ts)) (let z : k + 0 ≡ k = omega arith in z) ∙ e
+following_front text k [] (x ∷ front) rest e = absurd (cc)
+following_front text k (t ∷ ts) (x ∷ front) rest e =
     ap (λ n. placed n (map (read_in text) (drop (length front) ts))) (let z : k + suc (length front) ≡ suc k + length front = omega arith in z)
-    ∙ behind_front text (suc k) ts front rest (heads e).1
+    ∙ following_front text (suc k) ts front rest (heads e).1
 
 pub none_some : (n : ℕ) → None ≡ Some n → ⊥
 none_some n e = cc
@@ -126,7 +126,7 @@ module _ (m : Parsed) (d : ℕ) (left : List (Terminal ℕ)) (t : Taken d 7 (blo
       let front : List (Terminal ℕ) = t.before ++ (Mark t.border ∷ []) in
       let inner : List (Terminal ℕ) = lexeme.Name t.name ∷ Mark (kind.Symbol symbol.Equal) ∷ t.right in
       let declaration : List (Terminal ℕ) = lexeme.Name t.name ∷ Mark (kind.Symbol symbol.Equal) ∷ (t.right ++ (Mark (kind.Symbol symbol.Semicolon) ∷ [])) in
-      let there = behind_front m.source.text 0 m.source.tokens front (declaration ++ t.after) t.whole_is in
+      let there = following_front m.source.text 0 m.source.tokens front (declaration ++ t.after) t.whole_is in
       let regrouped : declaration ++ t.after ≡ inner ++ (Mark (kind.Symbol symbol.Semicolon) ∷ t.after) =
       ap (λ (l : List (Terminal ℕ)). lexeme.Name t.name ∷ Mark (kind.Symbol symbol.Equal) ∷ l) (append_assoc t.right (Mark (kind.Symbol symbol.Semicolon) ∷ []) t.after) in
       first_end m.source.text (0 + length front) (first_token t) (drop (length front) m.source.tokens) inner t.after (there ∙ regrouped) (refl, t.no_end)
@@ -134,12 +134,12 @@ module _ (m : Parsed) (d : ℕ) (left : List (Terminal ℕ)) (t : Taken d 7 (blo
 
 -- what is known of a constant whose declaration is taken out
 
-module _ (r : Resolution) (is : IsResolution r) (d : ℕ) (w : Value) (worth : value_of_constant (named_tree_of r.module_read) d ≡ Some w) where
+module _ (r : Resolution) (is : IsResolution r) (d : ℕ) (w : Value) (has_value : value_of_constant (named_tree_of r.module_read) d ≡ Some w) where
   abbrev spelled : spell (tree_of r.module_read) ≡ placed 0 (words_of r.module_read.source)
   spelled = spelled_by_words r.module_read is.parsed
 
   abbrev taken : Taken d 7 (block_declares (module_block (tree_of r.module_read))) (placed 0 (words_of r.module_read.source)) (spell (gone_module d (tree_of r.module_read)))
-  taken = (late_here r is d w worth spelled).taken
+  taken = (late_here r is d w has_value spelled).taken
 
   abbrev pub name_token : ℕ
   name_token = first_token taken
@@ -166,25 +166,25 @@ module _ (r : Resolution) (is : IsResolution r) (d : ℕ) (w : Value) (worth : v
   pub names_at : AreNames r.module_read.source.tokens (suc end_token) (uses_of r.module_read d)
   names_at =
       subst (AreNames r.module_read.source.tokens (suc end_token)) (uses_by_table r is d)
-      (uses_are_names r is d w worth spelled declaration_at.inside)
+      (uses_are_names r is d w has_value spelled declaration_at.inside)
 
 module _ (r : Resolution) (is : IsResolution r) (c : NamedConstant) (constant : IsConstant r.module_read c) where
-  first_is : name_token r is c.ordinal (scalar_value c.value) constant.worth ≡ c.first
-  first_is = inside (sym (begins_at r is c.ordinal (scalar_value c.value) constant.worth) ∙ constant.begins)
+  first_is : name_token r is c.ordinal (scalar_value c.value) constant.has_value ≡ c.first
+  first_is = inside (sym (begins_at r is c.ordinal (scalar_value c.value) constant.has_value) ∙ constant.begins)
 
-  last_is : end_token r is c.ordinal (scalar_value c.value) constant.worth ≡ c.last
+  last_is : end_token r is c.ordinal (scalar_value c.value) constant.has_value ≡ c.last
   last_is =
-      inside (sym (ends_at r is c.ordinal (scalar_value c.value) constant.worth)
+      inside (sym (ends_at r is c.ordinal (scalar_value c.value) constant.has_value)
       ∙ (ap (λ n. position_from (λ (x : Token). is_semicolon x.kind) n (drop n r.module_read.source.tokens)) first_is ∙ constant.ends))
 
   pub is_taken : IsDeclaration r.module_read.source.tokens c.first c.last
   is_taken =
       subst (λ n. IsDeclaration r.module_read.source.tokens n c.last) first_is
-      (subst (IsDeclaration r.module_read.source.tokens (name_token r is c.ordinal (scalar_value c.value) constant.worth)) last_is
-      (declaration_at r is c.ordinal (scalar_value c.value) constant.worth))
+      (subst (IsDeclaration r.module_read.source.tokens (name_token r is c.ordinal (scalar_value c.value) constant.has_value)) last_is
+      (declaration_at r is c.ordinal (scalar_value c.value) constant.has_value))
 
   pub are_uses : AreNames r.module_read.source.tokens (suc c.last) (uses_of r.module_read c.ordinal)
-  are_uses = subst (λ n. AreNames r.module_read.source.tokens (suc n) (uses_of r.module_read c.ordinal)) last_is (names_at r is c.ordinal (scalar_value c.value) constant.worth)
+  are_uses = subst (λ n. AreNames r.module_read.source.tokens (suc n) (uses_of r.module_read c.ordinal)) last_is (names_at r is c.ordinal (scalar_value c.value) constant.has_value)
 
   -- the words that are left spell the inlined module
   pub left_spelled : IsAlone r.module_read c.ordinal
@@ -194,8 +194,8 @@ module _ (r : Resolution) (is : IsResolution r) (c : NamedConstant) (constant : 
       let d = c.ordinal in
       let w = scalar_value c.value in
       let spelled = spelled_by_words m is.parsed in
-      let first = name_token r is d w constant.worth in
-      let last = end_token r is d w constant.worth in
-      let inside_it = (declaration_at r is d w constant.worth).inside in
-      let there = words_everywhere r is d w constant.worth spelled (value_factor c.value) (value_words c.value) (value_spelled c.value) alone (uses_are_names r is d w constant.worth spelled inside_it) in
+      let first = name_token r is d w constant.has_value in
+      let last = end_token r is d w constant.has_value in
+      let inside_it = (declaration_at r is d w constant.has_value).inside in
+      let there = words_everywhere r is d w constant.has_value spelled (value_factor c.value) (value_words c.value) (value_spelled c.value) alone (uses_are_names r is d w constant.has_value spelled inside_it) in
       (λ i. map word_lexeme (changed (without (sym first_is i) (sym last_is i) (at_each (sym (uses_by_table r is d) i) (value_words c.value))) 0 (words_of m.source))) ∙ there

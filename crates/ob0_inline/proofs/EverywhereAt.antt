@@ -21,7 +21,7 @@ use Rattle.ob0_scope_rules.specs.Scopes.{numbered, same_ordinal}
 use Rattle.ob0_scope_rules.proofs.Bound.{bound_at}
 use Rattle.ob0_types_rules.specs.ConstantValues.{value_of_constant}
 use Rattle.ob0_values.specs.Values.{Value}
-use Rattle.ob0_inline.proofs.Behind.{late_of, uses_behind}
+use Rattle.ob0_inline.proofs.Behind.{late_of, uses_following}
 use Rattle.ob0_inline.proofs.Late.{Late}
 use Rattle.ob0_inline.proofs.TakenOut.{block_declares, gone_module, gone_module_inlined, replaces_module}
 use Rattle.ob0_inline.proofs.UsesStand.{AreBound, inlined_by_number, names_from, stand_alone, uses_are_identifiers, uses_ascend}
@@ -117,11 +117,11 @@ inlined_is r is d v =
     gone_module_inlined (factor_at places v) (text_at (words_of m.source)) (number_at (words_of m.source)) d (tree_of m)
     ∙ ap (module_without d) (inlined_by_number r places (all_bound_to (named_tree_of m) d) v is (agree r is d))
 
-module _ (r : Resolution) (is : IsResolution r) (d : ℕ) (w : Value) (worth : value_of_constant (named_tree_of r.module_read) d ≡ Some w) (spelled : spell (tree_of r.module_read) ≡ placed 0 (words_of r.module_read.source)) where
+module _ (r : Resolution) (is : IsResolution r) (d : ℕ) (w : Value) (has_value : value_of_constant (named_tree_of r.module_read) d ≡ Some w) (spelled : spell (tree_of r.module_read) ≡ placed 0 (words_of r.module_read.source)) where
   -- the declaration of the constant
   abbrev pub late_here : Late d 7 (block_declares (module_block (tree_of r.module_read))) (placed 0 (words_of r.module_read.source)) (spell (gone_module d (tree_of r.module_read))) (occurrences (tree_of r.module_read))
       (map (ordinal_in r.ordinals) (occurrences (tree_of r.module_read)))
-  late_here = late_of r is d w worth spelled
+  late_here = late_of r is d w has_value spelled
 
   -- its uses are names after it, in text order
   pub uses_are_names : last_token late_here.taken < length r.module_read.source.tokens → AreNames r.module_read.source.tokens (suc (last_token late_here.taken)) (bound_tokens r.ordinals d r.uses)
@@ -129,7 +129,7 @@ module _ (r : Resolution) (is : IsResolution r) (d : ℕ) (w : Value) (worth : v
       let ts = r.module_read.source.tokens in
       names_from ts (suc (last_token late_here.taken)) (length ts) (bound_tokens r.ordinals d r.uses)
       (from_there r.ordinals d 0 (length ts) (last_token late_here.taken) r.uses (bound_ascend r.ordinals d 0 (length ts) r.uses (uses_ascend r is)) inside
-      (λ j i e o. uses_behind r d (block_declares (module_block (tree_of r.module_read))) (spell (gone_module d (tree_of r.module_read))) late_here j i (ap (λ us. slice_get us j) (sym is.occurring) ∙ e) o))
+      (λ j i e o. uses_following r d (block_declares (module_block (tree_of r.module_read))) (spell (gone_module d (tree_of r.module_read))) late_here j i (ap (λ us. slice_get us j) (sym is.occurring) ∙ e) o))
       (bound_stand ts r.ordinals d r.uses (uses_are_identifiers r is))
 
   -- the words that are left spell the module with the factor in place of all uses, without the declaration

@@ -28,7 +28,7 @@ use Rattle.ob0_types_rules.specs.Typing.{constant_value}
 use Rattle.ob0_types_rules.specs.WellTyped.{bind_names}
 use Rattle.ob0_values.specs.Values.{Value}
 use Rattle.ob0_inline.proofs.Earlier.{AllLow, ScopeLow, constant_section_low, declared_low, forget, formals_low, low_append, procedure_low, raised, scope_raised, type_section_low, uses_low, variable_section_low}
-use Rattle.ob0_inline.proofs.TakenOut.{Taken, among_others, block_declares, expression_no_end, first_procedure_count, first_type_count, formals_count, get_first, get_later, gone_block, gone_constants, gone_here, gone_module, gone_procedure, gone_procedures, gone_section, high_procedure, high_section, low_procedures, names_counted, procedure_count, procedure_counted, procedure_declares, procedures_declare, put_before, put_behind}
+use Rattle.ob0_inline.proofs.TakenOut.{Taken, among_others, block_declares, expression_no_end, first_procedure_count, first_type_count, formals_count, get_first, get_later, gone_block, gone_constants, gone_here, gone_module, gone_procedure, gone_procedures, gone_section, high_procedure, high_section, low_procedures, names_counted, procedure_count, procedure_counted, procedure_declares, procedures_declare, put_before, put_following}
 
 abbrev pub AllIn : List ℕ → List ℕ → Type 0
 AllIn [] xs = Unit {0}
@@ -80,14 +80,14 @@ occurrences_in t =
 pub record Late (d k : ℕ) (labels : List ℕ) (whole left : List (Terminal ℕ)) (occ : List ℕ) (bound : List (Option ℕ)) : Type 0 where
   pub taken : Taken d k labels whole left
   pub front : List ℕ
-  pub behind : List ℕ
+  pub following : List ℕ
   pub front_bound : List (Option ℕ)
-  pub behind_bound : List (Option ℕ)
-  pub occ_is : occ ≡ front ++ behind
-  pub bound_is : bound ≡ front_bound ++ behind_bound
+  pub following_bound : List (Option ℕ)
+  pub occ_is : occ ≡ front ++ following
+  pub bound_is : bound ≡ front_bound ++ following_bound
   pub count : length front_bound ≡ length front
   pub low : AllLow d front_bound
-  pub among : AllIn behind (lexeme_names taken.after)
+  pub among : AllIn following (lexeme_names taken.after)
 
 -- the same tokens
 pub late_move : (d k : ℕ) (labels : List ℕ) (w w' l l' : List (Terminal ℕ)) (occ : List ℕ) (bound : List (Option ℕ)) → w' ≡ w → l' ≡ l → Late d k labels w l occ bound → Late d k labels w' l' occ bound
@@ -96,9 +96,9 @@ late_move d k labels w w' l l' occ bound e f h =
     record {
       taken = record { place = t.place; ordinal_is = t.ordinal_is; before = t.before; border = t.border; opens = t.opens; name = t.name; named_there = t.named_there; right = t.right; no_end = t.no_end; after = t.after; whole_is = e ∙ t.whole_is; left_is = f ∙ t.left_is };
       front = h.front;
-      behind = h.behind;
+      following = h.following;
       front_bound = h.front_bound;
-      behind_bound = h.behind_bound;
+      following_bound = h.following_bound;
       occ_is = h.occ_is;
       bound_is = h.bound_is;
       count = h.count;
@@ -112,9 +112,9 @@ late_among : (d j k : ℕ) (labels others : List ℕ) (w l : List (Terminal ℕ)
 late_among d j k labels others w l occ bound h place e g = record {
   taken = among_others d j k labels others w l h.taken place e g;
   front = h.front;
-  behind = h.behind;
+  following = h.following;
   front_bound = h.front_bound;
-  behind_bound = h.behind_bound;
+  following_bound = h.following_bound;
   occ_is = h.occ_is;
   bound_is = h.bound_is;
   count = h.count;
@@ -128,36 +128,36 @@ late_before : (d k : ℕ) (labels : List ℕ) (zs w l : List (Terminal ℕ)) (zo
 late_before d k labels zs w l zo occ zb bound n g h = record {
   taken = put_before d k labels zs w l h.taken;
   front = zo ++ h.front;
-  behind = h.behind;
+  following = h.following;
   front_bound = zb ++ h.front_bound;
-  behind_bound = h.behind_bound;
-  occ_is = ap (λ z. zo ++ z) h.occ_is ∙ sym (append_assoc zo h.front h.behind);
-  bound_is = ap (λ z. zb ++ z) h.bound_is ∙ sym (append_assoc zb h.front_bound h.behind_bound);
+  following_bound = h.following_bound;
+  occ_is = ap (λ z. zo ++ z) h.occ_is ∙ sym (append_assoc zo h.front h.following);
+  bound_is = ap (λ z. zb ++ z) h.bound_is ∙ sym (append_assoc zb h.front_bound h.following_bound);
   count = length-append zb h.front_bound ∙ ((λ i. n i + h.count i) ∙ sym (length-append zo h.front));
   low = low_append d zb h.front_bound g h.low;
   among = h.among;
 }
 
 -- before others
-late_behind : (d k : ℕ) (labels : List ℕ) (w l zs : List (Terminal ℕ)) (occ zo : List ℕ) (bound zb : List (Option ℕ)) → AllIn zo (lexeme_names zs) → Late d k labels w l occ bound
+late_following : (d k : ℕ) (labels : List ℕ) (w l zs : List (Terminal ℕ)) (occ zo : List ℕ) (bound zb : List (Option ℕ)) → AllIn zo (lexeme_names zs) → Late d k labels w l occ bound
     → Late d k labels (w ++ zs) (l ++ zs) (occ ++ zo) (bound ++ zb)
-late_behind d k labels w l zs occ zo bound zb g h = record {
-  taken = put_behind d k labels w l zs h.taken;
+late_following d k labels w l zs occ zo bound zb g h = record {
+  taken = put_following d k labels w l zs h.taken;
   front = h.front;
-  behind = h.behind ++ zo;
+  following = h.following ++ zo;
   front_bound = h.front_bound;
-  behind_bound = h.behind_bound ++ zb;
-  occ_is = ap (λ z. z ++ zo) h.occ_is ∙ append_assoc h.front h.behind zo;
-  bound_is = ap (λ z. z ++ zb) h.bound_is ∙ append_assoc h.front_bound h.behind_bound zb;
+  following_bound = h.following_bound ++ zb;
+  occ_is = ap (λ z. z ++ zo) h.occ_is ∙ append_assoc h.front h.following zo;
+  bound_is = ap (λ z. z ++ zb) h.bound_is ∙ append_assoc h.front_bound h.following_bound zb;
   count = h.count;
   low = h.low;
-  among = subst (AllIn (h.behind ++ zo)) (sym (lexeme_names-append h.taken.after zs))
-      (all_joined h.behind zo (lexeme_names h.taken.after ++ lexeme_names zs) (all_first h.behind (lexeme_names h.taken.after) (lexeme_names zs) h.among) (all_second zo (lexeme_names h.taken.after) (lexeme_names zs) g));
+  among = subst (AllIn (h.following ++ zo)) (sym (lexeme_names-append h.taken.after zs))
+      (all_joined h.following zo (lexeme_names h.taken.after ++ lexeme_names zs) (all_first h.following (lexeme_names h.taken.after) (lexeme_names zs) h.among) (all_second zo (lexeme_names h.taken.after) (lexeme_names zs) g));
 }
 
 late_suffix : {s : Sort} (d k : ℕ) (labels : List ℕ) (w l : List (Terminal ℕ)) (z : Tree ℕ s) (occ : List ℕ) (bound zb : List (Option ℕ)) → Late d k labels w l occ bound
     → Late d k labels (w ++ spell z) (l ++ spell z) (occ ++ occurrences z) (bound ++ zb)
-late_suffix d k labels w l z occ bound zb h = late_behind d k labels w l (spell z) occ (occurrences z) bound zb (occurrences_in z) h
+late_suffix d k labels w l z occ bound zb h = late_following d k labels w l (spell z) occ (occurrences z) bound zb (occurrences_in z) h
 
 module _ (c : ℕ → Option (Tree Name factor)) (f : ℕ → Name) (g : ℕ → ℕ) (d : ℕ) (w : Value) (as_many : (s : Sort) (t : Tree ℕ s) → length (occurrences (inlined c f g t)) ≡ length (occurrences t)) where
   late_constants : (known : Known) (scope : Scope Name) (k : ℕ) (cs : Tree ℕ (items constant)) (front : List (Terminal ℕ)) (border : TokenKind)
@@ -191,9 +191,9 @@ module _ (c : ℕ → Option (Tree Name factor)) (f : ℕ → Name) (g : ℕ →
               left_is = ap (λ t. front ++ (Mark border ∷ spell t)) (gone_here d k (declares_constant x a) cs true q) ∙ sym (append_assoc front (Mark border ∷ []) (spell cs));
             };
             front = occurrences a;
-            behind = occurrences cs;
+            following = occurrences cs;
             front_bound = occurrences (relabel_uses as_names forget scope (inlined c f g a));
-            behind_bound = occurrences (relabel_constants as_names forget ((f x, k) ∷ scope) (suc k) (inlined c f g cs));
+            following_bound = occurrences (relabel_constants as_names forget ((f x, k) ∷ scope) (suc k) (inlined c f g cs));
             occ_is = refl;
             bound_is = refl;
             count = as_many-uses as_names forget scope (inlined c f g a) ∙ as_many _ a;
@@ -272,7 +272,7 @@ module _ (c : ℕ → Option (Tree Name factor)) (f : ℕ → Name) (g : ℕ →
       late_move d k labels (spell b) (spell b) l1 (spell (gone_block d k b)) (occurrences b) ((lc ++ rest_bound) ++ ls) refl
       (ap (λ (qs : Tree ℕ (items procedure)). (spell (gone_section d k cs) ++ (spell ts ++ (spell vs ++ spell qs))) ++ spell statements) kept)
       (late_suffix d k labels (spell cs ++ rest) (spell (gone_section d k cs) ++ rest) statements (occurrences cs ++ (occurrences ts ++ (occurrences vs ++ occurrences ps))) (lc ++ rest_bound) ls
-      (late_behind d k labels (spell cs) (spell (gone_section d k cs)) rest (occurrences cs) (occurrences ts ++ (occurrences vs ++ occurrences ps)) lc rest_bound
+      (late_following d k labels (spell cs) (spell (gone_section d k cs)) rest (occurrences cs) (occurrences ts ++ (occurrences vs ++ occurrences ps)) lc rest_bound
       (joined_in (occurrences ts) (occurrences vs ++ occurrences ps) (spell ts) (spell vs ++ spell ps) (occurrences_in ts) (joined_in (occurrences vs) (occurrences ps) (spell vs) (spell ps) (occurrences_in vs) (occurrences_in ps))) there))
 
   late_by_procedures : (cs : Tree ℕ (maybe constants)) (ts : Tree ℕ (maybe type_names)) (vs : Tree ℕ (maybe variables)) (ps : Tree ℕ (items procedure)) (statements : Tree ℕ (maybe body)) (k : ℕ) (lc lt lv lp ls : List (Option ℕ))
@@ -336,7 +336,7 @@ module _ (c : ℕ → Option (Tree Name factor)) (f : ℕ → Name) (g : ℕ →
       let tail : List (Terminal ℕ) = Mark (kind.Reserved reserved.End) ∷ lexeme.Name closing ∷ (Mark (kind.Symbol symbol.Semicolon) ∷ []) in
       let count = names_counted k xs in
       let there = late_among d k (after_names k xs) (block_declares b) labels (spell b) left (occurrences b) lb t (length xs + t.taken.place) (omega (arith, t.taken.ordinal_is, count)) (get_later xs (block_declares b) t.taken.place) in
-      let ended : Late d k labels (spell b ++ tail) (left ++ tail) (occurrences b ++ []) (lb ++ []) = late_behind d k labels (spell b) left tail (occurrences b) [] lb [] tt there in
+      let ended : Late d k labels (spell b ++ tail) (left ++ tail) (occurrences b ++ []) (lb ++ []) = late_following d k labels (spell b) left tail (occurrences b) [] lb [] tt there in
       let ended_so : Late d k labels (spell b ++ tail) (left ++ tail) (occurrences b) lb = subst (λ (o : List ℕ). Late d k labels (spell b ++ tail) (left ++ tail) o lb) (append-nil (occurrences b))
       (subst (λ (l : List (Option ℕ)). Late d k labels (spell b ++ tail) (left ++ tail) (occurrences b ++ []) l) (append-nil lb) ended) in
       late_before d k labels (Mark (kind.Reserved reserved.Procedure) ∷ lexeme.Name x ∷ []) (spell fs ++ (Mark (kind.Symbol symbol.Semicolon) ∷ (spell b ++ tail))) (spell fs ++ (Mark (kind.Symbol symbol.Semicolon) ∷ (left ++ tail))) [] (occurrences fs ++ occurrences b) [] (lf ++ lb) refl tt
@@ -459,7 +459,7 @@ module _ (c : ℕ → Option (Tree Name factor)) (f : ℕ → Name) (g : ℕ →
         | true ↦ λ h. absurd (cc)
         | false ↦ λ h.
             let there = late_block predeclared_known (predeclared_scope as_names) 7 7 refl seven b h in
-            let ended : Late d 7 labels (spell b ++ tail) (left ++ tail) (occurrences b ++ []) (lb ++ []) = late_behind d 7 labels (spell b) left tail (occurrences b) [] lb [] tt there in
+            let ended : Late d 7 labels (spell b ++ tail) (left ++ tail) (occurrences b ++ []) (lb ++ []) = late_following d 7 labels (spell b) left tail (occurrences b) [] lb [] tt there in
             late_before d 7 labels (Mark (kind.Reserved reserved.Module) ∷ lexeme.Name x ∷ Mark (kind.Symbol symbol.Semicolon) ∷ []) (spell b ++ tail) (left ++ tail) [] (occurrences b) [] lb refl tt
             (subst (λ (o : List ℕ). Late d 7 labels (spell b ++ tail) (left ++ tail) o lb) (append-nil (occurrences b))
             (subst (λ (l : List (Option ℕ)). Late d 7 labels (spell b ++ tail) (left ++ tail) (occurrences b ++ []) l) (append-nil lb) ended))

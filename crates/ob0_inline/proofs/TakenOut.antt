@@ -233,8 +233,8 @@ put_before d k labels zs xs ys t = record {
   left_is = ap (λ l. zs ++ l) t.left_is ∙ shifted zs t.before (Mark t.border ∷ []) t.after;
 }
 
-abbrev pub put_behind : (d k : ℕ) (labels : List ℕ) (xs ys zs : List (Terminal ℕ)) → Taken d k labels xs ys → Taken d k labels (xs ++ zs) (ys ++ zs)
-put_behind d k labels xs ys zs t =
+abbrev pub put_following : (d k : ℕ) (labels : List ℕ) (xs ys zs : List (Terminal ℕ)) → Taken d k labels xs ys → Taken d k labels (xs ++ zs) (ys ++ zs)
+put_following d k labels xs ys zs t =
     let front = t.before ++ (Mark t.border ∷ []) in
     let whole : List (Terminal ℕ) = lexeme.Name t.name ∷ Mark (kind.Symbol symbol.Equal) ∷ (t.right ++ (Mark (kind.Symbol symbol.Semicolon) ∷ [])) in
     record {
@@ -511,8 +511,8 @@ module _ (c : ℕ → Option (Tree Name factor)) (f : ℕ → Name) (g : ℕ →
       let there = among_others d k k (constant_names (section_constants cs)) labels (spell cs) (spell (gone_section d k cs)) t t.place t.ordinal_is
       (get_first (constant_names (section_constants cs)) (named_types (section_types ts) ++ (variable_names (section_variables vs) ++ procedures_declare ps)) t.place t.name t.named_there) in
       subst (λ (qs : Tree ℕ (items procedure)). Taken d k labels (spell b) ((spell (gone_section d k cs) ++ (spell ts ++ (spell vs ++ spell qs))) ++ spell statements)) (sym kept)
-      (put_behind d k labels (spell cs ++ (spell ts ++ (spell vs ++ spell ps))) (spell (gone_section d k cs) ++ (spell ts ++ (spell vs ++ spell ps))) (spell statements)
-      (put_behind d k labels (spell cs) (spell (gone_section d k cs)) (spell ts ++ (spell vs ++ spell ps)) there))
+      (put_following d k labels (spell cs ++ (spell ts ++ (spell vs ++ spell ps))) (spell (gone_section d k cs) ++ (spell ts ++ (spell vs ++ spell ps))) (spell statements)
+      (put_following d k labels (spell cs) (spell (gone_section d k cs)) (spell ts ++ (spell vs ++ spell ps)) there))
 
   by_procedures : (cs : Tree ℕ (maybe constants)) (ts : Tree ℕ (maybe type_names)) (vs : Tree ℕ (maybe variables)) (ps : Tree ℕ (items procedure)) (statements : Tree ℕ (maybe body)) (k : ℕ)
       → first_type k (has_body (declares cs ts vs ps) statements) ≤ d
@@ -531,7 +531,7 @@ module _ (c : ℕ → Option (Tree Name factor)) (f : ℕ → Name) (g : ℕ →
       let there = among_others d k (first_procedure k b) (procedures_declare ps) labels (spell ps) left t (length xs + (length ys + (length zs + t.place))) (omega (arith, t.ordinal_is, e1, e2, e3))
       (get_later xs (ys ++ (zs ++ procedures_declare ps)) (length ys + (length zs + t.place)) ∙ (get_later ys (zs ++ procedures_declare ps) (length zs + t.place) ∙ get_later zs (procedures_declare ps) t.place)) in
       subst (λ (qs : Tree ℕ (maybe constants)). Taken d k labels (spell b) ((spell qs ++ (spell ts ++ (spell vs ++ left))) ++ spell statements)) (sym (high_section d k cs h))
-      (put_behind d k labels (spell cs ++ (spell ts ++ (spell vs ++ spell ps))) (spell cs ++ (spell ts ++ (spell vs ++ left))) (spell statements)
+      (put_following d k labels (spell cs ++ (spell ts ++ (spell vs ++ spell ps))) (spell cs ++ (spell ts ++ (spell vs ++ left))) (spell statements)
       (put_before d k labels (spell cs) (spell ts ++ (spell vs ++ spell ps)) (spell ts ++ (spell vs ++ left))
       (put_before d k labels (spell ts) (spell vs ++ spell ps) (spell vs ++ left)
       (put_before d k labels (spell vs) (spell ps) left there))))
@@ -543,7 +543,7 @@ module _ (c : ℕ → Option (Tree Name factor)) (f : ℕ → Name) (g : ℕ →
       let there = among_others d k (suc k) (procedure_declares q) labels (spell q) (spell (gone_procedure d (suc k) q)) t (suc t.place) (omega (arith, t.ordinal_is))
       (get_first (procedure_declares q) (procedures_declare rest) t.place t.name t.named_there) in
       subst (λ (qs : Tree ℕ (items procedure)). Taken d k labels (spell q ++ spell rest) (spell (gone_procedure d (suc k) q) ++ spell qs)) (sym (low_procedures d (after_procedure (suc k) q) rest h))
-      (put_behind d k labels (spell q) (spell (gone_procedure d (suc k) q)) (spell rest) there)
+      (put_following d k labels (spell q) (spell (gone_procedure d (suc k) q)) (spell rest) there)
 
   by_rest : (q : Tree ℕ (item procedure)) (rest : Tree ℕ (items procedure)) (k : ℕ) → after_procedure (suc k) q ≤ d
       → Taken d (after_procedure (suc k) q) (procedures_declare rest) (spell rest) (spell (gone_procedures d (after_procedure (suc k) q) rest))
@@ -570,7 +570,7 @@ module _ (c : ℕ → Option (Tree Name factor)) (f : ℕ → Name) (g : ℕ →
       put_before d k labels (Mark (kind.Reserved reserved.Procedure) ∷ lexeme.Name x ∷ []) (spell fs ++ (Mark (kind.Symbol symbol.Semicolon) ∷ (spell b ++ tail))) (spell fs ++ (Mark (kind.Symbol symbol.Semicolon) ∷ (left ++ tail)))
       (put_before d k labels (spell fs) (Mark (kind.Symbol symbol.Semicolon) ∷ (spell b ++ tail)) (Mark (kind.Symbol symbol.Semicolon) ∷ (left ++ tail))
       (put_before d k labels (Mark (kind.Symbol symbol.Semicolon) ∷ []) (spell b ++ tail) (left ++ tail)
-      (put_behind d k labels (spell b) left tail there)))
+      (put_following d k labels (spell b) left tail there)))
 
   mutual
     unfolding value_in_block
@@ -637,7 +637,7 @@ module _ (c : ℕ → Option (Tree Name factor)) (f : ℕ → Name) (g : ℕ →
       let left = spell (gone_block d 7 b) in
       let tail : List (Terminal ℕ) = Mark (kind.Reserved reserved.End) ∷ lexeme.Name closing ∷ (Mark (kind.Symbol symbol.Dot) ∷ []) in
       put_before d 7 (block_declares b) (Mark (kind.Reserved reserved.Module) ∷ lexeme.Name x ∷ Mark (kind.Symbol symbol.Semicolon) ∷ []) (spell b ++ tail) (left ++ tail)
-      (put_behind d 7 (block_declares b) (spell b) left tail
+      (put_following d 7 (block_declares b) (spell b) left tail
       (elim (nat_lt d 7) as (λ y. (if y then None else value_in_block predeclared_known d 7 (inlined c f g b)) ≡ Some w → Taken d 7 (block_declares b) (spell b) (spell (gone_block d 7 b)))
       [ true ↦ λ h. absurd (cc) | false ↦ λ h. taken_block predeclared_known 7 7 refl b h ] e))
 

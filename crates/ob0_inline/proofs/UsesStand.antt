@@ -21,7 +21,7 @@ use Rattle.ob0_scope_rules.specs.Inlining.{Uses, inline_in}
 use Rattle.ob0_scope_rules.specs.Names.{Label, Name, as_names, declared}
 use Rattle.ob0_scope_rules.specs.Resolution.{IsResolution, Resolution, label_at, ordinal_in}
 use Rattle.ob0_scope_rules.specs.Scopes.{as_label, numbered}
-use Rattle.ob0_scope.proofs.SeenInPlaces.{AllTold, occurrence_table, uses_told}
+use Rattle.ob0_scope.proofs.SeenInPlaces.{AllTold, occurrence_table, uses_reported}
 use Rattle.ob0_inline.proofs.Alone.{NoneFor, NoneOther, alone, elsewhere-mapped}
 use Rattle.ob0_inline.proofs.OnOccurrences.{agrees_each, same}
 
@@ -104,7 +104,7 @@ among_bound r is d i (p ∷ ps) h e = by_test (i == p) refl e (among_bound r is 
         let here : i ≡ p = eqb-true i p q in
         let there : slice_get (looked_up_only (identifiers role.Declaring (tree_of r.module_read))) k.0 ≡ Some p = ap (λ us. slice_get us k.0) (found_looked_up r is) ∙ k.1 in
         record {
-          occurs = ap (ordinal_in (occurrence_table r)) here ∙ in_table (occurrence_table r) (identifiers role.Declaring (tree_of r.module_read)) k.0 p (uses_told r is) there;
+          occurs = ap (ordinal_in (occurrence_table r)) here ∙ in_table (occurrence_table r) (identifiers role.Declaring (tree_of r.module_read)) k.0 p (uses_reported r is) there;
           bound = ap (ordinal_in r.ordinals) here ∙ h.0.1;
         }
     by_test false q e later = later e
@@ -139,7 +139,7 @@ stand_alone r is d v places h a =
     let elsewhere : names_elsewhere (numbered (named_tree_of m)) ≡ map (label_at m.source r.ordinals) (names_elsewhere (tree_of m)) =
     ap names_elsewhere is.numbering ∙ elsewhere-mapped (label_at m.source r.ordinals) (leaf.value_at m.source) (tree_of m) in
     alone (factor_at places v) role.Declaring (λ i g. g) (tree_of m)
-    (none_other r is d v places h (identifiers role.Declaring (tree_of m)) (uses_told r is))
+    (none_other r is d v places h (identifiers role.Declaring (tree_of m)) (uses_reported r is))
     (none_elsewhere r is d v places h (names_elsewhere (tree_of m)) (subst (All (λ l. l ≢ declared d)) elsewhere a))
 
 -- the words of a text and its tokens

@@ -27,26 +27,26 @@ use Rattle.ob0_scope_rules.proofs.Peeling.{heads}
 use Rattle.ob0_inline.proofs.TakenOut.{Taken}
 
 -- words cut where their tokens are
-pub record Cut (k : ℕ) (ws : List Word) (front behind : List (Terminal ℕ)) : Type 0 where
+pub record Cut (k : ℕ) (ws : List Word) (front following : List (Terminal ℕ)) : Type 0 where
   pub first : List Word
   pub rest : List Word
   pub joined : ws ≡ first ++ rest
   pub front_is : placed k first ≡ front
-  pub behind_is : placed (k + length first) rest ≡ behind
+  pub following_is : placed (k + length first) rest ≡ following
   pub count : length first ≡ length front
 
-pub cut_words : (k : ℕ) (ws : List Word) (front behind : List (Terminal ℕ)) → placed k ws ≡ front ++ behind → Cut k ws front behind
-cut_words k ws [] behind e = record { first = []; rest = ws; joined = refl; front_is = refl; behind_is = ap (λ n. placed n ws) (let z : k + 0 ≡ k = omega arith in z) ∙ e; count = refl }
-cut_words k [] (l ∷ front) behind e = absurd (cc)
-cut_words k (w ∷ ws) (l ∷ front) behind e =
+pub cut_words : (k : ℕ) (ws : List Word) (front following : List (Terminal ℕ)) → placed k ws ≡ front ++ following → Cut k ws front following
+cut_words k ws [] following e = record { first = []; rest = ws; joined = refl; front_is = refl; following_is = ap (λ n. placed n ws) (let z : k + 0 ≡ k = omega arith in z) ∙ e; count = refl }
+cut_words k [] (l ∷ front) following e = absurd (cc)
+cut_words k (w ∷ ws) (l ∷ front) following e =
     let h = heads e in
-    let r = cut_words (suc k) ws front behind h.1 in
+    let r = cut_words (suc k) ws front following h.1 in
     record {
       first = w ∷ r.first;
       rest = r.rest;
       joined = ap (λ l. w ∷ l) r.joined;
       front_is = (λ i. h.0 i ∷ r.front_is i);
-      behind_is = ap (λ n. placed n r.rest) (let z : k + suc (length r.first) ≡ suc k + length r.first = omega arith in z) ∙ r.behind_is;
+      following_is = ap (λ n. placed n r.rest) (let z : k + suc (length r.first) ≡ suc k + length r.first = omega arith in z) ∙ r.following_is;
       count = ap suc r.count;
     }
 
@@ -126,7 +126,7 @@ module _ (s : Scanned) (d k : ℕ) (labels : List ℕ) (left : List (Terminal �
         name = sym (word_kind s (first_token t)) ∙ (name_kind (0 + length front) t.name (word_at (words_of s) (length front)).kind at_name.1).0;
         end = sym (word_kind s (last_token t))
             ∙ (ap (λ n. (word_at (words_of s) n).kind) (sym same) ∙ mark_kind (0 + length (front ++ inner)) (word_at (words_of s) (length (front ++ inner))).kind (kind.Symbol symbol.Semicolon) a.1);
-        behind = λ j e.
+        following = λ j e.
             let there : j ≡ length t.before = omega (arith, e, length-append t.before (Mark t.border ∷ [])) in
             let kind_is : (place.token_at s.tokens j).kind ≡ t.border =
             sym (word_kind s j) ∙ (ap (λ n. (word_at (words_of s) n).kind) there ∙ mark_kind (0 + length t.before) (word_at (words_of s) (length t.before)).kind t.border at_border.1) in
@@ -152,11 +152,11 @@ inside_gone first last ch k (x ∷ xs) g h =
     let in_it : (nat_le first k && nat_le k last) ≡ true = ap (λ b. b && nat_le k last) (le-leb first k g) ∙ le-leb k last (omega (arith, h)) in
     (λ i. or_itself x (if in_it i then Some [] else ch k) ++ inside_gone first last ch (suc k) xs (omega (arith, g)) (omega (arith, h)) i)
 
-behind_last : (first last : ℕ) (ch : Changes) (k : ℕ) (xs : List Word) → last < k → changed (without first last ch) k xs ≡ changed ch k xs
-behind_last first last ch k [] h = refl
-behind_last first last ch k (x ∷ xs) h =
+following_last : (first last : ℕ) (ch : Changes) (k : ℕ) (xs : List Word) → last < k → changed (without first last ch) k xs ≡ changed ch k xs
+following_last first last ch k [] h = refl
+following_last first last ch k (x ∷ xs) h =
     let out : (nat_le first k && nat_le k last) ≡ false = ap (λ b. nat_le first k && b) (lt-leb k last h) ∙ none (nat_le first k) in
-    (λ i. or_itself x (if out i then Some [] else ch k) ++ behind_last first last ch (suc k) xs (omega (arith, h)) i)
+    (λ i. or_itself x (if out i then Some [] else ch k) ++ following_last first last ch (suc k) xs (omega (arith, h)) i)
   where
     none : (b : Bool) → (b && false) ≡ false
     none true = refl
@@ -226,7 +226,7 @@ module _ (s : Scanned) (least : ℕ) (places : List ℕ) (names : AreNames s.tok
       let last = last_token t in
       let ch : Changes = at_each places vs in
       let a = cut_words 0 (words_of s) front (declaration ++ t.after) t.whole_is in
-      let b = cut_words (0 + length a.first) a.rest declaration t.after a.behind_is in
+      let b = cut_words (0 + length a.first) a.rest declaration t.after a.following_is in
       let all : words_of s ≡ a.first ++ (b.first ++ b.rest) = a.joined ∙ ap (λ l. a.first ++ l) b.joined in
       let n1 : length a.first ≡ first = a.count in
       let n2 : length b.first ≡ 3 + length t.right = b.count ∙ (let z = length-append t.right (Mark (kind.Symbol symbol.Semicolon) ∷ []) in omega (arith, z)) in
@@ -237,12 +237,12 @@ module _ (s : Scanned) (least : ℕ) (places : List ℕ) (names : AreNames s.tok
       ∙ (λ i. before_first first last ch 0 a.first (omega (arith, n1)) i
       ++ (changed-append (without first last ch) (0 + length a.first) b.first b.rest
       ∙ ((λ j. inside_gone first last ch (0 + length a.first) b.first (omega (arith, n1)) (omega (arith, next)) j ++ changed (without first last ch) (next j) b.rest)
-      ∙ behind_last first last ch (suc last) b.rest (omega arith))) i)) in
+      ∙ following_last first last ch (suc last) b.rest (omega arith))) i)) in
       let p1 : flat_map put front ≡ map word_lexeme (changed ch 0 a.first) = ap (flat_map put) (sym a.front_is) ∙ part_put 0 [] a.first (b.first ++ b.rest) all refl in
       let done : length (a.first ++ b.first) ≡ suc last = length-append a.first b.first ∙ omega (arith, n1, n2) in
       let ends : words_of s ≡ (a.first ++ b.first) ++ (b.rest ++ []) = all ∙ (sym (append_assoc a.first b.first b.rest) ∙ ap (λ l. (a.first ++ b.first) ++ l) (sym (append-nil b.rest))) in
       let p2 : flat_map put t.after ≡ map word_lexeme (changed ch (suc last) b.rest) =
-      ap (flat_map put) (sym b.behind_is ∙ ap (λ n. placed n b.rest) next) ∙ part_put (suc last) (a.first ++ b.first) b.rest [] ends done in
+      ap (flat_map put) (sym b.following_is ∙ ap (λ n. placed n b.rest) next) ∙ part_put (suc last) (a.first ++ b.first) b.rest [] ends done in
       ap (map word_lexeme) split
       ∙ (map-append word_lexeme (changed ch 0 a.first) (changed ch (suc last) b.rest)
       ∙ ((λ i. sym p1 i ++ sym p2 i)

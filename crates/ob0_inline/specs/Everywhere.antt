@@ -36,7 +36,7 @@ use Rattle.ob0_inline.specs.Values.{value_factor, value_text}
 
 -- A constant of a CONST section: its ordinal and value, the token that declares it, and the first `;` after that.
 pub record IsConstant (m : Parsed) (c : NamedConstant) : Type 0 where
-  pub worth : value_of_constant (named_tree_of m) c.ordinal ≡ Some (scalar_value c.value)
+  pub has_value : value_of_constant (named_tree_of m) c.ordinal ≡ Some (scalar_value c.value)
   pub begins : token_declaring (declaring_only (identifiers role.Declaring (tree_of m))) c.ordinal
       ≡ Some c.first
   pub ends : position_from (λ t. is_semicolon t.kind) c.first (drop c.first m.source.tokens)

@@ -32,13 +32,13 @@ use Rattle.ob0_inline.specs.Values.{value_factor, value_text}
 pub record IsUseAt (m : Parsed) (offset : ℕ) (u : Use) : Type 0 where
   pub named : name_on m offset ≡ Some (record { token = u.token; ordinal = u.constant })
   pub occurs : slice_get (occurrences (tree_of m)) u.occurrence ≡ Some u.token
-  pub worth : value_of_constant (named_tree_of m) u.constant ≡ Some (scalar_value u.value)
+  pub has_value : value_of_constant (named_tree_of m) u.constant ≡ Some (scalar_value u.value)
 
 -- An occurrence, its token, and the constant to which it is bound.
 pub record IsUse (m : Parsed) (u : Use) : Type 0 where
   pub occurs : slice_get (occurrences (tree_of m)) u.occurrence ≡ Some u.token
   pub bound : binds (named_tree_of m) u.occurrence ≡ Some u.constant
-  pub worth : value_of_constant (named_tree_of m) u.constant ≡ Some (scalar_value u.value)
+  pub has_value : value_of_constant (named_tree_of m) u.constant ≡ Some (scalar_value u.value)
 
 -- the ordinals of the predeclared TRUE and FALSE
 abbrev pub truth_ordinal : Bool → ℕ

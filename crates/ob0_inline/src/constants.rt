@@ -40,7 +40,7 @@ pub(crate) fn constant_at(module: &WellTyped, offset: usize) -> Option<NamedCons
 
 /// A constant of which the ordinal and the value are known.
 fn declared(names: &Resolved, ordinal: usize, value: Scalar) -> Option<NamedConstant>
-    requires worth { value_of_constant (named_tree_of names.now.module_read) ordinal
+    requires has_value { value_of_constant (named_tree_of names.now.module_read) ordinal
         ≡ Some (scalar_value value) }
     ensures { IsSomeAnd result (λ c. (c.ordinal ≡ ordinal) × IsConstant names.now.module_read c) }
 {

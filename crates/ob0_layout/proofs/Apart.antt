@@ -265,9 +265,9 @@ abbrev NoStar : List (spelled_as.Terminal (List ℕ)) → Type 0
 NoStar [] = Unit {0}
 NoStar (x ∷ xs) = is_star x ≡ false
 
-calm_behind : {x : spelled_as.Terminal (List ℕ)} {xs : List (spelled_as.Terminal (List ℕ))} → Calm (x ∷ xs) → Calm xs
-calm_behind (calm_next h p) = p
-calm_behind (calm_paren h p) = p
+calm_following : {x : spelled_as.Terminal (List ℕ)} {xs : List (spelled_as.Terminal (List ℕ))} → Calm (x ∷ xs) → Calm xs
+calm_following (calm_next h p) = p
+calm_following (calm_paren h p) = p
 
 calm_first : {x : spelled_as.Terminal (List ℕ)} {xs : List (spelled_as.Terminal (List ℕ))} → Calm (x ∷ xs) → is_paren x ≡ true → NoStar xs
 calm_first (calm_next h p) paren = absurd (differ (sym h ∙ paren))
@@ -292,7 +292,7 @@ token_spread indent k text ls rest level broken ss a solid h after calm apart =
     let t : PlacedLexeme = record { lexeme = record { kind = lexeme.Token k; text = text }; standing = next_role ss } in
     let n : Neighbours a t = record { left = solid; right = tt; right_belongs = apart.0.belongs; starless = λ paren uncommented. token_first k text apart.0.belongs (after paren) } in
     fits_apart a t (laid_after indent t (placed (next_line level ss) false (drop 1 ss) ls)) (gap indent a t) n h (gap_fits indent a t n)
-    (rest (next_line level ss) false (drop 1 ss) t tt apart.0.belongs (λ e. calm_first calm (paren_of k text e)) (calm_behind calm) apart.1)
+    (rest (next_line level ss) false (drop 1 ss) t tt apart.0.belongs (λ e. calm_first calm (paren_of k text e)) (calm_following calm) apart.1)
 
 kind_spread : (indent : Indent) (k : LexemeKind) (text : List ℕ) (ls : List Lexeme) → Spread indent ls → Spread indent (record { kind = k; text = text } ∷ ls)
 kind_spread indent lexeme.Space text ls rest = λ level broken ss a solid h after calm apart. rest level (broken || has_break text) ss a solid h after calm apart.1
@@ -305,9 +305,9 @@ nothing_spread indent level broken ss a solid h after calm apart = (
   (record { belongs = record { nonempty = omega arith; all = AllPass-from_list_all is_space (10 ∷ []) refl }; ends = refl }, tt),
 )
 
-behind_spread : (indent : Indent) (ls : List Lexeme) → Spread indent ls
-behind_spread indent [] = nothing_spread indent
-behind_spread indent (l ∷ ls) = kind_spread indent l.kind l.text ls (behind_spread indent ls)
+following_spread : (indent : Indent) (ls : List Lexeme) → Spread indent ls
+following_spread indent [] = nothing_spread indent
+following_spread indent (l ∷ ls) = kind_spread indent l.kind l.text ls (following_spread indent ls)
 
 abbrev FirstSpread : Indent → List Lexeme → Type 0
 FirstSpread indent ls = (level : ℕ) (broken : Bool) (ss : List LineRole) → Calm (spelled ls) → AreApart ls → AreApart (laid indent (placed level broken ss ls))
@@ -316,10 +316,10 @@ kind_first_spread : (indent : Indent) (k : LexemeKind) (text : List ℕ) (ls : L
 kind_first_spread indent lexeme.Space text ls rest = λ level broken ss calm apart. rest level (broken || has_break text) ss calm apart.1
 kind_first_spread indent lexeme.Comment text ls rest = λ level broken ss calm apart.
     let c : PlacedLexeme = record { lexeme = record { kind = lexeme.Comment; text = text }; standing = comment_role broken (next_line level ss) } in
-    behind_spread indent ls level false ss c tt apart.0.belongs (λ e. cc) calm apart.1
+    following_spread indent ls level false ss c tt apart.0.belongs (λ e. cc) calm apart.1
 kind_first_spread indent (lexeme.Token k) text ls rest = λ level broken ss calm apart.
     let t : PlacedLexeme = record { lexeme = record { kind = lexeme.Token k; text = text }; standing = next_role ss } in
-    behind_spread indent ls (next_line level ss) false (drop 1 ss) t tt apart.0.belongs (λ e. calm_first calm (paren_of k text e)) (calm_behind calm) apart.1
+    following_spread indent ls (next_line level ss) false (drop 1 ss) t tt apart.0.belongs (λ e. calm_first calm (paren_of k text e)) (calm_following calm) apart.1
 
 first_spread : (indent : Indent) (ls : List Lexeme) → FirstSpread indent ls
 first_spread indent [] = λ level broken ss calm apart. tt

@@ -60,8 +60,8 @@ module _ (text : List ℕ) where
         let never : true ≡ false = sym (ap is_space lf) ∙ first in absurd (cc);
   }
 
-  behind_solid : (k : LexemeKind) (at : ℕ) (t : List ℕ) (ls : List Lexeme) → IsSolid k → StandFrom text at (record { kind = k; text = t } ∷ ls) [] → IsBorder (at + length t)
-  behind_solid k at t ls solid s =
+  following_solid : (k : LexemeKind) (at : ℕ) (t : List ℕ) (ls : List Lexeme) → IsSolid k → StandFrom text at (record { kind = k; text = t } ∷ ls) [] → IsBorder (at + length t)
+  following_solid k at t ls solid s =
       let some = nonempty k t s.each.0.belongs in record {
         place = (next_from text at (record { kind = k; text = t }) ls [] s).place;
         clear = λ ending.
@@ -77,10 +77,10 @@ module _ (text : List ℕ) where
   clear_kind lexeme.Space at t ls s more before level broken ss from b = more before level (broken || has_break t) ss from b
   clear_kind lexeme.Comment at t ls s more before level broken ss from b =
       let e = before_solid lexeme.Comment at t ls tt s in
-      (record { start = b.place; end = e.place; clear = b.clear; clear_end = e.clear }, more _ level false ss (at + length t) (behind_solid lexeme.Comment at t ls tt s))
+      (record { start = b.place; end = e.place; clear = b.clear; clear_end = e.clear }, more _ level false ss (at + length t) (following_solid lexeme.Comment at t ls tt s))
   clear_kind (lexeme.Token k) at t ls s more before level broken ss from b =
       let e = before_solid (lexeme.Token k) at t ls tt s in
-      (record { start = b.place; end = e.place; clear = b.clear; clear_end = e.clear }, more _ (next_line level ss) false (drop 1 ss) (at + length t) (behind_solid (lexeme.Token k) at t ls tt s))
+      (record { start = b.place; end = e.place; clear = b.clear; clear_end = e.clear }, more _ (next_line level ss) false (drop 1 ss) (at + length t) (following_solid (lexeme.Token k) at t ls tt s))
 
   clear_sites : (rest : List Lexeme) (at : ℕ) → StandFrom text at rest [] → (before : Option Solid) (level : ℕ) (broken : Bool) (ss : List LineRole) (from : ℕ) → IsBorder from → AllClear text (sites before level broken ss from at rest)
   unfolding AllClear

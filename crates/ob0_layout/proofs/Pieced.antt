@@ -134,11 +134,11 @@ module _ (indent : Indent) (text : List ℕ) where
       ∙ ap₂ (λ xs ys. xs ++ ys) (sym is) (more b level false ss (at + length t) (omega arith))
 
   first_kind : (k : LexemeKind) (at : ℕ) (t : List ℕ) (ls : List Lexeme) → drop at text ≡ t ++ joined ls → Laid (at + length t) ls → FirstLaid (at + length t) ls → FirstLaid at (record { kind = k; text = t } ∷ ls)
-  first_kind lexeme.Space at t ls here behind more level broken ss from up = more level (broken || has_break t) ss from (omega arith)
-  first_kind lexeme.Comment at t ls here behind more level broken ss from up =
-      first_solid at t ls here behind (record { lexeme = record { kind = lexeme.Comment; text = t }; standing = comment_role broken (next_line level ss) }) level ss from refl
-  first_kind (lexeme.Token k) at t ls here behind more level broken ss from up =
-      first_solid at t ls here behind (record { lexeme = record { kind = lexeme.Token k; text = t }; standing = next_role ss }) (next_line level ss) (drop 1 ss) from refl
+  first_kind lexeme.Space at t ls here following more level broken ss from up = more level (broken || has_break t) ss from (omega arith)
+  first_kind lexeme.Comment at t ls here following more level broken ss from up =
+      first_solid at t ls here following (record { lexeme = record { kind = lexeme.Comment; text = t }; standing = comment_role broken (next_line level ss) }) level ss from refl
+  first_kind (lexeme.Token k) at t ls here following more level broken ss from up =
+      first_solid at t ls here following (record { lexeme = record { kind = lexeme.Token k; text = t }; standing = next_role ss }) (next_line level ss) (drop 1 ss) from refl
 
   first_laid : (rest : List Lexeme) (at : ℕ) → StandFrom text at rest [] → FirstLaid at rest
   unfolding pieced

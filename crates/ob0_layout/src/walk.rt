@@ -37,7 +37,7 @@ fn deeper(level: u32) -> u32
     level.saturating_add(1)
 }
 
-/// A token of which no more is asked than of its kind.
+/// A token that is laid out by its kind alone.
 fn plain(out: &mut Vec<LineRole>) -> Result<(), AllocError>
     ensures { IfOk result (λ _. out.new.items ≡ out.old.items ++ (Plain ∷ [])) }
 {

@@ -74,19 +74,19 @@ by p q = record { on = λ o more r. p.on o more (q.on o more r) }
 -- one token is read
 
 read_part : {p : Part} {x : Terminal ℕ} {ts : List Token} {at next : ℕ} → IsPart p x → rest ts at ≡ x ∷ rest ts next → next ≡ at + 1 → ReadAs (p ∷ []) [] ts at next
-read_part {p = p} {ts = ts} {at = at} {next = next} is here behind = record {
+read_part {p = p} {ts = ts} {at = at} {next = next} is here following = record {
   on = λ o ps r.
-      subst (λ w. Descends (p ∷ ps) at w o) (sym here) (taken is (subst (λ j. Descends ps j (rest ts next) o) behind r));
+      subst (λ w. Descends (p ∷ ps) at w o) (sym here) (taken is (subst (λ j. Descends ps j (rest ts next) o) following r));
 }
 
 pub read_token : {k : TokenKind} {ts : List Token} {at next : ℕ} → rest ts at ≡ Mark k ∷ rest ts next → next ≡ at + 1 → ReadAs (token k ∷ []) [] ts at next
-read_token here behind = read_part refl here behind
+read_token here following = read_part refl here following
 
 pub read_name : {n : ℕ} {ts : List Token} {at next : ℕ} → rest ts at ≡ Name n ∷ rest ts next → next ≡ at + 1 → ReadAs (name ∷ []) [] ts at next
-read_name {n = n} here behind = read_part (n, refl) here behind
+read_name {n = n} here following = read_part (n, refl) here following
 
 pub read_number : {n : ℕ} {ts : List Token} {at next : ℕ} → rest ts at ≡ Number n ∷ rest ts next → next ≡ at + 1 → ReadAs (number ∷ []) [] ts at next
-read_number {n = n} here behind = read_part (n, refl) here behind
+read_number {n = n} here following = read_part (n, refl) here following
 
 -- a word or symbol, as the functions of the parser answer it
 pub read_mark : {k : TokenKind} {ts : List Token} {at next : ℕ} → (rest ts at ≡ Mark k ∷ rest ts next) × (at < length ts) × (next ≡ at + 1) → ReadAs (token k ∷ []) [] ts at next
@@ -142,8 +142,8 @@ pub read_back : {s : Sort} {room : ℕ} {qs rs : List Part} {ts : List Token} {a
 read_back c p = record { on = λ o more r. unmade c (p.on o more r) }
 
 pub past_name : {n i : ℕ} {ps : List Part} {xs w : List (Terminal ℕ)} {o : Stop} → xs ≡ Name n ∷ w → Descends (name ∷ ps) i xs o → Descends ps (i + 1) w o
-past_name {n} {i} {ps} {xs} {w} {o} e r = behind (subst (λ y. Descends (name ∷ ps) i y o) e r)
+past_name {n} {i} {ps} {xs} {w} {o} e r = following (subst (λ y. Descends (name ∷ ps) i y o) e r)
   where
-    behind : {n i : ℕ} {ps : List Part} {w : List (Terminal ℕ)} {o : Stop} → Descends (name ∷ ps) i (Name n ∷ w) o → Descends ps (i + 1) w o
-    behind (taken is r) = r
-    behind {n = n} (other differs e) = absurd (differs (n, refl))
+    following : {n i : ℕ} {ps : List Part} {w : List (Terminal ℕ)} {o : Stop} → Descends (name ∷ ps) i (Name n ∷ w) o → Descends ps (i + 1) w o
+    following (taken is r) = r
+    following {n = n} (other differs e) = absurd (differs (n, refl))

@@ -74,7 +74,7 @@ pub record ExpectedRows : Type 0 where
       ++ (w reserved.Var ∷ ident ∷ s symbol.Colon ∷ s symbol.Semicolon ∷ module_ends))
       (Expects 6 expected.Type)
   -- MODULE M; END M. x
-  pub behind_end : StopsIn (module_begins ++ (module_ends ++ (ident ∷ [])))
+  pub following_end : StopsIn (module_begins ++ (module_ends ++ (ident ∷ [])))
       (Expects 6 expected.EndOfText)
   -- MODULE M; BEGIN WriteLn END M
   pub no_dot : StopsIn (module_begins ++ (w reserved.Begin ∷ ident ∷ w reserved.End ∷ ident ∷ []))

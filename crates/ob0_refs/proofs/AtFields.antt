@@ -19,21 +19,21 @@ use Rattle.ob0_types_fields.proofs.TypedFields.{fields_typed-holds}
 use Rattle.ob0_refs.specs.Laws.{FieldsAreDefined, FieldsAreRenamedThere, FieldsHaveHovers, IsOnField}
 use Rattle.ob0_refs.specs.Questions.{at_field, declared, field_hover, name_or_field, named_at, or_else, references_at, row_hover}
 use Rattle.ob0_refs.specs.Shown.{name_hover_at}
-use Rattle.ob0_refs.specs.declared.answers.At as told
+use Rattle.ob0_refs.specs.declared.answers.At as reported
 use Rattle.ob0_refs.specs.declared.answers.Of as of
-use Rattle.ob0_refs.specs.declared.answers.Of.TheVariants as tells
+use Rattle.ob0_refs.specs.declared.answers.Of.TheVariants as reports
 
-abbrev tells_field : of.Of → Bool
-tells_field tells.Predeclared = false
-tells_field (tells.Declared ordinal) = false
-tells_field (tells.Field k index) = true
+abbrev reports_field : of.Of → Bool
+reports_field reports.Predeclared = false
+reports_field (reports.Declared ordinal) = false
+reports_field (reports.Field k index) = true
 
-abbrev owner_told : of.Of → ℕ
-owner_told tells.Predeclared = 0
-owner_told (tells.Declared ordinal) = 0
-owner_told (tells.Field k index) = k
+abbrev owner_reported : of.Of → ℕ
+owner_reported reports.Predeclared = 0
+owner_reported (reports.Declared ordinal) = 0
+owner_reported (reports.Field k index) = k
 
-no_field : (b : Bool) (ordinal : ℕ) → tells_field (if b then tells.Predeclared else tells.Declared ordinal) ≡ false
+no_field : (b : Bool) (ordinal : ℕ) → reports_field (if b then reports.Predeclared else reports.Declared ordinal) ≡ false
 no_field true ordinal = refl
 no_field false ordinal = refl
 
@@ -47,16 +47,16 @@ record OnField (r : Resolution) (offset : ℕ) (span : Span) (k : ℕ) : Type 0 
 on_field : (r : Resolution) (offset k index : ℕ) (span : Span) → IsOnField r offset span k index → OnField r offset span k
 on_field r offset k index span h = go (name_on r.module_read offset) refl (field_at r offset) refl h
   where
-    go : (n : Option named.Named) → name_on r.module_read offset ≡ n → (f : Option (ℕ × ℕ)) → field_at r offset ≡ f → name_or_field r.module_read n f ≡ Some (record { span = span; of = tells.Field k index }) → OnField r offset span k
-    go (Some n) e f g same = absurd (true≢false (sym (ap (λ (a : told.At). tells_field a.of) (some_inverse same)) ∙ no_field (nat_lt n.ordinal 7) n.ordinal))
+    go : (n : Option named.Named) → name_on r.module_read offset ≡ n → (f : Option (ℕ × ℕ)) → field_at r offset ≡ f → name_or_field r.module_read n f ≡ Some (record { span = span; of = reports.Field k index }) → OnField r offset span k
+    go (Some n) e f g same = absurd (true≢false (sym (ap (λ (a : reported.At). reports_field a.of) (some_inverse same)) ∙ no_field (nat_lt n.ordinal 7) n.ordinal))
     go None e None g same = absurd (cc)
     go None e (Some (token, owner)) g same =
-        let here : at_field r.module_read (token, owner) ≡ record { span = span; of = tells.Field k index } = some_inverse same in
+        let here : at_field r.module_read (token, owner) ≡ record { span = span; of = reports.Field k index } = some_inverse same in
         record {
           token = token;
           no_name = e;
-          field = g ∙ ap (λ o. Some (token, o)) (ap (λ (a : told.At). owner_told a.of) here);
-          place = ap (λ (a : told.At). a.span) here;
+          field = g ∙ ap (λ o. Some (token, o)) (ap (λ (a : reported.At). owner_reported a.of) here);
+          place = ap (λ (a : reported.At). a.span) here;
         }
 
 -- ---- definition
@@ -75,10 +75,10 @@ module _ (source : Scanned) (offset : ℕ) (x : ℕ × ℕ) where
   found_named [] h = absurd (cc)
   found_named (y ∷ ys) h = one (is_on offset (span_at source y.0)) h (found_named ys)
     where
-      behind : (b : Bool) → Contains (map (span_at source) (tokens_among source x.1 (text_at source x.0) ys)) (span_at source x.0)
+      following : (b : Bool) → Contains (map (span_at source) (tokens_among source x.1 (text_at source x.0) ys)) (span_at source x.0)
           → Contains (map (span_at source) (if b then y.0 ∷ tokens_among source x.1 (text_at source x.0) ys else tokens_among source x.1 (text_at source x.0) ys)) (span_at source x.0)
-      behind true (i, less, is) = (suc i, omega (arith, less), is)
-      behind false at = at
+      following true (i, less, is) = (suc i, omega (arith, less), is)
+      following false at = at
 
       here : y ≡ x → is_field source x.1 (text_at source x.0) y ≡ true
       here same = λ i. eq-eqb y.1 x.1 (ap (λ (z : ℕ × ℕ). z.1) same) i && (bytes_eq-Decides (text_at source y.0) (text_at source x.0)).1 (ap (λ (z : ℕ × ℕ). text_at source z.0) same) i
@@ -90,7 +90,7 @@ module _ (source : Scanned) (offset : ℕ) (x : ℕ × ℕ) where
           let same : y ≡ x = some_inverse e in
           subst (λ b. Contains (map (span_at source) (if b then y.0 ∷ tokens_among source x.1 (text_at source x.0) ys else tokens_among source x.1 (text_at source x.0) ys)) (span_at source x.0)) (sym (here same))
           (0, omega arith, ap (λ (z : ℕ × ℕ). span_at source z.0) same)
-      one false e later = behind (is_field source x.1 (text_at source x.0) y) (later e)
+      one false e later = following (is_field source x.1 (text_at source x.0) y) (later e)
 
 some_mapped : {A B : Type 0} (f : A → B) (o : Option A) → is_some (option_map f o) ≡ is_some o
 some_mapped f None = refl

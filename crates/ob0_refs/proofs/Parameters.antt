@@ -1,12 +1,12 @@
 -- Parameters gathered from names and a signature side by side.
 use Rattle.std.proofs.Common.{◌≡◌, ℕ, ◌<◌, zero, suc, min, List, [], ◌∷◌, ◌++◌, length, drop, map, get_or, refl, ap, sym, ◌∙◌, arith, append_assoc, append-nil}
 use Rattle.ob0_refs.specs.Declarations.{parameter_hover, parameters_hover}
-use Rattle.ob0_refs.specs.Hovers.{Parameter}
+use Rattle.ob0_refs.specs.Hovers.{HoverParameter}
 use Rattle.ob0_scope_rules.specs.Names.{Name}
 use Rattle.ob0_types_rules.specs.WellTyped.{Formal}
 
 -- those found so far and those that are left are all
-abbrev pub Gathered : {A B : Type 0} → (A → Name) → (B → Formal) → List A → List B → ℕ → List Parameter → Type 0
+abbrev pub Gathered : {A B : Type 0} → (A → Name) → (B → Formal) → List A → List B → ℕ → List HoverParameter → Type 0
 Gathered name formal xs ys n found = found ++ parameters_hover (map name (drop n xs)) (map formal (drop n ys)) ≡ parameters_hover (map name xs) (map formal ys)
 
 -- one more of both
@@ -17,7 +17,7 @@ shown_further name formal (x ∷ xs) [] n h g d e = absurd (omega arith)
 shown_further name formal (x ∷ xs) (y ∷ ys) zero h g d e = refl
 shown_further name formal (x ∷ xs) (y ∷ ys) (suc n) h g d e = shown_further name formal xs ys n (omega arith) (omega arith) d e
 
-pub gathered_further : {A B : Type 0} (name : A → Name) (formal : B → Formal) (xs : List A) (ys : List B) (n : ℕ) (found : List Parameter) (x : A) (y : B) → Gathered name formal xs ys n found
+pub gathered_further : {A B : Type 0} (name : A → Name) (formal : B → Formal) (xs : List A) (ys : List B) (n : ℕ) (found : List HoverParameter) (x : A) (y : B) → Gathered name formal xs ys n found
     → n < length xs → n < length ys → ((d : A) → x ≡ get_or xs n d) → ((e : B) → y ≡ get_or ys n e) → Gathered name formal xs ys (suc n) (found ++ parameter_hover (name x) (formal y) ∷ [])
 gathered_further name formal xs ys n found x y so_far h g at here =
     append_assoc found (parameter_hover (name x) (formal y) ∷ []) (parameters_hover (map name (drop (suc n) xs)) (map formal (drop (suc n) ys)))
@@ -34,6 +34,6 @@ shown_ends name formal (x ∷ xs) [] (suc n) e = absurd (omega arith)
 shown_ends name formal (x ∷ xs) (y ∷ ys) zero e = absurd (omega arith)
 shown_ends name formal (x ∷ xs) (y ∷ ys) (suc n) e = shown_ends name formal xs ys n (omega arith)
 
-pub gathered_all : {A B : Type 0} (name : A → Name) (formal : B → Formal) (xs : List A) (ys : List B) (n : ℕ) (found : List Parameter) → Gathered name formal xs ys n found
+pub gathered_all : {A B : Type 0} (name : A → Name) (formal : B → Formal) (xs : List A) (ys : List B) (n : ℕ) (found : List HoverParameter) → Gathered name formal xs ys n found
     → n ≡ min (length xs) (length ys) → found ≡ parameters_hover (map name xs) (map formal ys)
 gathered_all name formal xs ys n found so_far e = sym (append-nil found) ∙ ap (λ l. found ++ l) (sym (shown_ends name formal xs ys n e)) ∙ so_far

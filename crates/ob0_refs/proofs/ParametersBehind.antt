@@ -116,8 +116,8 @@ first_ones : (f : ℕ → List ℕ) (xs ys : List ℕ) → take (length xs) (map
 first_ones f [] ys = refl
 first_ones f (x ∷ xs) ys = ap (λ zs. f x ∷ zs) (first_ones f xs ys)
 
-behind : (m : Parsed) (h : ℕ × List ℕ) → Stands (declaring (tree_of m)) h → HasParametersAfter m h
-behind m h s =
+following : (m : Parsed) (h : ℕ × List ℕ) → Stands (declaring (tree_of m)) h → HasParametersAfter m h
+following m h s =
     let all : List ℕ = declaring (tree_of m) in
     let n : ℕ = length s.before in
     let place : (7 + n) - 7 ≡ n = omega arith in
@@ -128,10 +128,10 @@ behind m h s =
       declares =
           ap (λ b. if b then None else slice_get all ((7 + n) - 7)) late
           ∙ ((λ i. slice_get (s.is i) (place i)) ∙ got s.before h.0 (h.1 ++ s.after));
-      behind =
+      following =
           (λ i. take (length h.1) (map (text_at m.source) (drop (next i) (s.is i))))
           ∙ (ap (λ ys. take (length h.1) (map (text_at m.source) ys)) (left s.before h.0 (h.1 ++ s.after)) ∙ first_ones (text_at m.source) h.1 s.after);
     }
 
-pub parameters_are_behind-holds : ParametersFollow
-parameters_are_behind-holds m = All-weaker (Stands (declaring (tree_of m))) (HasParametersAfter m) (behind m) (block_headings (module_block (tree_of m))) (module_stands (tree_of m))
+pub parameters_are_following-holds : ParametersFollow
+parameters_are_following-holds m = All-weaker (Stands (declaring (tree_of m))) (HasParametersAfter m) (following m) (block_headings (module_block (tree_of m))) (module_stands (tree_of m))

@@ -8,7 +8,7 @@ use Rattle.ob0_tree.specs.Tree.{identifiers}
 use Rattle.ob0_scope_rules.specs.Names.{Name}
 use Rattle.ob0_scope_rules.specs.Resolution.{declaring_only}
 use Rattle.ob0_scope.specs.declared.naming.Named as named
-use Rattle.ob0_refs.specs.Hovers.{Parameter, constant_text, named_type_text, predeclared_text, procedure_text, type_text, variable_text}
+use Rattle.ob0_refs.specs.Hovers.{HoverParameter, constant_text, named_type_text, predeclared_text, procedure_text, type_text, variable_text}
 use Rattle.ob0_types_rules.specs.Expressions.{Object, a_constant, a_procedure, a_standard, a_type, a_variable}
 use Rattle.ob0_types_rules.specs.WellTyped.{Formal, Mode, Signature, by_place, by_value}
 use Rattle.ob0_values.specs.Values.{Shape, Value, elements, members, number, truth}
@@ -27,23 +27,23 @@ is_by_place by_value = false
 is_by_place by_place = true
 
 -- a parameter in a hover text
-abbrev pub parameter_hover : Name → Formal → Parameter
+abbrev pub parameter_hover : Name → Formal → HoverParameter
 parameter_hover name f =
     record { by_place = is_by_place f.mode; name = name; of = type_text f.shape }
 
 -- the parameters of a procedure, by the names that are declared after its own and by its signature
-abbrev pub parameters_hover : List Name → Signature → List Parameter
+abbrev pub parameters_hover : List Name → Signature → List HoverParameter
 parameters_hover (x ∷ xs) (f ∷ fs) = parameter_hover x f ∷ parameters_hover xs fs
 parameters_hover [] fs = []
 parameters_hover (x ∷ xs) [] = []
 
 -- a declaration, by what its name is bound to, the name and the names declared after it
 abbrev pub object_hover : Name → List Name → Object Shape Signature → Option (List ℕ)
-object_hover name behind (a_constant v) = constant_hover name v
-object_hover name behind (a_type s) = Some (named_type_text name (type_text s))
-object_hover name behind (a_variable s) = Some (variable_text name (type_text s))
-object_hover name behind (a_procedure fs) = Some (procedure_text name (parameters_hover behind fs))
-object_hover name behind (a_standard s) = Some (predeclared_text name)
+object_hover name following (a_constant v) = constant_hover name v
+object_hover name following (a_type s) = Some (named_type_text name (type_text s))
+object_hover name following (a_variable s) = Some (variable_text name (type_text s))
+object_hover name following (a_procedure fs) = Some (procedure_text name (parameters_hover following fs))
+object_hover name following (a_standard s) = Some (predeclared_text name)
 
 -- the names that are declared after what has this ordinal, in text order
 abbrev pub names_after : Parsed → ℕ → List Name

@@ -28,7 +28,7 @@ pub record HasParametersAfter (m : Parsed) (heading : ℕ × List ℕ) : Type 0 
   pub ordinal : ℕ
   pub declares : token_declaring (declaring_only (identifiers role.Declaring (tree_of m))) ordinal
       ≡ Some heading.0
-  pub behind : take (length heading.1) (names_after m ordinal) ≡ map (text_at m.source) heading.1
+  pub following : take (length heading.1) (names_after m ordinal) ≡ map (text_at m.source) heading.1
 
 -- the names declared after each procedure begin with those of its parameters
 abbrev pub ParametersFollow : Type 0

@@ -46,7 +46,7 @@ abbrev pub field_text : List ℕ → List ℕ → List ℕ
 field_text name of = codes "FIELD " ++ (name ++ (codes ": " ++ of))
 
 -- a parameter: whether it is passed by its place, its name and its type
-pub record Parameter : Type 0 where
+pub record HoverParameter : Type 0 where
   pub by_place : Bool
   pub name : List ℕ
   pub of : List ℕ
@@ -57,21 +57,21 @@ by_text true = codes "VAR "
 by_text false = []
 
 -- `a: T` or `VAR a: T`
-abbrev pub parameter_text : Parameter → List ℕ
+abbrev pub parameter_text : HoverParameter → List ℕ
 parameter_text p = by_text p.by_place ++ (p.name ++ (codes ": " ++ p.of))
 
 -- parameters after another one
-abbrev pub further_text : List Parameter → List ℕ
+abbrev pub further_text : List HoverParameter → List ℕ
 further_text [] = []
 further_text (p ∷ ps) = codes "; " ++ (parameter_text p ++ further_text ps)
 
 -- parameters with `; ` between them
-abbrev pub parameters_text : List Parameter → List ℕ
+abbrev pub parameters_text : List HoverParameter → List ℕ
 parameters_text [] = []
 parameters_text (p ∷ ps) = parameter_text p ++ further_text ps
 
 -- PROCEDURE p(a: T; VAR b: T)
-abbrev pub procedure_text : List ℕ → List Parameter → List ℕ
+abbrev pub procedure_text : List ℕ → List HoverParameter → List ℕ
 procedure_text name ps =
     codes "PROCEDURE " ++ (name ++ (codes "(" ++ (parameters_text ps ++ codes ")")))
 

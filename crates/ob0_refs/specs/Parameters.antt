@@ -5,5 +5,5 @@ use Rattle.ob0_refs.specs.Hovers as shown
 use Rattle.ob0_refs.specs.declared.hovers.Parameter.{Parameter}
 
 -- a parameter of the code
-abbrev pub parameter_in : Parameter → shown.Parameter
+abbrev pub parameter_in : Parameter → shown.HoverParameter
 parameter_in p = record { by_place = p.by_place; name = p.name.now; of = string_bytes p.of }

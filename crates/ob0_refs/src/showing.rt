@@ -110,8 +110,8 @@ fn procedure_line(
         (parameters_hover (names_after names.now.module_read name.ordinal)
         (signature_in known.now formals.now))) }
 {
-    let behind = declared_after(names, name.ordinal);
-    let parameters = parameters_of(alloc, known, names.tokens(), behind, formals)?;
+    let following = declared_after(names, name.ordinal);
+    let parameters = parameters_of(alloc, known, names.tokens(), following, formals)?;
     procedure_text(
         alloc,
         text_at(names.tokens(), name.token),
@@ -141,15 +141,15 @@ fn parameters_of<'s>(
     alloc: Global,
     known: &Known,
     tokens: &'s Tokens,
-    behind: &[usize],
+    following: &[usize],
     formals: &[Formal],
 ) -> Result<Vec<Parameter<'s>>, AllocError>
     ensures { IfOk result (λ ps. map parameter_in ps.items
-        ≡ parameters_hover (map (text_at tokens.now) behind.now)
+        ≡ parameters_hover (map (text_at tokens.now) following.now)
         (signature_in known.now formals.now)) }
 {
     let mut found = Vec::new(alloc);
-    for (token, formal) in behind.iter().zip(formals) {
+    for (token, formal) in following.iter().zip(formals) {
         found.push(parameter_of(alloc, known, text_at(tokens, *token), *formal)?)?;
     }
     Ok(found)

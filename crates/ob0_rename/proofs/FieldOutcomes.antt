@@ -83,18 +83,18 @@ other_none false (Some t) e = absurd (cc)
 other_none false None e = refl
 
 module _ (unit : counting.Unit) (text : List ℕ) (place : Position) (new : Name) (k : ℕ) (f : Name) where
-  abbrev pub asked_field : Resolution → Renaming
-  asked_field r = record { unit = unit; text = text; names = r; place = place; new = new }
+  abbrev pub requested_field : Resolution → Renaming
+  requested_field r = record { unit = unit; text = text; names = r; place = place; new = new }
 
   pub duplicated : (r : Resolution) → IsIdentifier new → DuplicateByToken → (token : ℕ) (why : EditRefusal) → (if same_name new f then None else declaring_field r.module_read k new) ≡ Some token
-      → why ≡ refusal.Duplicate (token_range (asked_field r) token) → IsRefusedToField (asked_field r) k f why
+      → why ≡ refusal.Duplicate (token_range (requested_field r) token) → IsRefusedToField (requested_field r) k f why
   duplicated r id by_token token why other is =
       let found = other_some (same_name new f) (declaring_field r.module_read k new) token other in
-      subst (IsRefusedToField (asked_field r) k f) (sym is) (id, by_token r.module_read k f new ∙ found.0, ap (option_map (token_range (asked_field r))) found.1)
+      subst (IsRefusedToField (requested_field r) k f) (sym is) (id, by_token r.module_read k f new ∙ found.0, ap (option_map (token_range (requested_field r))) found.1)
 
   pub field_answered : (r : Resolution) → IsWellTyped r → IsIdentifier new → FieldFree (named_tree_of r.module_read) k f new → FreeFieldKeepsModules → RenamedAtTokens → RenamedWordsSpell
       → ((name : List ℕ) → IsIdentifier name → ReplacesName name (name_word name ∷ [])) → AreNames r.module_read.source.tokens 0 (field_tokens_to_rename r k f new)
-      → (result : Result (Vec Edit Global) EditRefusal) → Edited unit text new r.module_read.source (field_tokens_to_rename r k f new) result → AnswersForField (asked_field r) k f result
+      → (result : Result (Vec Edit Global) EditRefusal) → Edited unit text new r.module_read.source (field_tokens_to_rename r k f new) result → AnswersForField (requested_field r) k f result
   field_answered r well id free keeps by_tokens spells stand names (Ok edits) made =
       let m = r.module_read in
       record {
@@ -107,7 +107,7 @@ module _ (unit : counting.Unit) (text : List ℕ) (place : Position) (new : Name
       }
   field_answered r well id free keeps by_tokens spells stand names (Err why) made =
       elim made.refusals [
-        | inl e ↦ inr (subst (IsRefusedToField (asked_field r) k f) (sym e) (id, free, made.too_long (ap Err e)))
+        | inl e ↦ inr (subst (IsRefusedToField (requested_field r) k f) (sym e) (id, free, made.too_long (ap Err e)))
         | inr e ↦ inl e
       ]
 

@@ -19,8 +19,8 @@ use Rattle.ob0_scope_rules.specs.Occurrences.{Free, at_declaration, at_occurrenc
 use Rattle.ob0_scope.specs.Renames.{namesake, other_of, place_of}
 use Rattle.ob0_scope_rules.specs.Resolution.{IsResolution, Resolution}
 use Rattle.ob0_scope_rules.specs.Scopes.{renamed}
-use Rattle.ob0_scope.specs.declared.capturing.FirstCapture as told
-use Rattle.ob0_scope.specs.declared.capturing.FirstCapture.TheVariants as tells
+use Rattle.ob0_scope.specs.declared.capturing.FirstCapture as reported
+use Rattle.ob0_scope.specs.declared.capturing.FirstCapture.TheVariants as reports
 use Rattle.ob0_analysis.specs.CheckedModules.{IsWellTyped}
 use Rattle.ob0_types_rules.specs.WellTyped.{WellTyped}
 use Rattle.ob0_run_rules.specs.EditLaws.{FreeKeepsModules, SameRuns}
@@ -57,31 +57,31 @@ difference_of false (Some j) k e = let same : j ≡ k = cc in ap Some same
 difference_of false None k e = absurd (cc)
 
 module _ (unit : counting.Unit) (text : List ℕ) (place : Position) (new : Name) (d : ℕ) where
-  abbrev pub asked : Resolution → Renaming
-  asked r = record { unit = unit; text = text; names = r; place = place; new = new }
+  abbrev pub requested : Resolution → Renaming
+  requested r = record { unit = unit; text = text; names = r; place = place; new = new }
 
-  pub captured : (r : Resolution) → IsResolution r → IsIdentifier new → (capture : told.FirstCapture) (why : EditRefusal)
+  pub captured : (r : Resolution) → IsResolution r → IsIdentifier new → (capture : reported.FirstCapture) (why : EditRefusal)
       → Some (place_of capture) ≡ first_captured (named_tree_of r.module_read) d new → other_of (Some capture) ≡ namesake (named_tree_of r.module_read) d new
-      → ((other token : ℕ) → capture ≡ tells.Duplicate other → declaring_token r.module_read other ≡ Some token → why ≡ refusal.Duplicate (token_range (asked r) token))
-      → ((k token : ℕ) → capture ≡ tells.Occurrence k → slice_get (occurrences (tree_of r.module_read)) k ≡ Some token → why ≡ refusal.Captures (token_range (asked r) token))
-      → IsRefusedTo (asked r) d why
-  captured r is id (tells.Duplicate other) why first named duplicate occurrence =
+      → ((other token : ℕ) → capture ≡ reports.Duplicate other → declaring_token r.module_read other ≡ Some token → why ≡ refusal.Duplicate (token_range (requested r) token))
+      → ((k token : ℕ) → capture ≡ reports.Occurrence k → slice_get (occurrences (tree_of r.module_read)) k ≡ Some token → why ≡ refusal.Captures (token_range (requested r) token))
+      → IsRefusedTo (requested r) d why
+  captured r is id (reports.Duplicate other) why first named duplicate occurrence =
       let m = r.module_read in
       let stands = other_stands m d new other (sym named) in
-      let range = ap (λ o. option_map (token_range (asked r)) (option_and_then (declaring_token m) o)) (sym named) ∙ ap (option_map (token_range (asked r))) stands.1 in
-      subst (IsRefusedTo (asked r) d) (sym (duplicate other stands.0 refl stands.1)) (id, sym first, range)
-  captured r is id (tells.Occurrence k) why first named duplicate occurrence =
+      let range = ap (λ o. option_map (token_range (requested r)) (option_and_then (declaring_token m) o)) (sym named) ∙ ap (option_map (token_range (requested r))) stands.1 in
+      subst (IsRefusedTo (requested r) d) (sym (duplicate other stands.0 refl stands.1)) (id, sym first, range)
+  captured r is id (reports.Occurrence k) why first named duplicate occurrence =
       let m = r.module_read in
       let bound = bindings (renamed (named_tree_of m) d new) in
       let found = difference_of (is_duplicate (named_tree_of m) d new) (first_difference bound (bindings (named_tree_of m))) k (sym first) in
       let stands = occurrence_stands r bound k is found in
-      subst (IsRefusedTo (asked r) d) (sym (occurrence k stands.0 refl stands.1)) (id, (k, sym first, ap (option_map (token_range (asked r))) stands.1))
+      subst (IsRefusedTo (requested r) d) (sym (occurrence k stands.0 refl stands.1)) (id, (k, sym first, ap (option_map (token_range (requested r))) stands.1))
 
   -- edits at places leave a text of a tree that the new name makes there, where that tree is well-typed and runs as the module
   pub written : (r : Resolution) (tree : Tree Name module_text) (places : List ℕ) → IsIdentifier new → ((name : List ℕ) → IsIdentifier name → ReplacesName name (name_word name ∷ []))
       → ((after : Scanned) → IsScan after → words_of after ≡ changed (at_each places (name_word new ∷ [])) 0 (words_of r.module_read.source) → ModuleOf after tree)
       → WellTyped tree × SameRuns tree (named_tree_of r.module_read)
-      → (edits : Vec Edit Global) → Edited unit text new r.module_read.source places (Ok edits) → WritesName (asked r) places tree edits.items
+      → (edits : Vec Edit Global) → Edited unit text new r.module_read.source places (Ok edits) → WritesName (requested r) places tree edits.items
   written r tree places id stand leaves kept edits made =
       let words = made.leaves (name_word new ∷ []) (stand new id) in
       record {
@@ -97,7 +97,7 @@ module _ (unit : counting.Unit) (text : List ℕ) (place : Position) (new : Name
 
   pub answered : (r : Resolution) → IsWellTyped r → IsIdentifier new → Free (named_tree_of r.module_read) d new → FreeKeepsModules → RenamedWordsSpell
       → ((name : List ℕ) → IsIdentifier name → ReplacesName name (name_word name ∷ [])) → AreNames r.module_read.source.tokens 0 (tokens_to_rename r.module_read d new)
-      → (result : Result (Vec Edit Global) EditRefusal) → Edited unit text new r.module_read.source (tokens_to_rename r.module_read d new) result → AnswersDeclaration (asked r) d result
+      → (result : Result (Vec Edit Global) EditRefusal) → Edited unit text new r.module_read.source (tokens_to_rename r.module_read d new) result → AnswersDeclaration (requested r) d result
   answered r well id free keeps spells stand names (Ok edits) made =
       let m = r.module_read in
       record {
@@ -110,7 +110,7 @@ module _ (unit : counting.Unit) (text : List ℕ) (place : Position) (new : Name
       }
   answered r well id free keeps spells stand names (Err why) made =
       elim made.refusals [
-        | inl e ↦ inr (subst (IsRefusedTo (asked r) d) (sym e) (id, free, made.too_long (ap Err e)))
+        | inl e ↦ inr (subst (IsRefusedTo (requested r) d) (sym e) (id, free, made.too_long (ap Err e)))
         | inr e ↦ inl e
       ]
 

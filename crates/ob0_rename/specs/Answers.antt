@@ -137,7 +137,7 @@ abbrev pub RenameAnswers : Renaming → Result (Vec Edit Global) EditRefusal →
 RenameAnswers r (Ok edits) = AreEdits r edits.items
 RenameAnswers r (Err why) = (why ≡ refusal.Memory) ⊎ IsRefused r why
 
--- Only here is memory asked for: a declaration or a field is named at the place, and the new name is an identifier.
+-- Only here is memory allocated: a declaration or a field is named at the place, and the new name is an identifier.
 pub record AllocatesOnly (r : Renaming) : Type 0 where
   pub identifier : IsIdentifier r.new
   pub some : ¬ (meant r ≡ nothing)

@@ -163,7 +163,7 @@ object_by l (a_standard p) = a_standard p
 
 -- names and fields as written
 abbrev pub named : {V P : Type 0} → (Name → Option (Object V P)) → Meanings Name V P
-named stands = record { stands_for = stands; written = λ x. x }
+named stands = record { object_for = stands; written = λ x. x }
 
 abbrev pub named_by : FieldNames → (Name → Option (Object Shape Signature)) → Typed Name
 named_by l stands = named (λ x. option_map (object_by l) (stands x))

@@ -10,7 +10,7 @@ use Rattle.ob0_types_rules.specs.Expressions.{Object, a_constant, a_procedure, a
 use Rattle.ob0_types_rules.specs.Typing.{constant_of, constant_value, constructors, denoted, type_of_name}
 use Rattle.ob0_types_rules.specs.WellTyped.{Mode, TypeEnvironment, bind_typed, by_place, by_value}
 use Rattle.ob0_values.specs.Values.{FieldShapes, Shape, Store, Value, array_shape, boolean_shape, copies, elements, initial, initial_members, integer_shape, members, next_field_shape, next_member, next_value, no_field_shape, record_shape}
-use Rattle.ob0_run_rules.specs.Runs.{Activation, Code, Frame, Parameter, allocate, bind_parameter, bind_parameters, declare_block, declare_procedures, declare_variables, formal_modes, parameters, passing, statement_meanings, with_procedures}
+use Rattle.ob0_run_rules.specs.Runs.{Activation, ProcedureText, Frame, Parameter, allocate, bind_parameter, bind_parameters, declare_block, declare_procedures, declare_variables, formal_modes, parameters, passing, statement_meanings, with_procedures}
 use Rattle.ob0_rename_laws.specs.Fields.{FieldNames, types_after_heading, types_after_variables, parameters_of, refield_block, refield_procedure, refield_procedures, refield_sections, refield_type, refield_types, refield_variables}
 use Rattle.ob0_rename_laws.proofs.Apart.{fields_by, named, shape_by}
 use Rattle.ob0_rename_laws.proofs.RefieldedExecution.{Given, Modes, argument_by, place_given, value_given}
@@ -26,7 +26,7 @@ pub record Text : Type 0 where
   pub checked : TypeEnvironment Name
   pub text : Tree Name (item procedure)
 
-abbrev pub code_by : FieldNames → Text → Code Name
+abbrev pub code_by : FieldNames → Text → ProcedureText Name
 code_by l c = record { first_constructor = c.first; text = refield_procedure l c.checked c.first c.text }
 
 abbrev pub Scene : Type 0

@@ -111,7 +111,7 @@ evaluate_argument-follows l apart things checked store by_place e =
         (or_stuck (option_map (refield_designator l checked) d) >>= (λ d. designate (active l things) (store_by l store) d.0 d.1 >>= (λ p. gives (place_argument p))))
     go None = inl refl
     go (Some (x, path)) =
-        follows-then (place_by tagged) (place_by l) (argument_by tagged) (argument_by l) _ _ (λ p. gives (place_argument p)) (λ p. gives (place_argument p)) (designate-follows l apart things checked store (object_type (checked.stands_for x)) x path) (λ p. (place_given p, refl, refl))
+        follows-then (place_by tagged) (place_by l) (argument_by tagged) (argument_by l) _ _ (λ p. gives (place_argument p)) (λ p. gives (place_argument p)) (designate-follows l apart things checked store (object_type (checked.object_for x)) x path) (λ p. (place_given p, refl, refl))
 
 pub evaluate_arguments-follows : {P : Type 0} (l : FieldNames) → KeepsApart l → (things : Things P) (checked : Typed Name) (store : Store) (ms : List Mode) (es : List (Tree Name expression))
     → Follows (map (argument_by tagged)) (map (argument_by l)) (evaluate_arguments (active tagged things) (store_by tagged store) ms (map (refield tagged checked None) es)) (evaluate_arguments (active l things) (store_by l store) ms (map (refield l checked None) es))
@@ -192,7 +192,7 @@ mutual
   execute-alike l apart things checked e₁ e₂ calls-alike t (assigns x path e) s =
       use_in-goes l (place_by tagged) (place_by l) s _ _
       (λ p. use_in (state_by tagged s) (evaluate (active tagged things) (store_by tagged s.store) (refield tagged checked None e)) (store_at (state_by tagged s) p)) (λ p. use_in (state_by l s) (evaluate (active l things) (store_by l s.store) (refield l checked None e)) (store_at (state_by l s) p))
-      (designate-follows l apart things checked s.store (object_type (checked.stands_for x)) x path)
+      (designate-follows l apart things checked s.store (object_type (checked.object_for x)) x path)
       (λ p. use_in-goes l (value_by tagged) (value_by l) s _ _ (store_at (state_by tagged s) (place_by tagged p)) (store_at (state_by l s) (place_by l p)) (evaluate-follows l apart things checked s.store e) (store_at-goes l apart s p))
   execute-alike l apart things checked e₁ e₂ calls-alike t (calls x es) s =
       use_in-goes l (map (argument_by tagged)) (map (argument_by l)) s

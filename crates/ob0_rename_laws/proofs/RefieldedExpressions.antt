@@ -131,12 +131,12 @@ mutual
       → ValuesFollow l (evaluate_factor (active tagged things) (store_by tagged store) (refield tagged checked None a)) (evaluate_factor (active l things) (store_by l store) (refield l checked None a))
   evaluate_factor-follows l apart things checked store (designator x path) =
       follows-then (value_by tagged) (value_by l) (value_by tagged) (value_by l) (value_of (store_by tagged store) (option_map (thing_by tagged (λ p. p)) (things x))) (value_of (store_by l store) (option_map (thing_by l (λ p. p)) (things x)))
-      (λ v. follow (active tagged things) (store_by tagged store) v (refield tagged checked (object_type (checked.stands_for x)) path) >>= (λ steps. or_stuck (at_path steps v)))
-      (λ v. follow (active l things) (store_by l store) v (refield l checked (object_type (checked.stands_for x)) path) >>= (λ steps. or_stuck (at_path steps v)))
+      (λ v. follow (active tagged things) (store_by tagged store) v (refield tagged checked (object_type (checked.object_for x)) path) >>= (λ steps. or_stuck (at_path steps v)))
+      (λ v. follow (active l things) (store_by l store) v (refield l checked (object_type (checked.object_for x)) path) >>= (λ steps. or_stuck (at_path steps v)))
       (value_of-follows l apart store (things x))
       (λ v. follows-then (map (step_by tagged)) (map (step_by l)) (value_by tagged) (value_by l)
-      (follow (active tagged things) (store_by tagged store) (value_by tagged v) (refield tagged checked (object_type (checked.stands_for x)) path)) (follow (active l things) (store_by l store) (value_by l v) (refield l checked (object_type (checked.stands_for x)) path))
-      (λ steps. or_stuck (at_path steps (value_by tagged v))) (λ steps. or_stuck (at_path steps (value_by l v))) (follow-follows l apart things checked store (object_type (checked.stands_for x)) v path)
+      (follow (active tagged things) (store_by tagged store) (value_by tagged v) (refield tagged checked (object_type (checked.object_for x)) path)) (follow (active l things) (store_by l store) (value_by l v) (refield l checked (object_type (checked.object_for x)) path))
+      (λ steps. or_stuck (at_path steps (value_by tagged v))) (λ steps. or_stuck (at_path steps (value_by l v))) (follow-follows l apart things checked store (object_type (checked.object_for x)) v path)
       (λ moves. or_stuck-follows (value_by tagged) (value_by l) (at_path (map (step_by tagged) moves) (value_by tagged v)) (at_path (map (step_by l) moves) (value_by l v)) (at_path-finds l apart moves v)))
   evaluate_factor-follows l apart things checked store (integer n) = (number (pos n), refl, refl)
   evaluate_factor-follows l apart things checked store (parenthesised e) = evaluate-follows l apart things checked store e

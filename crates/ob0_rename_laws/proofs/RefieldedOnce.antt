@@ -123,8 +123,8 @@ refield-bare : {s : Sort} (meaning : Typed Name) (o : Option Shape) (t : Tree Na
 refield-bare meaning o (more t ts) = λ i. more (refield-bare meaning o t i) (refield-bare meaning (type_after o t) ts i)
 refield-bare meaning o (field x) = refl
 refield-bare meaning o (index e) = λ i. index (refield-bare meaning None e i)
-refield-bare meaning o (designator x path) = λ i. designator x (refield-bare meaning (object_type (meaning.stands_for x)) path i)
-refield-bare meaning o (assigns x path e) = λ i. assigns x (refield-bare meaning (object_type (meaning.stands_for x)) path i) (refield-bare meaning None e i)
+refield-bare meaning o (designator x path) = λ i. designator x (refield-bare meaning (object_type (meaning.object_for x)) path i)
+refield-bare meaning o (assigns x path e) = λ i. assigns x (refield-bare meaning (object_type (meaning.object_for x)) path i) (refield-bare meaning None e i)
 refield-bare meaning o (one t) = λ i. one (refield-bare meaning None t i)
 refield-bare meaning o (compares left compared) = λ i. compares (refield-bare meaning None left i) (refield-bare meaning None compared i)
 refield-bare meaning o (relates relation right) = λ i. relates relation (refield-bare meaning None right i)

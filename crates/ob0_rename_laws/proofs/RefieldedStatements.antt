@@ -13,7 +13,7 @@ use Rattle.ob0_rename_laws.proofs.Apart.{agree-by, formal_by, named, named_by, o
 use Rattle.ob0_rename_laws.proofs.RefieldedTypes.{type_at-refield, type_of-refield}
 
 abbrev pub refield_designator : FieldNames → Typed Name → Name × Tree Name (items selector) → Name × Tree Name (items selector)
-refield_designator l meaning d = (d.0, refield l meaning (object_type (meaning.stands_for d.0)) d.1)
+refield_designator l meaning d = (d.0, refield l meaning (object_type (meaning.object_for d.0)) d.1)
 
 pub designated-refield : (l : FieldNames) (meaning : Typed Name) (e : Tree Name expression) → designated (refield l meaning None e) ≡ option_map (refield_designator l meaning) (designated e)
 designated-refield l meaning (compares (sum None (product (designator x path) end) end) none) = refl

@@ -156,8 +156,8 @@ at_path-finds l apart (m ∷ moves) v =
     (λ w. at_path-finds l apart moves w)
 
 -- a value with another at the end of a path, in a part of it
-abbrev pub behind_part : FieldNames → List Move → Value → Value → Move → Option Value → Option Value
-behind_part l moves new v m o = option_and_then (λ old. option_map (with_part (value_by l v) (step_by l m)) (with_at_path (map (step_by l) moves) (value_by l new) old)) o
+abbrev pub following_part : FieldNames → List Move → Value → Value → Move → Option Value → Option Value
+following_part l moves new v m o = option_and_then (λ old. option_map (with_part (value_by l v) (step_by l m)) (with_at_path (map (step_by l) moves) (value_by l new) old)) o
 
 pub with_at_path-finds : (l : FieldNames) → KeepsApart l → (moves : List Move) (new v : Value)
     → Finds (value_by tagged) (value_by l) (with_at_path (map (step_by tagged) moves) (value_by tagged new) (value_by tagged v)) (with_at_path (map (step_by l) moves) (value_by l new) (value_by l v))
@@ -167,12 +167,12 @@ with_at_path-finds l apart (m ∷ moves) new v =
   where
     go : Reaches l v m → (o : Option Value) → part v (step_by bare m) ≡ o
         → ((old : Value) → Finds (value_by tagged) (value_by l) (with_at_path (map (step_by tagged) moves) (value_by tagged new) (value_by tagged old)) (with_at_path (map (step_by l) moves) (value_by l new) (value_by l old)))
-        → Finds (value_by tagged) (value_by l) (behind_part tagged moves new v m (part (value_by tagged v) (step_by tagged m))) (behind_part l moves new v m (part (value_by l v) (step_by l m)))
-    go (inl e) o eo below = subst (λ p. Finds (value_by tagged) (value_by l) (behind_part tagged moves new v m p) (behind_part l moves new v m (part (value_by l v) (step_by l m)))) (sym e) tt
+        → Finds (value_by tagged) (value_by l) (following_part tagged moves new v m (part (value_by tagged v) (step_by tagged m))) (following_part l moves new v m (part (value_by l v) (step_by l m)))
+    go (inl e) o eo below = subst (λ p. Finds (value_by tagged) (value_by l) (following_part tagged moves new v m p) (following_part l moves new v m (part (value_by l v) (step_by l m)))) (sym e) tt
     go (inr h) None eo below =
-        subst (λ p. Finds (value_by tagged) (value_by l) (behind_part tagged moves new v m p) (behind_part l moves new v m (part (value_by l v) (step_by l m)))) (sym (h.0.reached ∙ ap (option_map (value_by tagged)) eo)) tt
+        subst (λ p. Finds (value_by tagged) (value_by l) (following_part tagged moves new v m p) (following_part l moves new v m (part (value_by l v) (step_by l m)))) (sym (h.0.reached ∙ ap (option_map (value_by tagged)) eo)) tt
     go (inr h) (Some old) eo below =
-        subst₂ (λ p q. Finds (value_by tagged) (value_by l) (behind_part tagged moves new v m p) (behind_part l moves new v m q)) (sym (h.0.reached ∙ ap (option_map (value_by tagged)) eo)) (sym (h.1.reached ∙ ap (option_map (value_by l)) eo))
+        subst₂ (λ p q. Finds (value_by tagged) (value_by l) (following_part tagged moves new v m p) (following_part l moves new v m q)) (sym (h.0.reached ∙ ap (option_map (value_by tagged)) eo)) (sym (h.1.reached ∙ ap (option_map (value_by l)) eo))
         (finds-made (value_by tagged) (value_by l) (value_by tagged) (value_by l) (with_at_path (map (step_by tagged) moves) (value_by tagged new) (value_by tagged old)) (with_at_path (map (step_by l) moves) (value_by l new) (value_by l old))
         (with_part (value_by tagged v) (step_by tagged m)) (with_part (value_by l v) (step_by l m)) (with_part v (step_by bare m)) (below old) h.0.written h.1.written)
 

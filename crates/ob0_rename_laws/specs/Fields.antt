@@ -36,9 +36,9 @@ refield l meaning s (more t ts) =
 refield l meaning s (field x) = field (l (record_of s) x)
 refield l meaning s (index e) = index (refield l meaning None e)
 refield l meaning s (designator x path) =
-    designator x (refield l meaning (object_type (meaning.stands_for x)) path)
+    designator x (refield l meaning (object_type (meaning.object_for x)) path)
 refield l meaning s (assigns x path e) =
-    assigns x (refield l meaning (object_type (meaning.stands_for x)) path)
+    assigns x (refield l meaning (object_type (meaning.object_for x)) path)
     (refield l meaning None e)
 refield l meaning s (one t) = one (refield l meaning None t)
 refield l meaning s (compares left compared) =

@@ -18,13 +18,13 @@ pub record At : Type 0 where
   pub uri : List ℕ
   pub position : Position
 
--- what is asked; texts are their bytes
+-- a request; texts are their bytes
 pub data ClientRequest : Type 0 where
   initialize : Client → ClientRequest
   shutdown : ClientRequest
   hover : At → ClientRequest
   definition : At → ClientRequest
-  -- whether the declaration is asked for too
+  -- whether the declaration is requested too
   references : At → Bool → ClientRequest
   prepare_rename : At → ClientRequest
   -- the new name
@@ -88,7 +88,7 @@ abbrev pub initialize_of : Data → Option ClientRequest
 initialize_of params =
     if is_some (as_object params) then Some (initialize (client_of params)) else None
 
--- ---- what is asked of a document
+-- ---- requests about a document
 
 -- a document and a place, where both can be read
 abbrev pub at_by : Option (List ℕ) → Option Position → Option At

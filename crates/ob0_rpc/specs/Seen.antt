@@ -75,12 +75,12 @@ seen_call (called.TheVariants.Formatting uri indent) = formatting (string_bytes 
 
 -- what the code makes of a request that asks this
 abbrev pub Requests : Result ClientRequest RpcFault → Result called.Call RpcFault → Type 0
-Requests asked (Ok call) = asked ≡ Ok (seen_call call)
-Requests asked (Err UnknownMethod) = asked ≡ Err UnknownMethod
-Requests asked (Err BadParams) = asked ≡ Err BadParams
-Requests asked (Err Memory) = Unit {0}
-Requests asked (Err NotJson) = ⊥
-Requests asked (Err NotAMessage) = ⊥
+Requests requested (Ok call) = requested ≡ Ok (seen_call call)
+Requests requested (Err UnknownMethod) = requested ≡ Err UnknownMethod
+Requests requested (Err BadParams) = requested ≡ Err BadParams
+Requests requested (Err Memory) = Unit {0}
+Requests requested (Err NotJson) = ⊥
+Requests requested (Err NotAMessage) = ⊥
 
 -- a notification of the code
 abbrev pub seen_note : noted.Note → Notification

@@ -18,7 +18,7 @@ pub use clients::Client;
 pub use incoming::{Id, Incoming, RpcFault, read};
 pub use json_text::{Written, begin_list, end_list, write_item};
 pub use notes::{Note, notice};
-pub use objects::{Entry, end_object, first_member, next_member};
+pub use objects::{OneMember, end_object, first_member, next_member};
 pub use outgoing::{
     ErrorResponse, Notification, Response, ResponseError, content_of, error, notify, result_of,
 };

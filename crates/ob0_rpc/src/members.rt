@@ -3,7 +3,7 @@ ghost use Rattle.std.specs.Prelude.{◌≡◌, option_map, string_bytes};
 ghost use Rattle.std.specs.Str.{chars};
 ghost use Rattle.serde_json.specs.Find.{as_str, get};
 ghost use Rattle.serde_json.specs.View.{view};
-ghost use Rattle.ob0_rpc.specs.Members.{is_absent as absent, text_in as text_of_member, truth_in as truth_of_member, count_in as count_of_member, uri_of as uri_told, version_of as version_told, text_of as text_told, position_of as position_told, position_in as position_of_member, range_of as range_told, range_in as range_of_member};
+ghost use Rattle.ob0_rpc.specs.Members.{is_absent as absent, text_in as text_of_member, truth_in as truth_of_member, count_in as count_of_member, uri_of as uri_reported, version_of as version_reported, text_of as text_reported, position_of as position_reported, position_in as position_of_member, range_of as range_reported, range_in as range_of_member};
 
 use ob0_text::{Position, Range};
 use serde_json::Value;
@@ -41,21 +41,21 @@ pub fn count_in(value: &Value, name: &str) -> Option<u64>
 
 /// The document that params name.
 pub fn uri_of(params: &Value) -> Option<&str>
-    ensures { option_map (λ s. s.now) result ≡ uri_told (view params.now) }
+    ensures { option_map (λ s. s.now) result ≡ uri_reported (view params.now) }
 {
     params.get("textDocument")?.get("uri")?.as_str()
 }
 
 /// The version of the document that params name, a whole number of 64 bits with a sign.
 pub fn version_of(params: &Value) -> Option<i64>
-    ensures { result ≡ version_told (view params.now) }
+    ensures { result ≡ version_reported (view params.now) }
 {
     params.get("textDocument")?.get("version")?.as_i64()
 }
 
 /// The text of the document that params name, taken out of them.
 pub fn into_document_text(params: Value) -> Option<String>
-    ensures { option_map (λ s. chars (string_bytes s)) result ≡ text_told (view params) }
+    ensures { option_map (λ s. chars (string_bytes s)) result ≡ text_reported (view params) }
 {
     into_text_in(into_member(params, "textDocument")?, "text")
 }
@@ -96,7 +96,7 @@ fn into_text(value: Value) -> Option<String>
 
 /// A position: a line and a character, both whole numbers from 0 to 2^64-1.
 pub fn position_of(value: &Value) -> Option<Position>
-    ensures { result ≡ position_told (view value.now) }
+    ensures { result ≡ position_reported (view value.now) }
 {
     let line = count_in(value, "line")?;
     let character = count_in(value, "character")?;
@@ -112,7 +112,7 @@ pub fn position_in(value: &Value, name: &str) -> Option<Position>
 
 /// A range: its start and its end, in whatever order they are.
 pub fn range_of(value: &Value) -> Option<Range>
-    ensures { result ≡ range_told (view value.now) }
+    ensures { result ≡ range_reported (view value.now) }
 {
     let start = position_in(value, "start")?;
     let end = position_in(value, "end")?;

@@ -40,12 +40,12 @@ pub fn end_object(out: &mut Vec<u8>) -> Result<(), AllocError>
 
 /// An object of one member, whose name is a text that may need escapes.
 #[derive(Drop)]
-pub struct Entry<'a, W> {
+pub struct OneMember<'a, W> {
     pub key: &'a str,
     pub value: W,
 }
 
-impl<'a, W: Written> Written for Entry<'a, W> {
+impl<'a, W: Written> Written for OneMember<'a, W> {
     ghost value = { λ e. object (member e.key.now (W.value e.value) no_members) };
 
     fn write(&self, out: &mut Vec<u8>) -> Result<(), AllocError> {

@@ -47,10 +47,10 @@ fn write_range(out: &mut Vec<u8>, start: Position, end: Position) -> Result<(), 
     ensures { OnOk result (Appends (range_value start end) out.old.items out.new.items) }
 {
     let mut room = [0; ROOM];
-    let behind_start = piece_before(&mut room, ROOM, b"}");
-    let at_start = position_before(&mut room, behind_start, start);
-    let behind_end = piece_before(&mut room, at_start, b",\"start\":");
-    let at_end = position_before(&mut room, behind_end, end);
+    let following_start = piece_before(&mut room, ROOM, b"}");
+    let at_start = position_before(&mut room, following_start, start);
+    let following_end = piece_before(&mut room, at_start, b",\"start\":");
+    let at_end = position_before(&mut room, following_end, end);
     let at = piece_before(&mut room, at_end, b"{\"end\":");
     write_piece(out, &room[at..])
 }
@@ -63,10 +63,10 @@ fn position_before(room: &mut [u8], at: usize, position: Position) -> usize
         ≡ compact_text (position_value position) ++ drop at room.old }
     ensures reads { IsReadBack (position_value position) }
 {
-    let behind_line = piece_before(room, at, b"}");
-    let at_line = count_before(room, behind_line, position.line);
-    let behind_character = piece_before(room, at_line, b",\"line\":");
-    let at_character = count_before(room, behind_character, position.character);
+    let following_line = piece_before(room, at, b"}");
+    let at_line = count_before(room, following_line, position.line);
+    let following_character = piece_before(room, at_line, b",\"line\":");
+    let at_character = count_before(room, following_character, position.character);
     piece_before(room, at_character, b"{\"character\":")
 }
 

@@ -44,12 +44,12 @@ pub struct Outcome {
 }
 
 /// How a run of the machine ended.
-fn end_of(end: ob0_run_machine::End) -> End
+fn end_of(end: ob0_run_machine::Halt) -> End
     ensures { end_in result ≡ end_of (machine.end_in end) }
 {
     match end {
-        ob0_run_machine::End::Done => End::Done,
-        ob0_run_machine::End::Ended(ending) => match ending {
+        ob0_run_machine::Halt::Done => End::Done,
+        ob0_run_machine::Halt::Ended(ending) => match ending {
             Ending::Overflow => End::Overflow,
             Ending::Divisor => End::Divisor,
             Ending::Index => End::Index,

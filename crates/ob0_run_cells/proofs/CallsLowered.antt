@@ -10,7 +10,7 @@ use Rattle.ob0_types_rules.specs.WellTyped.{Signature, TypeEnvironment, TypedPar
 use Rattle.ob0_values.specs.Values.{Place, Shape, Store}
 use Rattle.ob0_run_rules.specs.Fitting.{ArgumentsFit, BindingFits, EnvironmentsFit, StoreFits, StoreTyping}
 use Rattle.ob0_run_rules.specs.GivenUp.{call_giving_up, drop_variables}
-use Rattle.ob0_run_rules.specs.Runs.{Activation, Argument, Code, Frame, Progress, State, activate, bind_parameters, declare_block, execute_body, in_frame, running, statement_meanings, stopped}
+use Rattle.ob0_run_rules.specs.Runs.{Activation, Argument, ProcedureText, Frame, Progress, State, activate, bind_parameters, declare_block, execute_body, in_frame, running, statement_meanings, stopped}
 use Rattle.ob0_run_rules.proofs.SoundCalls.{from-fit, names-fit, parameters-of_typed, some-inverse}
 use Rattle.ob0_run_machine.specs.Evaluation.{Level, Levels}
 use Rattle.ob0_run_machine.specs.Execution as execution
@@ -32,7 +32,7 @@ numbers-zero (suc n) zero = refl
 numbers-zero (suc n) (suc i) = numbers-zero n i
 
 -- what a call has of its own is given up in both
-pub give_up-represents : (typing now others : StoreTyping) (old : Store) (base : ℕ) (p : execution.Progress) (q : Progress) → now ≡ typing ++ others → StoreFits typing old → base ≡ length (all_cells old) → ProgressRepresents now p q → ProgressRepresents typing (execution.drop_variables base p) (drop_variables (length old) q)
+pub give_up-represents : (typing now others : StoreTyping) (old : Store) (base : ℕ) (p : execution.MachineProgress) (q : Progress) → now ≡ typing ++ others → StoreFits typing old → base ≡ length (all_cells old) → ProgressRepresents now p q → ProgressRepresents typing (execution.drop_variables base p) (drop_variables (length old) q)
 give_up-represents typing now others old base (execution.running low) (running s) e fits is h =
     let (kept, cells) = variables_are_given_up-holds typing others old s.store fits (subst (λ all. StoreFits all s.store) e h.store_fits) in
     record {
@@ -47,7 +47,7 @@ give_up-represents typing now others old base (execution.stopped x out) (stopped
 give_up-represents typing now others old base (execution.running low) (stopped y written) e fits is h = absurd h
 give_up-represents typing now others old base (execution.stopped x out) (running s) e fits is h = absurd h
 
-module _ {N : Type 0} (table : List lowered.Procedure) (most : ℕ) (naming : Naming N) where
+module _ {N : Type 0} (table : List lowered.Routine) (most : ℕ) (naming : Naming N) where
   abbrev pub body_of : ℕ → ℕ → StoreTyping → Levels → Activation N → Body N
   body_of c t typing ls active = record { typing = typing; active = statement_meanings naming active; levels = ls; enters = call_giving_up naming c t active; lowered_enters = execution.call table c t }
 
@@ -58,7 +58,7 @@ module _ {N : Type 0} (table : List lowered.Procedure) (most : ℕ) (naming : Na
       → CallsRepresent (meanings naming checked) (targets_in naming placing) (body_of c t typing ls active)
 
   pub body-represents : (c t : ℕ) → CallsKnown c t → (typing : StoreTyping) (ls : Levels) (checked : TypeEnvironment N) (placing : Placing N) (active : Activation N) → EnvironmentsFit naming typing checked active → PlacingFits table most naming typing ls checked placing active → sizes typing + c * most < 2 ^ 64
-      → (code : lowered.Statements) (statements : Tree N (maybe body)) → BodyMeans naming checked placing code statements → (low : execution.State) (s : State) → Represents typing low s
+      → (code : lowered.Instructions) (statements : Tree N (maybe body)) → BodyMeans naming checked placing code statements → (low : execution.MachineState) (s : State) → Represents typing low s
       → ProgressRepresents typing (execution.execute_all (execution.call table c t) t ls code low) (execute_body naming active (call_giving_up naming c t active) t statements s)
   unfolding execution.execute execute_body
   body-represents c t known typing ls checked placing active env placed few code none means low s h = subst (λ code. ProgressRepresents typing (execution.execute_all (execution.call table c t) t ls code low) (running s)) (sym means) h
@@ -70,7 +70,7 @@ module _ {N : Type 0} (table : List lowered.Procedure) (most : ℕ) (naming : Na
         calls_represent = known typing ls checked placing active env placed few;
       } t low s h
 
-  pub activate-represents : (c t : ℕ) → CallsKnown c t → (typing : StoreTyping) (ls : Levels) (checked : TypeEnvironment N) (placing : Placing N) (active : Activation N) (signature : Signature) (args : List Argument) (low : execution.State) (s : State) (p : execution.Passed)
+  pub activate-represents : (c t : ℕ) → CallsKnown c t → (typing : StoreTyping) (ls : Levels) (checked : TypeEnvironment N) (placing : Placing N) (active : Activation N) (signature : Signature) (args : List Argument) (low : execution.MachineState) (s : State) (p : execution.Passed)
       → EnvironmentsFit naming typing checked active → PlacingFits table most naming typing ls checked placing active → sizes typing + suc c * most < 2 ^ 64 → newest checked ≡ Some (a_procedure signature) → Represents typing low s → ArgumentsFit typing signature args
       → p.cells ≡ low.cells ++ argument_cells args → p.addresses ≡ argument_addresses typing args → HaveNumbers p.cells
       → ProgressRepresents typing (execution.call table (suc c) t (first_target placing).procedure (execution.entered ls (length low.cells) (first_target placing).up p) record low { cells = p.cells }) (drop_variables (length s.store) (activate naming (call_giving_up naming c t) t active args s))
@@ -81,7 +81,7 @@ module _ {N : Type 0} (table : List lowered.Procedure) (most : ℕ) (naming : Na
   activate-represents c t known typing ls (b ∷ checked) (w ∷ placing) [] signature args low s p env placed few e h fit cells there numbers = absurd env
   activate-represents c t known typing ls ((x, o) ∷ checked) ((z, w) ∷ placing) ((y, r) ∷ active) signature args low s p env placed few e h fit cells there numbers = of_objects o w r env.1 placed.2 (some-inverse {a = o} {b = a_procedure signature} e)
     where
-      of_text : (tg : Target) (outer : Placing N) (entry : lowered.Procedure) (j : ℕ) (text : Tree N (item procedure)) (ps : List (TypedParameter N)) → PlacingFits table most naming typing (drop tg.up ls) checked outer active → typed_parameters naming checked j (procedure_formals text) ≡ Some ps
+      of_text : (tg : Target) (outer : Placing N) (entry : lowered.Routine) (j : ℕ) (text : Tree N (item procedure)) (ps : List (TypedParameter N)) → PlacingFits table most naming typing (drop tg.up ls) checked outer active → typed_parameters naming checked j (procedure_formals text) ≡ Some ps
           → slice_get table tg.procedure ≡ Some entry → signature ≡ map (λ p. p.formal) ps → procedure_fits naming (bind_typed ps (heading x ps checked)) j text ≡ true
           → ProcedureMeans table most naming (bind_typed ps (heading x ps checked)) (entered_placing ps ((x, own_target tg.procedure) ∷ outer)) j entry text
           → ProgressRepresents typing (execution.call table (suc c) t tg.procedure (execution.entered ls (length low.cells) tg.up p) record low { cells = p.cells }) (drop_variables (length s.store) (activate naming (call_giving_up naming c t) t ((y, a_procedure record { first_constructor = j; text = text }) ∷ active) args s))
@@ -90,7 +90,7 @@ module _ {N : Type 0} (table : List lowered.Procedure) (most : ℕ) (naming : Na
           let l : Level = record { base = length low.cells; addresses = p.addresses } in
           let seen : Levels = drop tg.up ls in
           let f : Frame N = record { env = (y, a_procedure record { first_constructor = j; text = text }) ∷ active; store = s.store } in
-          let p₀ : Placed N = record { placing = inward ((x, own_target tg.procedure) ∷ outer); cells = 0; lent_places = 0 } in
+          let p₀ : Placed N = record { placing = inward ((x, own_target tg.procedure) ∷ outer); cells = 0; reference_places = 0 } in
           let sized : length low.cells ≡ sizes typing = ap length h.same_cells ∙ store-size typing s.store h.store_fits in
           let start : FramePlaced table most naming typing (l ∷ seen) l.base (heading x ps checked) p₀ f = record {
             store_fits = h.store_fits;
@@ -102,7 +102,7 @@ module _ {N : Type 0} (table : List lowered.Procedure) (most : ℕ) (naming : Na
           let (k, after, q₂, ek, total, bounded, body_means, rest) = block-placed table most naming part.typing_now (l ∷ seen) l.base (held 0) (λ c. refl) (j + formals_constructors (formal_sections fs)) entry.cells entry.body b (bind_typed ps (heading x ps checked)) (entered_placing ps ((x, own_target tg.procedure) ∷ outer)) g part.frame fits means in
           let counted : l.base + q₂.cells ≡ sizes rest.typing_now = rest.frame.cells_counted in
           let room : sizes rest.typing_now + c * most < 2 ^ 64 = omega (arith, counted, bounded, sized, few) in
-          let low₂ : execution.State = record low { cells = p.cells ++ execution.zeros entry.cells } in
+          let low₂ : execution.MachineState = record low { cells = p.cells ++ execution.zeros entry.cells } in
           let s₂ : State = record s { store = k.store } in
           let represents : Represents rest.typing_now low₂ s₂ = record {
             store_fits = rest.frame.store_fits;
@@ -119,7 +119,7 @@ module _ {N : Type 0} (table : List lowered.Procedure) (most : ℕ) (naming : Na
           subst (λ o. ProgressRepresents typing (execution.drop_variables l.base (execution.activate (execution.call table c t) t (l ∷ seen) o record low { cells = p.cells })) (drop_variables (length s.store) (activate naming (call_giving_up naming c t) t ((y, a_procedure record { first_constructor = j; text = text }) ∷ active) args s))) (sym et)
           (subst (λ frame. ProgressRepresents typing (execution.drop_variables l.base (execution.execute_all (execution.call table c t) t (l ∷ seen) entry.body low₂)) (drop_variables (length s.store) (in_frame s frame (λ f. execute_body naming f.env (call_giving_up naming c t f.env) t (block_statements b))))) (sym frames) gives_up)
 
-      of_objects : (o : Object Shape Signature) (w : Whereabouts) (r : Object Place (Code N)) → BindingFits naming typing checked x o r → IsPlaced table most naming typing ls checked (λ ls placing. PlacingFits table most naming typing ls checked placing active) x o w r → o ≡ a_procedure signature
+      of_objects : (o : Object Shape Signature) (w : Whereabouts) (r : Object Place (ProcedureText N)) → BindingFits naming typing checked x o r → IsPlaced table most naming typing ls checked (λ ls placing. PlacingFits table most naming typing ls checked placing active) x o w r → o ≡ a_procedure signature
           → ProgressRepresents typing (execution.call table (suc c) t (target_of w).procedure (execution.entered ls (length low.cells) (target_of w).up p) record low { cells = p.cells }) (drop_variables (length s.store) (activate naming (call_giving_up naming c t) t ((y, r) ∷ active) args s))
       of_objects (a_procedure sg) (at_target tg) (a_procedure code) bound at e =
           let (ps, eps, sig, fits) = bound in

@@ -35,7 +35,7 @@ pub copied-within : (cells : List ℤ) (to from n : ℕ) → to + n ≤ length c
 copied-within cells to from n h k =
     ap (λ b. if b then take to cells ++ (take n (drop from cells) ++ drop (to + n) cells) else cells) (both-within (to + n) (length cells) (from + n) (length cells) h k)
 
-pub cells-copied : (typing : StoreTyping) (low : execution.State) (s : State) (p q : Place) (shape : Shape) → Represents typing low s → PlaceFits typing p shape → PlaceFits typing q shape
+pub cells-copied : (typing : StoreTyping) (low : execution.MachineState) (s : State) (p q : Place) (shape : Shape) → Represents typing low s → PlaceFits typing p shape → PlaceFits typing q shape
     → ProgressRepresents typing (execution.running record low { cells = execution.copied low.cells (address typing p) (address typing q) (size shape) }) (use_in s (or_stuck (read_place s.store q)) (store_at s p))
 cells-copied typing low s p q shape h fit_p fit_q =
     let (inside_q, at_q) = places_are_slices-holds typing s.store q shape h.store_fits fit_q in
@@ -109,11 +109,11 @@ module _ {N : Type 0} (checked : Typed N) (slots : N → Slot) (targets : N → 
       (place-in checked slots targets b shown r shape w hw low s h)
       (λ p' fit'. cells-copied b.typing low s p p' shape h fit fit')))
 
-  pub reads-mean : (x : N) (es : Tree N (maybe arguments)) (e : Tree N expression) (q : lowered.Place) → checked.stands_for x ≡ Some (a_standard reads) → arguments_listed es ≡ e ∷ [] → IsAt checked slots q integer_shape e → StatementMeans checked slots targets (lowered.reads q) (calls x es)
+  pub reads-mean : (x : N) (es : Tree N (maybe arguments)) (e : Tree N expression) (q : lowered.Place) → checked.object_for x ≡ Some (a_standard reads) → arguments_listed es ≡ e ∷ [] → IsAt checked slots q integer_shape e → StatementMeans checked slots targets (lowered.reads q) (calls x es)
   unfolding execution.execute execute evaluate_arguments
   reads-mean x es e q st one hq b shown t low s h =
       let (y, others, v, d, ey, hp) = hq in
-      let stands : b.active.stands_for x ≡ Some (a_standard reads) = standard-stands b.typing reads (b.active.stands_for x) (subst (λ o. ObjectFits b.typing o (b.active.stands_for x)) st (shown.names_fit.0 x)) in
+      let stands : b.active.object_for x ≡ Some (a_standard reads) = standard-stands b.typing reads (b.active.object_for x) (subst (λ o. ObjectFits b.typing o (b.active.object_for x)) st (shown.names_fit.0 x)) in
       subst (λ o. ProgressRepresents b.typing (execution.use_in low (machine.address b.levels low.cells q) (λ a. execution.read_number low a low.input)) (use_in s (modes_of o >>= (λ modes. evaluate_arguments b.active s.store modes (arguments_listed es))) (λ args. perform o (b.enters x) args s))) (sym stands)
       (subst (λ l. ProgressRepresents b.typing (execution.use_in low (machine.address b.levels low.cells q) (λ a. execution.read_number low a low.input)) (use_in s (evaluate_arguments b.active s.store (by_place ∷ []) l) (λ args. perform (Some (a_standard reads)) (b.enters x) args s))) (sym one)
       (subst (λ o. ProgressRepresents b.typing (execution.use_in low (machine.address b.levels low.cells q) (λ a. execution.read_number low a low.input)) (use_in s ((or_stuck o >>= (λ d. designate b.active s.store d.0 d.1 >>= (λ p. gives (place_argument p)))) >>= (λ a. gives (a ∷ []))) (λ args. perform (Some (a_standard reads)) (b.enters x) args s))) (sym d)
@@ -121,20 +121,20 @@ module _ {N : Type 0} (checked : Typed N) (slots : N → Slot) (targets : N → 
       (use-place b.typing integer_shape low s (machine.address b.levels low.cells q) (designate b.active s.store y others) (λ a. execution.read_number low a low.input) (λ p. read_number s p s.input) h (place-in checked slots targets b shown q integer_shape (place_of_designator y others) hp low s h)
       (λ p fit. subst (λ input. ProgressRepresents b.typing (execution.read_number low (address b.typing p) low.input) (read_number s p input)) h.same_input (number-read b.typing low s p low.input h fit h.input_has_numbers))))))
 
-  pub writes-mean : (x : N) (es : Tree N (maybe arguments)) (e : Tree N expression) (n : lowered.Number) → checked.stands_for x ≡ Some (a_standard writes) → arguments_listed es ≡ e ∷ [] → NumberMeans checked slots n (value_of_expression e) → StatementMeans checked slots targets (lowered.writes n) (calls x es)
+  pub writes-mean : (x : N) (es : Tree N (maybe arguments)) (e : Tree N expression) (n : lowered.Number) → checked.object_for x ≡ Some (a_standard writes) → arguments_listed es ≡ e ∷ [] → NumberMeans checked slots n (value_of_expression e) → StatementMeans checked slots targets (lowered.writes n) (calls x es)
   unfolding execution.execute execute evaluate_arguments
   writes-mean x es e n st one hn b shown t low s h =
-      let stands : b.active.stands_for x ≡ Some (a_standard writes) = standard-stands b.typing writes (b.active.stands_for x) (subst (λ o. ObjectFits b.typing o (b.active.stands_for x)) st (shown.names_fit.0 x)) in
+      let stands : b.active.object_for x ≡ Some (a_standard writes) = standard-stands b.typing writes (b.active.object_for x) (subst (λ o. ObjectFits b.typing o (b.active.object_for x)) st (shown.names_fit.0 x)) in
       subst (λ o. ProgressRepresents b.typing (execution.use_in low (machine.number b.levels low.cells n) (λ v. execution.running (execution.append_output low (execution.number_out v)))) (use_in s (modes_of o >>= (λ modes. evaluate_arguments b.active s.store modes (arguments_listed es))) (λ args. perform o (b.enters x) args s))) (sym stands)
       (subst (λ l. ProgressRepresents b.typing (execution.use_in low (machine.number b.levels low.cells n) (λ v. execution.running (execution.append_output low (execution.number_out v)))) (use_in s (evaluate_arguments b.active s.store (by_value ∷ []) l) (λ args. perform (Some (a_standard writes)) (b.enters x) args s))) (sym one)
       (subst (λ w. ProgressRepresents b.typing (execution.use_in low (machine.number b.levels low.cells n) (λ v. execution.running (execution.append_output low (execution.number_out v)))) w) (sym (use-value-argument s (evaluate b.active s.store e) (λ args. perform (Some (a_standard writes)) (b.enters x) args s)))
       (use-represents b.typing number low s (machine.number b.levels low.cells n) (evaluate b.active s.store e) (λ v. execution.running (execution.append_output low (execution.number_out v))) (λ v. perform (Some (a_standard writes)) (b.enters x) (value_argument v ∷ []) s) h
       (number-in checked slots targets b shown n (value_of_expression e) hn low s h).0 (λ v is. put-represents b.typing low s (execution.number_out v) h))))
 
-  pub line-means : (x : N) (es : Tree N (maybe arguments)) → checked.stands_for x ≡ Some (a_standard writes_line) → arguments_listed es ≡ [] → StatementMeans checked slots targets lowered.writes_line (calls x es)
+  pub line-means : (x : N) (es : Tree N (maybe arguments)) → checked.object_for x ≡ Some (a_standard writes_line) → arguments_listed es ≡ [] → StatementMeans checked slots targets lowered.writes_line (calls x es)
   unfolding execution.execute execute evaluate_arguments
   line-means x es st empty_list b shown t low s h =
-      let stands : b.active.stands_for x ≡ Some (a_standard writes_line) = standard-stands b.typing writes_line (b.active.stands_for x) (subst (λ o. ObjectFits b.typing o (b.active.stands_for x)) st (shown.names_fit.0 x)) in
+      let stands : b.active.object_for x ≡ Some (a_standard writes_line) = standard-stands b.typing writes_line (b.active.object_for x) (subst (λ o. ObjectFits b.typing o (b.active.object_for x)) st (shown.names_fit.0 x)) in
       subst (λ o. ProgressRepresents b.typing (execution.running (execution.append_output low execution.line_out)) (use_in s (modes_of o >>= (λ modes. evaluate_arguments b.active s.store modes (arguments_listed es))) (λ args. perform o (b.enters x) args s))) (sym stands)
       (subst (λ l. ProgressRepresents b.typing (execution.running (execution.append_output low execution.line_out)) (use_in s (evaluate_arguments b.active s.store [] l) (λ args. perform (Some (a_standard writes_line)) (b.enters x) args s))) (sym empty_list)
       (put-represents b.typing low s execution.line_out h))

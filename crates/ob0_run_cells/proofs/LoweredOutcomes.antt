@@ -13,7 +13,7 @@ use Rattle.ob0_run_machine.specs.Lowered as lowered
 use Rattle.ob0_run_cells.specs.Cells.{address}
 use Rattle.ob0_run_cells.specs.Lowering.{GivesPlace, Has32Bits, outcome_of, relation_of}
 
-abbrev pub followed_by : {A B : Type 0} → machine.Outcome A → (A → machine.Outcome B) → machine.Outcome B
+abbrev pub followed_by : {A B : Type 0} → machine.StepResult A → (A → machine.StepResult B) → machine.StepResult B
 followed_by = machine.◌>>=◌
 
 pub grouped-then : {A B C : Type 0} (o : Outcome A) (f : A → Outcome B) (g : B → Outcome C) → ((o >>= f) >>= g) ≡ (o >>= (λ a. f a >>= g))
@@ -29,12 +29,12 @@ stuck-then None f k = refl
 stuck-then (Some a) f k = refl
 
 -- a step of lowered code and one of the definition, and what follows each
-pub outcome-then : {A B X Y : Type 0} (f : A → X) (g : B → Y) (o : machine.Outcome A) (w : Outcome X) (k : A → machine.Outcome B) (j : X → Outcome Y)
+pub outcome-then : {A B X Y : Type 0} (f : A → X) (g : B → Y) (o : machine.StepResult A) (w : Outcome X) (k : A → machine.StepResult B) (j : X → Outcome Y)
     → outcome_of f o ≡ w → ((a : A) → outcome_of g (k a) ≡ j (f a)) → outcome_of g (followed_by o k) ≡ (w >>= j)
 outcome-then f g (machine.gives a) w k j e each = each a ∙ ap (λ w. w >>= j) e
 outcome-then f g (machine.ends x) w k j e each = ap (λ w. w >>= j) e
 
-pub bits-then : {A : Type 0} (o : machine.Outcome A) (k : A → machine.Outcome ℤ) → ((a : A) → Has32Bits (k a)) → Has32Bits (followed_by o k)
+pub bits-then : {A : Type 0} (o : machine.StepResult A) (k : A → machine.StepResult ℤ) → ((a : A) → Has32Bits (k a)) → Has32Bits (followed_by o k)
 bits-then (machine.gives a) k each = each a
 bits-then (machine.ends e) k each = tt
 
@@ -111,7 +111,7 @@ alike-same true b = refl
 alike-same false b = refl
 
 -- a sign before a number of 32 bits
-pub plus-same : (o : machine.Outcome ℤ) (w : Outcome Value) → outcome_of number o ≡ w → Has32Bits o → w ≡ (w >>= signed (Some sign.Plus))
+pub plus-same : (o : machine.StepResult ℤ) (w : Outcome Value) → outcome_of number o ≡ w → Has32Bits o → w ≡ (w >>= signed (Some sign.Plus))
 plus-same (machine.gives n) w e h =
     subst (λ w. w ≡ (w >>= signed (Some sign.Plus))) e (sym (ap (λ b. if b then gives (number n) else ends Overflow) (sym (fits-same n) ∙ h)))
 plus-same (machine.ends x) w e h = subst (λ w. w ≡ (w >>= signed (Some sign.Plus))) e refl
@@ -128,7 +128,7 @@ abbrev pub same : ℕ → ℕ
 same a = a
 
 -- what a place of lowered code is, and what the definition's is
-pub record Led (typing : StoreTyping) (s : Shape) (o : machine.Outcome ℕ) (w : Outcome Place) : Type 0 where
+pub record Led (typing : StoreTyping) (s : Shape) (o : machine.StepResult ℕ) (w : Outcome Place) : Type 0 where
   pub is_same : outcome_of same o ≡ addresses typing w
   pub is_place : GivesPlace typing s w
 
@@ -142,7 +142,7 @@ pub ended-same : (x y : End) → ended x ≡ ended y → x ≡ y
 ended-same x y e = ap (λ o. elim o [ gives a ↦ y | ends z ↦ z ]) e
 
 -- one step further from a place
-pub led-then : (typing : StoreTyping) (s t : Shape) (o : machine.Outcome ℕ) (w : Outcome Place) (k : ℕ → machine.Outcome ℕ) (j : Place → Outcome Place)
+pub led-then : (typing : StoreTyping) (s t : Shape) (o : machine.StepResult ℕ) (w : Outcome Place) (k : ℕ → machine.StepResult ℕ) (j : Place → Outcome Place)
     → Led typing s o w → ((p : Place) → PlaceFits typing p s → Led typing t (k (address typing p)) (j p)) → Led typing t (followed_by o k) (w >>= j)
 led-then typing s t (machine.gives a) (gives p) k j h each =
     let e : a ≡ address typing p = given-same a (address typing p) h.is_same in

@@ -12,7 +12,7 @@ use Rattle.ob0_run_machine.specs.Evaluation as machine
 use Rattle.ob0_run_machine.specs.Evaluation.{Levels}
 use Rattle.ob0_run_machine.specs.Lowered as lowered
 use Rattle.ob0_run_cells.specs.Cells.{address, all_cells, field_offset, offset, size, sizes, step_offset, truth_cell}
-use Rattle.ob0_run_cells.specs.Lowering.{Evaluated, GivesPlace, Has32Bits, Moment, NumberMeans, PlaceLeads, PlaceMeans, Shows, Slot, TruthMeans, ValueAt, cells_in, further, held, lent, of_module, outcome_of, place_of_designator, selectors_left, slot_address, slot_place, value_of_expression, value_of_factor}
+use Rattle.ob0_run_cells.specs.Lowering.{Evaluated, GivesPlace, Has32Bits, Moment, NumberMeans, PlaceLeads, PlaceMeans, Shows, Slot, TruthMeans, ValueAt, cells_in, further, held, by_reference, of_module, outcome_of, place_of_designator, selectors_left, slot_address, slot_place, value_of_expression, value_of_factor}
 use Rattle.ob0_run_cells.proofs.LoweredNumbers.{each-then}
 use Rattle.ob0_run_cells.proofs.LoweredOutcomes.{Led, addresses, forward-same, given-same, gives-then, grouped-then, led-then, same, stuck-then, followed_by}
 use Rattle.ob0_run_cells.proofs.Places.{numbers_are_cells-holds, parts_have_addresses-holds, place-lies, places_are_slices-holds, truths_are_cells-holds}
@@ -79,7 +79,7 @@ pub slot-found : (ls : Levels) (cells : List ℤ) (slot : Slot) → slot_address
 slot-found ls cells (of_module at) h = refl
 slot-found ls cells (held zero at) h = ap machine.gives (forward-same (machine.innermost ls).base at h)
 slot-found ls cells (held (suc up) at) h = ap machine.gives (forward-same (machine.level_at ls (suc up)).base at h)
-slot-found ls cells (lent up i) h = refl
+slot-found ls cells (by_reference up i) h = refl
 
 -- one step further, at a moment
 
@@ -99,7 +99,7 @@ step-led typing store fits few p s t step fit e =
 
 -- an element, by an index that was evaluated
 pub index-led : (typing : StoreTyping) (store : Store) → StoreFits typing store → sizes typing < 2 ^ 64 → (p : Place) (k n : ℕ) (t : Shape) → PlaceFits typing p (array_shape k n t)
-    → (o : machine.Outcome ℤ) (w : Outcome Value) → outcome_of number o ≡ w
+    → (o : machine.StepResult ℤ) (w : Outcome Value) → outcome_of number o ≡ w
     → Led typing t (followed_by o (machine.element_at (address typing p) n (size t))) (w >>= (λ x. or_stuck (read_place store p) >>= (λ u. element_step u x >>= (λ s. gives (further p (s ∷ []))))))
 index-led typing store fits few p k n t fit o w e =
     let (u, eu, hu, write, made, keeps, lies) = place-lies typing store p (array_shape k n t) fits fit in
@@ -111,7 +111,7 @@ index-led typing store fits few p k n t fit o w e =
     chosen i true below = step-led typing store fits few p (array_shape k n t) t (at_index i) fit (ap (λ b. if b then Some t else None) below)
     chosen i false below = record { is_same = refl; is_place = tt }
 
-    go : (vs : Values) → count_values vs ≡ n → (o : machine.Outcome ℤ) → Led typing t (followed_by o (machine.element_at (address typing p) n (size t))) (outcome_of number o >>= (λ x. element_step (elements vs) x >>= (λ s. gives (further p (s ∷ [])))))
+    go : (vs : Values) → count_values vs ≡ n → (o : machine.StepResult ℤ) → Led typing t (followed_by o (machine.element_at (address typing p) n (size t))) (outcome_of number o >>= (λ x. element_step (elements vs) x >>= (λ s. gives (further p (s ∷ [])))))
     go vs counted (machine.gives (pos i)) =
         subst (λ m. Led typing t (machine.element_at (address typing p) n (size t) (pos i)) ((if nat_lt i m then gives (at_index i) else ends Index) >>= (λ s. gives (further p (s ∷ []))))) (sym counted) (chosen i (nat_lt i n) refl)
     go vs counted (machine.gives (negsuc i)) = record { is_same = refl; is_place = tt }
@@ -119,9 +119,9 @@ index-led typing store fits few p k n t fit o w e =
 
 -- a designator in an expression evaluates to what its place holds
 
-pub value-there : {N : Type 0} (active : Meanings N Place (List Mode)) (store : Store) (x : N) (path : Tree N (items selector)) (p : Place) → active.stands_for x ≡ Some (a_variable p)
-    → (value_of store (active.stands_for x) >>= (λ v. follow active store v path >>= (λ steps. or_stuck (at_path steps v))))
-    ≡ ((place_of (active.stands_for x) >>= (λ p. or_stuck (read_place store p) >>= (λ v. follow active store v path >>= (λ steps. gives (further p steps))))) >>= (λ p. or_stuck (read_place store p)))
+pub value-there : {N : Type 0} (active : Meanings N Place (List Mode)) (store : Store) (x : N) (path : Tree N (items selector)) (p : Place) → active.object_for x ≡ Some (a_variable p)
+    → (value_of store (active.object_for x) >>= (λ v. follow active store v path >>= (λ steps. or_stuck (at_path steps v))))
+    ≡ ((place_of (active.object_for x) >>= (λ p. or_stuck (read_place store p) >>= (λ v. follow active store v path >>= (λ steps. gives (further p steps))))) >>= (λ p. or_stuck (read_place store p)))
 value-there {N} active store x path p e =
     subst (λ o. (value_of {P = List Mode} store o >>= (λ v. follow active store v path >>= (λ steps. or_stuck (at_path steps v))))
     ≡ ((place_of o >>= (λ p. or_stuck (read_place store p) >>= (λ v. follow active store v path >>= (λ steps. gives (further p steps))))) >>= (λ p. or_stuck (read_place store p)))) (sym e)
@@ -139,7 +139,7 @@ get-before [] ys i x e = absurd (cc)
 get-before (y ∷ xs) ys zero x e = e
 get-before (y ∷ xs) ys (suc i) x e = get-before xs ys i x e
 
-pub number-there : (typing : StoreTyping) (store : Store) (passed : List ℤ) → StoreFits typing store → (o : machine.Outcome ℕ) (w : Outcome Place) → Led typing integer_shape o w
+pub number-there : (typing : StoreTyping) (store : Store) (passed : List ℤ) → StoreFits typing store → (o : machine.StepResult ℕ) (w : Outcome Place) → Led typing integer_shape o w
     → outcome_of number (followed_by o (λ a. machine.gives (machine.cell_at (all_cells store ++ passed) a))) ≡ (w >>= (λ p. or_stuck (read_place store p)))
 number-there typing store passed fits (machine.gives a) (gives p) h =
     let (found, writes) = numbers_are_cells-holds typing store p fits h.is_place in
@@ -154,7 +154,7 @@ is_true-cell : (b : Bool) → machine.is_true (truth_cell b) ≡ b
 is_true-cell true = refl
 is_true-cell false = refl
 
-pub truth-there : (typing : StoreTyping) (store : Store) (passed : List ℤ) → StoreFits typing store → (o : machine.Outcome ℕ) (w : Outcome Place) → Led typing boolean_shape o w
+pub truth-there : (typing : StoreTyping) (store : Store) (passed : List ℤ) → StoreFits typing store → (o : machine.StepResult ℕ) (w : Outcome Place) → Led typing boolean_shape o w
     → outcome_of truth (followed_by o (λ a. machine.gives (machine.is_true (machine.cell_at (all_cells store ++ passed) a)))) ≡ (w >>= (λ p. or_stuck (read_place store p)))
 truth-there typing store passed fits (machine.gives a) (gives p) h =
     let (found, writes) = truths_are_cells-holds typing store p fits h.is_place in
@@ -165,7 +165,7 @@ truth-there typing store passed fits (machine.ends x) (ends y) h = ap (λ w. w >
 truth-there typing store passed fits (machine.gives a) (ends y) h = let e = h.is_same in absurd (cc)
 truth-there typing store passed fits (machine.ends x) (gives p) h = let e = h.is_same in absurd (cc)
 
-pub bits-at : (o : machine.Outcome ℕ) (cells : List ℤ) → ((a : ℕ) → machine.fits (machine.cell_at cells a) ≡ true) → Has32Bits (followed_by o (λ a. machine.gives (machine.cell_at cells a)))
+pub bits-at : (o : machine.StepResult ℕ) (cells : List ℤ) → ((a : ℕ) → machine.fits (machine.cell_at cells a) ≡ true) → Has32Bits (followed_by o (λ a. machine.gives (machine.cell_at cells a)))
 bits-at (machine.gives a) cells each = each a
 bits-at (machine.ends x) cells each = tt
 
@@ -188,11 +188,11 @@ module _ {N : Type 0} (checked : Typed N) (slots : N → Slot) where
   pub led-at : (q : lowered.Place) (s : Shape) (v : Evaluated N Place) → PlaceMeans checked slots q s v → (z : Moment N) → Shows checked slots z → Led z.typing s (machine.address z.levels (cells_in z) q) (v z)
   led-at q s v h z shown = record { is_same = (h z shown).0; is_place = (h z shown).1 }
 
-  pub variable-leads : (x : N) (s : Shape) (path : Tree N (items selector)) → checked.stands_for x ≡ Some (a_variable s) → PlaceLeads checked slots (slot_place (slots x)) s path (place_of_designator x path)
+  pub variable-leads : (x : N) (s : Shape) (path : Tree N (items selector)) → checked.object_for x ≡ Some (a_variable s) → PlaceLeads checked slots (slot_place (slots x)) s path (place_of_designator x path)
   unfolding designate
   variable-leads x s path e = (
-    (λ z. place_of (z.active.stands_for x)),
-    (λ z shown. let (p, ep, fit) = variable-stands z.typing s (z.active.stands_for x) (subst (λ o. ObjectFits z.typing o (z.active.stands_for x)) e (shown.names_fit.0 x)) in
+    (λ z. place_of (z.active.object_for x)),
+    (λ z shown. let (p, ep, fit) = variable-stands z.typing s (z.active.object_for x) (subst (λ o. ObjectFits z.typing o (z.active.object_for x)) e (shown.names_fit.0 x)) in
         let there : slot_address z.levels (slots x) ≡ address z.typing p = shown.variables_in_slots x p ep in
         let (within, held_there) = places_are_slices-holds z.typing z.store p s shown.store_fits fit in
         let few : sizes z.typing < 2 ^ 64 = shown.has_addresses in
@@ -245,36 +245,36 @@ module _ {N : Type 0} (checked : Typed N) (slots : N → Slot) where
         subst (GivesPlace z.typing s) same_place (hv z shown).1,
       )
 
-  pub cell-means : (x : N) (s : Shape) (path : Tree N (items selector)) (q : lowered.Place) → checked.stands_for x ≡ Some (a_variable s) → PlaceMeans checked slots q integer_shape (place_of_designator x path) → NumberMeans checked slots (lowered.cell q) (value_of_factor (designator x path))
+  pub cell-means : (x : N) (s : Shape) (path : Tree N (items selector)) (q : lowered.Place) → checked.object_for x ≡ Some (a_variable s) → PlaceMeans checked slots q integer_shape (place_of_designator x path) → NumberMeans checked slots (lowered.cell q) (value_of_factor (designator x path))
   unfolding evaluate designate
   cell-means x s path q e h z shown =
-      let (p, ep, fit) = variable-stands z.typing s (z.active.stands_for x) (subst (λ o. ObjectFits z.typing o (z.active.stands_for x)) e (shown.names_fit.0 x)) in (
+      let (p, ep, fit) = variable-stands z.typing s (z.active.object_for x) (subst (λ o. ObjectFits z.typing o (z.active.object_for x)) e (shown.names_fit.0 x)) in (
         number-there z.typing z.store z.passed shown.store_fits (machine.address z.levels (cells_in z) q) (place_of_designator x path z) (led-at q integer_shape (place_of_designator x path) h z shown) ∙ sym (value-there z.active z.store x path p ep),
         bits-at (machine.address z.levels (cells_in z) q) (cells_in z) shown.has_numbers,
       )
 
-  pub flag-means : (x : N) (s : Shape) (path : Tree N (items selector)) (q : lowered.Place) → checked.stands_for x ≡ Some (a_variable s) → PlaceMeans checked slots q boolean_shape (place_of_designator x path) → TruthMeans checked slots (lowered.flag q) (value_of_factor (designator x path))
+  pub flag-means : (x : N) (s : Shape) (path : Tree N (items selector)) (q : lowered.Place) → checked.object_for x ≡ Some (a_variable s) → PlaceMeans checked slots q boolean_shape (place_of_designator x path) → TruthMeans checked slots (lowered.flag q) (value_of_factor (designator x path))
   unfolding evaluate designate
   flag-means x s path q e h z shown =
-      let (p, ep, fit) = variable-stands z.typing s (z.active.stands_for x) (subst (λ o. ObjectFits z.typing o (z.active.stands_for x)) e (shown.names_fit.0 x)) in
+      let (p, ep, fit) = variable-stands z.typing s (z.active.object_for x) (subst (λ o. ObjectFits z.typing o (z.active.object_for x)) e (shown.names_fit.0 x)) in
       truth-there z.typing z.store z.passed shown.store_fits (machine.address z.levels (cells_in z) q) (place_of_designator x path z) (led-at q boolean_shape (place_of_designator x path) h z shown) ∙ sym (value-there z.active z.store x path p ep)
 
-  pub number-constant : (x : N) (n : ℤ) → checked.stands_for x ≡ Some (a_constant (number n)) → machine.fits n ≡ true → NumberMeans checked slots (lowered.literal n) (value_of_factor (designator x end))
+  pub number-constant : (x : N) (n : ℤ) → checked.object_for x ≡ Some (a_constant (number n)) → machine.fits n ≡ true → NumberMeans checked slots (lowered.literal n) (value_of_factor (designator x end))
   unfolding evaluate
   number-constant x n e fits z shown =
-      let stands : z.active.stands_for x ≡ Some (a_constant (number n)) = constant-stands z.typing (number n) (z.active.stands_for x) (subst (λ o. ObjectFits z.typing o (z.active.stands_for x)) e (shown.names_fit.0 x)) in
+      let stands : z.active.object_for x ≡ Some (a_constant (number n)) = constant-stands z.typing (number n) (z.active.object_for x) (subst (λ o. ObjectFits z.typing o (z.active.object_for x)) e (shown.names_fit.0 x)) in
       (sym (ap (λ o. value_of {P = List Mode} z.store o >>= (λ v. gives [] >>= (λ steps. or_stuck (at_path steps v)))) stands), fits)
 
-  pub truth-constant : (x : N) (b : Bool) → checked.stands_for x ≡ Some (a_constant (truth b)) → TruthMeans checked slots (lowered.constant b) (value_of_factor (designator x end))
+  pub truth-constant : (x : N) (b : Bool) → checked.object_for x ≡ Some (a_constant (truth b)) → TruthMeans checked slots (lowered.constant b) (value_of_factor (designator x end))
   unfolding evaluate
   truth-constant x b e z shown =
-      let stands : z.active.stands_for x ≡ Some (a_constant (truth b)) = constant-stands z.typing (truth b) (z.active.stands_for x) (subst (λ o. ObjectFits z.typing o (z.active.stands_for x)) e (shown.names_fit.0 x)) in
+      let stands : z.active.object_for x ≡ Some (a_constant (truth b)) = constant-stands z.typing (truth b) (z.active.object_for x) (subst (λ o. ObjectFits z.typing o (z.active.object_for x)) e (shown.names_fit.0 x)) in
       sym (ap (λ o. value_of {P = List Mode} z.store o >>= (λ v. gives [] >>= (λ steps. or_stuck (at_path steps v)))) stands)
 
-  pub block-designator : (q : lowered.Place) (s : Shape) (x : N) (v : Shape) (path : Tree N (items selector)) → checked.stands_for x ≡ Some (a_variable v) → PlaceMeans checked slots q s (place_of_designator x path) → ValueAt checked slots q s (value_of_factor (designator x path))
+  pub block-designator : (q : lowered.Place) (s : Shape) (x : N) (v : Shape) (path : Tree N (items selector)) → checked.object_for x ≡ Some (a_variable v) → PlaceMeans checked slots q s (place_of_designator x path) → ValueAt checked slots q s (value_of_factor (designator x path))
   unfolding evaluate designate
   block-designator q s x v path e hq =
-      (place_of_designator x path, hq, λ z shown. let (p, ep, fit) = variable-stands z.typing v (z.active.stands_for x) (subst (λ o. ObjectFits z.typing o (z.active.stands_for x)) e (shown.names_fit.0 x)) in value-there z.active z.store x path p ep)
+      (place_of_designator x path, hq, λ z shown. let (p, ep, fit) = variable-stands z.typing v (z.active.object_for x) (subst (λ o. ObjectFits z.typing o (z.active.object_for x)) e (shown.names_fit.0 x)) in value-there z.active z.store x path p ep)
 
   pub block-parenthesised : (q : lowered.Place) (s : Shape) (e : Tree N expression) → ValueAt checked slots q s (value_of_expression e) → ValueAt checked slots q s (value_of_factor (parenthesised e))
   unfolding evaluate

@@ -15,7 +15,7 @@ use Rattle.ob0_run_cells.proofs.LoweredNumbers.{each-then}
 use Rattle.ob0_run_cells.proofs.LoweredOutcomes.{alike-same, compare-same, gives-then, grouped-then, outcome-then, followed_by}
 
 -- a right side alone says what an operator gives that its left side doesn't settle
-pub right-alone : (op : Value → Outcome Value) (o : machine.Outcome Bool) (w : Outcome Value) → ((b : Bool) → op (truth b) ≡ gives (truth b)) → outcome_of truth o ≡ w → outcome_of truth o ≡ (w >>= op)
+pub right-alone : (op : Value → Outcome Value) (o : machine.StepResult Bool) (w : Outcome Value) → ((b : Bool) → op (truth b) ≡ gives (truth b)) → outcome_of truth o ≡ w → outcome_of truth o ≡ (w >>= op)
 right-alone op (machine.gives b) w same e = subst (λ w. gives (truth b) ≡ (w >>= op)) e (sym (same b))
 right-alone op (machine.ends x) w same e = ap (λ w. w >>= op) e
 

@@ -9,7 +9,7 @@ use Rattle.ob0_run_rules.proofs.Sound.{below_of, of_some, some-gives}
 use Rattle.ob0_run_rules.proofs.SoundStatements.{with_path-fits}
 use Rattle.ob0_run_cells.specs.CellLaws.{PartsAreSlices, SizesAreLimited, WritingPartsWritesSlices}
 use Rattle.ob0_run_cells.specs.Cells.{cells_at, cells_of, cells_with, element_cells, field_offset, field_sizes, member_cells, offset, size, step_offset}
-use Rattle.ob0_run_cells.proofs.Splits.{Lies, lies-alone, lies-behind, lies-first, lies-within, split-at, split-with}
+use Rattle.ob0_run_cells.proofs.Splits.{Lies, lies-alone, lies-following, lies-first, lies-within, split-at, split-with}
 
 -- how many cells
 
@@ -64,7 +64,7 @@ element-lies (next_value v rest) s (suc i) below h =
       ew,
       hw,
       subst (λ a. Lies element_cells (next_value v rest) w (with_nth_value (next_value v rest) (suc i)) a) (omega arith)
-          (lies-behind element_cells element_cells (next_value v rest) rest w (with_nth_value (next_value v rest) (suc i)) (with_nth_value rest i) (cells_of v) (size s) (i * size s) refl (λ new. refl) (cells-size v s h.0) k),
+          (lies-following element_cells element_cells (next_value v rest) rest w (with_nth_value (next_value v rest) (suc i)) (with_nth_value rest i) (cells_of v) (size s) (i * size s) refl (λ new. refl) (cells-size v s h.0) k),
     )
 
 pub member-lies : (ms : Members) (fs : FieldShapes) (x : Name) (t : Shape) → shape_of_field fs x ≡ Some t → HaveShapes ms fs
@@ -78,7 +78,7 @@ member-lies (next_member y v rest) (next_field_shape z s others) x t e h =
     → (w : Value) × ((if b then Some v else named_member rest x) ≡ Some w) × HasShape w t × Lies member_cells (next_member y v rest) w (λ new. if b then next_member y new rest else next_member y v (with_named_member rest x new)) (if b then 0 else size s + field_offset others x)) [
       | true ↦ λ e. (v, refl, of_some (λ s. HasShape v s) e h.1, lies-first member_cells (next_member y v rest) v (λ new. next_member y new rest) (member_cells rest) refl (λ new. refl))
       | false ↦ λ e. (let (w, ew, hw, k) = member-lies rest others x t e h.2 in
-          (w, ew, hw, lies-behind member_cells member_cells (next_member y v rest) rest w (λ new. next_member y v (with_named_member rest x new)) (with_named_member rest x) (cells_of v) (size s) (field_offset others x) refl (λ new. refl) (cells-size v s h.1) k))
+          (w, ew, hw, lies-following member_cells member_cells (next_member y v rest) rest w (λ new. next_member y v (with_named_member rest x new)) (with_named_member rest x) (cells_of v) (size s) (field_offset others x) refl (λ new. refl) (cells-size v s h.1) k))
     ]) e
 
 -- cells of an array or a record are those of its parts

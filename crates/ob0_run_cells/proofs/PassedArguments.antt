@@ -21,38 +21,38 @@ use Rattle.ob0_run_cells.proofs.Places.{places_are_slices-holds, store-size}
 use Rattle.ob0_run_cells.proofs.Represented.{alone-cells, as_cell-same, moment, moment-shown, number-at, numbers-append, numbers-drop, numbers-take, place-at, truth-at, truth-number}
 
 -- both give what is related, or both end alike
-abbrev pub Both : {A B : Type 0} → (A → B → Type 0) → machine.Outcome A → Outcome B → Type 0
+abbrev pub Both : {A B : Type 0} → (A → B → Type 0) → machine.StepResult A → Outcome B → Type 0
 Both R (machine.gives a) (gives b) = R a b
 Both R (machine.ends x) (ends y) = end_of x ≡ y
 Both R _ _ = ⊥
 
-pub both-then : {A B C D : Type 0} (R : A → B → Type 0) (Q : C → D → Type 0) (o : machine.Outcome A) (w : Outcome B) (k : A → machine.Outcome C) (j : B → Outcome D) → Both R o w → ((a : A) (b : B) → R a b → Both Q (k a) (j b)) → Both Q (machine.◌>>=◌ o k) (w >>= j)
+pub both-then : {A B C D : Type 0} (R : A → B → Type 0) (Q : C → D → Type 0) (o : machine.StepResult A) (w : Outcome B) (k : A → machine.StepResult C) (j : B → Outcome D) → Both R o w → ((a : A) (b : B) → R a b → Both Q (k a) (j b)) → Both Q (machine.◌>>=◌ o k) (w >>= j)
 both-then R Q (machine.gives a) (gives b) k j h each = each a b h
 both-then R Q (machine.ends x) (ends y) k j h each = h
 both-then R Q (machine.gives a) (ends y) k j h each = absurd h
 both-then R Q (machine.ends x) (gives b) k j h each = absurd h
 
-pub both-made : {A B D : Type 0} (R : A → B → Type 0) (Q : A → D → Type 0) (o : machine.Outcome A) (w : Outcome B) (g : B → D) → Both R o w → ((a : A) (b : B) → R a b → Q a (g b)) → Both Q o (w >>= (λ b. gives (g b)))
+pub both-made : {A B D : Type 0} (R : A → B → Type 0) (Q : A → D → Type 0) (o : machine.StepResult A) (w : Outcome B) (g : B → D) → Both R o w → ((a : A) (b : B) → R a b → Q a (g b)) → Both Q o (w >>= (λ b. gives (g b)))
 both-made R Q (machine.gives a) (gives b) g h each = each a b h
 both-made R Q (machine.ends x) (ends y) g h each = h
 both-made R Q (machine.gives a) (ends y) g h each = absurd h
 both-made R Q (machine.ends x) (gives b) g h each = absurd h
 
-pub both-led : (typing : StoreTyping) (shape : Shape) (o : machine.Outcome ℕ) (w : Outcome Place) → Led typing shape o w → Both (λ a p. (a ≡ address typing p) × PlaceFits typing p shape) o w
+pub both-led : (typing : StoreTyping) (shape : Shape) (o : machine.StepResult ℕ) (w : Outcome Place) → Led typing shape o w → Both (λ a p. (a ≡ address typing p) × PlaceFits typing p shape) o w
 both-led typing shape (machine.gives a) (gives p) h = (given-same a (address typing p) h.is_same, h.is_place)
 both-led typing shape (machine.ends x) (ends y) h = ended-same (end_of x) y h.is_same
 both-led typing shape (machine.gives a) (ends y) h = let e = h.is_same in absurd (cc)
 both-led typing shape (machine.ends x) (gives p) h = let e = h.is_same in absurd (cc)
 
-pub both-number : (o : machine.Outcome ℤ) (w : Outcome Value) → outcome_of number o ≡ w → Has32Bits o → Both (λ n v. (number n ≡ v) × (machine.fits n ≡ true)) o w
+pub both-number : (o : machine.StepResult ℤ) (w : Outcome Value) → outcome_of number o ≡ w → Has32Bits o → Both (λ n v. (number n ≡ v) × (machine.fits n ≡ true)) o w
 both-number (machine.gives n) w e h = subst (λ w. Both (λ n v. (number n ≡ v) × (machine.fits n ≡ true)) (machine.gives n) w) e (refl, h)
 both-number (machine.ends x) w e h = subst (λ w. Both (λ n v. (number n ≡ v) × (machine.fits n ≡ true)) (machine.ends x) w) e refl
 
-pub both-truth : (o : machine.Outcome Bool) (w : Outcome Value) → outcome_of truth o ≡ w → Both (λ b v. truth b ≡ v) o w
+pub both-truth : (o : machine.StepResult Bool) (w : Outcome Value) → outcome_of truth o ≡ w → Both (λ b v. truth b ≡ v) o w
 both-truth (machine.gives b) w e = subst (λ w. Both (λ b v. truth b ≡ v) (machine.gives b) w) e refl
 both-truth (machine.ends x) w e = subst (λ w. Both (λ b v. truth b ≡ v) (machine.ends x) w) e refl
 
-pub use-both : {A B : Type 0} (typing : StoreTyping) (R : A → B → Type 0) (low : execution.State) (s : State) (o : machine.Outcome A) (w : Outcome B) (k : A → execution.Progress) (j : B → Progress) → Represents typing low s → Both R o w
+pub use-both : {A B : Type 0} (typing : StoreTyping) (R : A → B → Type 0) (low : execution.MachineState) (s : State) (o : machine.StepResult A) (w : Outcome B) (k : A → execution.MachineProgress) (j : B → Progress) → Represents typing low s → Both R o w
     → ((a : A) (b : B) → R a b → ProgressRepresents typing (k a) (j b)) → ProgressRepresents typing (execution.use_in low o k) (use_in s w j)
 use-both typing R low s (machine.gives a) (gives b) k j h r each = each a b r
 use-both typing R low s (machine.ends x) (ends y) k j h r each = (r, h.same_output)
@@ -103,7 +103,7 @@ numbers-before (x ∷ xs) ys h zero = h zero
 numbers-before (x ∷ xs) ys h (suc i) = numbers-before xs ys (λ i. h (suc i)) i
 
 module _ {N : Type 0} (checked : Typed N) (slots : N → Slot) (targets : N → Target) (b : Body N) (shown : ShowsBody checked slots targets b) (store : Store) (fits : StoreFits b.typing store) where
-  pub argument-passed : (f : Formal) (c : lowered.Argument) (e : Tree N expression) → ArgumentMeans checked slots f c e → (done : execution.Passed) (passed : List ℤ) → done.cells ≡ all_cells store ++ passed → HaveNumbers done.cells
+  pub argument-passed : (f : Formal) (c : lowered.LoweredArgument) (e : Tree N expression) → ArgumentMeans checked slots f c e → (done : execution.Passed) (passed : List ℤ) → done.cells ≡ all_cells store ++ passed → HaveNumbers done.cells
       → Both (λ p a. Passes b.typing (f ∷ []) done p (a ∷ [])) (execution.pass b.levels c done) (evaluate_argument b.active store f.mode e)
   unfolding evaluate_argument
   argument-passed f (lowered.by_place q) e h done passed same numbers =
@@ -161,7 +161,7 @@ module _ {N : Type 0} (checked : Typed N) (slots : N → Slot) (targets : N → 
             (subst HaveNumbers (sym (block ∙ slice)) (numbers-take (size f.shape) (drop (address b.typing p) (all_cells store)) (numbers-drop (address b.typing p) (all_cells store) (numbers-before (all_cells store) passed (subst HaveNumbers same numbers)))));
       }))))
 
-  pub arguments-passed : (fs : Signature) (cs : List lowered.Argument) (es : List (Tree N expression)) → ArgumentsMean checked slots fs cs es → (done : execution.Passed) (passed : List ℤ) → done.cells ≡ all_cells store ++ passed → HaveNumbers done.cells
+  pub arguments-passed : (fs : Signature) (cs : List lowered.LoweredArgument) (es : List (Tree N expression)) → ArgumentsMean checked slots fs cs es → (done : execution.Passed) (passed : List ℤ) → done.cells ≡ all_cells store ++ passed → HaveNumbers done.cells
       → Both (λ p args. Passes b.typing fs done p args) (execution.pass_all b.levels cs done) (evaluate_arguments b.active store (modes_in fs) es)
   unfolding evaluate_arguments
   arguments-passed [] [] [] h done passed same numbers = record { arguments_fit = tt; cells_passed = sym (append-nil done.cells); addresses_passed = sym (append-nil done.addresses); have_numbers = numbers }
@@ -184,11 +184,11 @@ procedure-stands typing signature (Some (a_constant v)) h = absurd h
 procedure-stands typing signature (Some (a_variable p)) h = absurd h
 procedure-stands typing signature (Some (a_standard p)) h = absurd h
 
-pub call-means : {N : Type 0} (checked : Typed N) (slots : N → Slot) (targets : N → Target) (x : N) (es : Tree N (maybe arguments)) (signature : Signature) (cs : List lowered.Argument) → checked.stands_for x ≡ Some (a_procedure signature) → ArgumentsMean checked slots signature cs (arguments_listed es)
+pub call-means : {N : Type 0} (checked : Typed N) (slots : N → Slot) (targets : N → Target) (x : N) (es : Tree N (maybe arguments)) (signature : Signature) (cs : List lowered.LoweredArgument) → checked.object_for x ≡ Some (a_procedure signature) → ArgumentsMean checked slots signature cs (arguments_listed es)
     → StatementMeans checked slots targets (lowered.calls (targets x).procedure (targets x).up cs) (calls x es)
 unfolding execution.execute execute
 call-means {N} checked slots targets x es signature cs st ha b shown t low s h =
-    let stands : b.active.stands_for x ≡ Some (a_procedure (modes_in signature)) = procedure-stands b.typing signature (b.active.stands_for x) (subst (λ o. ObjectFits b.typing o (b.active.stands_for x)) st (shown.names_fit.0 x)) in
+    let stands : b.active.object_for x ≡ Some (a_procedure (modes_in signature)) = procedure-stands b.typing signature (b.active.object_for x) (subst (λ o. ObjectFits b.typing o (b.active.object_for x)) st (shown.names_fit.0 x)) in
     let enter = λ (p : execution.Passed). b.lowered_enters (targets x).procedure (execution.entered b.levels (length low.cells) (targets x).up p) (record low { cells = p.cells }) in
     let start : execution.Passed = record { cells = low.cells; addresses = [] } in
     subst (λ o. ProgressRepresents b.typing (execution.use_in low (execution.pass_all b.levels cs start) enter) (use_in s (modes_of o >>= (λ modes. evaluate_arguments b.active s.store modes (arguments_listed es))) (λ args. perform o (b.enters x) args s))) (sym stands)

@@ -20,7 +20,7 @@ use Rattle.ob0_run_machine.specs.Lowered as lowered
 use Rattle.ob0_run_cells.specs.Activations.{BlockMeans, BodyMeans, Placed, Placing, PlacingFits, ProceduresMean, hide_names, in_slot, nowhere, own_target, place_names, place_parameter, place_parameters, place_variables}
 use Rattle.ob0_run_cells.specs.Cells.{address, all_cells, cells_of, size, sizes}
 use Rattle.ob0_run_cells.specs.LoweredStatements.{argument_addresses, argument_cells}
-use Rattle.ob0_run_cells.specs.Lowering.{Slot, held, lent, slot_address}
+use Rattle.ob0_run_cells.specs.Lowering.{Slot, held, by_reference, slot_address}
 use Rattle.ob0_run_cells.proofs.PlacedEnvironments.{placing-grows}
 use Rattle.ob0_run_cells.proofs.Places.{addresses_stay-holds}
 use Rattle.ob0_run_cells.proofs.Variables.{initial_cells_are_zero-holds, variables_are_added-holds}
@@ -30,21 +30,21 @@ sizes-append [] s = omega arith
 sizes-append (t ∷ typing) s = let h = sizes-append typing s in omega (arith, h)
 
 -- a frame whose variables are placed: the cells of an activation are those from its base on
-pub record FramePlaced {N : Type 0} (table : List lowered.Procedure) (most : ℕ) (naming : Naming N) (typing : StoreTyping) (ls : Levels) (base : ℕ) (checked : TypeEnvironment N) (p : Placed N) (f : Frame N) : Type 0 where
+pub record FramePlaced {N : Type 0} (table : List lowered.Routine) (most : ℕ) (naming : Naming N) (typing : StoreTyping) (ls : Levels) (base : ℕ) (checked : TypeEnvironment N) (p : Placed N) (f : Frame N) : Type 0 where
   pub store_fits : StoreFits typing f.store
   pub environment_fits : EnvironmentsFit naming typing checked f.env
   pub placing_fits : PlacingFits table most naming typing ls checked p.placing f.env
   pub cells_counted : base + p.cells ≡ sizes typing
 
 -- a frame with more variables, and their cells after those before
-pub record Extends {N : Type 0} (table : List lowered.Procedure) (most : ℕ) (naming : Naming N) (typing : StoreTyping) (ls : Levels) (base : ℕ) (checked : TypeEnvironment N) (p : Placed N) (before : Store) (added : List ℤ) (g : Frame N) : Type 0 where
+pub record Extends {N : Type 0} (table : List lowered.Routine) (most : ℕ) (naming : Naming N) (typing : StoreTyping) (ls : Levels) (base : ℕ) (checked : TypeEnvironment N) (p : Placed N) (before : Store) (added : List ℤ) (g : Frame N) : Type 0 where
   pub typing_now : StoreTyping
   pub others : StoreTyping
   pub is_grown : typing_now ≡ typing ++ others
   pub frame : FramePlaced table most naming typing_now ls base checked p g
   pub cells_added : all_cells g.store ≡ all_cells before ++ added
 
-module _ {N : Type 0} (table : List lowered.Procedure) (most : ℕ) (naming : Naming N) where
+module _ {N : Type 0} (table : List lowered.Routine) (most : ℕ) (naming : Naming N) where
   pub extends-here : (typing : StoreTyping) (ls : Levels) (base : ℕ) (checked : TypeEnvironment N) (p : Placed N) (f : Frame N) → FramePlaced table most naming typing ls base checked p f → Extends table most naming typing ls base checked p f.store [] f
   extends-here typing ls base checked p f h = record { typing_now = typing; others = []; is_grown = sym (append-nil typing); frame = h; cells_added = sym (append-nil (all_cells f.store)) }
 
@@ -136,7 +136,7 @@ module _ {N : Type 0} (table : List lowered.Procedure) (most : ℕ) (naming : Na
 
   -- procedures
 
-  pub procedures-placed : (typing : StoreTyping) (ls : Levels) (k : ℕ) (code : lowered.Statements) (statements : Tree N (maybe body)) (ps : Tree N (items procedure)) (checked : TypeEnvironment N) (placing : Placing N) (active : Activation N) → EnvironmentsFit naming typing checked active
+  pub procedures-placed : (typing : StoreTyping) (ls : Levels) (k : ℕ) (code : lowered.Instructions) (statements : Tree N (maybe body)) (ps : Tree N (items procedure)) (checked : TypeEnvironment N) (placing : Placing N) (active : Activation N) → EnvironmentsFit naming typing checked active
       → PlacingFits table most naming typing ls checked placing active → procedures_fit naming checked k statements ps ≡ true → ProceduresMean table most naming checked placing k code statements ps
       → (after : TypeEnvironment N) × (placed : Placing N) × EnvironmentsFit naming typing after (declare_procedures k ps active) × PlacingFits table most naming typing ls after placed (declare_procedures k ps active) × BodyMeans naming after placed code statements
   unfolding block_fits
@@ -151,7 +151,7 @@ module _ {N : Type 0} (table : List lowered.Procedure) (most : ℕ) (naming : Na
 
   -- a block: its frame, and its body
 
-  pub block-placed : (typing : StoreTyping) (ls : Levels) (base : ℕ) (at : ℕ → Slot) → ((c : ℕ) → slot_address ls (at c) ≡ base + c) → (k cells : ℕ) (code : lowered.Statements) (b : Tree N block) (checked : TypeEnvironment N) (p : Placed N) (f : Frame N) → FramePlaced table most naming typing ls base checked p f
+  pub block-placed : (typing : StoreTyping) (ls : Levels) (base : ℕ) (at : ℕ → Slot) → ((c : ℕ) → slot_address ls (at c) ≡ base + c) → (k cells : ℕ) (code : lowered.Instructions) (b : Tree N block) (checked : TypeEnvironment N) (p : Placed N) (f : Frame N) → FramePlaced table most naming typing ls base checked p f
       → block_fits naming checked k b ≡ true → BlockMeans table most naming at checked p k cells code b
       → (g : Frame N) × (after : TypeEnvironment N) × (q : Placed N) × (declare_block naming k b f ≡ Some g) × (p.cells + cells ≡ q.cells) × (q.cells ≤ most) × BodyMeans naming after q.placing code (block_statements b) × Extends table most naming typing ls base after q f.store (replicate cells (pos 0)) g
   unfolding block_fits declare_block
@@ -202,16 +202,16 @@ arguments-stay typing others (f ∷ fs) (place_argument p ∷ args) h =
     let (fit, stays) = addresses_stay-holds typing others p f.shape h.1 in λ i. stays i ∷ arguments-stay typing others fs args h.2 i
 arguments-stay typing others (f ∷ fs) (value_argument v ∷ args) h = arguments-stay typing others fs args h.2
 
-module _ {N : Type 0} (table : List lowered.Procedure) (most : ℕ) (naming : Naming N) where
+module _ {N : Type 0} (table : List lowered.Routine) (most : ℕ) (naming : Naming N) where
   pub parameters-placed : (typing : StoreTyping) (l : Level) (ls : Levels) (ps : List (TypedParameter N)) (args : List Argument) (checked : TypeEnvironment N) (p : Placed N) (f : Frame N) → FramePlaced table most naming typing (l ∷ ls) l.base checked p f
-      → ArgumentsFit typing (map (λ p. p.formal) ps) args → drop p.lent_places l.addresses ≡ argument_addresses typing args
+      → ArgumentsFit typing (map (λ p. p.formal) ps) args → drop p.reference_places l.addresses ≡ argument_addresses typing args
       → (g : Frame N) × (bind_parameters (map as_parameter ps) args f ≡ Some g) × Extends table most naming typing (l ∷ ls) l.base (bind_typed ps checked) (place_parameters ps p) f.store (argument_cells args) g
   parameters-placed typing l ls [] [] checked p f h fit there = (f, refl, extends-here table most naming typing (l ∷ ls) l.base checked p f h)
   parameters-placed typing l ls [] (a ∷ args) checked p f h fit there = absurd fit
   parameters-placed typing l ls (q ∷ ps) [] checked p f h fit there = absurd fit
   parameters-placed typing l ls (q ∷ ps) (place_argument place ∷ args) checked p f h fit there =
-      let (first, rest) = index-of_drop l.addresses p.lent_places (address typing place) (argument_addresses typing args) there in
-      let p₁ : Placed N = record p { placing = (q.name, in_slot (lent 0 p.lent_places)) ∷ p.placing; lent_places = suc p.lent_places } in
+      let (first, rest) = index-of_drop l.addresses p.reference_places (address typing place) (argument_addresses typing args) there in
+      let p₁ : Placed N = record p { placing = (q.name, in_slot (by_reference 0 p.reference_places)) ∷ p.placing; reference_places = suc p.reference_places } in
       let f₁ : Frame N = record { env = (q.name, a_variable place) ∷ f.env; store = f.store } in
       let (g, eg, part) = parameters-placed typing l ls ps args ((q.name, a_variable q.formal.shape) ∷ checked) p₁ f₁ record { store_fits = h.store_fits; environment_fits = (refl, fit.1, h.environment_fits); placing_fits = (refl, refl, (fit.1, first), h.placing_fits); cells_counted = h.cells_counted } fit.2 rest in (
         g,

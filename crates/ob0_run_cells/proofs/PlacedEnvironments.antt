@@ -6,15 +6,15 @@ use Rattle.ob0_types_rules.specs.Expressions.{Object, a_constant, a_procedure, a
 use Rattle.ob0_types_rules.specs.WellTyped.{Signature, TypeEnvironment}
 use Rattle.ob0_values.specs.Values.{Place, Shape}
 use Rattle.ob0_run_rules.specs.Fitting.{StoreTyping}
-use Rattle.ob0_run_rules.specs.Runs.{Activation, Code, passing}
+use Rattle.ob0_run_rules.specs.Runs.{Activation, ProcedureText, passing}
 use Rattle.ob0_run_machine.specs.Evaluation.{Level, Levels}
 use Rattle.ob0_run_machine.specs.Lowered as lowered
 use Rattle.ob0_run_cells.specs.Activations.{IsPlaced, Placing, PlacingFits, Whereabouts, at_target, first_slot, from_name, in_slot, inward, inward_slot, inward_whereabouts, nowhere}
 use Rattle.ob0_run_cells.specs.Cells.{address}
-use Rattle.ob0_run_cells.specs.Lowering.{Slot, held, lent, of_module, slot_address}
+use Rattle.ob0_run_cells.specs.Lowering.{Slot, held, by_reference, of_module, slot_address}
 use Rattle.ob0_run_cells.proofs.Places.{addresses_stay-holds}
 
-module _ {N : Type 0} (table : List lowered.Procedure) (most : ℕ) (naming : Naming N) where
+module _ {N : Type 0} (table : List lowered.Routine) (most : ℕ) (naming : Naming N) where
   -- the bindings from a name's first on are placed too
   pub from-placed : (typing : StoreTyping) (ls : Levels) (checked : TypeEnvironment N) (placing : Placing N) (active : Activation N) (x : N) → PlacingFits table most naming typing ls checked placing active
       → PlacingFits table most naming typing ls (from_binding naming checked x) (from_name naming placing x) (from_binding naming active x)
@@ -29,7 +29,7 @@ module _ {N : Type 0} (table : List lowered.Procedure) (most : ℕ) (naming : Na
   from-placed typing ls (b ∷ checked) [] active x h = absurd h
   from-placed typing ls (b ∷ checked) (w ∷ placing) [] x h = absurd h
 
-  slot-here : (typing : StoreTyping) (ls : Levels) (checked : TypeEnvironment N) (Fits : Levels → Placing N → Type 0) (x : N) (o : Object Shape Signature) (w : Whereabouts) (r : Object Place (Code N)) (p : Place)
+  slot-here : (typing : StoreTyping) (ls : Levels) (checked : TypeEnvironment N) (Fits : Levels → Placing N → Type 0) (x : N) (o : Object Shape Signature) (w : Whereabouts) (r : Object Place (ProcedureText N)) (p : Place)
       → IsPlaced table most naming typing ls checked Fits x o w r → passing (Some r) ≡ Some (a_variable p) → (rest : Placing N) → slot_address ls (first_slot ((x, w) ∷ rest)) ≡ address typing p
   slot-here typing ls checked Fits x (a_variable s) (in_slot slot) (a_variable q) p h e rest = h.1 ∙ ap (λ o. address typing (elim o [ None ↦ q | Some v ↦ elim v [ a_variable p ↦ p | _ ↦ q ] ])) e
   slot-here typing ls checked Fits x (a_procedure s) (at_target t) (a_procedure c) p h e rest = absurd (cc)
@@ -48,7 +48,7 @@ module _ {N : Type 0} (table : List lowered.Procedure) (most : ℕ) (naming : Na
 
   -- stores grow
 
-  grows-here : (typing others : StoreTyping) (ls : Levels) (checked : TypeEnvironment N) (Fits Grown : Levels → Placing N → Type 0) → ((ls : Levels) (placing : Placing N) → Fits ls placing → Grown ls placing) → (x : N) (o : Object Shape Signature) (w : Whereabouts) (r : Object Place (Code N))
+  grows-here : (typing others : StoreTyping) (ls : Levels) (checked : TypeEnvironment N) (Fits Grown : Levels → Placing N → Type 0) → ((ls : Levels) (placing : Placing N) → Fits ls placing → Grown ls placing) → (x : N) (o : Object Shape Signature) (w : Whereabouts) (r : Object Place (ProcedureText N))
       → IsPlaced table most naming typing ls checked Fits x o w r → IsPlaced table most naming (typing ++ others) ls checked Grown x o w r
   grows-here typing others ls checked Fits Grown grow x (a_variable s) (in_slot slot) (a_variable p) h =
       let (fit, stays) = addresses_stay-holds typing others p s h.0 in (fit, h.1 ∙ sym stays)
@@ -74,9 +74,9 @@ module _ {N : Type 0} (table : List lowered.Procedure) (most : ℕ) (naming : Na
   slot-inward : (l : Level) (ls : Levels) (s : Slot) → slot_address (l ∷ ls) (inward_slot s) ≡ slot_address ls s
   slot-inward l ls (of_module at) = refl
   slot-inward l ls (held up at) = refl
-  slot-inward l ls (lent up at) = refl
+  slot-inward l ls (by_reference up at) = refl
 
-  inward-here : (typing : StoreTyping) (l : Level) (ls : Levels) (checked : TypeEnvironment N) (Fits : Levels → Placing N → Type 0) (x : N) (o : Object Shape Signature) (w : Whereabouts) (r : Object Place (Code N))
+  inward-here : (typing : StoreTyping) (l : Level) (ls : Levels) (checked : TypeEnvironment N) (Fits : Levels → Placing N → Type 0) (x : N) (o : Object Shape Signature) (w : Whereabouts) (r : Object Place (ProcedureText N))
       → IsPlaced table most naming typing ls checked Fits x o w r → IsPlaced table most naming typing (l ∷ ls) checked Fits x o (inward_whereabouts w) r
   inward-here typing l ls checked Fits x (a_variable s) (in_slot slot) (a_variable p) h = (h.0, slot-inward l ls slot ∙ h.1)
   inward-here typing l ls checked Fits x (a_procedure s) (at_target t) (a_procedure c) h = h

@@ -7,7 +7,7 @@ use Rattle.ob0_run_rules.proofs.SoundStatements.{PlaceFits-grows, set-fits, slic
 use Rattle.ob0_run_cells.specs.CellLaws.{AddressesStay, NumbersAreCells, PartsHaveAddresses, PlacesAreSlices, TruthsAreCells, TypesGiveSizes, WritingPlacesWritesSlices}
 use Rattle.ob0_run_cells.specs.Cells.{address, all_cells, cells_at, cells_of, cells_with, offset, size, sizes, truth_cell}
 use Rattle.ob0_run_cells.proofs.Parts.{cells-size, lies-inside, path-lies}
-use Rattle.ob0_run_cells.proofs.Splits.{Lies, lies-behind, lies-first, lies-within, split-at, split-get, split-set, split-with}
+use Rattle.ob0_run_cells.proofs.Splits.{Lies, lies-following, lies-first, lies-within, split-at, split-get, split-set, split-with}
 
 pub store-size : (typing : StoreTyping) (store : Store) → StoreFits typing store → length (all_cells store) ≡ sizes typing
 store-size [] [] h = refl
@@ -29,7 +29,7 @@ variable-lies (t ∷ typing) (v ∷ store) zero s h e =
     (v, refl, of_some (λ s. HasShape v s) e h.0, lies-first all_cells (v ∷ store) v (slice_set (v ∷ store) zero) (all_cells store) refl (λ new. refl))
 variable-lies (t ∷ typing) (v ∷ store) (suc n) s h e =
     let (w, ew, hw, l) = variable-lies typing store n s h.1 e in
-    (w, ew, hw, lies-behind all_cells all_cells (v ∷ store) store w (slice_set (v ∷ store) (suc n)) (slice_set store n) (cells_of v) (size t) (sizes (take n typing)) refl (λ new. refl) (cells-size v t h.0) l)
+    (w, ew, hw, lies-following all_cells all_cells (v ∷ store) store w (slice_set (v ∷ store) (suc n)) (slice_set store n) (cells_of v) (size t) (sizes (take n typing)) refl (λ new. refl) (cells-size v t h.0) l)
 
 -- what lies at a place, and what writing it makes of the store
 abbrev pub PlaceLies : StoreTyping → Store → Place → Shape → Type 0

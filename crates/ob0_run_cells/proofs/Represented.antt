@@ -16,12 +16,12 @@ use Rattle.ob0_run_cells.proofs.Places.{numbers_are_cells-holds, truths_are_cell
 
 -- an evaluation, and what comes of what it gives
 
-pub use-represents : {A B : Type 0} (typing : StoreTyping) (f : A → B) (low : execution.State) (s : State) (o : machine.Outcome A) (w : Outcome B) (k : A → execution.Progress) (j : B → Progress) → Represents typing low s → outcome_of f o ≡ w
+pub use-represents : {A B : Type 0} (typing : StoreTyping) (f : A → B) (low : execution.MachineState) (s : State) (o : machine.StepResult A) (w : Outcome B) (k : A → execution.MachineProgress) (j : B → Progress) → Represents typing low s → outcome_of f o ≡ w
     → ((a : A) → o ≡ machine.gives a → ProgressRepresents typing (k a) (j (f a))) → ProgressRepresents typing (execution.use_in low o k) (use_in s w j)
 use-represents typing f low s (machine.gives a) w k j h e each = subst (λ w. ProgressRepresents typing (k a) (use_in s w j)) e (each a refl)
 use-represents typing f low s (machine.ends x) w k j h e each = subst (λ w. ProgressRepresents typing (execution.stopped x low.output) (use_in s w j)) e (refl, h.same_output)
 
-pub use-place : (typing : StoreTyping) (shape : Shape) (low : execution.State) (s : State) (o : machine.Outcome ℕ) (w : Outcome Place) (k : ℕ → execution.Progress) (j : Place → Progress) → Represents typing low s → Led typing shape o w
+pub use-place : (typing : StoreTyping) (shape : Shape) (low : execution.MachineState) (s : State) (o : machine.StepResult ℕ) (w : Outcome Place) (k : ℕ → execution.MachineProgress) (j : Place → Progress) → Represents typing low s → Led typing shape o w
     → ((p : Place) → PlaceFits typing p shape → ProgressRepresents typing (k (address typing p)) (j p)) → ProgressRepresents typing (execution.use_in low o k) (use_in s w j)
 use-place typing shape low s (machine.gives a) (gives p) k j h led each =
     let e : a ≡ address typing p = given-same a (address typing p) led.is_same in
@@ -30,27 +30,27 @@ use-place typing shape low s (machine.ends x) (ends y) k j h led each = (ended-s
 use-place typing shape low s (machine.gives a) (ends y) k j h led each = let e = led.is_same in absurd (cc)
 use-place typing shape low s (machine.ends x) (gives p) k j h led each = let e = led.is_same in absurd (cc)
 
-pub choice-represents : (typing : StoreTyping) (low : execution.State) (s : State) (o : machine.Outcome Bool) (w : Outcome Value) (k l : execution.State → execution.Progress) (i j : State → Progress) → Represents typing low s → outcome_of truth o ≡ w
+pub choice-represents : (typing : StoreTyping) (low : execution.MachineState) (s : State) (o : machine.StepResult Bool) (w : Outcome Value) (k l : execution.MachineState → execution.MachineProgress) (i j : State → Progress) → Represents typing low s → outcome_of truth o ≡ w
     → ProgressRepresents typing (k low) (i s) → ProgressRepresents typing (l low) (j s) → ProgressRepresents typing (execution.choose low o k l) (use_in s w (λ v. choose s v i j))
 choice-represents typing low s (machine.gives true) w k l i j h e on off = subst (λ w. ProgressRepresents typing (k low) (use_in s w (λ v. choose s v i j))) e on
 choice-represents typing low s (machine.gives false) w k l i j h e on off = subst (λ w. ProgressRepresents typing (l low) (use_in s w (λ v. choose s v i j))) e off
 choice-represents typing low s (machine.ends x) w k l i j h e on off = subst (λ w. ProgressRepresents typing (execution.stopped x low.output) (use_in s w (λ v. choose s v i j))) e (refl, h.same_output)
 
 -- what follows in every state
-abbrev pub Follows : StoreTyping → (execution.State → execution.Progress) → (State → Progress) → Type 0
-Follows typing k j = (low : execution.State) (s : State) → Represents typing low s → ProgressRepresents typing (k low) (j s)
+abbrev pub Follows : StoreTyping → (execution.MachineState → execution.MachineProgress) → (State → Progress) → Type 0
+Follows typing k j = (low : execution.MachineState) (s : State) → Represents typing low s → ProgressRepresents typing (k low) (j s)
 
-pub going-on : (typing : StoreTyping) (p : execution.Progress) (q : Progress) (k : execution.State → execution.Progress) (j : State → Progress) → ProgressRepresents typing p q → Follows typing k j → ProgressRepresents typing (execution.continue_with p k) (continue_with q j)
+pub going-on : (typing : StoreTyping) (p : execution.MachineProgress) (q : Progress) (k : execution.MachineState → execution.MachineProgress) (j : State → Progress) → ProgressRepresents typing p q → Follows typing k j → ProgressRepresents typing (execution.continue_with p k) (continue_with q j)
 going-on typing (execution.running low) (running s) k j h follows = follows low s h
 going-on typing (execution.stopped e out) (stopped f written) k j h follows = h
 going-on typing (execution.running low) (stopped f written) k j h follows = absurd h
 going-on typing (execution.stopped e out) (running s) k j h follows = absurd h
 
 -- a condition that evaluates to the same in every state
-abbrev pub SameConditions : StoreTyping → (execution.State → machine.Outcome Bool) → (State → Outcome Value) → Type 0
-SameConditions typing c d = (low : execution.State) (s : State) → Represents typing low s → outcome_of truth (c low) ≡ d s
+abbrev pub SameConditions : StoreTyping → (execution.MachineState → machine.StepResult Bool) → (State → Outcome Value) → Type 0
+SameConditions typing c d = (low : execution.MachineState) (s : State) → Represents typing low s → outcome_of truth (c low) ≡ d s
 
-pub turns-represent : (t : ℕ) (typing : StoreTyping) (c : execution.State → machine.Outcome Bool) (d : State → Outcome Value) (k : execution.State → execution.Progress) (j : State → Progress)
+pub turns-represent : (t : ℕ) (typing : StoreTyping) (c : execution.MachineState → machine.StepResult Bool) (d : State → Outcome Value) (k : execution.MachineState → execution.MachineProgress) (j : State → Progress)
     → SameConditions typing c d → Follows typing k j → Follows typing (execution.turns t c k) (turns t d j)
 turns-represent zero typing c d k j same follows low s h =
     choice-represents typing low s (c low) (d s) (λ s'. execution.stopped machine.TurnBound s'.output) execution.running (λ s'. stopped TurnBound s'.output) running h (same low s h) (refl, h.same_output) h
@@ -58,7 +58,7 @@ turns-represent (suc t) typing c d k j same follows low s h =
     choice-represents typing low s (c low) (d s) (λ s'. execution.continue_with (k s') (execution.turns t c k)) execution.running (λ s'. continue_with (j s') (turns t d j)) running h (same low s h)
     (going-on typing (k low) (j s) (execution.turns t c k) (turns t d j) (follows low s h) (turns-represent t typing c d k j same follows)) h
 
-pub turns_until-represent : (t : ℕ) (typing : StoreTyping) (c : execution.State → machine.Outcome Bool) (d : State → Outcome Value) (k : execution.State → execution.Progress) (j : State → Progress)
+pub turns_until-represent : (t : ℕ) (typing : StoreTyping) (c : execution.MachineState → machine.StepResult Bool) (d : State → Outcome Value) (k : execution.MachineState → execution.MachineProgress) (j : State → Progress)
     → SameConditions typing c d → Follows typing k j → Follows typing (execution.turns_until t c k) (turns_until t d j)
 turns_until-represent zero typing c d k j same follows low s h =
     going-on typing (k low) (j s) (λ s'. execution.choose s' (c s') execution.running (λ s''. execution.stopped machine.TurnBound s''.output)) (λ s'. use_in s' (d s') (λ v. choose s' v running (λ s''. stopped TurnBound s''.output))) (follows low s h)
@@ -102,7 +102,7 @@ as_cell-same false = refl
 
 -- what is stored
 
-pub number-stored : (typing : StoreTyping) (low : execution.State) (s : State) (p : Place) (n : ℤ) → Represents typing low s → PlaceFits typing p integer_shape → machine.fits n ≡ true
+pub number-stored : (typing : StoreTyping) (low : execution.MachineState) (s : State) (p : Place) (n : ℤ) → Represents typing low s → PlaceFits typing p integer_shape → machine.fits n ≡ true
     → ProgressRepresents typing (execution.running (execution.store_at low (address typing p) n)) (store_at s p (number n))
 number-stored typing low s p n h fit e =
     let (found, writes) = numbers_are_cells-holds typing s.store p h.store_fits fit in
@@ -116,7 +116,7 @@ number-stored typing low s p n h fit e =
       input_has_numbers = h.input_has_numbers;
     }
 
-pub truth-stored : (typing : StoreTyping) (low : execution.State) (s : State) (p : Place) (b : Bool) → Represents typing low s → PlaceFits typing p boolean_shape
+pub truth-stored : (typing : StoreTyping) (low : execution.MachineState) (s : State) (p : Place) (b : Bool) → Represents typing low s → PlaceFits typing p boolean_shape
     → ProgressRepresents typing (execution.running (execution.store_at low (address typing p) (machine.as_cell b))) (store_at s p (truth b))
 truth-stored typing low s p b h fit =
     let (found, writes) = truths_are_cells-holds typing s.store p h.store_fits fit in
@@ -130,14 +130,14 @@ truth-stored typing low s p b h fit =
       input_has_numbers = h.input_has_numbers;
     }
 
-pub number-read : (typing : StoreTyping) (low : execution.State) (s : State) (p : Place) (input : List ℤ) → Represents typing low s → PlaceFits typing p integer_shape → HaveNumbers input
+pub number-read : (typing : StoreTyping) (low : execution.MachineState) (s : State) (p : Place) (input : List ℤ) → Represents typing low s → PlaceFits typing p integer_shape → HaveNumbers input
     → ProgressRepresents typing (execution.read_number low (address typing p) input) (read_number s p input)
 number-read typing low s p [] h fit k = (refl, h.same_output)
 number-read typing low s p (n ∷ rest) h fit k =
     number-stored typing (record low { input = rest }) (record s { input = rest }) p n
     record { store_fits = h.store_fits; same_cells = h.same_cells; same_input = refl; same_output = h.same_output; cells_have_numbers = h.cells_have_numbers; input_has_numbers = λ i. k (suc i) } fit (k zero)
 
-pub put-represents : (typing : StoreTyping) (low : execution.State) (s : State) (i : execution.Written) → Represents typing low s → ProgressRepresents typing (execution.running (execution.append_output low i)) (running (append_output s (written_of i)))
+pub put-represents : (typing : StoreTyping) (low : execution.MachineState) (s : State) (i : execution.OutputItem) → Represents typing low s → ProgressRepresents typing (execution.running (execution.append_output low i)) (running (append_output s (written_of i)))
 put-represents typing low s i h = record {
   store_fits = h.store_fits;
   same_cells = h.same_cells;
@@ -180,15 +180,15 @@ module _ {N : Type 0} (checked : Typed N) (slots : N → Slot) (targets : N → 
 
   -- the same in a state, with nothing passed
 
-  pub alone-cells : (low : execution.State) (s : State) → Represents b.typing low s → low.cells ≡ all_cells s.store ++ []
+  pub alone-cells : (low : execution.MachineState) (s : State) → Represents b.typing low s → low.cells ≡ all_cells s.store ++ []
   alone-cells low s h = h.same_cells ∙ sym (append-nil (all_cells s.store))
 
-  pub number-in : (n : lowered.Number) (w : Evaluated N Value) → NumberMeans checked slots n w → (low : execution.State) (s : State) → Represents b.typing low s
+  pub number-in : (n : lowered.Number) (w : Evaluated N Value) → NumberMeans checked slots n w → (low : execution.MachineState) (s : State) → Represents b.typing low s
       → (outcome_of number (machine.number b.levels low.cells n) ≡ w (moment b s.store [])) × Has32Bits (machine.number b.levels low.cells n)
   number-in n w hn low s h = number-at n w hn s.store [] low.cells h.store_fits (alone-cells low s h) h.cells_have_numbers
 
-  pub truth-in : (t : lowered.Truth) (w : Evaluated N Value) → TruthMeans checked slots t w → (low : execution.State) (s : State) → Represents b.typing low s → outcome_of truth (machine.truth b.levels low.cells t) ≡ w (moment b s.store [])
+  pub truth-in : (t : lowered.Truth) (w : Evaluated N Value) → TruthMeans checked slots t w → (low : execution.MachineState) (s : State) → Represents b.typing low s → outcome_of truth (machine.truth b.levels low.cells t) ≡ w (moment b s.store [])
   truth-in t w ht low s h = truth-at t w ht s.store [] low.cells h.store_fits (alone-cells low s h) h.cells_have_numbers
 
-  pub place-in : (q : lowered.Place) (shape : Shape) (w : Evaluated N Place) → PlaceMeans checked slots q shape w → (low : execution.State) (s : State) → Represents b.typing low s → Led b.typing shape (machine.address b.levels low.cells q) (w (moment b s.store []))
+  pub place-in : (q : lowered.Place) (shape : Shape) (w : Evaluated N Place) → PlaceMeans checked slots q shape w → (low : execution.MachineState) (s : State) → Represents b.typing low s → Led b.typing shape (machine.address b.levels low.cells q) (w (moment b s.store []))
   place-in q shape w hq low s h = place-at q shape w hq s.store [] low.cells h.store_fits (alone-cells low s h) h.cells_have_numbers

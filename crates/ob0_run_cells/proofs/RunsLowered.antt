@@ -23,19 +23,19 @@ use Rattle.ob0_run_cells.specs.Lowering.{of_module}
 use Rattle.ob0_run_cells.proofs.CallsLowered.{body-represents, calls-known, numbers-zero}
 use Rattle.ob0_run_cells.proofs.PlacedDeclarations.{FramePlaced, block-placed}
 
-pub finished-same : (typing : StoreTyping) (p : execution.Progress) (q : Progress) → ProgressRepresents typing p q → run_of (execution.finished p) ≡ finished q
+pub finished-same : (typing : StoreTyping) (p : execution.MachineProgress) (q : Progress) → ProgressRepresents typing p q → run_of (execution.finished p) ≡ finished q
 finished-same typing (execution.running low) (running s) h = ap (λ out. record { output = out; ending = (finished (running s)).ending }) h.same_output
 finished-same typing (execution.stopped x out) (stopped y written) h = λ i. record { output = h.1 i; ending = h.0 i }
 finished-same typing (execution.running low) (stopped y written) h = absurd h
 finished-same typing (execution.stopped x out) (running s) h = absurd h
 
-run-given_up : {N : Type 0} (naming : Naming N) (m : Tree N module_text) (program : lowered.Program) (most c t : ℕ) (input : List ℤ) → fits_over naming m ≡ true → ProgramMeans most naming m program → suc c * most < 2 ^ 64 → HaveNumbers input
+run-given_up : {N : Type 0} (naming : Naming N) (m : Tree N module_text) (program : lowered.LoweredCode) (most c t : ℕ) (input : List ℤ) → fits_over naming m ≡ true → ProgramMeans most naming m program → suc c * most < 2 ^ 64 → HaveNumbers input
     → run_of (execution.run program input c t) ≡ run_giving_up naming m input c t
 unfolding execution.run run_giving_up fits_over
 run-given_up {N} naming (is_module x b closing) program most c t input fits means few numbers =
     let start : State = record { store = []; input = input; output = [] } in
-    let low : execution.State = record { cells = execution.zeros program.cells; input = input; output = [] } in
-    let p : Placed N = record { placing = outermost_placing naming; cells = 0; lent_places = 0 } in
+    let low : execution.MachineState = record { cells = execution.zeros program.cells; input = input; output = [] } in
+    let p : Placed N = record { placing = outermost_placing naming; cells = 0; reference_places = 0 } in
     let f : Frame N = record { env = outermost naming; store = [] } in
     let frame : FramePlaced program.procedures most naming [] execution.outermost 0 (outermost naming) p f = record {
       store_fits = tt;
@@ -59,7 +59,7 @@ run-given_up {N} naming (is_module x b closing) program most c t input fits mean
     (body-represents program.procedures most naming c t (calls-known program.procedures most naming c t) part.typing_now execution.outermost after q.placing g.env part.frame.environment_fits part.frame.placing_fits room program.body (block_statements b) body_means low record start { store = g.store } represents))
 
 -- of the store that keeps every variable too: no run reads again what a call failed
-pub run-lowered : {N : Type 0} (naming : Naming N) (m : Tree N module_text) (program : lowered.Program) (most c t : ℕ) (input : List ℤ) → fits_over naming m ≡ true → ProgramMeans most naming m program → suc c * most < 2 ^ 64 → HaveNumbers input
+pub run-lowered : {N : Type 0} (naming : Naming N) (m : Tree N module_text) (program : lowered.LoweredCode) (most c t : ℕ) (input : List ℤ) → fits_over naming m ≡ true → ProgramMeans most naming m program → suc c * most < 2 ^ 64 → HaveNumbers input
     → run_of (execution.run program input c t) ≡ run_over naming m input c t
 run-lowered naming m program most c t input fits means few numbers = run-given_up naming m program most c t input fits means few numbers ∙ giving_up-keeps naming m input c t
 

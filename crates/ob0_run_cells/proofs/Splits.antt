@@ -28,9 +28,9 @@ lies-within cells whole middle old outer inner a b h k = record {
 }
 
 -- after others
-pub lies-behind : {X Y : Type 0} (cells : X → List ℤ) (others : Y → List ℤ) (whole : X) (rest : Y) (old : Value) (outer : Value → X) (inner : Value → Y) (first : List ℤ) (a b : ℕ)
+pub lies-following : {X Y : Type 0} (cells : X → List ℤ) (others : Y → List ℤ) (whole : X) (rest : Y) (old : Value) (outer : Value → X) (inner : Value → Y) (first : List ℤ) (a b : ℕ)
     → cells whole ≡ first ++ others rest → ((new : Value) → cells (outer new) ≡ first ++ others (inner new)) → length first ≡ a → Lies others rest old inner b → Lies cells whole old outer (a + b)
-lies-behind cells others whole rest old outer inner first a b e each n k = record {
+lies-following cells others whole rest old outer inner first a b e each n k = record {
   before = first ++ k.before;
   after = k.after;
   is_split = e ∙ (ap (λ l. first ++ l) k.is_split ∙ sym (append_assoc first k.before (cells_of old ++ k.after)));

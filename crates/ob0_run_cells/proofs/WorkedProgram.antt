@@ -38,10 +38,10 @@ worked_module =
     (one (begins (runs (calls (declared 8) (one (some_arguments (written_number 7) (more (then_argument (written_name (declared 7))) end)))) (more (then_statement (calls (declared 5) (one (some_arguments (written_name (declared 7)) end)))) end)))))
     (as_written [])
 
-abbrev pub worked_entry : lowered.Procedure
+abbrev pub worked_entry : lowered.Routine
 worked_entry = record { cells = 0; body = lowered.before (lowered.stores_number (lowered.passed 0 0) (lowered.cell (lowered.here 0))) lowered.no_statement }
 
-abbrev pub worked_program : lowered.Program
+abbrev pub worked_program : lowered.LoweredCode
 worked_program = record {
   cells = 1;
   body = lowered.before (lowered.calls 0 0 (lowered.by_number (lowered.literal (pos 7)) ∷ lowered.by_place (lowered.in_module 0) ∷ [])) (lowered.before (lowered.writes (lowered.cell (lowered.in_module 0))) lowered.no_statement);
@@ -50,10 +50,10 @@ worked_program = record {
 
 -- a variable alone, and a number alone
 
-place-alone : (checked : Typed Label) (slots : Label → Slot) (x : Label) (s : Shape) → checked.stands_for x ≡ Some (a_variable s) → PlaceMeans checked slots (slot_place (slots x)) s (place_of_designator x end)
+place-alone : (checked : Typed Label) (slots : Label → Slot) (x : Label) (s : Shape) → checked.object_for x ≡ Some (a_variable s) → PlaceMeans checked slots (slot_place (slots x)) s (place_of_designator x end)
 place-alone checked slots x s e = selectors_end-holds checked slots (slot_place (slots x)) s (place_of_designator x end) (variables_lower-holds checked slots x s end e)
 
-number-alone : (checked : Typed Label) (slots : Label → Slot) (x : Label) → checked.stands_for x ≡ Some (a_variable integer_shape) → NumberMeans checked slots (lowered.cell (slot_place (slots x))) (value_of_expression (written_name x))
+number-alone : (checked : Typed Label) (slots : Label → Slot) (x : Label) → checked.object_for x ≡ Some (a_variable integer_shape) → NumberMeans checked slots (lowered.cell (slot_place (slots x))) (value_of_expression (written_name x))
 number-alone checked slots x e =
     let n = lowered.cell (slot_place (slots x)) in
     let factor = (cells_lower-holds checked slots x integer_shape end (slot_place (slots x)) e).0 (place-alone checked slots x integer_shape e) in
@@ -113,7 +113,7 @@ unfolding declare_first declare_typed place_variables typed_parameters
 program-means = (
   outermost as_labels,
   worked_checked,
-  record { placing = worked_placing; cells = 1; lent_places = 0 },
+  record { placing = worked_placing; cells = 1; reference_places = 0 },
   refl,
   refl,
   refl,

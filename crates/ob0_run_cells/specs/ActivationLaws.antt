@@ -21,7 +21,7 @@ use Rattle.ob0_run_cells.specs.Lowering.{end_of}
 -- as one of the module's that drops its variables
 abbrev pub CallsLowered : Type 0
 CallsLowered =
-    (table : List lowered.Procedure) (most c t : ℕ) (typing : StoreTyping) (ls : Levels)
+    (table : List lowered.Routine) (most c t : ℕ) (typing : StoreTyping) (ls : Levels)
     (checked : TypeEnvironment Label) (placing : Placing Label) (active : Activation Label)
     → EnvironmentsFit as_labels typing checked active
     → PlacingFits table most as_labels typing ls checked placing active
@@ -35,14 +35,14 @@ CallsLowered =
     }
 
 -- a run of lowered code as one of the module
-abbrev pub run_of : execution.Run → Run
+abbrev pub run_of : execution.MachineRun → Run
 run_of r = record { output = map written_of r.output; ending = end_of r.ending }
 
 -- the run of a program that is lowered from a well-typed module is the module's run, for each input of numbers of 32 bits and all
 -- bounds under which the cells of the module and of all calls that are open have addresses
 abbrev pub RunsLowered : Type 0
 RunsLowered =
-    (m : Tree Name module_text) (program : lowered.Program) (most c t : ℕ) (input : List ℤ)
+    (m : Tree Name module_text) (program : lowered.LoweredCode) (most c t : ℕ) (input : List ℤ)
     → WellTyped m
     → ProgramMeans most as_labels (numbered m) program
     → suc c * most < 2 ^ 64

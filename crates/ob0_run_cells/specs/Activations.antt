@@ -11,12 +11,12 @@ use Rattle.ob0_types_rules.specs.Typing.{constructors, denoted}
 use Rattle.ob0_types_rules.specs.WellTyped.{Mode, Signature, TypeEnvironment, TypedParameter, bind_names, bind_typed, by_place, by_value, declare_typed, heading, typed_parameters}
 use Rattle.ob0_values.specs.Values.{Place, Shape}
 use Rattle.ob0_run_rules.specs.Fitting.{PlaceFits, StoreTyping}
-use Rattle.ob0_run_rules.specs.Runs.{Activation, Code}
+use Rattle.ob0_run_rules.specs.Runs.{Activation, ProcedureText}
 use Rattle.ob0_run_machine.specs.Evaluation.{Levels}
 use Rattle.ob0_run_machine.specs.Lowered as lowered
 use Rattle.ob0_run_cells.specs.Cells.{address, size}
 use Rattle.ob0_run_cells.specs.LoweredStatements.{SequenceMeans, Target}
-use Rattle.ob0_run_cells.specs.Lowering.{Slot, held, lent, of_module, slot_address}
+use Rattle.ob0_run_cells.specs.Lowering.{Slot, held, by_reference, of_module, slot_address}
 
 -- a variable is in a slot and a procedure at a target; anything else is nowhere in lowered code
 pub data Whereabouts : Type 0 where
@@ -68,7 +68,7 @@ targets_in naming placing x = first_target (from_name naming placing x)
 abbrev pub inward_slot : Slot → Slot
 inward_slot (of_module at) = of_module at
 inward_slot (held up at) = held (suc up) at
-inward_slot (lent up at) = lent (suc up) at
+inward_slot (by_reference up at) = by_reference (suc up) at
 
 -- where something is as an activation one level further in sees it
 abbrev pub inward_whereabouts : Whereabouts → Whereabouts
@@ -85,7 +85,7 @@ inward (b ∷ placing) = (b.0, inward_whereabouts b.1) ∷ inward placing
 pub record Placed (N : Type 0) : Type 0 where
   pub placing : Placing N
   pub cells : ℕ
-  pub lent_places : ℕ
+  pub reference_places : ℕ
 
 -- names placed one by one, each with so many cells
 abbrev pub place_names : {N : Type 0} → (ℕ → Slot) → List N → ℕ → Placed N → Placed N
@@ -116,7 +116,7 @@ place_parameter by_value x n p =
     record p { placing = (x, in_slot (held 0 p.cells)) ∷ p.placing; cells = p.cells + n }
 place_parameter by_place x n p =
     record p
-    { placing = (x, in_slot (lent 0 p.lent_places)) ∷ p.placing; lent_places = suc p.lent_places }
+    { placing = (x, in_slot (by_reference 0 p.reference_places)) ∷ p.placing; reference_places = suc p.reference_places }
 
 -- parameters, placed one after the other
 abbrev pub place_parameters : {N : Type 0} → List (TypedParameter N) → Placed N → Placed N
@@ -136,14 +136,14 @@ own_target i = at_target record { procedure = i; up = 0 }
 -- where a procedure's parameters are, and what it sees around it
 abbrev pub entered_placing : {N : Type 0} → List (TypedParameter N) → Placing N → Placed N
 entered_placing ps placing =
-    place_parameters ps record { placing = inward placing; cells = 0; lent_places = 0 }
+    place_parameters ps record { placing = inward placing; cells = 0; reference_places = 0 }
 
 -- the code of a body means it, wherever its statements are checked
 abbrev pub BodyMeans : {N : Type 0}
     → Naming N
     → TypeEnvironment N
     → Placing N
-    → lowered.Statements
+    → lowered.Instructions
     → Tree N (maybe body)
     → Type 0
 BodyMeans naming checked placing code none = code ≡ lowered.no_statement
@@ -155,7 +155,7 @@ BodyMeans naming checked placing code (one (begins statements)) =
 -- no activation has more than a most
 abbrev mutual
   pub BlockMeans : {N : Type 0}
-      → List lowered.Procedure
+      → List lowered.Routine
       → ℕ
       → Naming N
       → (ℕ → Slot)
@@ -163,7 +163,7 @@ abbrev mutual
       → Placed N
       → ℕ
       → ℕ
-      → lowered.Statements
+      → lowered.Instructions
       → Tree N block
       → Type 0
   BlockMeans {N} table most naming at checked p k cells code
@@ -190,13 +190,13 @@ abbrev mutual
       (after_variables k (has_body (declares cs ts vs ps) statements)) code statements ps
 
   pub ProceduresMean : {N : Type 0}
-      → List lowered.Procedure
+      → List lowered.Routine
       → ℕ
       → Naming N
       → TypeEnvironment N
       → Placing N
       → ℕ
-      → lowered.Statements
+      → lowered.Instructions
       → Tree N (maybe body)
       → Tree N (items procedure)
       → Type 0
@@ -205,7 +205,7 @@ abbrev mutual
   ProceduresMean {N} table most naming checked placing k code statements (more p rest) =
       (ps : List (TypedParameter N))
       × (i : ℕ)
-      × (entry : lowered.Procedure)
+      × (entry : lowered.Routine)
       × (typed_parameters naming checked k (procedure_formals p) ≡ Some ps)
       × (slice_get table i ≡ Some entry)
       × ProcedureMeans table most naming (bind_typed ps (heading (procedure_name p) ps checked))
@@ -215,13 +215,13 @@ abbrev mutual
       rest
 
   pub ProcedureMeans : {N : Type 0}
-      → List lowered.Procedure
+      → List lowered.Routine
       → ℕ
       → Naming N
       → TypeEnvironment N
       → Placed N
       → ℕ
-      → lowered.Procedure
+      → lowered.Routine
       → Tree N (item procedure)
       → Type 0
   ProcedureMeans table most naming checked p k entry (declares_procedure x fs b closing) =
@@ -231,7 +231,7 @@ abbrev mutual
 -- one binding, over those after it: a variable's slot has its place's address, and a procedure's code means its block, where it is
 -- declared
 abbrev pub IsPlaced : {N : Type 0}
-    → List lowered.Procedure
+    → List lowered.Routine
     → ℕ
     → Naming N
     → StoreTyping
@@ -241,7 +241,7 @@ abbrev pub IsPlaced : {N : Type 0}
     → N
     → Object Shape Signature
     → Whereabouts
-    → Object Place (Code N)
+    → Object Place (ProcedureText N)
     → Type 0
 IsPlaced table most naming typing ls checked Fits x (a_variable s) (in_slot slot) (a_variable p) =
     PlaceFits typing p s × (slot_address ls slot ≡ address typing p)
@@ -251,7 +251,7 @@ IsPlaced {N} table most naming typing ls checked Fits x (a_procedure signature) 
     (outer : Placing N)
     × Fits (drop t.up ls) outer
     × (ps : List (TypedParameter N))
-    × (entry : lowered.Procedure)
+    × (entry : lowered.Routine)
     × (typed_parameters naming checked code.first_constructor (procedure_formals code.text)
     ≡ Some ps)
     × (slice_get table t.procedure ≡ Some entry)
@@ -265,7 +265,7 @@ IsPlaced table most naming typing ls checked Fits x _ _ _ = ⊥
 
 -- a placing says where an activation's bindings are, at levels
 abbrev pub PlacingFits : {N : Type 0}
-    → List lowered.Procedure
+    → List lowered.Routine
     → ℕ
     → Naming N
     → StoreTyping
@@ -301,9 +301,9 @@ abbrev pub ProgramMeans : {N : Type 0}
     → ℕ
     → Naming N
     → Tree N module_text
-    → lowered.Program
+    → lowered.LoweredCode
     → Type 0
 ProgramMeans most naming m program =
     BlockMeans program.procedures most naming of_module (outermost naming) record
-    { placing = outermost_placing naming; cells = 0; lent_places = 0 } 0 program.cells
+    { placing = outermost_placing naming; cells = 0; reference_places = 0 } 0 program.cells
     program.body (module_block m)

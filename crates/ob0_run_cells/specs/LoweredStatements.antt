@@ -16,7 +16,7 @@ use Rattle.ob0_run_cells.specs.Cells.{address, all_cells, cells_of, size, sizes}
 use Rattle.ob0_run_cells.specs.Lowering.{NumberMeans, PlaceMeans, Slot, TruthMeans, ValueAt, end_of, place_of_designator, slot_address, value_of_expression}
 
 -- an item of the machine's output
-abbrev pub written_of : execution.Written → Written
+abbrev pub written_of : execution.OutputItem → Written
 written_of (execution.number_out n) = number_out n
 written_of execution.line_out = line_out
 
@@ -25,7 +25,7 @@ abbrev pub HaveNumbers : List ℤ → Type 0
 HaveNumbers cells = (a : ℕ) → machine.fits (machine.cell_at cells a) ≡ true
 
 -- a state of lowered code with the cells of a store of given types, and the same input and output
-pub record Represents (typing : StoreTyping) (low : execution.State) (s : State) : Type 0 where
+pub record Represents (typing : StoreTyping) (low : execution.MachineState) (s : State) : Type 0 where
   pub store_fits : StoreFits typing s.store
   pub same_cells : low.cells ≡ all_cells s.store
   pub same_input : low.input ≡ s.input
@@ -34,7 +34,7 @@ pub record Represents (typing : StoreTyping) (low : execution.State) (s : State)
   pub input_has_numbers : HaveNumbers low.input
 
 -- both go on, or both have ended alike
-abbrev pub ProgressRepresents : StoreTyping → execution.Progress → Progress → Type 0
+abbrev pub ProgressRepresents : StoreTyping → execution.MachineProgress → Progress → Type 0
 ProgressRepresents typing (execution.running low) (running s) = Represents typing low s
 ProgressRepresents typing (execution.stopped e out) (stopped f written) =
     (end_of e ≡ f) × (map written_of out ≡ written)
@@ -65,14 +65,14 @@ pub record Body (N : Type 0) : Type 0 where
   pub active : Meanings N Place (List Mode)
   pub levels : Levels
   pub enters : Calls N
-  pub lowered_enters : execution.Calls
+  pub lowered_enters : execution.CallEffect
 
 -- calls with the same arguments come to the same
 abbrev pub CallsRepresent : {N : Type 0} → Typed N → (N → Target) → Body N → Type 0
 CallsRepresent {N} checked targets b =
     (x : N) (signature : Signature)
-    → checked.stands_for x ≡ Some (a_procedure signature)
-    → (args : List Argument) (low : execution.State) (s : State) (p : execution.Passed)
+    → checked.object_for x ≡ Some (a_procedure signature)
+    → (args : List Argument) (low : execution.MachineState) (s : State) (p : execution.Passed)
     → Represents b.typing low s
     → ArgumentsFit b.typing signature args
     → p.cells ≡ low.cells ++ argument_cells args
@@ -86,7 +86,7 @@ CallsRepresent {N} checked targets b =
 pub record ShowsBody {N : Type 0} (checked : Typed N) (slots : N → Slot) (targets : N → Target) (b : Body N) : Type 0 where
   pub names_fit : MeaningsFit b.typing checked b.active
   pub variables_in_slots : (x : N) (p : Place)
-      → b.active.stands_for x ≡ Some (a_variable p)
+      → b.active.object_for x ≡ Some (a_variable p)
       → slot_address b.levels (slots x) ≡ address b.typing p
   pub has_addresses : sizes b.typing < 2 ^ 64
   pub calls_represent : CallsRepresent checked targets b
@@ -96,13 +96,13 @@ abbrev pub Does : {N : Type 0}
     → Typed N
     → (N → Slot)
     → (N → Target)
-    → (Body N → ℕ → execution.State → execution.Progress)
+    → (Body N → ℕ → execution.MachineState → execution.MachineProgress)
     → (Body N → ℕ → State → Progress)
     → Type 0
 Does {N} checked slots targets low_step step =
     (b : Body N)
     → ShowsBody checked slots targets b
-    → (t : ℕ) (low : execution.State) (s : State)
+    → (t : ℕ) (low : execution.MachineState) (s : State)
     → Represents b.typing low s
     → ProgressRepresents b.typing (low_step b t low) (step b t s)
 
@@ -111,7 +111,7 @@ abbrev pub StatementMeans : {N : Type 0}
     → Typed N
     → (N → Slot)
     → (N → Target)
-    → lowered.Statement
+    → lowered.Instruction
     → Tree N statement
     → Type 0
 StatementMeans checked slots targets c a =
@@ -123,7 +123,7 @@ abbrev pub SequenceMeans : {N : Type 0}
     → Typed N
     → (N → Slot)
     → (N → Target)
-    → lowered.Statements
+    → lowered.Instructions
     → Tree N sequence
     → Type 0
 SequenceMeans checked slots targets cs a =
@@ -135,7 +135,7 @@ abbrev pub FurtherMean : {N : Type 0}
     → Typed N
     → (N → Slot)
     → (N → Target)
-    → lowered.Statements
+    → lowered.Instructions
     → Tree N (items further_statement)
     → Type 0
 FurtherMean checked slots targets cs rest =
@@ -147,7 +147,7 @@ abbrev pub ElseMeans : {N : Type 0}
     → Typed N
     → (N → Slot)
     → (N → Target)
-    → lowered.Statements
+    → lowered.Instructions
     → Tree N (maybe else_part)
     → Type 0
 ElseMeans checked slots targets cs last =
@@ -160,7 +160,7 @@ abbrev pub ElsifsMean : {N : Type 0}
     → (N → Slot)
     → (N → Target)
     → lowered.Branches
-    → lowered.Statements
+    → lowered.Instructions
     → Tree N (items elsif_part)
     → Tree N (maybe else_part)
     → Type 0
@@ -182,7 +182,7 @@ IsAt {N} checked slots q s e =
     × (path : Tree N (items selector))
     × (v : Shape)
     × (designated e ≡ Some (x, path))
-    × (checked.stands_for x ≡ Some (a_variable v))
+    × (checked.object_for x ≡ Some (a_variable v))
     × PlaceMeans checked slots q s (place_of_designator x path)
 
 -- an argument by how its parameter is passed: a place, or a number, a truth or the cells of an array or a record
@@ -190,7 +190,7 @@ abbrev pub ArgumentMeans : {N : Type 0}
     → Typed N
     → (N → Slot)
     → Formal
-    → lowered.Argument
+    → lowered.LoweredArgument
     → Tree N expression
     → Type 0
 ArgumentMeans checked slots f (lowered.by_place q) e =
@@ -213,7 +213,7 @@ abbrev pub ArgumentsMean : {N : Type 0}
     → Typed N
     → (N → Slot)
     → Signature
-    → List lowered.Argument
+    → List lowered.LoweredArgument
     → List (Tree N expression)
     → Type 0
 ArgumentsMean checked slots [] [] [] = Unit {0}

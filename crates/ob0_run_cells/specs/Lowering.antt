@@ -18,20 +18,20 @@ use Rattle.ob0_run_cells.specs.Cells.{address, all_cells, sizes}
 pub data Slot : Type 0 where
   of_module : (offset : ℕ) → Slot
   held : (up offset : ℕ) → Slot
-  lent : (up index : ℕ) → Slot
+  by_reference : (up index : ℕ) → Slot
 
 -- the address of a slot, as the running activation sees it
 abbrev pub slot_address : Levels → Slot → ℕ
 slot_address ls (of_module offset) = offset
 slot_address ls (held up offset) = (level_at ls up).base + offset
-slot_address ls (lent up index) = slice_index_or (level_at ls up).addresses index 0
+slot_address ls (by_reference up index) = slice_index_or (level_at ls up).addresses index 0
 
 -- the lowered place of a slot
 abbrev pub slot_place : Slot → lowered.Place
 slot_place (of_module offset) = lowered.in_module offset
 slot_place (held zero offset) = lowered.here offset
 slot_place (held (suc up) offset) = lowered.outside (suc up) offset
-slot_place (lent up index) = lowered.passed up index
+slot_place (by_reference up index) = lowered.passed up index
 
 -- a moment of a run: the store and its types, the cells of the arguments that a call has been passed so far, what names mean,
 -- and the activations that lowered code sees
@@ -51,13 +51,13 @@ pub record Shows {N : Type 0} (checked : Typed N) (slots : N → Slot) (m : Mome
   pub store_fits : StoreFits m.typing m.store
   pub names_fit : MeaningsFit m.typing checked m.active
   pub variables_in_slots : (x : N) (p : Place)
-      → m.active.stands_for x ≡ Some (a_variable p)
+      → m.active.object_for x ≡ Some (a_variable p)
       → slot_address m.levels (slots x) ≡ address m.typing p
   pub has_addresses : sizes m.typing < 2 ^ 64
   pub has_numbers : (a : ℕ) → machine.fits (machine.cell_at (cells_in m) a) ≡ true
 
 -- how a run ends, by how the lowered one does, and what a step gives
-abbrev pub end_of : machine.End → End
+abbrev pub end_of : machine.Halt → End
 end_of machine.Done = Done
 end_of machine.Overflow = Overflow
 end_of machine.Divisor = Divisor
@@ -67,7 +67,7 @@ end_of machine.CallBound = CallBound
 end_of machine.TurnBound = TurnBound
 
 -- an outcome of the machine as one of the module
-abbrev pub outcome_of : {A B : Type 0} → (A → B) → machine.Outcome A → Outcome B
+abbrev pub outcome_of : {A B : Type 0} → (A → B) → machine.StepResult A → Outcome B
 outcome_of f (machine.gives a) = gives (f a)
 outcome_of f (machine.ends e) = ends (end_of e)
 
@@ -76,7 +76,7 @@ abbrev pub Evaluated : Type 0 → Type 0 → Type 0
 Evaluated N A = Moment N → Outcome A
 
 -- what a number evaluates to has 32 bits
-abbrev pub Has32Bits : machine.Outcome ℤ → Type 0
+abbrev pub Has32Bits : machine.StepResult ℤ → Type 0
 Has32Bits (machine.gives n) = machine.fits n ≡ true
 Has32Bits (machine.ends e) = Unit {0}
 
@@ -87,10 +87,10 @@ abbrev pub NumberMeans : {N : Type 0}
     → lowered.Number
     → Evaluated N Value
     → Type 0
-NumberMeans {N} checked slots n worth =
+NumberMeans {N} checked slots n value =
     (m : Moment N)
     → Shows checked slots m
-    → (outcome_of number (machine.number m.levels (cells_in m) n) ≡ worth m)
+    → (outcome_of number (machine.number m.levels (cells_in m) n) ≡ value m)
     × Has32Bits (machine.number m.levels (cells_in m) n)
 
 -- a lowered truth value is what is evaluated, at every moment
@@ -100,10 +100,10 @@ abbrev pub TruthMeans : {N : Type 0}
     → lowered.Truth
     → Evaluated N Value
     → Type 0
-TruthMeans {N} checked slots t worth =
+TruthMeans {N} checked slots t value =
     (m : Moment N)
     → Shows checked slots m
-    → outcome_of truth (machine.truth m.levels (cells_in m) t) ≡ worth m
+    → outcome_of truth (machine.truth m.levels (cells_in m) t) ≡ value m
 
 -- what is given is a place for values of a type
 abbrev pub GivesPlace : StoreTyping → Shape → Outcome Place → Type 0
@@ -118,11 +118,11 @@ abbrev pub PlaceMeans : {N : Type 0}
     → Shape
     → Evaluated N Place
     → Type 0
-PlaceMeans {N} checked slots q s worth =
+PlaceMeans {N} checked slots q s value =
     (m : Moment N) → Shows checked slots m
     → (outcome_of (λ a. a) (machine.address m.levels (cells_in m) q)
-    ≡ (worth m >>= (λ p. gives (address m.typing p))))
-    × GivesPlace m.typing s (worth m)
+    ≡ (value m >>= (λ p. gives (address m.typing p))))
+    × GivesPlace m.typing s (value m)
 
 -- the cells at a place of lowered code are those of what is evaluated, a value of a type
 abbrev pub ValueAt : {N : Type 0}
@@ -227,7 +227,7 @@ abbrev pub TruthLeads : {N : Type 0}
 TruthLeads checked slots t = Leads checked slots (TruthMeans checked slots t)
 
 -- relations of numbers
-abbrev pub relation_of : Relation → lowered.Relation
+abbrev pub relation_of : Relation → lowered.Comparator
 relation_of relation.Equal = lowered.equal
 relation_of relation.NotEqual = lowered.not_equal
 relation_of relation.Less = lowered.less

@@ -22,7 +22,7 @@ abbrev pub VariablesLower : Type 0
 VariablesLower =
     (checked : Typed Label) (slots : Label → Slot) (x : Label) (s : Shape)
     (path : Tree Label (items selector))
-    → checked.stands_for x ≡ Some (a_variable s)
+    → checked.object_for x ≡ Some (a_variable s)
     → PlaceLeads checked slots (slot_place (slots x)) s path (place_of_designator x path)
 
 -- a field is a part at its offset
@@ -63,11 +63,11 @@ abbrev pub ConstantsLower : Type 0
 ConstantsLower =
     (checked : Typed Label) (slots : Label → Slot) (x : Label)
     → ((n : ℤ)
-    → checked.stands_for x ≡ Some (a_constant (number n))
+    → checked.object_for x ≡ Some (a_constant (number n))
     → machine.fits n ≡ true
     → NumberMeans checked slots (lowered.literal n) (value_of_factor (designator x end)))
     × ((b : Bool)
-    → checked.stands_for x ≡ Some (a_constant (truth b))
+    → checked.object_for x ≡ Some (a_constant (truth b))
     → TruthMeans checked slots (lowered.constant b) (value_of_factor (designator x end)))
 
 -- what a place of a number or a truth holds is its cell
@@ -75,7 +75,7 @@ abbrev pub CellsLower : Type 0
 CellsLower =
     (checked : Typed Label) (slots : Label → Slot) (x : Label) (v : Shape)
     (path : Tree Label (items selector)) (q : lowered.Place)
-    → checked.stands_for x ≡ Some (a_variable v)
+    → checked.object_for x ≡ Some (a_variable v)
     → (PlaceMeans checked slots q integer_shape (place_of_designator x path)
     → NumberMeans checked slots (lowered.cell q) (value_of_factor (designator x path)))
     × (PlaceMeans checked slots q boolean_shape (place_of_designator x path)
@@ -219,7 +219,7 @@ abbrev pub BlocksLower : Type 0
 BlocksLower =
     (checked : Typed Label) (slots : Label → Slot) (q : lowered.Place) (s : Shape)
     → ((x : Label) (v : Shape) (path : Tree Label (items selector))
-    → checked.stands_for x ≡ Some (a_variable v)
+    → checked.object_for x ≡ Some (a_variable v)
     → PlaceMeans checked slots q s (place_of_designator x path)
     → ValueAt checked slots q s (value_of_factor (designator x path)))
     × ((e : Tree Label expression)

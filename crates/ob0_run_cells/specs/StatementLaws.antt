@@ -36,16 +36,16 @@ StandardCallsLower =
     (checked : Typed Label) (slots : Label → Slot) (targets : Label → Target) (x : Label)
     (es : Tree Label (maybe arguments)) (e : Tree Label expression)
     → ((q : lowered.Place)
-    → checked.stands_for x ≡ Some (a_standard reads)
+    → checked.object_for x ≡ Some (a_standard reads)
     → arguments_listed es ≡ e ∷ []
     → IsAt checked slots q integer_shape e
     → StatementMeans checked slots targets (lowered.reads q) (calls x es))
     × ((n : lowered.Number)
-    → checked.stands_for x ≡ Some (a_standard writes)
+    → checked.object_for x ≡ Some (a_standard writes)
     → arguments_listed es ≡ e ∷ []
     → NumberMeans checked slots n (value_of_expression e)
     → StatementMeans checked slots targets (lowered.writes n) (calls x es))
-    × (checked.stands_for x ≡ Some (a_standard writes_line)
+    × (checked.object_for x ≡ Some (a_standard writes_line)
     → arguments_listed es ≡ []
     → StatementMeans checked slots targets lowered.writes_line (calls x es))
 
@@ -53,8 +53,8 @@ StandardCallsLower =
 abbrev pub CallsLower : Type 0
 CallsLower =
     (checked : Typed Label) (slots : Label → Slot) (targets : Label → Target) (x : Label)
-    (es : Tree Label (maybe arguments)) (signature : Signature) (cs : List lowered.Argument)
-    → checked.stands_for x ≡ Some (a_procedure signature)
+    (es : Tree Label (maybe arguments)) (signature : Signature) (cs : List lowered.LoweredArgument)
+    → checked.object_for x ≡ Some (a_procedure signature)
     → ArgumentsMean checked slots signature cs (arguments_listed es)
     → StatementMeans checked slots targets (lowered.calls (targets x).procedure (targets x).up cs)
     (calls x es)
@@ -65,8 +65,8 @@ BranchesLower =
     (checked : Typed Label) (slots : Label → Slot) (targets : Label → Target)
     (e : Tree Label expression) (a : Tree Label sequence) (rest : Tree Label (items elsif_part))
     (last : Tree Label (maybe else_part))
-    (t : lowered.Truth) (body : lowered.Statements) (bs : lowered.Branches)
-    (otherwise : lowered.Statements)
+    (t : lowered.Truth) (body : lowered.Instructions) (bs : lowered.Branches)
+    (otherwise : lowered.Instructions)
     → TruthMeans checked slots t (value_of_expression e)
     → SequenceMeans checked slots targets body a
     → ElsifsMean checked slots targets bs otherwise rest last
@@ -79,10 +79,10 @@ BranchesLower =
 abbrev pub ElsesLower : Type 0
 ElsesLower =
     (checked : Typed Label) (slots : Label → Slot) (targets : Label → Target)
-    → ((last : Tree Label (maybe else_part)) (cs : lowered.Statements)
+    → ((last : Tree Label (maybe else_part)) (cs : lowered.Instructions)
     → ElseMeans checked slots targets cs last
     → ElsifsMean checked slots targets lowered.no_branch cs end last)
-    × ((a : Tree Label sequence) (cs : lowered.Statements)
+    × ((a : Tree Label sequence) (cs : lowered.Instructions)
     → SequenceMeans checked slots targets cs a
     → ElseMeans checked slots targets cs (one (else_branch a)))
     × ElseMeans checked slots targets lowered.no_statement none
@@ -92,7 +92,7 @@ abbrev pub LoopsLower : Type 0
 LoopsLower =
     (checked : Typed Label) (slots : Label → Slot) (targets : Label → Target)
     (e : Tree Label expression) (a : Tree Label sequence) (t : lowered.Truth)
-    (body : lowered.Statements)
+    (body : lowered.Instructions)
     → TruthMeans checked slots t (value_of_expression e)
     → SequenceMeans checked slots targets body a
     → StatementMeans checked slots targets (lowered.while_loop t body) (while_loop e a)
@@ -102,9 +102,9 @@ LoopsLower =
 abbrev pub SequencesLower : Type 0
 SequencesLower =
     (checked : Typed Label) (slots : Label → Slot) (targets : Label → Target)
-    (rest : Tree Label (items further_statement)) (cs : lowered.Statements)
+    (rest : Tree Label (items further_statement)) (cs : lowered.Instructions)
     → FurtherMean checked slots targets cs rest
-    → ((a : Tree Label statement) (c : lowered.Statement) → StatementMeans checked slots targets c a
+    → ((a : Tree Label statement) (c : lowered.Instruction) → StatementMeans checked slots targets c a
     → SequenceMeans checked slots targets (lowered.before c cs) (runs a rest) × FurtherMean checked slots targets (lowered.before c cs) (more (then_statement a) rest))
     × SequenceMeans checked slots targets cs (runs empty rest)
     × FurtherMean checked slots targets cs (more (then_statement empty) rest)

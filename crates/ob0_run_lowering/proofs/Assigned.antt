@@ -48,7 +48,7 @@ module _ (checked : Typed Label) (slots : Label → Slot) (targets : Label → T
   copies r n (array_shape k m s) hq hr = copied (place_of r) n (array_shape k m s) hq hr
   copies r n (record_shape k fs) hq hr = copied (place_of r) n (record_shape k fs) hq hr
 
-  nothing : (c : lowered.Statement) (s : Shape) → Means checked slots code.Nothing s (value_of_expression e) → StatementMeans checked slots targets c (assigns x path e)
+  nothing : (c : lowered.Instruction) (s : Shape) → Means checked slots code.Nothing s (value_of_expression e) → StatementMeans checked slots targets c (assigns x path e)
   nothing c integer_shape h = absurd h
   nothing c boolean_shape h = absurd h
   nothing c (array_shape k m s) h = absurd h
@@ -84,6 +84,6 @@ module _ (scene : Scene) (x : ℕ) (path : Tree ℕ (items selector)) (e : Expre
       let (s, hx, hs) = of_one_type checked fits in
       copies checked slots targets target selectors value (place_of l.place) r n s (hl checked slots targets sees s hx).1 (he checked slots targets sees s hs)
 
-  pub nothing_assigned : (c : lowered.Statement) → Lowers scene (expression_of e) code.Nothing → StatementLowers scene c (assigns target selectors value)
+  pub nothing_assigned : (c : lowered.Instruction) → Lowers scene (expression_of e) code.Nothing → StatementLowers scene c (assigns target selectors value)
   nothing_assigned c he checked slots targets sees fits =
       let (s, hx, hs) = of_one_type checked fits in nothing checked slots targets target selectors value (place_of l.place) c s (he checked slots targets sees s hs)

@@ -34,17 +34,17 @@ use Rattle.ob0_run_lowering.specs.declared.scene.Scene.{Scene}
 use Rattle.ob0_run_lowering.specs.LoweredBodies.{ArgumentsLower, StatementLowers, given_in}
 
 -- what is called means something
-found : (checked : Typed Label) (x : Label) (es : List (Tree Label expression)) (o : Option (Object Shape Signature)) → checked.stands_for x ≡ o → call_fits checked (signature_of o) es ≡ true → (p : Object Shape Signature) × (checked.stands_for x ≡ Some p)
+found : (checked : Typed Label) (x : Label) (es : List (Tree Label expression)) (o : Option (Object Shape Signature)) → checked.object_for x ≡ o → call_fits checked (signature_of o) es ≡ true → (p : Object Shape Signature) × (checked.object_for x ≡ Some p)
 unfolding call_fits
 found checked x es None e h = absurd (cc)
 found checked x es (Some p) e h = (p, e)
 
 -- so it means what its declaration is
 module _ (scene : Scene) (x : Label) (es : Tree Label (maybe arguments)) (o : Option (Object Shape Signature)) (declared : object_at scene.types.now x ≡ o) where
-  called_as : (checked : Typed Label) (slots : Label → Slot) (targets : Label → Target) → Sees scene checked slots targets → statement_fits checked (calls x es) ≡ true → checked.stands_for x ≡ o
+  called_as : (checked : Typed Label) (slots : Label → Slot) (targets : Label → Target) → Sees scene checked slots targets → statement_fits checked (calls x es) ≡ true → checked.object_for x ≡ o
   unfolding statement_fits
   called_as checked slots targets sees fits =
-      let (p, e) = found checked x (arguments_listed es) (checked.stands_for x) refl fits in e ∙ sym (sees.bound x p e) ∙ declared
+      let (p, e) = found checked x (arguments_listed es) (checked.object_for x) refl fits in e ∙ sym (sees.bound x p e) ∙ declared
 
   called_with : (checked : Typed Label) (slots : Label → Slot) (targets : Label → Target) → Sees scene checked slots targets → statement_fits checked (calls x es) ≡ true → call_fits checked (signature_of o) (arguments_listed es) ≡ true
   unfolding statement_fits
@@ -56,7 +56,7 @@ no_signature checked None es e h = cc
 no_signature checked (Some s) es e h = cc
 
 -- what isn't a procedure isn't called
-pub uncallable : (scene : Scene) (x : Label) (es : Tree Label (maybe arguments)) (c : lowered.Statement) → signature_of (object_at scene.types.now x) ≡ None → StatementLowers scene c (calls x es)
+pub uncallable : (scene : Scene) (x : Label) (es : Tree Label (maybe arguments)) (c : lowered.Instruction) → signature_of (object_at scene.types.now x) ≡ None → StatementLowers scene c (calls x es)
 uncallable scene x es c none_there checked slots targets sees fits =
     absurd (no_signature checked (signature_of (object_at scene.types.now x)) (arguments_listed es) none_there (called_with scene x es (object_at scene.types.now x) refl checked slots targets sees fits))
 
@@ -65,7 +65,7 @@ unfolding call_fits
 signed checked signature es h = h
 
 -- a procedure, at its target
-pub called : (scene : Scene) (x : Label) (es : Tree Label (maybe arguments)) (signature : Signature) (cs : List lowered.Argument) (procedure up : ℕ) → object_at scene.types.now x ≡ Some (a_procedure signature) → ArgumentsLower scene signature cs (arguments_listed es)
+pub called : (scene : Scene) (x : Label) (es : Tree Label (maybe arguments)) (signature : Signature) (cs : List lowered.LoweredArgument) (procedure up : ℕ) → object_at scene.types.now x ≡ Some (a_procedure signature) → ArgumentsLower scene signature cs (arguments_listed es)
     → record { procedure = procedure; up = up } ≡ target_at scene x → StatementLowers scene (lowered.calls procedure up cs) (calls x es)
 called scene x es signature cs procedure up declared hs there checked slots targets sees fits =
     let stands = called_as scene x es (Some (a_procedure signature)) declared checked slots targets sees fits in
@@ -130,20 +130,20 @@ module _ (scene : Scene) (x : Label) (given : Option (Vec Expression Global)) wh
   written e n here hn declared checked slots targets sees fits =
       let f : Formal = record { mode = by_value; shape = integer_shape } in
       let one = one_fits checked scene.resolved.now f (given_in given) e here (all_fit (a_standard writes) (f ∷ []) refl declared checked slots targets sees fits) in
-      let worth_one = hn checked slots targets sees (valued checked (in_labels scene.resolved.now (expression_of e)) one.1) in
-      (standard_calls_lower-holds checked slots targets x written_arguments (in_labels scene.resolved.now (expression_of e))).1 (number_of n) (called_as scene x written_arguments (Some (a_standard writes)) declared checked slots targets sees fits) (given_listed scene.resolved.now given ∙ one.0) worth_one
+      let has_value_one = hn checked slots targets sees (valued checked (in_labels scene.resolved.now (expression_of e)) one.1) in
+      (standard_calls_lower-holds checked slots targets x written_arguments (in_labels scene.resolved.now (expression_of e))).1 (number_of n) (called_as scene x written_arguments (Some (a_standard writes)) declared checked slots targets sees fits) (given_listed scene.resolved.now given ∙ one.0) has_value_one
 
   pub line_written : object_at scene.types.now x ≡ Some (a_standard writes_line) → StatementLowers scene lowered.writes_line (calls x written_arguments)
   line_written declared checked slots targets sees fits =
       let listed = no_argument_fits checked (all_in_labels scene.resolved.now (given_in given)) (all_fit (a_standard writes_line) [] refl declared checked slots targets sees fits) in
       (standard_calls_lower-holds checked slots targets x written_arguments (compares (sum None (product (integer 0) end) end) none)).2 (called_as scene x written_arguments (Some (a_standard writes_line)) declared checked slots targets sees fits) (given_listed scene.resolved.now given ∙ listed)
 
-  pub nothing_read : (c : lowered.Statement) → slice_get (given_in given) 0 ≡ None → object_at scene.types.now x ≡ Some (a_standard reads) → StatementLowers scene c (calls x written_arguments)
+  pub nothing_read : (c : lowered.Instruction) → slice_get (given_in given) 0 ≡ None → object_at scene.types.now x ≡ Some (a_standard reads) → StatementLowers scene c (calls x written_arguments)
   nothing_read c here declared checked slots targets sees fits =
       let f : Formal = record { mode = by_place; shape = integer_shape } in
       absurd (none_fits checked scene.resolved.now f (given_in given) here (all_fit (a_standard reads) (f ∷ []) refl declared checked slots targets sees fits))
 
-  pub nothing_written : (c : lowered.Statement) → slice_get (given_in given) 0 ≡ None → object_at scene.types.now x ≡ Some (a_standard writes) → StatementLowers scene c (calls x written_arguments)
+  pub nothing_written : (c : lowered.Instruction) → slice_get (given_in given) 0 ≡ None → object_at scene.types.now x ≡ Some (a_standard writes) → StatementLowers scene c (calls x written_arguments)
   nothing_written c here declared checked slots targets sees fits =
       let f : Formal = record { mode = by_value; shape = integer_shape } in
       absurd (none_fits checked scene.resolved.now f (given_in given) here (all_fit (a_standard writes) (f ∷ []) refl declared checked slots targets sees fits))
@@ -153,21 +153,21 @@ abbrev pub signature_in : Scene → List formal.Formal → Signature
 signature_in scene fs = map (formal_in (shapes_of scene.types.now)) fs
 
 pub record ArgumentsMade (scene : Scene) (fs : List formal.Formal) (es : List Expression) (n : ℕ) (made : List argument.Argument) : Type 0 where
-  pub so_far : (cs : List lowered.Argument) → ArgumentsLower scene (signature_in scene (drop n fs)) cs (all_in_labels scene.resolved.now (drop n es)) → ArgumentsLower scene (signature_in scene fs) (map argument_of made ++ cs) (all_in_labels scene.resolved.now es)
+  pub so_far : (cs : List lowered.LoweredArgument) → ArgumentsLower scene (signature_in scene (drop n fs)) cs (all_in_labels scene.resolved.now (drop n es)) → ArgumentsLower scene (signature_in scene fs) (map argument_of made ++ cs) (all_in_labels scene.resolved.now es)
 
 pub arguments_begin : (scene : Scene) (fs : List formal.Formal) (es : List Expression) → ArgumentsMade scene fs es 0 []
 arguments_begin scene fs es = record { so_far = λ cs h. h }
 
-one_argument : (scene : Scene) (f : formal.Formal) (fs : List formal.Formal) (e : Expression) (es : List Expression) (a : argument.Argument) (cs : List lowered.Argument) → LowersArgument scene f (expression_of e) a
+one_argument : (scene : Scene) (f : formal.Formal) (fs : List formal.Formal) (e : Expression) (es : List Expression) (a : argument.Argument) (cs : List lowered.LoweredArgument) → LowersArgument scene f (expression_of e) a
     → ArgumentsLower scene (signature_in scene fs) cs (all_in_labels scene.resolved.now es) → ArgumentsLower scene (signature_in scene (f ∷ fs)) (argument_of a ∷ cs) (all_in_labels scene.resolved.now (e ∷ es))
 unfolding arguments_fit
 one_argument scene f fs e es a cs ha hs checked slots targets sees fits =
     let both = both_true (argument_fits checked (formal_in (shapes_of scene.types.now) f) (in_labels scene.resolved.now (expression_of e))) (arguments_fit checked (signature_in scene fs) (all_in_labels scene.resolved.now es)) fits in
     (ha checked slots targets sees both.0, hs checked slots targets sees both.1)
 
-behind : (made : List argument.Argument) (a : argument.Argument) (cs : List lowered.Argument) → map argument_of (made ++ a ∷ []) ++ cs ≡ map argument_of made ++ (argument_of a ∷ cs)
-behind [] a cs = refl
-behind (x ∷ made) a cs = ap (λ z. argument_of x ∷ z) (behind made a cs)
+following : (made : List argument.Argument) (a : argument.Argument) (cs : List lowered.LoweredArgument) → map argument_of (made ++ a ∷ []) ++ cs ≡ map argument_of made ++ (argument_of a ∷ cs)
+following [] a cs = refl
+following (x ∷ made) a cs = ap (λ z. argument_of x ∷ z) (following made a cs)
 
 pub arguments_go_on : {scene : Scene} {fs : List formal.Formal} {es : List Expression} {n : ℕ} {made : List argument.Argument} (f : formal.Formal) (e : Expression) (a : argument.Argument) → ArgumentsMade scene fs es n made → n < length fs → n < length es → f ≡ get_or fs n f → e ≡ get_or es n e
     → LowersArgument scene f (expression_of e) a → ArgumentsMade scene fs es (n + 1) (made ++ a ∷ [])
@@ -177,8 +177,8 @@ arguments_go_on {scene = scene} {fs = fs} {es = es} {n = n} {made = made} f e a 
       let right : drop n es ≡ e ∷ drop (n + 1) es = drop_more es n e below ∙ ap (λ z. z ∷ drop (n + 1) es) (sym there) in
       let P : List formal.Formal → Type 0 = λ z. ArgumentsLower scene (signature_in scene z) (argument_of a ∷ cs) (all_in_labels scene.resolved.now (drop n es)) in
       let Q : List Expression → Type 0 = λ z. ArgumentsLower scene (signature_in scene (f ∷ drop (n + 1) fs)) (argument_of a ∷ cs) (all_in_labels scene.resolved.now z) in
-      let R : List lowered.Argument → Type 0 = λ z. ArgumentsLower scene (signature_in scene fs) z (all_in_labels scene.resolved.now es) in
-      subst R (sym (behind made a cs)) (m.so_far (argument_of a ∷ cs) (subst P (sym left) (subst Q (sym right) (one_argument scene f (drop (n + 1) fs) e (drop (n + 1) es) a cs h hr))));
+      let R : List lowered.LoweredArgument → Type 0 = λ z. ArgumentsLower scene (signature_in scene fs) z (all_in_labels scene.resolved.now es) in
+      subst R (sym (following made a cs)) (m.so_far (argument_of a ∷ cs) (subst P (sym left) (subst Q (sym right) (one_argument scene f (drop (n + 1) fs) e (drop (n + 1) es) a cs h hr))));
 }
 
 -- where a parameter or an argument is left alone, they don't fit
@@ -193,7 +193,7 @@ pub arguments_end : {scene : Scene} {fs : List formal.Formal} {es : List Express
     → ArgumentsLower scene (signature_in scene fs) (map argument_of made) (all_in_labels scene.resolved.now es)
 arguments_end {scene = scene} {fs = fs} {es = es} {n = n} {made = made} m all =
     let none_left : min (length (drop n fs)) (length (drop n es)) ≡ 0 = omega (arith, all, length-drop n fs, length-drop n es) in
-    let R : List lowered.Argument → Type 0 = λ z. ArgumentsLower scene (signature_in scene fs) z (all_in_labels scene.resolved.now es) in
+    let R : List lowered.LoweredArgument → Type 0 = λ z. ArgumentsLower scene (signature_in scene fs) z (all_in_labels scene.resolved.now es) in
     subst R (append-nil (map argument_of made)) (m.so_far [] (over scene (drop n fs) (drop n es) none_left))
 
 pub none_given : (scene : Scene) (fs : List formal.Formal) → ArgumentsLower scene (signature_in scene fs) [] []

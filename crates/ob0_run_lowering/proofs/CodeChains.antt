@@ -7,7 +7,7 @@ use Rattle.ob0_tree.specs.View.{items_of}
 use Rattle.ob0_scope_rules.specs.Names.{Label}
 use Rattle.ob0_scope_rules.specs.Resolution.{Resolution}
 use Rattle.ob0_types_rules.specs.InLabels.{in_labels}
-use Rattle.ob0_run_lowering.specs.Codes.{Code, FoundPlace, added, multiplied}
+use Rattle.ob0_run_lowering.specs.Codes.{ExpressionCode, FoundPlace, added, multiplied}
 use Rattle.ob0_run_lowering.specs.Trees.{addends_code, factor_code, multipliers_code, selected_once, selected_place, term_code}
 use Rattle.ob0_run_lowering.specs.declared.scene.Scene.{Scene}
 
@@ -39,16 +39,16 @@ fold_ends {chain = chain} {r = r} {f = f} {xs = xs} {done = done} {out = out} h 
 
 -- the chains of codes
 
-abbrev pub added_once : Scene → Code → Tree Label (item addend) → Code
+abbrev pub added_once : Scene → ExpressionCode → Tree Label (item addend) → ExpressionCode
 added_once scene c (adds o t) = added o c (term_code scene t)
 
-abbrev pub multiplied_once : Scene → Code → Tree Label (item multiplier) → Code
+abbrev pub multiplied_once : Scene → ExpressionCode → Tree Label (item multiplier) → ExpressionCode
 multiplied_once scene c (multiplies o f) = multiplied o c (factor_code scene f)
 
-added-stepped : (scene : Scene) (c : Code) (t : Tree Label (item addend)) (ts : Tree Label (items addend)) → addends_code scene c (more t ts) ≡ addends_code scene (added_once scene c t) ts
+added-stepped : (scene : Scene) (c : ExpressionCode) (t : Tree Label (item addend)) (ts : Tree Label (items addend)) → addends_code scene c (more t ts) ≡ addends_code scene (added_once scene c t) ts
 added-stepped scene c (adds o t) ts = refl
 
-multiplied-stepped : (scene : Scene) (c : Code) (t : Tree Label (item multiplier)) (ts : Tree Label (items multiplier)) → multipliers_code scene c (more t ts) ≡ multipliers_code scene (multiplied_once scene c t) ts
+multiplied-stepped : (scene : Scene) (c : ExpressionCode) (t : Tree Label (item multiplier)) (ts : Tree Label (items multiplier)) → multipliers_code scene c (more t ts) ≡ multipliers_code scene (multiplied_once scene c t) ts
 multiplied-stepped scene c (multiplies o f) ts = refl
 
 selected-stepped : (scene : Scene) (o : Option FoundPlace) (t : Tree Label (item selector)) (ts : Tree Label (items selector)) → selected_place scene o (more t ts) ≡ selected_place scene (selected_once scene o t) ts

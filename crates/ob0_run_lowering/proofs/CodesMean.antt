@@ -19,13 +19,13 @@ use Rattle.ob0_run_cells.specs.Cells.{size}
 use Rattle.ob0_run_cells.specs.Lowering.{Evaluated, Leads, NumberLeads, NumberMeans, RestOfChain, Slot, TruthLeads, TruthMeans, ValueAt, addends_left, multipliers_left, value_of_expression, value_of_factor, value_of_simple, value_of_term}
 use Rattle.ob0_run_cells.proofs.Lowered.{addends_lower-holds, conjunctions_lower-holds, disjunctions_lower-holds, expressions_lower-holds, negations_lower-holds, operators_end-holds, parentheses_lower-holds, products_lower-holds, relations_lower-holds, sums_lower-holds, terms_lower-holds}
 use Rattle.ob0_run_cells.proofs.LoweredOutcomes.{gives-then}
-use Rattle.ob0_run_lowering.specs.Codes.{Code, CodeMeans, a_block, a_number, a_truth, added, multiplied, negated, no_code, related, signed}
+use Rattle.ob0_run_lowering.specs.Codes.{ExpressionCode, CodeMeans, a_block, a_number, a_truth, added, multiplied, negated, no_code, related, signed}
 
 pub some_inj : {A : Type 0} {x y : A} → Some x ≡ Some y → x ≡ y
 some_inj e = cc
 
 -- a code so far, and what is left of a chain
-abbrev pub CodeLeads : Typed Label → (Label → Slot) → Code → Shape → RestOfChain Label Value → Evaluated Label Value → Type 0
+abbrev pub CodeLeads : Typed Label → (Label → Slot) → ExpressionCode → Shape → RestOfChain Label Value → Evaluated Label Value → Type 0
 CodeLeads checked slots (a_number n) integer_shape rest whole = NumberLeads checked slots n rest whole
 CodeLeads checked slots (a_truth t) boolean_shape rest whole = TruthLeads checked slots t rest whole
 CodeLeads checked slots (a_block q n) (array_shape k m s) rest whole = (n ≡ size (array_shape k m s)) × Leads checked slots (ValueAt checked slots q (array_shape k m s)) rest whole
@@ -33,47 +33,47 @@ CodeLeads checked slots (a_block q n) (record_shape k fs) rest whole = (n ≡ si
 CodeLeads checked slots _ _ rest whole = ⊥
 
 -- two codes with their variants, and a type
-two-codes : (P : Code → Code → Shape → Type 0) {c d c' d' : Code} {z z' : Shape} → c ≡ c' → d ≡ d' → Some z' ≡ Some z → P c' d' z' → P c d z
+two-codes : (P : ExpressionCode → ExpressionCode → Shape → Type 0) {c d c' d' : ExpressionCode} {z z' : Shape} → c ≡ c' → d ≡ d' → Some z' ≡ Some z → P c' d' z' → P c d z
 two-codes P {c = c} {d = d} {c' = c'} {d' = d'} {z = z} {z' = z'} ec ed ez h = subst (λ z. P c d z) (some_inj ez) (subst (λ c. P c d z') (sym ec) (subst (λ d. P c' d z') (sym ed) h))
 
 module _ (checked : Typed Label) (slots : Label → Slot) where
   -- the code of an INTEGER is a number, that of a BOOLEAN a truth
-  pub number-code : (c : Code) (value : Evaluated Label Value) → CodeMeans checked slots c integer_shape value → (n : lowered.Number) × (c ≡ a_number n) × NumberMeans checked slots n value
+  pub number-code : (c : ExpressionCode) (value : Evaluated Label Value) → CodeMeans checked slots c integer_shape value → (n : lowered.Number) × (c ≡ a_number n) × NumberMeans checked slots n value
   number-code (a_number n) value h = (n, refl, h)
   number-code (a_truth t) value h = absurd h
   number-code (a_block q n) value h = absurd h
   number-code no_code value h = absurd h
 
-  pub truth-code : (c : Code) (value : Evaluated Label Value) → CodeMeans checked slots c boolean_shape value → (t : lowered.Truth) × (c ≡ a_truth t) × TruthMeans checked slots t value
+  pub truth-code : (c : ExpressionCode) (value : Evaluated Label Value) → CodeMeans checked slots c boolean_shape value → (t : lowered.Truth) × (c ≡ a_truth t) × TruthMeans checked slots t value
   truth-code (a_number n) value h = absurd h
   truth-code (a_truth t) value h = (t, refl, h)
   truth-code (a_block q n) value h = absurd h
   truth-code no_code value h = absurd h
 
-  pub number-leads : (c : Code) (rest : RestOfChain Label Value) (whole : Evaluated Label Value) → CodeLeads checked slots c integer_shape rest whole → (n : lowered.Number) × (c ≡ a_number n) × NumberLeads checked slots n rest whole
+  pub number-leads : (c : ExpressionCode) (rest : RestOfChain Label Value) (whole : Evaluated Label Value) → CodeLeads checked slots c integer_shape rest whole → (n : lowered.Number) × (c ≡ a_number n) × NumberLeads checked slots n rest whole
   number-leads (a_number n) rest whole h = (n, refl, h)
   number-leads (a_truth t) rest whole h = absurd h
   number-leads (a_block q n) rest whole h = absurd h
   number-leads no_code rest whole h = absurd h
 
-  pub truth-leads : (c : Code) (rest : RestOfChain Label Value) (whole : Evaluated Label Value) → CodeLeads checked slots c boolean_shape rest whole → (t : lowered.Truth) × (c ≡ a_truth t) × TruthLeads checked slots t rest whole
+  pub truth-leads : (c : ExpressionCode) (rest : RestOfChain Label Value) (whole : Evaluated Label Value) → CodeLeads checked slots c boolean_shape rest whole → (t : lowered.Truth) × (c ≡ a_truth t) × TruthLeads checked slots t rest whole
   truth-leads (a_number n) rest whole h = absurd h
   truth-leads (a_truth t) rest whole h = (t, refl, h)
   truth-leads (a_block q n) rest whole h = absurd h
   truth-leads no_code rest whole h = absurd h
 
   module _ (e : Tree Label term) (rest : Tree Label (items addend)) (whole : Evaluated Label Value) where
-    abbrev AddedLeads : AddOperator → Code → Code → Shape → Type 0
+    abbrev AddedLeads : AddOperator → ExpressionCode → ExpressionCode → Shape → Type 0
     AddedLeads o c d z = CodeLeads checked slots (added o c d) z (addends_left rest) whole
 
-    numbers-added : (o : AddOperator) (c d : Code) (z : Shape) → ((m n : lowered.Number) → NumberMeans checked slots n (value_of_term e) → NumberLeads checked slots m (addends_left (more (adds o e) rest)) whole → AddedLeads o (a_number m) (a_number n) integer_shape)
+    numbers-added : (o : AddOperator) (c d : ExpressionCode) (z : Shape) → ((m n : lowered.Number) → NumberMeans checked slots n (value_of_term e) → NumberLeads checked slots m (addends_left (more (adds o e) rest)) whole → AddedLeads o (a_number m) (a_number n) integer_shape)
         → Some integer_shape ≡ Some z → CodeLeads checked slots c integer_shape (addends_left (more (adds o e) rest)) whole → CodeMeans checked slots d integer_shape (value_of_term e) → AddedLeads o c d z
     numbers-added o c d z step h hc hd =
         let (m, em, hm) = number-leads c (addends_left (more (adds o e) rest)) whole hc in
         let (n, en, hn) = number-code d (value_of_term e) hd in
         two-codes (AddedLeads o) em en h (step m n hn hm)
 
-    pub added-leads : (o : AddOperator) (c d : Code) (x y z : Shape) → add_type o x y ≡ Some z → CodeLeads checked slots c x (addends_left (more (adds o e) rest)) whole → CodeMeans checked slots d y (value_of_term e) → AddedLeads o c d z
+    pub added-leads : (o : AddOperator) (c d : ExpressionCode) (x y z : Shape) → add_type o x y ≡ Some z → CodeLeads checked slots c x (addends_left (more (adds o e) rest)) whole → CodeMeans checked slots d y (value_of_term e) → AddedLeads o c d z
     added-leads add_operator.Add c d integer_shape integer_shape z h hc hd = numbers-added add_operator.Add c d z (λ m n hn hm. (addends_lower-holds checked slots m n e rest whole hn).0 hm) h hc hd
     added-leads add_operator.Add c d integer_shape boolean_shape z h hc hd = absurd (cc)
     added-leads add_operator.Add c d integer_shape (array_shape k n s) z h hc hd = absurd (cc)
@@ -100,17 +100,17 @@ module _ (checked : Typed Label) (slots : Label → Slot) where
     added-leads add_operator.Or c d (record_shape k fs) y z h hc hd = absurd (cc)
 
   module _ (f : Tree Label factor) (rest : Tree Label (items multiplier)) (whole : Evaluated Label Value) where
-    abbrev MultipliedLeads : MultiplyOperator → Code → Code → Shape → Type 0
+    abbrev MultipliedLeads : MultiplyOperator → ExpressionCode → ExpressionCode → Shape → Type 0
     MultipliedLeads o c d z = CodeLeads checked slots (multiplied o c d) z (multipliers_left rest) whole
 
-    numbers-multiplied : (o : MultiplyOperator) (c d : Code) (z : Shape) → ((m n : lowered.Number) → NumberMeans checked slots n (value_of_factor f) → NumberLeads checked slots m (multipliers_left (more (multiplies o f) rest)) whole → MultipliedLeads o (a_number m) (a_number n) integer_shape)
+    numbers-multiplied : (o : MultiplyOperator) (c d : ExpressionCode) (z : Shape) → ((m n : lowered.Number) → NumberMeans checked slots n (value_of_factor f) → NumberLeads checked slots m (multipliers_left (more (multiplies o f) rest)) whole → MultipliedLeads o (a_number m) (a_number n) integer_shape)
         → Some integer_shape ≡ Some z → CodeLeads checked slots c integer_shape (multipliers_left (more (multiplies o f) rest)) whole → CodeMeans checked slots d integer_shape (value_of_factor f) → MultipliedLeads o c d z
     numbers-multiplied o c d z step h hc hd =
         let (m, em, hm) = number-leads c (multipliers_left (more (multiplies o f) rest)) whole hc in
         let (n, en, hn) = number-code d (value_of_factor f) hd in
         two-codes (MultipliedLeads o) em en h (step m n hn hm)
 
-    pub multiplied-leads : (o : MultiplyOperator) (c d : Code) (x y z : Shape) → multiply_type o x y ≡ Some z → CodeLeads checked slots c x (multipliers_left (more (multiplies o f) rest)) whole → CodeMeans checked slots d y (value_of_factor f) → MultipliedLeads o c d z
+    pub multiplied-leads : (o : MultiplyOperator) (c d : ExpressionCode) (x y z : Shape) → multiply_type o x y ≡ Some z → CodeLeads checked slots c x (multipliers_left (more (multiplies o f) rest)) whole → CodeMeans checked slots d y (value_of_factor f) → MultipliedLeads o c d z
     multiplied-leads multiply_operator.Multiply c d integer_shape integer_shape z h hc hd = numbers-multiplied multiply_operator.Multiply c d z (λ m n hn hm. (products_lower-holds checked slots m n f rest whole hn).0 hm) h hc hd
     multiplied-leads multiply_operator.Multiply c d integer_shape boolean_shape z h hc hd = absurd (cc)
     multiplied-leads multiply_operator.Multiply c d integer_shape (array_shape k n s) z h hc hd = absurd (cc)
@@ -149,7 +149,7 @@ module _ (checked : Typed Label) (slots : Label → Slot) where
   unfolding evaluate
   value-begins q s f rest h = (value_of_factor f, h, λ z shown. refl)
 
-  pub term-begins : (c : Code) (x : Shape) (f : Tree Label factor) (rest : Tree Label (items multiplier)) → CodeMeans checked slots c x (value_of_factor f) → CodeLeads checked slots c x (multipliers_left rest) (value_of_term (product f rest))
+  pub term-begins : (c : ExpressionCode) (x : Shape) (f : Tree Label factor) (rest : Tree Label (items multiplier)) → CodeMeans checked slots c x (value_of_factor f) → CodeLeads checked slots c x (multipliers_left rest) (value_of_term (product f rest))
   term-begins (a_number n) integer_shape f rest h = (terms_lower-holds checked slots f rest).0 n h
   term-begins (a_truth t) boolean_shape f rest h = (terms_lower-holds checked slots f rest).1 t h
   term-begins (a_block q n) (array_shape k m s) f rest h = (h.0, value-begins q (array_shape k m s) f rest h.1)
@@ -168,7 +168,7 @@ module _ (checked : Typed Label) (slots : Label → Slot) where
   unfolding evaluate
   value-signed q s e rest h = (value_of_term e, h, λ z shown. refl)
 
-  unsigned-begins : (c : Code) (x : Shape) (e : Tree Label term) (rest : Tree Label (items addend)) → CodeMeans checked slots c x (value_of_term e) → CodeLeads checked slots c x (addends_left rest) (value_of_simple (sum None e rest))
+  unsigned-begins : (c : ExpressionCode) (x : Shape) (e : Tree Label term) (rest : Tree Label (items addend)) → CodeMeans checked slots c x (value_of_term e) → CodeLeads checked slots c x (addends_left rest) (value_of_simple (sum None e rest))
   unsigned-begins (a_number n) integer_shape e rest h = ((sums_lower-holds checked slots e rest).0 n h).0
   unsigned-begins (a_truth t) boolean_shape e rest h = (sums_lower-holds checked slots e rest).1 t h
   unsigned-begins (a_block q n) (array_shape k m s) e rest h = (h.0, value-signed q (array_shape k m s) e rest h.1)
@@ -184,13 +184,13 @@ module _ (checked : Typed Label) (slots : Label → Slot) where
   unsigned-begins no_code x e rest h = absurd h
 
   module _ (e : Tree Label term) (rest : Tree Label (items addend)) where
-    abbrev SignedLeads : Option Sign → Code → Shape → Type 0
+    abbrev SignedLeads : Option Sign → ExpressionCode → Shape → Type 0
     SignedLeads g c y = CodeLeads checked slots (signed g c) y (addends_left rest) (value_of_simple (sum g e rest))
 
-    one-code : (g : Option Sign) (c c' : Code) (y y' : Shape) → c ≡ c' → Some y' ≡ Some y → SignedLeads g c' y' → SignedLeads g c y
+    one-code : (g : Option Sign) (c c' : ExpressionCode) (y y' : Shape) → c ≡ c' → Some y' ≡ Some y → SignedLeads g c' y' → SignedLeads g c y
     one-code g c c' y y' ec ey h = subst (λ y. SignedLeads g c y) (some_inj ey) (subst (λ c. SignedLeads g c y') (sym ec) h)
 
-    pub sum-begins : (g : Option Sign) (c : Code) (x y : Shape) → sign_type g x ≡ Some y → CodeMeans checked slots c x (value_of_term e) → SignedLeads g c y
+    pub sum-begins : (g : Option Sign) (c : ExpressionCode) (x y : Shape) → sign_type g x ≡ Some y → CodeMeans checked slots c x (value_of_term e) → SignedLeads g c y
     sum-begins None c x y h hc = one-code None c c y x refl h (unsigned-begins c x e rest hc)
     sum-begins (Some sign.Plus) c integer_shape y h hc = let (n, en, hn) = number-code c (value_of_term e) hc in one-code (Some sign.Plus) c (a_number n) y integer_shape en h ((sums_lower-holds checked slots e rest).0 n hn).1
     sum-begins (Some sign.Plus) c boolean_shape y h hc = absurd (cc)
@@ -212,7 +212,7 @@ module _ (checked : Typed Label) (slots : Label → Slot) where
       given-end (gives v) k h = h v
       given-end (ends x) k h = refl
 
-  pub leads-end : (c : Code) (x : Shape) (rest : RestOfChain Label Value) (whole : Evaluated Label Value) → ((z : _) (v : Value) → rest z v ≡ gives v)
+  pub leads-end : (c : ExpressionCode) (x : Shape) (rest : RestOfChain Label Value) (whole : Evaluated Label Value) → ((z : _) (v : Value) → rest z v ≡ gives v)
       → ((n : lowered.Number) → NumberLeads checked slots n rest whole → NumberMeans checked slots n whole) → ((t : lowered.Truth) → TruthLeads checked slots t rest whole → TruthMeans checked slots t whole)
       → CodeLeads checked slots c x rest whole → CodeMeans checked slots c x whole
   leads-end (a_number n) integer_shape rest whole ends_here numbers truths h = numbers n h
@@ -229,13 +229,13 @@ module _ (checked : Typed Label) (slots : Label → Slot) where
   leads-end (a_block q n) boolean_shape rest whole ends_here numbers truths h = absurd h
   leads-end no_code x rest whole ends_here numbers truths h = absurd h
 
-  pub addends-end : (c : Code) (x : Shape) (whole : Evaluated Label Value) → CodeLeads checked slots c x (addends_left end) whole → CodeMeans checked slots c x whole
+  pub addends-end : (c : ExpressionCode) (x : Shape) (whole : Evaluated Label Value) → CodeLeads checked slots c x (addends_left end) whole → CodeMeans checked slots c x whole
   unfolding evaluate
   addends-end c x whole h =
       let ended = operators_end-holds checked slots whole in
       leads-end c x (addends_left end) whole (λ z v. refl) (λ n. ended.1 n) (λ t. ended.3 t) h
 
-  pub multipliers-end : (c : Code) (x : Shape) (whole : Evaluated Label Value) → CodeLeads checked slots c x (multipliers_left end) whole → CodeMeans checked slots c x whole
+  pub multipliers-end : (c : ExpressionCode) (x : Shape) (whole : Evaluated Label Value) → CodeLeads checked slots c x (multipliers_left end) whole → CodeMeans checked slots c x whole
   unfolding evaluate
   multipliers-end c x whole h =
       let ended = operators_end-holds checked slots whole in
@@ -243,15 +243,15 @@ module _ (checked : Typed Label) (slots : Label → Slot) where
 
   -- an expression without a relation is its sum, and what is in parentheses evaluates to the same
 
-  pub alone-means : (c : Code) (s : Shape) (a : Tree Label simple) → CodeMeans checked slots c s (value_of_simple a) → CodeMeans checked slots c s (value_of_expression (compares a none))
+  pub alone-means : (c : ExpressionCode) (s : Shape) (a : Tree Label simple) → CodeMeans checked slots c s (value_of_simple a) → CodeMeans checked slots c s (value_of_expression (compares a none))
   unfolding evaluate
   alone-means c s a h = h
 
-  pub parenthesised-means : (c : Code) (s : Shape) (e : Tree Label expression) → CodeMeans checked slots c s (value_of_expression e) → CodeMeans checked slots c s (value_of_factor (parenthesised e))
+  pub parenthesised-means : (c : ExpressionCode) (s : Shape) (e : Tree Label expression) → CodeMeans checked slots c s (value_of_expression e) → CodeMeans checked slots c s (value_of_factor (parenthesised e))
   unfolding evaluate
   parenthesised-means c s e h = h
 
-  pub negated-means : (f : Tree Label factor) (c : Code) (x s : Shape) → complement_type x ≡ Some s → CodeMeans checked slots c x (value_of_factor f) → CodeMeans checked slots (negated c) s (value_of_factor (negation f))
+  pub negated-means : (f : Tree Label factor) (c : ExpressionCode) (x s : Shape) → complement_type x ≡ Some s → CodeMeans checked slots c x (value_of_factor f) → CodeMeans checked slots (negated c) s (value_of_factor (negation f))
   negated-means f c boolean_shape s h hc =
       let (t, et, ht) = truth-code c (value_of_factor f) hc in
       subst (λ s. CodeMeans checked slots (negated c) s (value_of_factor (negation f))) (some_inj h) (subst (λ c. CodeMeans checked slots (negated c) boolean_shape (value_of_factor (negation f))) (sym et) (negations_lower-holds checked slots f t ht))
@@ -260,17 +260,17 @@ module _ (checked : Typed Label) (slots : Label → Slot) where
   negated-means f c (record_shape k fs) s h hc = absurd (cc)
 
   module _ (a b : Tree Label simple) where
-    abbrev RelatedMeans : Relation → Code → Code → Shape → Type 0
+    abbrev RelatedMeans : Relation → ExpressionCode → ExpressionCode → Shape → Type 0
     RelatedMeans r c d z = CodeMeans checked slots (related r c d) z (value_of_expression (compares a (one (relates r b))))
 
-    truths-related : (r : Relation) (c d : Code) (z : Shape) → ((t u : lowered.Truth) → TruthMeans checked slots t (value_of_simple a) → TruthMeans checked slots u (value_of_simple b) → RelatedMeans r (a_truth t) (a_truth u) boolean_shape)
+    truths-related : (r : Relation) (c d : ExpressionCode) (z : Shape) → ((t u : lowered.Truth) → TruthMeans checked slots t (value_of_simple a) → TruthMeans checked slots u (value_of_simple b) → RelatedMeans r (a_truth t) (a_truth u) boolean_shape)
         → Some boolean_shape ≡ Some z → CodeMeans checked slots c boolean_shape (value_of_simple a) → CodeMeans checked slots d boolean_shape (value_of_simple b) → RelatedMeans r c d z
     truths-related r c d z step h hc hd =
         let (t, et, ht) = truth-code c (value_of_simple a) hc in
         let (u, eu, hu) = truth-code d (value_of_simple b) hd in
         two-codes (RelatedMeans r) et eu h (step t u ht hu)
 
-    pub related-means : (r : Relation) (c d : Code) (x y z : Shape) → relation_type r x y ≡ Some z → CodeMeans checked slots c x (value_of_simple a) → CodeMeans checked slots d y (value_of_simple b) → RelatedMeans r c d z
+    pub related-means : (r : Relation) (c d : ExpressionCode) (x y z : Shape) → relation_type r x y ≡ Some z → CodeMeans checked slots c x (value_of_simple a) → CodeMeans checked slots d y (value_of_simple b) → RelatedMeans r c d z
     related-means r c d integer_shape integer_shape z h hc hd =
         let (m, em, hm) = number-code c (value_of_simple a) hc in
         let (n, en, hn) = number-code d (value_of_simple b) hd in

@@ -149,7 +149,7 @@ mutual
       each_H d l (omega (arith, u, above)) ∙ ap (λ z. object_bound z d) (bind_typed-append qs [] top) ∙ bound-elsewhere (suc k) m d (bind_typed qs []) top e.parameters_bind (λ a z. omega (arith, a, u)) in
       let inner : Stands all (typed_by_ordinal e.inner) = subst (Stands all) (sym (bind_typed-append qs top env) ∙ sym e.opened)
       (stands-grown all env H k m (omega (arith, above)) st (noted-binds k noted below) e.binds each_H) in
-      let behind : Stands all (typed_by_ordinal e.own) = subst (Stands all) (sym e.headed)
+      let following : Stands all (typed_by_ordinal e.own) = subst (Stands all) (sym e.headed)
       (stands-grown all env top k (suc k) (omega arith) st (noted-binds k noted below) ((k, refl, le_refl k, le_refl (suc k)), tt) each_top) in
       let same : qs ≡ qs' = some_inverse (sym f.typed ∙ typed) in
       subst (λ ps. AreDeclared (object_bound all) (bind_typed ps (heading (declared k) ps env)) × BlockDeclared (object_bound all) (bind_typed ps (heading (declared k) ps env)) jb b' × ProceduresDeclared (object_bound all) (heading (declared k) ps env) jr rest') same (
@@ -158,7 +158,7 @@ mutual
             (block-declared (bind_names xs no_constant ((x, no_constant) ∷ known)) e.inner jb m e.knows e.below all inner b inside_fits
             (λ d l u. each d (omega (arith, l, above)) (omega (arith, u, last)) ∙ bound-elsewhere q n d R (B ++ H) later.binds (λ a z. omega (arith, a, u)) ∙ bound-first k m d B H e.binds (λ a z. omega (arith, l, z)))),
         subst (λ z. z) (λ i. ProceduresDeclared (object_bound all) (e.headed i) jr (relabel_procedures as_names (as_label as_names) (e.own_scope i) q rest))
-            (procedures-declared ((x, no_constant) ∷ known) e.own jr q e.own_knows later_below all behind statements rest later_fits
+            (procedures-declared ((x, no_constant) ∷ known) e.own jr q e.own_knows later_below all following statements rest later_fits
             (λ d l u. each d (omega (arith, l, inside, above)) u ∙ bound-first k q d R (B ++ H) one_binds (λ a z. omega (arith, l, z)))),
       )
 

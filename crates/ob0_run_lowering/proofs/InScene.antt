@@ -25,21 +25,21 @@ module _ (scene : Scene) where
   pub none-left : FurtherLower scene lowered.no_statement end
   none-left checked slots targets sees fits = sequences_end-holds checked slots targets
 
-  pub one-more : (a : Tree Label statement) (c : lowered.Statement) (rest : Tree Label (items further_statement)) (cs : lowered.Statements) → StatementLowers scene c a → FurtherLower scene cs rest → FurtherLower scene (lowered.before c cs) (more (then_statement a) rest)
+  pub one-more : (a : Tree Label statement) (c : lowered.Instruction) (rest : Tree Label (items further_statement)) (cs : lowered.Instructions) → StatementLowers scene c a → FurtherLower scene cs rest → FurtherLower scene (lowered.before c cs) (more (then_statement a) rest)
   unfolding statement_fits
   one-more a c rest cs hc hr checked slots targets sees fits =
       let both = both_true (statement_fits checked a) (statements_fit checked rest) fits in
       ((sequences_lower-holds checked slots targets rest cs (hr checked slots targets sees both.1)).0 a c (hc checked slots targets sees both.0)).1
 
-  pub empty-more : (rest : Tree Label (items further_statement)) (cs : lowered.Statements) → FurtherLower scene cs rest → FurtherLower scene cs (more (then_statement empty) rest)
+  pub empty-more : (rest : Tree Label (items further_statement)) (cs : lowered.Instructions) → FurtherLower scene cs rest → FurtherLower scene cs (more (then_statement empty) rest)
   unfolding statement_fits
   empty-more rest cs hr checked slots targets sees fits = (sequences_lower-holds checked slots targets rest cs (hr checked slots targets sees fits)).2
 
-  pub empty-alone : (cs : lowered.Statements) → FurtherLower scene cs end → SequenceLowers scene cs (runs empty end)
+  pub empty-alone : (cs : lowered.Instructions) → FurtherLower scene cs end → SequenceLowers scene cs (runs empty end)
   unfolding statement_fits
   empty-alone cs hr checked slots targets sees fits = (sequences_lower-holds checked slots targets end cs (hr checked slots targets sees fits)).1
 
-  pub from-first : (a : Tree Label statement) (rest : Tree Label (items further_statement)) (cs : lowered.Statements) → FurtherLower scene cs (more (then_statement a) rest) → SequenceLowers scene cs (runs a rest)
+  pub from-first : (a : Tree Label statement) (rest : Tree Label (items further_statement)) (cs : lowered.Instructions) → FurtherLower scene cs (more (then_statement a) rest) → SequenceLowers scene cs (runs a rest)
   unfolding statement_fits execute
   from-first a rest cs h checked slots targets sees fits = h checked slots targets sees fits
 
@@ -50,20 +50,20 @@ module _ (scene : Scene) where
       let (s, hs, ht) = agree-true (Some boolean_shape) (type_of checked (in_labels scene.resolved.now (expression_of e))) fits in h checked slots targets sees (ht ∙ sym hs)
 
   -- loops
-  pub while-lowers : (e : Tree Label expression) (a : Tree Label sequence) (t : lowered.Truth) (body : lowered.Statements) → ConditionLowers scene t e → SequenceLowers scene body a → StatementLowers scene (lowered.while_loop t body) (while_loop e a)
+  pub while-lowers : (e : Tree Label expression) (a : Tree Label sequence) (t : lowered.Truth) (body : lowered.Instructions) → ConditionLowers scene t e → SequenceLowers scene body a → StatementLowers scene (lowered.while_loop t body) (while_loop e a)
   unfolding statement_fits
   while-lowers e a t body ht ha checked slots targets sees fits =
       let both = both_true (condition_fits checked e) (sequence_fits checked a) fits in
       (loops_lower-holds checked slots targets e a t body (ht checked slots targets sees both.0) (ha checked slots targets sees both.1)).0
 
-  pub repeat-lowers : (e : Tree Label expression) (a : Tree Label sequence) (t : lowered.Truth) (body : lowered.Statements) → ConditionLowers scene t e → SequenceLowers scene body a → StatementLowers scene (lowered.repeat_loop body t) (repeat_loop a e)
+  pub repeat-lowers : (e : Tree Label expression) (a : Tree Label sequence) (t : lowered.Truth) (body : lowered.Instructions) → ConditionLowers scene t e → SequenceLowers scene body a → StatementLowers scene (lowered.repeat_loop body t) (repeat_loop a e)
   unfolding statement_fits
   repeat-lowers e a t body ht ha checked slots targets sees fits =
       let both = both_true (sequence_fits checked a) (condition_fits checked e) fits in
       (loops_lower-holds checked slots targets e a t body (ht checked slots targets sees both.1) (ha checked slots targets sees both.0)).1
 
   -- branches
-  pub branches-lower : (e : Tree Label expression) (a : Tree Label sequence) (rest : Tree Label (items elsif_part)) (last : Tree Label (maybe else_part)) (t : lowered.Truth) (body : lowered.Statements) (bs : lowered.Branches) (otherwise : lowered.Statements)
+  pub branches-lower : (e : Tree Label expression) (a : Tree Label sequence) (rest : Tree Label (items elsif_part)) (last : Tree Label (maybe else_part)) (t : lowered.Truth) (body : lowered.Instructions) (bs : lowered.Branches) (otherwise : lowered.Instructions)
       → ConditionLowers scene t e → SequenceLowers scene body a → ElsifsLower scene bs otherwise rest last → StatementLowers scene (lowered.chooses (lowered.branch t body bs) otherwise) (branches e a rest last)
   unfolding statement_fits
   branches-lower e a rest last t body bs otherwise ht ha hr checked slots targets sees fits =
@@ -78,18 +78,18 @@ module _ (scene : Scene) where
       let second = both_true q r first.1 in
       (first.0, second.0, ap (λ b. b && s) second.1 ∙ whole.1)
 
-  pub elsif-lowers : (e : Tree Label expression) (a : Tree Label sequence) (rest : Tree Label (items elsif_part)) (last : Tree Label (maybe else_part)) (t : lowered.Truth) (body : lowered.Statements) (bs : lowered.Branches) (otherwise : lowered.Statements)
+  pub elsif-lowers : (e : Tree Label expression) (a : Tree Label sequence) (rest : Tree Label (items elsif_part)) (last : Tree Label (maybe else_part)) (t : lowered.Truth) (body : lowered.Instructions) (bs : lowered.Branches) (otherwise : lowered.Instructions)
       → ConditionLowers scene t e → SequenceLowers scene body a → ElsifsLower scene bs otherwise rest last → ElsifsLower scene (lowered.branch t body bs) otherwise (more (elsif_branch e a) rest) last
   unfolding statement_fits
   elsif-lowers e a rest last t body bs otherwise ht ha hr checked slots targets sees fits =
       let parts = and-joins (condition_fits checked e) (sequence_fits checked a) (elsifs_fit checked rest) (else_fits checked last) fits in
       (branches_lower-holds checked slots targets e a rest last t body bs otherwise (ht checked slots targets sees parts.0) (ha checked slots targets sees parts.1) (hr checked slots targets sees parts.2)).1
 
-  pub no-elsif : (last : Tree Label (maybe else_part)) (cs : lowered.Statements) → ElseLowers scene cs last → ElsifsLower scene lowered.no_branch cs end last
+  pub no-elsif : (last : Tree Label (maybe else_part)) (cs : lowered.Instructions) → ElseLowers scene cs last → ElsifsLower scene lowered.no_branch cs end last
   unfolding statement_fits
   no-elsif last cs h checked slots targets sees fits = (elses_lower-holds checked slots targets).0 last cs (h checked slots targets sees fits)
 
-  pub else-lowers : (a : Tree Label sequence) (cs : lowered.Statements) → SequenceLowers scene cs a → ElseLowers scene cs (one (else_branch a))
+  pub else-lowers : (a : Tree Label sequence) (cs : lowered.Instructions) → SequenceLowers scene cs a → ElseLowers scene cs (one (else_branch a))
   unfolding statement_fits
   else-lowers a cs h checked slots targets sees fits = (elses_lower-holds checked slots targets).1 a cs (h checked slots targets sees fits)
 
@@ -97,9 +97,9 @@ module _ (scene : Scene) where
   no-else checked slots targets sees fits = (elses_lower-holds checked slots targets).2
 
   -- bodies
-  pub no-body : (cs : lowered.Statements) → cs ≡ lowered.no_statement → BodyLowers scene cs none
+  pub no-body : (cs : lowered.Instructions) → cs ≡ lowered.no_statement → BodyLowers scene cs none
   no-body cs e env placing sees fits = e
 
-  pub some-body : (a : Tree Label sequence) (cs : lowered.Statements) → SequenceLowers scene cs a → BodyLowers scene cs (one (begins a))
+  pub some-body : (a : Tree Label sequence) (cs : lowered.Instructions) → SequenceLowers scene cs a → BodyLowers scene cs (one (begins a))
   unfolding body_fits
   some-body a cs h env placing sees fits = h (meanings as_labels env) (slots_in as_labels placing) (targets_in as_labels placing) sees fits

@@ -26,8 +26,8 @@ use Rattle.ob0_types_rules.proofs.Proved.{fits_by_ordinal-holds}
 use Rattle.ob0_types_rules.proofs.TypedElsewhere.{then_some}
 use Rattle.ob0_run_machine.specs.Lowered as lowered
 use Rattle.ob0_run_machine.specs.View.{procedure_of, program_of, sequence_of}
-use Rattle.ob0_run_machine.specs.declared.code.Procedure.{Procedure}
-use Rattle.ob0_run_machine.specs.declared.code.Program.{Program}
+use Rattle.ob0_run_machine.specs.declared.code.Routine.{Routine}
+use Rattle.ob0_run_machine.specs.declared.code.LoweredCode.{LoweredCode}
 use Rattle.ob0_run_cells.specs.Activations.{BlockMeans, Placed, Placing, ProgramMeans, at_target, entered_placing, hide_names, inward, outermost_placing, own_target, place_parameters}
 use Rattle.ob0_run_cells.specs.Lowering.{held, of_module}
 use Rattle.ob0_run_lowering.specs.LoweredBodies.{BodyLowers}
@@ -84,52 +84,52 @@ get_push (y ∷ xs) x zero e h = h
 get_push (y ∷ xs) x (suc i) e h = get_push xs x i e h
 
 -- what has been announced, and then the code of a procedure
-record Kept (before announced lowered kept : List Procedure) (index : ℕ) (entry : Procedure) : Type 0 where
+record Kept (before announced lowered kept : List Routine) (index : ℕ) (entry : Routine) : Type 0 where
   pub at : index ≡ length before
-  pub pushed : (e : Procedure) × (announced ≡ before ++ e ∷ [])
+  pub pushed : (e : Routine) × (announced ≡ before ++ e ∷ [])
   pub grown : Grown announced lowered
   pub longer : length announced ≤ length lowered
   pub kept_is : kept ≡ set lowered index entry
 
-kept-room : (a b c d : List Procedure) (i : ℕ) (e : Procedure) → Kept a b c d i e → suc i ≤ length c
+kept-room : (a b c d : List Routine) (i : ℕ) (e : Routine) → Kept a b c d i e → suc i ≤ length c
 kept-room a b c d i e k = omega (arith, k.at, k.longer, ap length k.pushed.1, length-append a (k.pushed.0 ∷ []))
 
-kept-entry : (a b c d : List Procedure) (i : ℕ) (e : Procedure) → Kept a b c d i e → slice_get d i ≡ Some e
+kept-entry : (a b c d : List Routine) (i : ℕ) (e : Routine) → Kept a b c d i e → slice_get d i ≡ Some e
 kept-entry a b c d i e k = ap (λ xs. slice_get xs i) k.kept_is ∙ get_set_same c i e (omega (arith, kept-room a b c d i e k))
 
-kept-grown : (a b c d : List Procedure) (i : ℕ) (e : Procedure) → Kept a b c d i e → Grown a d
+kept-grown : (a b c d : List Routine) (i : ℕ) (e : Routine) → Kept a b c d i e → Grown a d
 kept-grown a b c d i e k = λ j x get.
     let less : j < length a = slice_get_within a j x get in
     ap (λ xs. slice_get xs j) k.kept_is ∙ get_set_other c i j e (λ same. omega (arith, same, less, k.at)) ∙ k.grown j x (ap (λ xs. slice_get xs j) k.pushed.1 ∙ get_push a k.pushed.0 j x get)
 
-kept-longer : (a b c d : List Procedure) (i : ℕ) (e : Procedure) → Kept a b c d i e → length a ≤ length d
+kept-longer : (a b c d : List Routine) (i : ℕ) (e : Routine) → Kept a b c d i e → length a ≤ length d
 kept-longer a b c d i e k = omega (arith, ap length k.kept_is, length-set c i e, kept-room a b c d i e k, k.at)
 
-kept-later : (table : List lowered.Procedure) (a b c d : List Procedure) (i : ℕ) (e : Procedure) → Kept a b c d i e → Later table (length a) d → Later table (length b) c
+kept-later : (table : List lowered.Routine) (a b c d : List Routine) (i : ℕ) (e : Routine) → Kept a b c d i e → Later table (length a) d → Later table (length b) c
 kept-later table a b c d i e k later = λ j x le get.
-    let behind : suc i ≤ j = omega (arith, le, k.at, ap length k.pushed.1, length-append a (k.pushed.0 ∷ [])) in
-    later j x (omega (arith, behind, k.at)) (ap (λ xs. slice_get xs j) k.kept_is ∙ get_set_other c i j e (λ same. omega (arith, same, behind)) ∙ get)
+    let following : suc i ≤ j = omega (arith, le, k.at, ap length k.pushed.1, length-append a (k.pushed.0 ∷ [])) in
+    later j x (omega (arith, following, k.at)) (ap (λ xs. slice_get xs j) k.kept_is ∙ get_set_other c i j e (λ same. omega (arith, same, following)) ∙ get)
 
 -- procedures
 
 -- a procedure announced, its parameters placed, its block lowered, and its code kept
-pub record IsProcedure (t : Tables) (w v u after : Lowering) (depth index : ℕ) (o : Option ℕ) (name : Name) (fs : Tree Label (maybe formals)) (b : Tree Label block) (first f : Frame) (entry : Procedure) : Type 0 where
+pub record IsProcedure (t : Tables) (w v u after : Lowering) (depth index : ℕ) (o : Option ℕ) (name : Name) (fs : Tree Label (maybe formals)) (b : Tree Label block) (first f : Frame) (entry : Routine) : Type 0 where
   pub index_is : index ≡ length w.procedures.items
   pub sites : (k : ℕ) → site_at v.sight.sites.items k ≡ put_at o (site.Procedure depth index) (site_at w.sight.sites.items) k
   pub announced : Follows w.sight v.sight
-  pub pushed : (e : Procedure) × (v.procedures.items ≡ w.procedures.items ++ e ∷ [])
-  pub first_is : first ≡ record { depth = suc depth; cells = 0; lent = 0 }
+  pub pushed : (e : Routine) × (v.procedures.items ≡ w.procedures.items ++ e ∷ [])
+  pub first_is : first ≡ record { depth = suc depth; cells = 0; references = 0 }
   pub placed : (inside : VisibleSites) × Places v.sight inside first (place_sections (slots_at first.depth) (declared_size t) (formal_sections fs)) f × LowersBlock t (record { sight = inside; procedures = v.procedures; most = v.most }) u f b entry
   pub back : IsRestored v.sight u.sight after.sight
   pub kept : after.procedures.items ≡ set u.procedures.items index entry
   pub most_announced : v.most ≡ w.most
   pub most_kept : after.most ≡ u.most
 
-procedure-kept : (t : Tables) (w v u after : Lowering) (depth index : ℕ) (o : Option ℕ) (name : Name) (fs : Tree Label (maybe formals)) (b : Tree Label block) (first f : Frame) (entry : Procedure)
+procedure-kept : (t : Tables) (w v u after : Lowering) (depth index : ℕ) (o : Option ℕ) (name : Name) (fs : Tree Label (maybe formals)) (b : Tree Label block) (first f : Frame) (entry : Routine)
     → IsProcedure t w v u after depth index o name fs b first f entry → Kept w.procedures.items v.procedures.items u.procedures.items after.procedures.items index entry
 procedure-kept t w v u after depth index o name fs b first f entry is = record { at = is.index_is; pushed = is.pushed; grown = is.placed.2.grown; longer = is.placed.2.longer; kept_is = is.kept }
 
-pub procedure_goes : (t : Tables) (w v u after : Lowering) (depth index : ℕ) (o : Option ℕ) (name : Name) (fs : Tree Label (maybe formals)) (b : Tree Label block) (closing : Label) (rest : Tree Label (items procedure)) (first f : Frame) (entry : Procedure)
+pub procedure_goes : (t : Tables) (w v u after : Lowering) (depth index : ℕ) (o : Option ℕ) (name : Name) (fs : Tree Label (maybe formals)) (b : Tree Label block) (closing : Label) (rest : Tree Label (items procedure)) (first f : Frame) (entry : Routine)
     → IsProcedure t w v u after depth index o name fs b first f entry → Goes t w after depth (more (declares_procedure (as_label as_names o name) fs b closing) rest) rest
 procedure_goes t w v u after depth index o name fs b closing rest first f entry is =
     let kept = procedure-kept t w v u after depth index o name fs b first f entry is in
@@ -143,18 +143,18 @@ procedure_goes t w v u after depth index o name fs b closing rest first f entry 
           let parts : FitParts s.env s.next statements x fs b closing rest = procedure-parts s.env s.next statements x fs b closing rest ready.fits in
           let ps : List (TypedParameter Label) = parts.listed in
           let headed : TypeEnvironment Label = heading x ps s.env in
-          let known = ready.declared_behind ps parts.typed in
+          let known = ready.declared_following ps parts.typed in
           let outer : Placing Label = (x, own_target index) ∷ s.placing in
           let none : depth - depth ≡ 0 = omega arith in
           let seen : seen_from depth (site.Procedure depth index) ≡ own_target index = ap (λ n. at_target (record { procedure = index; up = n })) none in
           let held_there : LocatesAll v.sight.sites.items depth outer = holds_bound w.sight.sites.items v.sight.sites.items depth s.placing o name (site.Procedure depth index) (own_target index) (le_refl depth, seen) is.sites ready.holds in
           let matched : Matches headed outer = (refl, (record { procedure = index; up = 0 }, refl), ready.matches) in
           let now : BlockState = record { env = headed; placing = outer; next = s.next + procedure_constructors (declares_procedure x fs b closing) } in
-          let empty : Placed Label = record { placing = inward outer; cells = 0; lent_places = 0 } in
+          let empty : Placed Label = record { placing = inward outer; cells = 0; reference_places = 0 } in
           let begun : IsFrame v.sight.sites.items first empty = record {
             holds = subst (λ d. LocatesAll v.sight.sites.items d (inward outer)) (sym deep) (holds_inward v.sight.sites.items depth outer held_there);
             cells = ap (λ (z : Frame). z.cells) is.first_is;
-            lent_places = ap (λ (z : Frame). z.lent) is.first_is;
+            reference_places = ap (λ (z : Frame). z.references) is.first_is;
           } in
           let all_placed : place_parameters ps empty ≡ place_sections (slots_at first.depth) (declared_size t) (formal_sections fs) empty =
           sections_placed t (formal_sections fs) s.next s.env headed ps empty parts.typed known.0 ∙ ap (λ d. place_sections (slots_at d) (declared_size t) (formal_sections fs) empty) (sym deep) in
@@ -167,7 +167,7 @@ procedure_goes t w v u after depth index o name fs b closing rest first f entry 
               matches = matched;
               holds = holds_same v.sight.sites.items after.sight.sites.items depth outer is.back.1 held_there;
               fits = parts.rest_right;
-              declared_behind = known.2;
+              declared_following = known.2;
             },
             λ table most code above later means. (
               ps,
@@ -193,7 +193,7 @@ body-fits : (env : TypeEnvironment Label) (k : ℕ) (statements : Tree Label (ma
 unfolding block_fits
 body-fits env k statements h = h
 
-pub block_lowers : (t : Tables) (w v : Lowering) (inside : VisibleSites) (cs : Tree Label (maybe constants)) (ts : Tree Label (maybe type_names)) (vs : Tree Label (maybe variables)) (ps : Tree Label (items procedure)) (statements : Tree Label (maybe body)) (f own : Frame) (scene : Scene) (entry : Procedure)
+pub block_lowers : (t : Tables) (w v : Lowering) (inside : VisibleSites) (cs : Tree Label (maybe constants)) (ts : Tree Label (maybe type_names)) (vs : Tree Label (maybe variables)) (ps : Tree Label (items procedure)) (statements : Tree Label (maybe body)) (f own : Frame) (scene : Scene) (entry : Routine)
     → Places w.sight inside f (place_groups (slots_at f.depth) (declared_size t) (section_variables vs)) own → (m : ℕ) → w.most ≤ m → own.cells ≤ m → Goes t (record { sight = inside; procedures = w.procedures; most = m }) v own.depth ps end
     → scene.types.now ≡ t → scene.sites.now ≡ v.sight.sites.items → scene.depth ≡ own.depth → BodyLowers scene (sequence_of entry.body.items) statements → entry.cells ≡ own.cells - f.cells
     → LowersBlock t w v f (has_body (declares cs ts vs ps) statements) entry
@@ -209,14 +209,14 @@ block_lowers t w v inside cs ts vs ps statements f own scene entry places m grow
       let hidden : Placing Label = hide_names (named_types (section_types ts)) (hide_names (constant_names (section_constants cs)) p.placing) in
       let start : Placed Label = record p { placing = hidden } in
       let q : Placed Label = place_groups at (declared_size t) (section_variables vs) start in
-      let begun : IsFrame w.sight.sites.items f start = record { holds = holds_hidden w.sight.sites.items f.depth (named_types (section_types ts)) (hide_names (constant_names (section_constants cs)) p.placing) (holds_hidden w.sight.sites.items f.depth (constant_names (section_constants cs)) p.placing frame.holds); cells = frame.cells; lent_places = frame.lent_places } in
+      let begun : IsFrame w.sight.sites.items f start = record { holds = holds_hidden w.sight.sites.items f.depth (named_types (section_types ts)) (hide_names (constant_names (section_constants cs)) p.placing) (holds_hidden w.sight.sites.items f.depth (constant_names (section_constants cs)) p.placing frame.holds); cells = frame.cells; reference_places = frame.reference_places } in
       let laid : IsFrame inside.sites.items own q = places.placed start begun in
       let ready : Ready t inside.sites.items own.depth (record { env = inner; placing = q.placing; next = after_variables k b }) statements ps = record {
         declared_there = known_parts.0;
         matches = groups_match at (declared_size t) (section_variables vs) (after_types k b) first inner start declared_parts.2 (first_match b k env first p.placing declared_parts.1 matches);
         holds = laid.holds;
         fits = parts.2;
-        declared_behind = known_parts.1;
+        declared_following = known_parts.1;
       } in
       let gone = goes.on (record { env = inner; placing = q.placing; next = after_variables k b }) statements ready in
       let now : BlockState = gone.0 in
@@ -248,7 +248,7 @@ goes_on t w v u d r xs done x all a less here b =
     goes_then t w v u d all (in_labels r (items_of tree_procedure_of (drop done xs))) rest a
     (subst (λ ys. Goes t v u d (in_labels r (items_of tree_procedure_of ys)) rest) (sym (split done xs x less here)) (b rest))
 
-pub block_means : (t : Tables) (w v : Lowering) (inside : VisibleSites) (b : tree_block.Block) (xs : List tree.Procedure) (done : ℕ) (f own : Frame) (scene : Scene) (entry : Procedure) (r : Resolution)
+pub block_means : (t : Tables) (w v : Lowering) (inside : VisibleSites) (b : tree_block.Block) (xs : List tree.Procedure) (done : ℕ) (f own : Frame) (scene : Scene) (entry : Routine) (r : Resolution)
     → Places w.sight inside f (place_groups (slots_at f.depth) (declared_size t) (section_variables (in_labels r (variables_of (tree_block.out-Block b).variables)))) own
     → (m : ℕ) → w.most ≤ m → own.cells ≤ m
     → Goes t (record { sight = inside; procedures = w.procedures; most = m }) v own.depth (in_labels r (items_of tree_procedure_of xs)) (in_labels r (items_of tree_procedure_of (drop done xs))) → length xs ≤ done → xs ≡ (tree_block.out-Block b).procedures.items
@@ -262,7 +262,7 @@ block_means t w v inside b xs done f own scene entry r places m grows enough goe
     (subst (λ ys. Goes t (record { sight = inside; procedures = w.procedures; most = m }) v own.depth (in_labels r (items_of tree_procedure_of xs)) (in_labels r (items_of tree_procedure_of ys))) (drop_all done xs all) goes))
     types sites deep lowers cells)
 
-pub procedure_means : (t : Tables) (w v u after : Lowering) (depth index : ℕ) (p : tree.Procedure) (r : Resolution) (first f : Frame) (entry : Procedure) (rest : Tree Label (items procedure))
+pub procedure_means : (t : Tables) (w v u after : Lowering) (depth index : ℕ) (p : tree.Procedure) (r : Resolution) (first f : Frame) (entry : Routine) (rest : Tree Label (items procedure))
     → IsProcedure t w v u after depth index (ordinal_in r.ordinals (tree.out-Procedure p).name) (text_at r.module_read.source (tree.out-Procedure p).name) (in_labels r (formals_of (tree.out-Procedure p).formals)) (in_labels r (block_of (tree.out-Procedure p).block)) first f entry
     → Goes t w after depth (more (in_labels r (tree_procedure_of p)) rest) rest
 procedure_means t w v u after depth index p r first f entry rest is =
@@ -278,22 +278,22 @@ outermost-matches = (refl, tt, (refl, tt, (refl, tt, (refl, tt, (refl, tt, (refl
 outermost-holds : LocatesAll [] 0 (outermost_placing as_labels)
 outermost-holds = holds_hidden [] 0 (as_labels.predeclared 0 ∷ as_labels.predeclared 1 ∷ as_labels.predeclared 2 ∷ as_labels.predeclared 3 ∷ as_labels.predeclared 4 ∷ as_labels.predeclared 5 ∷ as_labels.predeclared 6 ∷ []) [] (λ k. tt)
 
-all-later : (ps : List Procedure) → Later (map procedure_of ps) 0 ps
+all-later : (ps : List Routine) → Later (map procedure_of ps) 0 ps
 all-later ps = λ i e le get. slice_get-map procedure_of ps i ∙ ap (option_map procedure_of) get
 
 module-fits : (m : Tree Name module_text) → WellTyped m → block_fits as_labels (outermost as_labels) 0 (module_block (numbered m)) ≡ true
 unfolding WellTyped fits_over
 module-fits m well = sym (fits_by_ordinal-holds m) ∙ well.1
 
-pub program_means : (t : Tables) (m : Tree Name module_text) (w v : Lowering) (b : Tree Label block) (entry : Procedure) (program : Program) → WellTyped m → ((k : ℕ) → declared_in t k ≡ declared_object m k) → module_block (numbered m) ≡ b
-    → w.sight.sites.items ≡ [] → w.procedures.items ≡ [] → LowersBlock t w v (record { depth = 0; cells = 0; lent = 0 }) b entry
+pub program_means : (t : Tables) (m : Tree Name module_text) (w v : Lowering) (b : Tree Label block) (entry : Routine) (program : LoweredCode) → WellTyped m → ((k : ℕ) → declared_in t k ≡ declared_object m k) → module_block (numbered m) ≡ b
+    → w.sight.sites.items ≡ [] → w.procedures.items ≡ [] → LowersBlock t w v (record { depth = 0; cells = 0; references = 0 }) b entry
     → program_of program ≡ record { cells = entry.cells; body = sequence_of entry.body.items; procedures = map procedure_of v.procedures.items } → ProgramMeans v.most as_labels (numbered m) (program_of program)
 program_means t m w v b entry program well known is sites procedures lowers made =
     let known_blocks : BlockDeclared (declared_in t) (outermost as_labels) 0 (module_block (numbered m)) = subst (λ (objects : Objects). BlockDeclared objects (outermost as_labels) 0 (module_block (numbered m))) (λ i k. sym (known k) i) (module-declared m well) in
-    let start : Placed Label = record { placing = outermost_placing as_labels; cells = 0; lent_places = 0 } in
+    let start : Placed Label = record { placing = outermost_placing as_labels; cells = 0; reference_places = 0 } in
     subst (ProgramMeans v.most as_labels (numbered m)) (sym made)
     (subst (λ z. BlockMeans (map procedure_of v.procedures.items) v.most as_labels of_module (outermost as_labels) start 0 entry.cells (sequence_of entry.body.items) z) (sym is)
     (lowers.means (outermost as_labels) start 0 outermost-matches
-    (record { holds = subst (λ xs. LocatesAll xs 0 (outermost_placing as_labels)) (sym sites) outermost-holds; cells = refl; lent_places = refl })
+    (record { holds = subst (λ xs. LocatesAll xs 0 (outermost_placing as_labels)) (sym sites) outermost-holds; cells = refl; reference_places = refl })
     (subst (λ z. block_fits as_labels (outermost as_labels) 0 z ≡ true) is (module-fits m well)) (subst (λ z. BlockDeclared (declared_in t) (outermost as_labels) 0 z) is known_blocks)
     (map procedure_of v.procedures.items) v.most (le_refl v.most) (λ i e le get. all-later v.procedures.items i e (omega arith) get)))

@@ -28,9 +28,9 @@ use Rattle.ob0_run_machine.specs.declared.code.Truth.{Truth}
 use Rattle.ob0_run_cells.specs.Cells.{size}
 use Rattle.ob0_run_cells.specs.LoweredStatements.{ArgumentMeans, IsAt}
 use Rattle.ob0_run_cells.specs.Lowering.{NumberMeans, PlaceMeans, Slot, TruthMeans, ValueAt, place_of_designator, value_of_expression}
-use Rattle.ob0_run_lowering.specs.Codes.{Code, CodeMeans, FoundPlace, a_block, a_number, a_truth, no_code}
+use Rattle.ob0_run_lowering.specs.Codes.{ExpressionCode, CodeMeans, FoundPlace, a_block, a_number, a_truth, no_code}
 use Rattle.ob0_run_lowering.specs.Means.{Locates, LocatesAlone, Lowers, LowersArgument, LowersNumber, LowersTruth}
-use Rattle.ob0_run_lowering.specs.Parts.{IsNumberOf, IsPlaceOf, IsTruthOf, IsValueOf}
+use Rattle.ob0_run_lowering.specs.Parts.{IsNumberOf, IsTypedPlaceOf, IsTruthOf, IsValueOf}
 use Rattle.ob0_run_lowering.specs.Scenes.{HasSmall, Sees, object_at}
 use Rattle.ob0_run_lowering.specs.Trees.{base_found, code_of, expression_code, found_of, selected_place}
 use Rattle.ob0_run_lowering.specs.declared.lowered.TypedPlace.{TypedPlace}
@@ -80,8 +80,8 @@ truth-by scene e code.Nothing t same h checked slots targets sees typed = absurd
 
 -- places
 
-variable-typed : (checked : Typed Label) (x : Label) (path : Tree Label (items selector)) (s : Shape) (o : Option (Object Shape Signature)) → checked.stands_for x ≡ o → variable_type checked (Some (x, path)) ≡ Some s
-    → (v : Shape) × (checked.stands_for x ≡ Some (a_variable v)) × (type_at checked v path ≡ Some s)
+variable-typed : (checked : Typed Label) (x : Label) (path : Tree Label (items selector)) (s : Shape) (o : Option (Object Shape Signature)) → checked.object_for x ≡ o → variable_type checked (Some (x, path)) ≡ Some s
+    → (v : Shape) × (checked.object_for x ≡ Some (a_variable v)) × (type_at checked v path ≡ Some s)
 unfolding variable_type
 variable-typed checked x path s (Some (a_variable v)) e h = (v, e, sym (ap (λ (o : Option (Object Shape Signature)). elim o [ Some (a_variable s) ↦ type_at checked s path | _ ↦ None ]) e) ∙ h)
 variable-typed checked x path s None e h = let none : None ≡ Some s = sym (ap (λ (o : Option (Object Shape Signature)). elim o [ Some (a_variable s) ↦ type_at checked s path | _ ↦ None ]) e) ∙ h in absurd (cc)
@@ -90,17 +90,17 @@ variable-typed checked x path s (Some (a_constant v)) e h = let none : None ≡ 
 variable-typed checked x path s (Some (a_procedure p)) e h = let none : None ≡ Some s = sym (ap (λ (o : Option (Object Shape Signature)). elim o [ Some (a_variable s) ↦ type_at checked s path | _ ↦ None ]) e) ∙ h in absurd (cc)
 variable-typed checked x path s (Some (a_standard p)) e h = let none : None ≡ Some s = sym (ap (λ (o : Option (Object Shape Signature)). elim o [ Some (a_variable s) ↦ type_at checked s path | _ ↦ None ]) e) ∙ h in absurd (cc)
 
-there : (shapes : List Shape) (found : Option TypedPlace) (l : TypedPlace) (q : lowered.Place) (s : Shape) → IsPlaceOf found l → option_map (found_of shapes) found ≡ Some (record { place = q; shape = s }) → (place_of l.place ≡ q) × (type_shape shapes l.of ≡ s)
+there : (shapes : List Shape) (found : Option TypedPlace) (l : TypedPlace) (q : lowered.Place) (s : Shape) → IsTypedPlaceOf found l → option_map (found_of shapes) found ≡ Some (record { place = q; shape = s }) → (place_of l.place ≡ q) × (type_shape shapes l.of ≡ s)
 there shapes None l q s same h = absurd (cc)
 there shapes (Some m) l q s same h =
     let both : found_of shapes l ≡ record { place = q; shape = s } = ap (found_of shapes) (sym same) ∙ some_inj h in
     (ap (λ (f : FoundPlace). f.place) both, ap (λ (f : FoundPlace). f.shape) both)
 
-pub locates-by : (scene : Scene) (x : ℕ) (path : Tree ℕ (items selector)) (found : Option TypedPlace) (l : TypedPlace) → HasSmall scene → IsPlaceOf found l
+pub locates-by : (scene : Scene) (x : ℕ) (path : Tree ℕ (items selector)) (found : Option TypedPlace) (l : TypedPlace) → HasSmall scene → IsTypedPlaceOf found l
     → option_map (found_of (shapes_of scene.types.now)) found ≡ selected_place scene (base_found scene (label_in scene.resolved.now x)) (in_labels scene.resolved.now path) → Locates scene x path l
 locates-by scene x path found l small same h checked slots targets sees s typed =
     let y = label_in scene.resolved.now x in
-    let (v, e, at) = variable-typed checked y (in_labels scene.resolved.now path) s (checked.stands_for y) refl typed in
+    let (v, e, at) = variable-typed checked y (in_labels scene.resolved.now path) s (checked.object_for y) refl typed in
     let (q, eq, hq) = located-means scene checked slots targets sees small y path s v e at in
     let (place, shape) = there (shapes_of scene.types.now) found l q s same (h ∙ eq) in
     (shape, subst (λ q. PlaceMeans checked slots q s (place_of_designator y (in_labels scene.resolved.now path))) (sym place) hq)
@@ -109,7 +109,7 @@ pub alone-by : (scene : Scene) (e : Tree ℕ expression) (x : ℕ) (path : Tree 
 alone-by scene e x path l is h checked slots targets sees s typed =
     let y = label_in scene.resolved.now x in
     let there = ap (variable_type checked) (sym is) ∙ typed in
-    let (v, ev, at) = variable-typed checked y (in_labels scene.resolved.now path) s (checked.stands_for y) refl there in
+    let (v, ev, at) = variable-typed checked y (in_labels scene.resolved.now path) s (checked.object_for y) refl there in
     let (shape, means) = h checked slots targets sees s there in
     (shape, (y, in_labels scene.resolved.now path, v, is, ev, means))
 

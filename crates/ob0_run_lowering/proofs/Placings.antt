@@ -16,7 +16,7 @@ use Rattle.ob0_values.specs.Values.{Shape}
 use Rattle.ob0_run_cells.specs.Activations.{Placed, Placing, Whereabouts, at_target, first_slot, first_target, from_name, hide_names, in_slot, inward, inward_slot, inward_whereabouts, nowhere, place_names, place_parameter, place_parameters, place_variables, slot_of, slots_in, target_of, targets_in}
 use Rattle.ob0_run_cells.specs.Cells.{size}
 use Rattle.ob0_run_cells.specs.LoweredStatements.{Target}
-use Rattle.ob0_run_cells.specs.Lowering.{Slot, held, lent}
+use Rattle.ob0_run_cells.specs.Lowering.{Slot, held, by_reference}
 use Rattle.ob0_run_lowering.specs.Scenes.{Sees, object_at, seen_from, site_at, slot_at, target_at}
 use Rattle.ob0_run_lowering.specs.declared.scene.Scene.{Scene}
 use Rattle.ob0_run_lowering.specs.declared.scene.Site.{Site}
@@ -57,13 +57,13 @@ seen_inward : (d : ℕ) (s : Site) → site_depth s ≤ d → seen_from (suc d) 
 seen_inward d site.Nowhere le = refl
 seen_inward d (site.Module offset) le = refl
 seen_inward d (site.Held at offset) le = let e : suc d - at ≡ suc (d - at) = omega arith in ap (λ up. in_slot (held up offset)) e
-seen_inward d (site.Lent at index) le = let e : suc d - at ≡ suc (d - at) = omega arith in ap (λ up. in_slot (lent up index)) e
+seen_inward d (site.Lent at index) le = let e : suc d - at ≡ suc (d - at) = omega arith in ap (λ up. in_slot (by_reference up index)) e
 seen_inward d (site.Procedure at index) le = let e : suc d - at ≡ suc (d - at) = omega arith in ap (λ up. at_target (record { procedure = index; up = up })) e
 
-tells_inward : (d : ℕ) (s : Site) (w : Whereabouts) → LocatesAs d s w → LocatesAs (suc d) s (inward_whereabouts w)
-tells_inward d s nowhere h = tt
-tells_inward d s (in_slot slot) h = (omega (arith, h.0), seen_inward d s h.0 ∙ ap inward_whereabouts h.1)
-tells_inward d s (at_target t) h = (omega (arith, h.0), seen_inward d s h.0 ∙ ap inward_whereabouts h.1)
+reports_inward : (d : ℕ) (s : Site) (w : Whereabouts) → LocatesAs d s w → LocatesAs (suc d) s (inward_whereabouts w)
+reports_inward d s nowhere h = tt
+reports_inward d s (in_slot slot) h = (omega (arith, h.0), seen_inward d s h.0 ∙ ap inward_whereabouts h.1)
+reports_inward d s (at_target t) h = (omega (arith, h.0), seen_inward d s h.0 ∙ ap inward_whereabouts h.1)
 
 found_inward : (placing : Placing Label) (x : Label) → found (inward placing) x ≡ inward_whereabouts (found placing x)
 found_inward [] x = refl
@@ -72,7 +72,7 @@ found_inward (b ∷ placing) x =
     [ true ↦ refl | false ↦ found_inward placing x ]
 
 pub holds_inward : (sites : List Site) (d : ℕ) (placing : Placing Label) → LocatesAll sites d placing → LocatesAll sites (suc d) (inward placing)
-holds_inward sites d placing h = λ k. subst (LocatesAs (suc d) (site_at sites k)) (sym (found_inward placing (declared k))) (tells_inward d (site_at sites k) (found placing (declared k)) (h k))
+holds_inward sites d placing h = λ k. subst (LocatesAs (suc d) (site_at sites k)) (sym (found_inward placing (declared k))) (reports_inward d (site_at sites k) (found placing (declared k)) (h k))
 
 suits_inward : (o : Object Shape Signature) (w : Whereabouts) → Suits o w → Suits o (inward_whereabouts w)
 suits_inward (a_variable s) w h = (inward_slot h.0, ap inward_whereabouts h.1)
@@ -97,8 +97,8 @@ matches_found (b ∷ env) (w ∷ placing) m x o h =
     subst (λ (y : Label). Suits o (first_placed (elim (same_label x y) [ true ↦ w ∷ placing | false ↦ from_name as_labels placing x ]))) m.0 (by (matches_found env placing m.2 x o) (same_label x b.0) h)
   where
     by : (newest (from_binding as_labels env x) ≡ Some o → Suits o (found placing x)) → (t : Bool) → newest (elim t [ true ↦ b ∷ env | false ↦ from_binding as_labels env x ]) ≡ Some o → Suits o (first_placed (elim t [ true ↦ w ∷ placing | false ↦ from_name as_labels placing x ]))
-    by behind true e = subst (λ (z : Object Shape Signature). Suits z w.1) (some_inverse e) m.1
-    by behind false e = behind e
+    by following true e = subst (λ (z : Object Shape Signature). Suits z w.1) (some_inverse e) m.1
+    by following false e = following e
 
 same_declared : (x : Label) (k : ℕ) → same_label x (declared k) ≡ true → x ≡ declared k
 same_declared (declared j) k h = ap declared (eqb-true j k h)
@@ -120,11 +120,11 @@ target_found : (placing : Placing Label) → first_target placing ≡ target_of 
 target_found [] = refl
 target_found (b ∷ placing) = refl
 
-tells_slot : (d : ℕ) (s : Site) (w : Whereabouts) (slot : Slot) → w ≡ in_slot slot → LocatesAs d s w → seen_from d s ≡ w
-tells_slot d s w slot e h = (subst (LocatesAs d s) e h).1 ∙ sym e
+reports_slot : (d : ℕ) (s : Site) (w : Whereabouts) (slot : Slot) → w ≡ in_slot slot → LocatesAs d s w → seen_from d s ≡ w
+reports_slot d s w slot e h = (subst (LocatesAs d s) e h).1 ∙ sym e
 
-tells_target : (d : ℕ) (s : Site) (w : Whereabouts) (t : Target) → w ≡ at_target t → LocatesAs d s w → seen_from d s ≡ w
-tells_target d s w t e h = (subst (LocatesAs d s) e h).1 ∙ sym e
+reports_target : (d : ℕ) (s : Site) (w : Whereabouts) (t : Target) → w ≡ at_target t → LocatesAs d s w → seen_from d s ≡ w
+reports_target d s w t e h = (subst (LocatesAs d s) e h).1 ∙ sym e
 
 -- a scene is right at a body whose names are known and whose placing is held
 pub sees : (scene : Scene) (env : TypeEnvironment Label) (placing : Placing Label) → AreDeclared (declared_in scene.types.now) env → Matches env placing → LocatesAll scene.sites.now scene.depth placing → Sees scene (meanings as_labels env) (slots_in as_labels placing) (targets_in as_labels placing)
@@ -135,12 +135,12 @@ sees scene env placing known m h = record {
       let f = declared_found (declared_in scene.types.now) env known x (a_variable s) e in
       let suits = matches_found env placing m x (a_variable s) e in
       subst (λ y. slots_in as_labels placing y ≡ slot_at scene y) (sym f.1)
-      (slot_found (from_name as_labels placing (declared f.0)) ∙ ap slot_of (sym (tells_slot scene.depth (site_at scene.sites.now f.0) (found placing (declared f.0)) suits.0 (ap (found placing) (sym f.1) ∙ suits.1) (h f.0))));
+      (slot_found (from_name as_labels placing (declared f.0)) ∙ ap slot_of (sym (reports_slot scene.depth (site_at scene.sites.now f.0) (found placing (declared f.0)) suits.0 (ap (found placing) (sym f.1) ∙ suits.1) (h f.0))));
   procedures = λ x p e.
       let f = declared_found (declared_in scene.types.now) env known x (a_procedure p) e in
       let suits = matches_found env placing m x (a_procedure p) e in
       subst (λ y. targets_in as_labels placing y ≡ target_at scene y) (sym f.1)
-      (target_found (from_name as_labels placing (declared f.0)) ∙ ap target_of (sym (tells_target scene.depth (site_at scene.sites.now f.0) (found placing (declared f.0)) suits.0 (ap (found placing) (sym f.1) ∙ suits.1) (h f.0))));
+      (target_found (from_name as_labels placing (declared f.0)) ∙ ap target_of (sym (reports_target scene.depth (site_at scene.sites.now f.0) (found placing (declared f.0)) suits.0 (ap (found placing) (sym f.1) ∙ suits.1) (h f.0))));
 }
 
 -- constants and types
@@ -183,7 +183,7 @@ names_placed t at (x ∷ xs) s env p a =
 
 one_matches : (at : ℕ → Slot) (size_of : Label → ℕ) (mode : Mode) (x : Label) (s : Shape) (env : TypeEnvironment Label) (p : Placed Label) → Matches env p.placing → Matches ((x, a_variable s) ∷ env) (place_one at size_of mode x p).placing
 one_matches at size_of by_value x s env p m = (refl, (at p.cells, refl), m)
-one_matches at size_of by_place x s env p m = (refl, (lent 0 p.lent_places, refl), m)
+one_matches at size_of by_place x s env p m = (refl, (by_reference 0 p.reference_places, refl), m)
 
 names_match : (at : ℕ → Slot) (size_of : Label → ℕ) (mode : Mode) (xs : List Label) (s : Shape) (env : TypeEnvironment Label) (p : Placed Label) → Matches env p.placing → Matches (bind_names xs (a_variable s) env) (place_each at size_of mode xs p).placing
 names_match at size_of mode [] s env p m = m
@@ -234,8 +234,8 @@ section_placed : (t : Tables) (f : Tree Label section) (s : Shape) (xs : List La
 section_placed t f s [] rest env p a = (refl, a)
 section_placed t f s (x ∷ xs) rest env p a =
     let head = typed_before (declared_in t) (of_section f s xs ++ rest) ((x, a_variable s) ∷ env) a in
-    let behind = section_placed t f s xs rest ((x, a_variable s) ∷ env) (place_one (held 0) (declared_size t) (section_mode f) x p) a in
-    (ap (place_parameters (of_section f s xs ++ rest)) (one_placed t (section_mode f) x s p (one_size t x s head.0)) ∙ behind.0, behind.1)
+    let following = section_placed t f s xs rest ((x, a_variable s) ∷ env) (place_one (held 0) (declared_size t) (section_mode f) x p) a in
+    (ap (place_parameters (of_section f s xs ++ rest)) (one_placed t (section_mode f) x s p (one_size t x s head.0)) ∙ following.0, following.1)
 
 pub sections_placed : (t : Tables) (fs : Tree Label (items further_section)) (k : ℕ) (env outer : TypeEnvironment Label) (ps : List (TypedParameter Label)) (p : Placed Label) → typed_parameters as_labels env k fs ≡ Some ps → AreDeclared (declared_in t) (bind_typed ps outer)
     → place_parameters ps p ≡ place_sections (held 0) (declared_size t) fs p
@@ -253,7 +253,7 @@ sections_placed t (more (then_section f) fs) k env outer ps p h a =
 
 parameter_matches : (mode : Mode) (x : Label) (n : ℕ) (s : Shape) (env : TypeEnvironment Label) (p : Placed Label) → Matches env p.placing → Matches ((x, a_variable s) ∷ env) (place_parameter mode x n p).placing
 parameter_matches by_value x n s env p m = (refl, (held 0 p.cells, refl), m)
-parameter_matches by_place x n s env p m = (refl, (lent 0 p.lent_places, refl), m)
+parameter_matches by_place x n s env p m = (refl, (by_reference 0 p.reference_places, refl), m)
 
 pub parameters_match : (ps : List (TypedParameter Label)) (env : TypeEnvironment Label) (p : Placed Label) → Matches env p.placing → Matches (bind_typed ps env) (place_parameters ps p).placing
 parameters_match [] env p m = m

@@ -4,7 +4,7 @@ use Rattle.std.proofs.Math.ListN.{set}
 use Rattle.std.proofs.lemmas.List.{append-nil, drop_all, drop_more, get_or-set_other, get_or-set_same, length-set}
 use Rattle.ob0_types_table.proofs.Sighted.{last_of}
 use Rattle.ob0_run_cells.specs.Activations.{Placed, in_slot}
-use Rattle.ob0_run_cells.specs.Lowering.{Slot, lent}
+use Rattle.ob0_run_cells.specs.Lowering.{Slot, by_reference}
 use Rattle.ob0_run_lowering.specs.Scenes.{seen_from, site_at}
 use Rattle.ob0_run_lowering.specs.declared.scene.Site.{Site}
 use Rattle.ob0_run_lowering.specs.declared.scene.Site.TheVariants as site
@@ -164,25 +164,25 @@ pub places_as : (w v : VisibleSites) (f g : Frame) (first second : Placed Label 
 places_as w v f g first second same a = subst (λ (step : Placed Label → Placed Label). Places w v f step g) (λ i p. same p i) a
 
 -- one name
-pub place-lent : (w v : VisibleSites) (f g : Frame) (size_of : Label → ℕ) (o : Option ℕ) (name : Name) → ((k : ℕ) → site_at v.sites.items k ≡ put_at o (site.Lent f.depth f.lent) (site_at w.sites.items) k) → Follows w v → g ≡ record f { lent = f.lent + 1 }
+pub place-by_reference : (w v : VisibleSites) (f g : Frame) (size_of : Label → ℕ) (o : Option ℕ) (name : Name) → ((k : ℕ) → site_at v.sites.items k ≡ put_at o (site.Lent f.depth f.references) (site_at w.sites.items) k) → Follows w v → g ≡ record f { references = f.references + 1 }
     → Places w v f (place_one (slots_at f.depth) size_of by_place (as_label as_names o name)) g
-place-lent w v f g size_of o name put follows is =
+place-by_reference w v f g size_of o name put follows is =
     let none : f.depth - f.depth ≡ 0 = omega arith in
-    let seen : seen_from f.depth (site.Lent f.depth f.lent) ≡ in_slot (lent 0 f.lent) = ap (λ up. in_slot (lent up f.lent)) none in
+    let seen : seen_from f.depth (site.Lent f.depth f.references) ≡ in_slot (by_reference 0 f.references) = ap (λ up. in_slot (by_reference up f.references)) none in
     subst (λ (z : Frame). Places w v f (place_one (slots_at f.depth) size_of by_place (as_label as_names o name)) z) (sym is)
     record {
       placed = λ p h. record {
-        holds = holds_bound w.sites.items v.sites.items f.depth p.placing o name (site.Lent f.depth f.lent) (in_slot (lent 0 p.lent_places)) (le_refl f.depth, seen ∙ ap (λ n. in_slot (lent 0 n)) h.lent_places) put h.holds;
+        holds = holds_bound w.sites.items v.sites.items f.depth p.placing o name (site.Lent f.depth f.references) (in_slot (by_reference 0 p.reference_places)) (le_refl f.depth, seen ∙ ap (λ n. in_slot (by_reference 0 n)) h.reference_places) put h.holds;
         cells = h.cells;
-        lent_places = ap (λ n. n + 1) h.lent_places ∙ omega arith;
+        reference_places = ap (λ n. n + 1) h.reference_places ∙ omega arith;
       };
       follows = follows;
       depth = refl;
       more_cells = le_refl f.cells;
     }
 
-next-tells : (f : Frame) (s : Site) (n : ℕ) → IsNextSite f s → f.cells ≡ n → LocatesAs f.depth s (in_slot (slots_at f.depth n))
-next-tells f s n next e = (next.0, next.1 ∙ ap (λ m. in_slot (slots_at f.depth m)) e)
+next-reports : (f : Frame) (s : Site) (n : ℕ) → IsNextSite f s → f.cells ≡ n → LocatesAs f.depth s (in_slot (slots_at f.depth n))
+next-reports f s n next e = (next.0, next.1 ∙ ap (λ m. in_slot (slots_at f.depth m)) e)
 
 pub place-held : (w v : VisibleSites) (f g : Frame) (size_of : Label → ℕ) (o : Option ℕ) (name : Name) (s : Site) (n : ℕ) → IsNextSite f s → ((k : ℕ) → site_at v.sites.items k ≡ put_at o s (site_at w.sites.items) k) → Follows w v → g ≡ record f { cells = f.cells + n }
     → n ≡ size_of (as_label as_names o name) → Places w v f (place_one (slots_at f.depth) size_of by_value (as_label as_names o name)) g
@@ -191,9 +191,9 @@ place-held w v f g size_of o name s n next put follows is size =
     record {
       placed = λ p h. record {
         holds = subst (λ d. LocatesAll v.sites.items d ((as_label as_names o name, in_slot (slots_at f.depth p.cells)) ∷ p.placing)) (sym (ap (λ (z : Frame). z.depth) is))
-            (holds_bound w.sites.items v.sites.items f.depth p.placing o name s (in_slot (slots_at f.depth p.cells)) (next-tells f s p.cells next h.cells) put h.holds);
+            (holds_bound w.sites.items v.sites.items f.depth p.placing o name s (in_slot (slots_at f.depth p.cells)) (next-reports f s p.cells next h.cells) put h.holds);
         cells = cells ∙ (λ i. h.cells i + size i);
-        lent_places = ap (λ (z : Frame). z.lent) is ∙ h.lent_places;
+        reference_places = ap (λ (z : Frame). z.references) is ∙ h.reference_places;
       };
       follows = follows;
       depth = ap (λ (z : Frame). z.depth) is;

@@ -16,7 +16,7 @@ use Rattle.ob0_run_cells.specs.LoweredStatements.{Target}
 use Rattle.ob0_run_cells.specs.Lowering.{Evaluated, PlaceLeads, PlaceMeans, Slot, place_of_designator, slot_place, value_of_expression, value_of_factor, value_of_simple, value_of_term}
 use Rattle.ob0_run_cells.specs.Lowering as lowering
 use Rattle.ob0_run_cells.proofs.Lowered.{blocks_lower-holds, cells_lower-holds, constants_lower-holds, fields_lower-holds, indexes_lower-holds, integers_lower-holds, selectors_end-holds, variables_lower-holds}
-use Rattle.ob0_run_lowering.specs.Codes.{Code, CodeMeans, FoundPlace, a_block, a_number, a_truth, added, constant_code, element_found, element_of, field_found, multiplied, named_code, negated, no_code, related, signed, code_at_place}
+use Rattle.ob0_run_lowering.specs.Codes.{ExpressionCode, CodeMeans, FoundPlace, a_block, a_number, a_truth, added, constant_code, element_found, element_of, field_found, multiplied, named_code, negated, no_code, related, signed, code_at_place}
 use Rattle.ob0_run_lowering.specs.Scenes.{HasSmall, Sees, object_at, slot_at}
 use Rattle.ob0_run_lowering.specs.Trees.{addends_code, base_found, expression_code, factor_code, multipliers_code, selected_place, simple_code, term_code, variable_found}
 use Rattle.ob0_run_lowering.specs.declared.scene.Scene.{Scene}
@@ -44,17 +44,17 @@ type-end meaning x s h = some_inj h
 module _ (checked : Typed Label) (slots : Label → Slot) where
   -- the code of a constant
 
-  number-constant : (x : Label) (n : ℤ) (path : Tree Label (items selector)) (s : Shape) → checked.stands_for x ≡ Some (a_constant (number n)) → machine.fits n ≡ true → type_at checked integer_shape path ≡ Some s
+  number-constant : (x : Label) (n : ℤ) (path : Tree Label (items selector)) (s : Shape) → checked.object_for x ≡ Some (a_constant (number n)) → machine.fits n ≡ true → type_at checked integer_shape path ≡ Some s
       → CodeMeans checked slots (a_number (lowered.literal n)) s (value_of_factor (designator x path))
   number-constant x n end s e fit h = subst (λ s. CodeMeans checked slots (a_number (lowered.literal n)) s (value_of_factor (designator x end))) (type-end checked integer_shape s h) ((constants_lower-holds checked slots x).0 n e fit)
   number-constant x n (more a rest) s e fit h = let no_type : None ≡ Some s = sym (integer-alone checked a rest) ∙ h in absurd (cc)
 
-  truth-constant : (x : Label) (b : Bool) (path : Tree Label (items selector)) (s : Shape) → checked.stands_for x ≡ Some (a_constant (truth b)) → type_at checked boolean_shape path ≡ Some s
+  truth-constant : (x : Label) (b : Bool) (path : Tree Label (items selector)) (s : Shape) → checked.object_for x ≡ Some (a_constant (truth b)) → type_at checked boolean_shape path ≡ Some s
       → CodeMeans checked slots (a_truth (lowered.constant b)) s (value_of_factor (designator x path))
   truth-constant x b end s e h = subst (λ s. CodeMeans checked slots (a_truth (lowered.constant b)) s (value_of_factor (designator x end))) (type-end checked boolean_shape s h) ((constants_lower-holds checked slots x).1 b e)
   truth-constant x b (more a rest) s e h = let no_type : None ≡ Some s = sym (boolean-alone checked a rest) ∙ h in absurd (cc)
 
-  constant-means : (x : Label) (v : Value) (path : Tree Label (items selector)) (s : Shape) → checked.stands_for x ≡ Some (a_constant v) → ((n : ℤ) → v ≡ number n → machine.fits n ≡ true) → option_and_then (λ t. type_at checked t path) (value_type v) ≡ Some s
+  constant-means : (x : Label) (v : Value) (path : Tree Label (items selector)) (s : Shape) → checked.object_for x ≡ Some (a_constant v) → ((n : ℤ) → v ≡ number n → machine.fits n ≡ true) → option_and_then (λ t. type_at checked t path) (value_type v) ≡ Some s
       → CodeMeans checked slots (constant_code v) s (value_of_factor (designator x path))
   constant-means x (number n) path s e fit h = number-constant x n path s e (fit n refl) h
   constant-means x (truth b) path s e fit h = truth-constant x b path s e h
@@ -63,7 +63,7 @@ module _ (checked : Typed Label) (slots : Label → Slot) where
 
   -- what is at the place of a designator
 
-  standing-means : (x : Label) (v : Shape) (path : Tree Label (items selector)) (q : lowered.Place) (s : Shape) → checked.stands_for x ≡ Some (a_variable v) → PlaceMeans checked slots q s (place_of_designator x path)
+  standing-means : (x : Label) (v : Shape) (path : Tree Label (items selector)) (q : lowered.Place) (s : Shape) → checked.object_for x ≡ Some (a_variable v) → PlaceMeans checked slots q s (place_of_designator x path)
       → CodeMeans checked slots (code_at_place q s) s (value_of_factor (designator x path))
   standing-means x v path q integer_shape e h = (cells_lower-holds checked slots x v path q e).0 h
   standing-means x v path q boolean_shape e h = (cells_lower-holds checked slots x v path q e).1 h
@@ -85,7 +85,7 @@ module _ (checked : Typed Label) (slots : Label → Slot) where
   field-step written q boolean_shape x t rest whole leads h = absurd (cc)
   field-step written q (array_shape k n u) x t rest whole leads h = absurd (cc)
 
-  element-step : (c : Code) (q : lowered.Place) (z i t : Shape) (e : Tree Label expression) (rest : Tree Label (items selector)) (whole : Evaluated Label Place)
+  element-step : (c : ExpressionCode) (q : lowered.Place) (z i t : Shape) (e : Tree Label expression) (rest : Tree Label (items selector)) (whole : Evaluated Label Place)
       → PlaceLeads checked slots q z (more (index e) rest) whole → element_type z i ≡ Some t → CodeMeans checked slots c i (value_of_expression e)
       → (p : lowered.Place) × (element_of c (Some (found_at q z)) ≡ Some (found_at p t)) × PlaceLeads checked slots p t rest whole
   element-step c q (array_shape k n u) integer_shape t e rest whole leads h hc =
@@ -109,7 +109,7 @@ module _ (scene : Scene) (checked : Typed Label) (slots : Label → Slot) (targe
       → (p : lowered.Place) × (selected_place scene (Some (found_at q z)) (in_labels scene.resolved.now path) ≡ Some (found_at p s)) × PlaceMeans checked slots p s whole
 
   -- the place of a variable with its selectors
-  variable-means : (x : Label) (path : Tree ℕ (items selector)) (s v : Shape) → Selected path → checked.stands_for x ≡ Some (a_variable v) → type_at checked v (in_labels scene.resolved.now path) ≡ Some s
+  variable-means : (x : Label) (path : Tree ℕ (items selector)) (s v : Shape) → Selected path → checked.object_for x ≡ Some (a_variable v) → type_at checked v (in_labels scene.resolved.now path) ≡ Some s
       → (q : lowered.Place) × (selected_place scene (base_found scene x) (in_labels scene.resolved.now path) ≡ Some (found_at q s)) × PlaceMeans checked slots q s (place_of_designator x (in_labels scene.resolved.now path))
   variable-means x path s v selected e h =
       let here = sees.variables x v e in
@@ -117,7 +117,7 @@ module _ (scene : Scene) (checked : Typed Label) (slots : Label → Slot) (targe
       let (q, eq, hq) = selected (slot_place (slot_at scene x)) v s (place_of_designator x (in_labels scene.resolved.now path)) leads h in
       (q, ap (λ o. selected_place scene (variable_found (slot_place (slot_at scene x)) o) (in_labels scene.resolved.now path)) (sees.bound x (a_variable v) e) ∙ eq, hq)
 
-  named-means : (x : Label) (path : Tree ℕ (items selector)) (s : Shape) (o : Option (Object Shape Signature)) → Selected path → checked.stands_for x ≡ o → option_and_then (λ t. type_at checked t (in_labels scene.resolved.now path)) (object_type o) ≡ Some s
+  named-means : (x : Label) (path : Tree ℕ (items selector)) (s : Shape) (o : Option (Object Shape Signature)) → Selected path → checked.object_for x ≡ o → option_and_then (λ t. type_at checked t (in_labels scene.resolved.now path)) (object_type o) ≡ Some s
       → CodeMeans checked slots (named_code (constant_of (object_at scene.types.now x)) (selected_place scene (base_found scene x) (in_labels scene.resolved.now path))) s (value_of_factor (designator x (in_labels scene.resolved.now path)))
   named-means x path s (Some (a_variable v)) selected e h =
       let (q, eq, hq) = variable-means x path s v selected e h in
@@ -152,7 +152,7 @@ module _ (scene : Scene) (checked : Typed Label) (slots : Label → Slot) (targe
         addends-mean (signed g (term_code scene (in_labels scene.resolved.now t))) y rest (value_of_simple (sum g (in_labels scene.resolved.now t) (in_labels scene.resolved.now rest))) s
         (sum-begins checked slots (in_labels scene.resolved.now t) (in_labels scene.resolved.now rest) g (term_code scene (in_labels scene.resolved.now t)) x y ey (term-means t x ex)) h₂
 
-    addends-mean : (c : Code) (x : Shape) (rest : Tree ℕ (items addend)) (whole : Evaluated Label Value) (s : Shape) → CodeLeads checked slots c x (lowering.addends_left (in_labels scene.resolved.now rest)) whole → type_of_addends checked x (in_labels scene.resolved.now rest) ≡ Some s
+    addends-mean : (c : ExpressionCode) (x : Shape) (rest : Tree ℕ (items addend)) (whole : Evaluated Label Value) (s : Shape) → CodeLeads checked slots c x (lowering.addends_left (in_labels scene.resolved.now rest)) whole → type_of_addends checked x (in_labels scene.resolved.now rest) ≡ Some s
         → CodeMeans checked slots (addends_code scene c (in_labels scene.resolved.now rest)) s whole
     addends-mean c x end whole s hc h = subst (λ s. CodeMeans checked slots c s whole) (some_inj h) (addends-end checked slots c x whole hc)
     addends-mean c x (more (adds o t) rest) whole s hc h =
@@ -167,7 +167,7 @@ module _ (scene : Scene) (checked : Typed Label) (slots : Label → Slot) (targe
         multipliers-mean (factor_code scene (in_labels scene.resolved.now f)) x rest (value_of_term (product (in_labels scene.resolved.now f) (in_labels scene.resolved.now rest))) s
         (term-begins checked slots (factor_code scene (in_labels scene.resolved.now f)) x (in_labels scene.resolved.now f) (in_labels scene.resolved.now rest) (factor-means f x ex)) h₁
 
-    multipliers-mean : (c : Code) (x : Shape) (rest : Tree ℕ (items multiplier)) (whole : Evaluated Label Value) (s : Shape) → CodeLeads checked slots c x (lowering.multipliers_left (in_labels scene.resolved.now rest)) whole → type_of_multipliers checked x (in_labels scene.resolved.now rest) ≡ Some s
+    multipliers-mean : (c : ExpressionCode) (x : Shape) (rest : Tree ℕ (items multiplier)) (whole : Evaluated Label Value) (s : Shape) → CodeLeads checked slots c x (lowering.multipliers_left (in_labels scene.resolved.now rest)) whole → type_of_multipliers checked x (in_labels scene.resolved.now rest) ≡ Some s
         → CodeMeans checked slots (multipliers_code scene c (in_labels scene.resolved.now rest)) s whole
     multipliers-mean c x end whole s hc h = subst (λ s. CodeMeans checked slots c s whole) (some_inj h) (multipliers-end checked slots c x whole hc)
     multipliers-mean c x (more (multiplies o f) rest) whole s hc h =
@@ -177,7 +177,7 @@ module _ (scene : Scene) (checked : Typed Label) (slots : Label → Slot) (targe
         (multiplied-leads checked slots (in_labels scene.resolved.now f) (in_labels scene.resolved.now rest) whole o c (factor_code scene (in_labels scene.resolved.now f)) x y z ez hc (factor-means f y ey)) h₂
 
     pub factor-means : (f : Tree ℕ factor) (s : Shape) → type_of_factor checked (in_labels scene.resolved.now f) ≡ Some s → CodeMeans checked slots (factor_code scene (in_labels scene.resolved.now f)) s (value_of_factor (in_labels scene.resolved.now f))
-    factor-means (designator x path) s h = named-means (label_in scene.resolved.now x) path s (checked.stands_for (label_in scene.resolved.now x)) (λ q z s whole. selected-means q z path s whole) refl h
+    factor-means (designator x path) s h = named-means (label_in scene.resolved.now x) path s (checked.object_for (label_in scene.resolved.now x)) (λ q z s whole. selected-means q z path s whole) refl h
     factor-means (integer n) s h = subst (λ s. CodeMeans checked slots (a_number (lowered.literal (pos (value_at scene.resolved.now.module_read.source n)))) s (value_of_factor (integer (value_at scene.resolved.now.module_read.source n)))) (some_inj h) (integers_lower-holds checked slots (value_at scene.resolved.now.module_read.source n) (small.numbers n))
     factor-means (parenthesised e) s h = parenthesised-means checked slots (expression_code scene (in_labels scene.resolved.now e)) s (in_labels scene.resolved.now e) (expression-means e s h)
     factor-means (negation f) s h =
@@ -199,6 +199,6 @@ module _ (scene : Scene) (checked : Typed Label) (slots : Label → Slot) (targe
         let (p', ep', hp') = selected-means p t rest s whole leads₁ h₂ in
         (p', ap (λ o. selected_place scene o (in_labels scene.resolved.now rest)) ep ∙ ep', hp')
 
-  pub located-means : (x : Label) (path : Tree ℕ (items selector)) (s v : Shape) → checked.stands_for x ≡ Some (a_variable v) → type_at checked v (in_labels scene.resolved.now path) ≡ Some s
+  pub located-means : (x : Label) (path : Tree ℕ (items selector)) (s v : Shape) → checked.object_for x ≡ Some (a_variable v) → type_at checked v (in_labels scene.resolved.now path) ≡ Some s
       → (q : lowered.Place) × (selected_place scene (base_found scene x) (in_labels scene.resolved.now path) ≡ Some (found_at q s)) × PlaceMeans checked slots q s (place_of_designator x (in_labels scene.resolved.now path))
   located-means x path s v e h = variable-means x path s v (λ q z s whole. selected-means q z path s whole) e h

@@ -7,7 +7,7 @@ use Rattle.ob0_types_table.specs.KnownTables.{Tables, declared_in}
 use Rattle.ob0_types_rules.specs.WellTyped.{TypeEnvironment, block_fits, procedures_fit}
 use Rattle.ob0_run_machine.specs.Lowered as lowered
 use Rattle.ob0_run_machine.specs.View.{procedure_of, sequence_of}
-use Rattle.ob0_run_machine.specs.declared.code.Procedure.{Procedure}
+use Rattle.ob0_run_machine.specs.declared.code.Routine.{Routine}
 use Rattle.ob0_run_cells.specs.Activations.{BlockMeans, Placed, Placing, ProceduresMean}
 use Rattle.ob0_run_lowering.specs.declared.scene.Site.{Site}
 use Rattle.ob0_run_lowering.specs.KnownBlocks.{AreDeclared, BlockDeclared, ProceduresDeclared}
@@ -16,16 +16,16 @@ use Rattle.ob0_run_lowering.specs.declared.programs.Lowering.{Lowering}
 use Rattle.ob0_run_lowering.specs.declared.visible_sites.Frame.{Frame}
 
 -- from an index on, a table has the code of procedures
-abbrev pub Later : List lowered.Procedure → ℕ → List Procedure → Type 0
+abbrev pub Later : List lowered.Routine → ℕ → List Routine → Type 0
 Later table n ps =
-    (i : ℕ) (e : Procedure)
+    (i : ℕ) (e : Routine)
     → n ≤ i
     → slice_get ps i ≡ Some e
     → slice_get table i ≡ Some (procedure_of e)
 
 -- procedures were added
-abbrev pub Grown : List Procedure → List Procedure → Type 0
-Grown before now = (i : ℕ) (e : Procedure) → slice_get before i ≡ Some e → slice_get now i ≡ Some e
+abbrev pub Grown : List Routine → List Routine → Type 0
+Grown before now = (i : ℕ) (e : Routine) → slice_get before i ≡ Some e → slice_get now i ≡ Some e
 
 -- before some procedures of a block: what names are bound to, where that is, and the ordinal of the next ARRAY or RECORD
 pub record BlockState : Type 0 where
@@ -39,13 +39,13 @@ pub record Ready (t : Tables) (sites : List Site) (depth : ℕ) (s : BlockState)
   pub matches : Matches s.env s.placing
   pub holds : LocatesAll sites depth s.placing
   pub fits : procedures_fit as_labels s.env s.next statements ps ≡ true
-  pub declared_behind : ProceduresDeclared (declared_in t) s.env s.next ps
+  pub declared_following : ProceduresDeclared (declared_in t) s.env s.next ps
 
 -- procedures from here on mean their blocks, by the table of procedures
-abbrev pub AllMean : List lowered.Procedure
+abbrev pub AllMean : List lowered.Routine
     → ℕ
     → BlockState
-    → lowered.Statements
+    → lowered.Instructions
     → Tree Label (maybe body)
     → Tree Label (items procedure)
     → Type 0
@@ -58,7 +58,7 @@ pub record Goes (t : Tables) (w v : Lowering) (depth : ℕ) (ps left : Tree Labe
   pub on : (s : BlockState) (statements : Tree Label (maybe body))
       → Ready t w.sight.sites.items depth s statements ps
       → (now : BlockState) × Ready t v.sight.sites.items depth now statements left
-      × ((table : List lowered.Procedure) (most : ℕ) (code : lowered.Statements)
+      × ((table : List lowered.Routine) (most : ℕ) (code : lowered.Instructions)
       → v.most ≤ most
       → Later table (length w.procedures.items) v.procedures.items
       → AllMean table most now code statements left
@@ -69,13 +69,13 @@ pub record Goes (t : Tables) (w v : Lowering) (depth : ℕ) (ps left : Tree Labe
   pub grown : Grown w.procedures.items v.procedures.items
 
 -- a block is lowered to its cells and its statements
-pub record LowersBlock (t : Tables) (w v : Lowering) (f : Frame) (b : Tree Label block) (entry : Procedure) : Type 0 where
+pub record LowersBlock (t : Tables) (w v : Lowering) (f : Frame) (b : Tree Label block) (entry : Routine) : Type 0 where
   pub means : (env : TypeEnvironment Label) (p : Placed Label) (k : ℕ)
       → Matches env p.placing
       → IsFrame w.sight.sites.items f p
       → block_fits as_labels env k b ≡ true
       → BlockDeclared (declared_in t) env k b
-      → (table : List lowered.Procedure) (most : ℕ)
+      → (table : List lowered.Routine) (most : ℕ)
       → v.most ≤ most
       → Later table (length w.procedures.items) v.procedures.items
       → BlockMeans table most as_labels (slots_at f.depth) env p k entry.cells

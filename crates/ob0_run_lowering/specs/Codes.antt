@@ -18,14 +18,14 @@ use Rattle.ob0_run_cells.specs.Cells.{size, step_offset}
 use Rattle.ob0_run_cells.specs.Lowering.{Evaluated, NumberMeans, Slot, TruthMeans, ValueAt, relation_of}
 
 -- a number, a truth, the cells of an array or a record, or nothing that an expression of a well-typed module is
-pub data Code : Type 0 where
-  a_number : lowered.Number → Code
-  a_truth : lowered.Truth → Code
-  a_block : lowered.Place → (cells : ℕ) → Code
-  no_code : Code
+pub data ExpressionCode : Type 0 where
+  a_number : lowered.Number → ExpressionCode
+  a_truth : lowered.Truth → ExpressionCode
+  a_block : lowered.Place → (cells : ℕ) → ExpressionCode
+  no_code : ExpressionCode
 
 -- the code of a value of a type
-abbrev pub CodeMeans : Typed Label → (Label → Slot) → Code → Shape → Evaluated Label Value → Type 0
+abbrev pub CodeMeans : Typed Label → (Label → Slot) → ExpressionCode → Shape → Evaluated Label Value → Type 0
 CodeMeans checked slots (a_number n) integer_shape value = NumberMeans checked slots n value
 CodeMeans checked slots (a_truth t) boolean_shape value = TruthMeans checked slots t value
 CodeMeans checked slots (a_block q n) (array_shape k m s) value =
@@ -40,66 +40,66 @@ pub record FoundPlace : Type 0 where
   pub shape : Shape
 
 -- what is at a place
-abbrev pub code_at_place : lowered.Place → Shape → Code
+abbrev pub code_at_place : lowered.Place → Shape → ExpressionCode
 code_at_place q integer_shape = a_number (lowered.cell q)
 code_at_place q boolean_shape = a_truth (lowered.flag q)
 code_at_place q (array_shape k n s) = a_block q (size (array_shape k n s))
 code_at_place q (record_shape k fs) = a_block q (size (record_shape k fs))
 
 -- the code of what was found at a place
-abbrev pub code_at : Option FoundPlace → Code
+abbrev pub code_at : Option FoundPlace → ExpressionCode
 code_at None = no_code
 code_at (Some f) = code_at_place f.place f.shape
 
 -- the code of a constant's value
-abbrev pub constant_code : Value → Code
+abbrev pub constant_code : Value → ExpressionCode
 constant_code (number n) = a_number (lowered.literal n)
 constant_code (truth b) = a_truth (lowered.constant b)
 constant_code (elements vs) = no_code
 constant_code (members k ms) = no_code
 
 -- a constant is its value, a variable what is at its place
-abbrev pub named_code : Option Value → Option FoundPlace → Code
+abbrev pub named_code : Option Value → Option FoundPlace → ExpressionCode
 named_code (Some v) found = constant_code v
 named_code None found = code_at found
 
 -- an operation on two numbers
-abbrev pub operated : lowered.Operator → Code → Code → Code
+abbrev pub operated : lowered.Operator → ExpressionCode → ExpressionCode → ExpressionCode
 operated o (a_number m) (a_number n) = a_number (lowered.operation o m n)
 operated _ _ _ = no_code
 
 -- an operation on two truth values
-abbrev pub combined : (lowered.Truth → lowered.Truth → lowered.Truth) → Code → Code → Code
+abbrev pub combined : (lowered.Truth → lowered.Truth → lowered.Truth) → ExpressionCode → ExpressionCode → ExpressionCode
 combined operation (a_truth t) (a_truth u) = a_truth (operation t u)
 combined _ _ _ = no_code
 
 -- the code of a sum, a difference or an OR
-abbrev pub added : AddOperator → Code → Code → Code
+abbrev pub added : AddOperator → ExpressionCode → ExpressionCode → ExpressionCode
 added add_operator.Add = operated lowered.sum
 added add_operator.Subtract = operated lowered.difference
 added add_operator.Or = combined lowered.either
 
 -- the code of a product, a quotient, a remainder or an `&`
-abbrev pub multiplied : MultiplyOperator → Code → Code → Code
+abbrev pub multiplied : MultiplyOperator → ExpressionCode → ExpressionCode → ExpressionCode
 multiplied multiply_operator.Multiply = operated lowered.product
 multiplied multiply_operator.Divide = operated lowered.quotient
 multiplied multiply_operator.Modulo = operated lowered.remainder
 multiplied multiply_operator.And = combined lowered.both
 
 -- the code of a term with its sign
-abbrev pub signed : Option Sign → Code → Code
+abbrev pub signed : Option Sign → ExpressionCode → ExpressionCode
 signed None c = c
 signed (Some sign.Plus) (a_number n) = a_number n
 signed (Some sign.Minus) (a_number n) = a_number (lowered.negative n)
 signed _ _ = no_code
 
 -- the code of `~`
-abbrev pub negated : Code → Code
+abbrev pub negated : ExpressionCode → ExpressionCode
 negated (a_truth t) = a_truth (lowered.negation t)
 negated _ = no_code
 
 -- the code of a relation
-abbrev pub related : Relation → Code → Code → Code
+abbrev pub related : Relation → ExpressionCode → ExpressionCode → ExpressionCode
 related r (a_number m) (a_number n) = a_truth (lowered.related (relation_of r) m n)
 related relation.Equal (a_truth t) (a_truth u) = a_truth (lowered.same t u)
 related relation.NotEqual (a_truth t) (a_truth u) = a_truth (lowered.different t u)
@@ -113,12 +113,12 @@ field_found x f =
     (field_type f.shape x)
 
 -- an element is one of so many, each of so many cells
-abbrev pub element_found : Code → lowered.Place → Shape → Option FoundPlace
+abbrev pub element_found : ExpressionCode → lowered.Place → Shape → Option FoundPlace
 element_found (a_number i) q (array_shape k n s) =
     Some (record { place = lowered.element q i n (size s); shape = s })
 element_found _ _ _ = None
 
 -- an element of the array that was found
-abbrev pub element_of : Code → Option FoundPlace → Option FoundPlace
+abbrev pub element_of : ExpressionCode → Option FoundPlace → Option FoundPlace
 element_of c None = None
 element_of c (Some f) = element_found c f.place f.shape

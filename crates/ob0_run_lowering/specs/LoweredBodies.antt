@@ -36,7 +36,7 @@ ConditionLowers scene t e =
 -- the code of arguments means them
 abbrev pub ArgumentsLower : Scene
     → Signature
-    → List lowered.Argument
+    → List lowered.LoweredArgument
     → List (Tree Label expression)
     → Type 0
 ArgumentsLower scene signature cs es =
@@ -44,7 +44,7 @@ ArgumentsLower scene signature cs es =
     (λ checked slots targets. ArgumentsMean checked slots signature cs es)
 
 -- the code of a statement means it
-abbrev pub StatementLowers : Scene → lowered.Statement → Tree Label statement → Type 0
+abbrev pub StatementLowers : Scene → lowered.Instruction → Tree Label statement → Type 0
 StatementLowers scene c a =
     InScene scene (λ checked. statement_fits checked a)
     (λ checked slots targets. StatementMeans checked slots targets c a)
@@ -55,24 +55,24 @@ given_in None = []
 given_in (Some es) = es.items
 
 -- an empty statement has no code
-abbrev pub CodeLowers : Scene → Option lowered.Statement → Tree Label statement → Type 0
+abbrev pub CodeLowers : Scene → Option lowered.Instruction → Tree Label statement → Type 0
 CodeLowers scene None a = a ≡ empty
 CodeLowers scene (Some c) a = StatementLowers scene c a
 
 -- the code of statements means them
-abbrev pub SequenceLowers : Scene → lowered.Statements → Tree Label sequence → Type 0
+abbrev pub SequenceLowers : Scene → lowered.Instructions → Tree Label sequence → Type 0
 SequenceLowers scene cs a =
     InScene scene (λ checked. sequence_fits checked a)
     (λ checked slots targets. SequenceMeans checked slots targets cs a)
 
 -- the statements after the first
-abbrev pub FurtherLower : Scene → lowered.Statements → Tree Label (items further_statement) → Type 0
+abbrev pub FurtherLower : Scene → lowered.Instructions → Tree Label (items further_statement) → Type 0
 FurtherLower scene cs rest =
     InScene scene (λ checked. statements_fit checked rest)
     (λ checked slots targets. FurtherMean checked slots targets cs rest)
 
 -- the code of an ELSE part means it
-abbrev pub ElseLowers : Scene → lowered.Statements → Tree Label (maybe else_part) → Type 0
+abbrev pub ElseLowers : Scene → lowered.Instructions → Tree Label (maybe else_part) → Type 0
 ElseLowers scene cs last =
     InScene scene (λ checked. else_fits checked last)
     (λ checked slots targets. ElseMeans checked slots targets cs last)
@@ -80,7 +80,7 @@ ElseLowers scene cs last =
 -- the ELSIF parts, and the ELSE part after them
 abbrev pub ElsifsLower : Scene
     → lowered.Branches
-    → lowered.Statements
+    → lowered.Instructions
     → Tree Label (items elsif_part)
     → Tree Label (maybe else_part)
     → Type 0
@@ -89,7 +89,7 @@ ElsifsLower scene bs cs rest last =
     (λ checked slots targets. ElsifsMean checked slots targets bs cs rest last)
 
 -- the code of a body means it where it is: in each environment and at each placing that the scene sees
-abbrev pub BodyLowers : Scene → lowered.Statements → Tree Label (maybe body) → Type 0
+abbrev pub BodyLowers : Scene → lowered.Instructions → Tree Label (maybe body) → Type 0
 BodyLowers scene cs b =
     (env : TypeEnvironment Label) (placing : Placing Label)
     → Sees scene (meanings as_labels env) (slots_in as_labels placing)

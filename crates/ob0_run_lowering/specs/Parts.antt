@@ -1,4 +1,4 @@
--- What is taken of the code of an expression, where it is what was asked for.
+-- What is taken of the code of an expression, where it has the requested form.
 -- Rule: none; for contracts of lowering.
 use Rattle.std.specs.Prelude.{◌≡◌, Option, Some, None}
 use Rattle.ob0_run_machine.specs.declared.code.Argument.{Argument}
@@ -31,9 +31,9 @@ IsValueOf (code.Block q k) a = argument.Block q k ≡ a
 IsValueOf code.Nothing a = Unit {0}
 
 -- the place that was found
-abbrev pub IsPlaceOf : Option TypedPlace → TypedPlace → Type 0
-IsPlaceOf (Some m) l = m ≡ l
-IsPlaceOf None l = Unit {0}
+abbrev pub IsTypedPlaceOf : Option TypedPlace → TypedPlace → Type 0
+IsTypedPlaceOf (Some m) l = m ≡ l
+IsTypedPlaceOf None l = Unit {0}
 
 -- the number that an operand is, where it is one
 abbrev pub number_in : Lowered → Option Number

@@ -12,7 +12,7 @@ use Rattle.ob0_values.specs.Values.{Shape}
 use Rattle.ob0_run_cells.specs.Activations.{Placed, Placing, Whereabouts, at_target, from_name, in_slot, nowhere}
 use Rattle.ob0_run_cells.specs.Cells.{size}
 use Rattle.ob0_run_cells.specs.LoweredStatements.{Target}
-use Rattle.ob0_run_cells.specs.Lowering.{Slot, held, lent, of_module}
+use Rattle.ob0_run_cells.specs.Lowering.{Slot, held, by_reference, of_module}
 use Rattle.ob0_run_lowering.specs.Scenes.{object_at, seen_from, site_at}
 use Rattle.ob0_run_lowering.specs.declared.scene.Site.{Site}
 use Rattle.ob0_run_lowering.specs.declared.scene.Site.TheVariants as site
@@ -87,7 +87,7 @@ place_one at size_of by_value x p =
     record p { placing = (x, in_slot (at p.cells)) ∷ p.placing; cells = p.cells + size_of x }
 place_one at size_of by_place x p =
     record p
-    { placing = (x, in_slot (lent 0 p.lent_places)) ∷ p.placing; lent_places = suc p.lent_places }
+    { placing = (x, in_slot (by_reference 0 p.reference_places)) ∷ p.placing; reference_places = suc p.reference_places }
 
 -- names of one declaration, placed one by one
 abbrev pub place_each : (ℕ → Slot) → (Label → ℕ) → Mode → List Label → Placed Label → Placed Label
@@ -153,7 +153,7 @@ IsRestored w u v =
 pub record IsFrame (sites : List Site) (f : Frame) (p : Placed Label) : Type 0 where
   pub holds : LocatesAll sites f.depth p.placing
   pub cells : f.cells ≡ p.cells
-  pub lent_places : f.lent ≡ p.lent_places
+  pub reference_places : f.references ≡ p.reference_places
 
 -- a step places something more in an activation
 pub record Places (w v : VisibleSites) (f : Frame) (step : Placed Label → Placed Label) (g : Frame) : Type 0 where

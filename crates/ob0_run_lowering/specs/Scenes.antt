@@ -11,7 +11,7 @@ use Rattle.ob0_types_rules.specs.WellTyped.{Signature, Typed}
 use Rattle.ob0_values.specs.Values.{Shape, number}
 use Rattle.ob0_run_cells.specs.Activations.{Whereabouts, at_target, in_slot, nowhere, slot_of, target_of}
 use Rattle.ob0_run_cells.specs.LoweredStatements.{Target}
-use Rattle.ob0_run_cells.specs.Lowering.{Slot, held, lent, of_module}
+use Rattle.ob0_run_cells.specs.Lowering.{Slot, held, by_reference, of_module}
 use Rattle.ob0_run_lowering.specs.declared.scene.Scene.{Scene}
 use Rattle.ob0_run_lowering.specs.declared.scene.Site.{Site}
 use Rattle.ob0_run_lowering.specs.declared.scene.Site.TheVariants as site
@@ -21,7 +21,7 @@ abbrev pub seen_from : ℕ → Site → Whereabouts
 seen_from depth site.Nowhere = nowhere
 seen_from depth (site.Module offset) = in_slot (of_module offset)
 seen_from depth (site.Held at offset) = in_slot (held (depth - at) offset)
-seen_from depth (site.Lent at index) = in_slot (lent (depth - at) index)
+seen_from depth (site.Lent at index) = in_slot (by_reference (depth - at) index)
 seen_from depth (site.Procedure at index) =
     at_target (record { procedure = index; up = depth - at })
 
@@ -59,12 +59,12 @@ pub record HasSmall (scene : Scene) : Type 0 where
 -- bound there is what its declaration is, and is where the scene has it.
 pub record Sees (scene : Scene) (checked : Typed Label) (slots : Label → Slot) (targets : Label → Target) : Type 0 where
   pub bound : (x : Label) (o : Object Shape Signature)
-      → checked.stands_for x ≡ Some o
+      → checked.object_for x ≡ Some o
       → object_at scene.types.now x ≡ Some o
   pub written : checked.written ≡ label_text
   pub variables : (x : Label) (s : Shape)
-      → checked.stands_for x ≡ Some (a_variable s)
+      → checked.object_for x ≡ Some (a_variable s)
       → slots x ≡ slot_at scene x
   pub procedures : (x : Label) (p : Signature)
-      → checked.stands_for x ≡ Some (a_procedure p)
+      → checked.object_for x ≡ Some (a_procedure p)
       → targets x ≡ target_at scene x

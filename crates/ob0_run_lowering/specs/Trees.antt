@@ -12,7 +12,7 @@ use Rattle.ob0_values.specs.Values.{Shape}
 use Rattle.ob0_run_machine.specs.Lowered as lowered
 use Rattle.ob0_run_machine.specs.View.{number_of, place_of, truth_of}
 use Rattle.ob0_run_cells.specs.Lowering.{slot_place}
-use Rattle.ob0_run_lowering.specs.Codes.{Code, FoundPlace, a_block, a_number, a_truth, added, element_of, field_found, multiplied, named_code, negated, no_code, related, signed}
+use Rattle.ob0_run_lowering.specs.Codes.{ExpressionCode, FoundPlace, a_block, a_number, a_truth, added, element_of, field_found, multiplied, named_code, negated, no_code, related, signed}
 use Rattle.ob0_run_lowering.specs.Scenes.{object_at, slot_at}
 use Rattle.ob0_run_lowering.specs.declared.lowered.TypedPlace.{TypedPlace}
 use Rattle.ob0_run_lowering.specs.declared.lowered.Lowered.{Lowered}
@@ -20,7 +20,7 @@ use Rattle.ob0_run_lowering.specs.declared.lowered.Lowered.TheVariants as code
 use Rattle.ob0_run_lowering.specs.declared.scene.Scene.{Scene}
 
 -- what values of the code's types mean
-abbrev pub code_of : Lowered → Code
+abbrev pub code_of : Lowered → ExpressionCode
 code_of (code.Number n) = a_number (number_of n)
 code_of (code.Truth t) = a_truth (truth_of t)
 code_of (code.Block q n) = a_block (place_of q) n
@@ -44,28 +44,28 @@ abbrev pub base_found : Scene → Label → Option FoundPlace
 base_found scene x = variable_found (slot_place (slot_at scene x)) (object_at scene.types.now x)
 
 abbrev mutual
-  pub expression_code : Scene → Tree Label expression → Code
+  pub expression_code : Scene → Tree Label expression → ExpressionCode
   expression_code scene (compares a none) = simple_code scene a
   expression_code scene (compares a (one (relates r b))) =
       related r (simple_code scene a) (simple_code scene b)
 
-  pub simple_code : Scene → Tree Label simple → Code
+  pub simple_code : Scene → Tree Label simple → ExpressionCode
   simple_code scene (sum s t rest) = addends_code scene (signed s (term_code scene t)) rest
 
-  pub addends_code : Scene → Code → Tree Label (items addend) → Code
+  pub addends_code : Scene → ExpressionCode → Tree Label (items addend) → ExpressionCode
   addends_code scene c end = c
   addends_code scene c (more (adds o t) rest) =
       addends_code scene (added o c (term_code scene t)) rest
 
-  pub term_code : Scene → Tree Label term → Code
+  pub term_code : Scene → Tree Label term → ExpressionCode
   term_code scene (product f rest) = multipliers_code scene (factor_code scene f) rest
 
-  pub multipliers_code : Scene → Code → Tree Label (items multiplier) → Code
+  pub multipliers_code : Scene → ExpressionCode → Tree Label (items multiplier) → ExpressionCode
   multipliers_code scene c end = c
   multipliers_code scene c (more (multiplies o f) rest) =
       multipliers_code scene (multiplied o c (factor_code scene f)) rest
 
-  pub factor_code : Scene → Tree Label factor → Code
+  pub factor_code : Scene → Tree Label factor → ExpressionCode
   factor_code scene (designator x path) =
       named_code (constant_of (object_at scene.types.now x))
       (selected_place scene (base_found scene x) path)

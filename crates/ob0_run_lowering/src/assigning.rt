@@ -8,23 +8,23 @@ ghost use Rattle.ob0_run_machine.specs.View.{number_of, operation_of, place_of, 
 ghost use Rattle.ob0_run_lowering.specs.LoweredBodies.{StatementLowers};
 
 use crate::{Lowered, Scene};
-use ob0_run_machine::code::{First, Number, Operation, Place, Statement, Variable};
+use ob0_run_machine::code::{FirstOperand, Instruction, Number, Operation, Place, Variable};
 use ob0_tree::Assignment;
 use std::alloc::{AllocError, Global};
 
 /// The code of an assignment of a number.
-fn store_number(alloc: Global, place: Place, n: Number) -> Result<Statement, AllocError>
+fn store_number(alloc: Global, place: Place, n: Number) -> Result<Instruction, AllocError>
     ensures { IfOk result
         (λ made. statement_of made ≡ machine.stores_number (place_of place) (number_of n)) }
 {
     match place {
         Place::Variable(variable) => store_variable(alloc, variable, n),
-        other => Ok(Statement::StoreNumber(other, n)),
+        other => Ok(Instruction::StoreNumber(other, n)),
     }
 }
 
 /// The code of an assignment of a number to a variable.
-fn store_variable(alloc: Global, variable: Variable, n: Number) -> Result<Statement, AllocError>
+fn store_variable(alloc: Global, variable: Variable, n: Number) -> Result<Instruction, AllocError>
     ensures { IfOk result
         (λ made. statement_of made ≡ machine.stores_number (variable_of variable) (number_of n)) }
 {
@@ -32,7 +32,7 @@ fn store_variable(alloc: Global, variable: Variable, n: Number) -> Result<Statem
         Number::Operation(operation) => {
             store_operation(alloc, variable, Box::into_inner(operation))
         }
-        other => Ok(Statement::StoreVariable(variable, other)),
+        other => Ok(Instruction::StoreVariable(variable, other)),
     }
 }
 
@@ -41,26 +41,26 @@ fn store_operation(
     alloc: Global,
     variable: Variable,
     operation: Operation,
-) -> Result<Statement, AllocError>
+) -> Result<Instruction, AllocError>
     ensures { IfOk result (λ made. statement_of made
         ≡ machine.stores_number (variable_of variable) (operation_of operation)) }
 {
     let Operation { first, link } = operation;
     match first {
-        First::Variable(left) => {
+        FirstOperand::Variable(left) => {
             if left == variable {
-                return Ok(Statement::Update(variable, link));
+                return Ok(Instruction::Update(variable, link));
             }
             let operation = Operation {
-                first: First::Variable(left),
+                first: FirstOperand::Variable(left),
                 link,
             };
             let n = Number::Operation(Box::new(alloc, operation)?);
-            Ok(Statement::StoreVariable(variable, n))
+            Ok(Instruction::StoreVariable(variable, n))
         }
         first => {
             let n = Number::Operation(Box::new(alloc, Operation { first, link })?);
-            Ok(Statement::StoreVariable(variable, n))
+            Ok(Instruction::StoreVariable(variable, n))
         }
     }
 }
@@ -70,15 +70,15 @@ pub(crate) fn assignment(
     alloc: Global,
     scene: &Scene<'_, '_, '_>,
     a: &Assignment,
-) -> Result<Statement, AllocError>
+) -> Result<Instruction, AllocError>
     ensures { IfOk result (λ made. StatementLowers scene.now (statement_of made)
         (in_labels scene.now.resolved.now (assignment_of a.now))) }
 {
     let target = scene.place(alloc, &a.target)?;
     match scene.expression(alloc, &a.value)? {
         Lowered::Number(n) => store_number(alloc, target.place, n),
-        Lowered::Truth(t) => Ok(Statement::StoreTruth(target.place, t)),
-        Lowered::Block(from, cells) => Ok(Statement::Copy(target.place, from, cells)),
-        Lowered::Nothing => Ok(Statement::WriteLine),
+        Lowered::Truth(t) => Ok(Instruction::StoreTruth(target.place, t)),
+        Lowered::Block(from, cells) => Ok(Instruction::Copy(target.place, from, cells)),
+        Lowered::Nothing => Ok(Instruction::WriteLine),
     }
 }

@@ -15,7 +15,7 @@ ghost use Rattle.ob0_run_lowering.specs.LoweredBodies.{ArgumentsLower, Statement
 
 use crate::Scene;
 use ob0_run_machine::code;
-use ob0_run_machine::code::{Argument, Statement};
+use ob0_run_machine::code::{Argument, Instruction};
 use ob0_tree::{Call, Expression};
 use ob0_types_table::{Formal, Object, Standard};
 use std::alloc::{AllocError, Global};
@@ -25,12 +25,12 @@ pub(crate) fn call(
     alloc: Global,
     scene: &Scene<'_, '_, '_>,
     c: &Call,
-) -> Result<Statement, AllocError>
+) -> Result<Instruction, AllocError>
     ensures { IfOk result (λ made. StatementLowers scene.now (statement_of made)
         (in_labels scene.now.resolved.now (call_of c.now))) }
 {
     match scene.object(c.procedure) {
-        None => Ok(Statement::WriteLine),
+        None => Ok(Instruction::WriteLine),
         Some(object) => match object {
             Object::Procedure(formals) => lower_call(alloc, scene, c, formals.as_slice()),
             Object::Standard(standard) => lower_standard_call(
@@ -39,10 +39,10 @@ pub(crate) fn call(
                 *standard,
                 &c.arguments,
             ),
-            Object::Named(_) => Ok(Statement::WriteLine),
-            Object::Constant(_) => Ok(Statement::WriteLine),
-            Object::FaultyConstant => Ok(Statement::WriteLine),
-            Object::Variable(_) => Ok(Statement::WriteLine),
+            Object::Named(_) => Ok(Instruction::WriteLine),
+            Object::Constant(_) => Ok(Instruction::WriteLine),
+            Object::FaultyConstant => Ok(Instruction::WriteLine),
+            Object::Variable(_) => Ok(Instruction::WriteLine),
         },
     }
 }
@@ -53,7 +53,7 @@ fn lower_call(
     scene: &Scene<'_, '_, '_>,
     c: &Call,
     formals: &[Formal],
-) -> Result<Statement, AllocError>
+) -> Result<Instruction, AllocError>
     ensures { IfOk result (λ made. object_at scene.now.types.now
         (label_in scene.now.resolved.now c.now.procedure)
         ≡ Some (a_procedure (map (formal_in (shapes_of scene.now.types.now)) formals.now))
@@ -62,7 +62,7 @@ fn lower_call(
 {
     let arguments = arguments(alloc, scene, formals, &c.arguments)?;
     let (procedure, up) = scene.target(c.procedure);
-    Ok(Statement::Call(code::Call {
+    Ok(Instruction::Call(code::ProcedureCall {
         procedure,
         up,
         arguments,
@@ -120,7 +120,7 @@ fn lower_standard_call(
     scene: &Scene<'_, '_, '_>,
     standard: Standard,
     given: &Option<Vec<Expression>>,
-) -> Result<Statement, AllocError>
+) -> Result<Instruction, AllocError>
     ensures { IfOk result (λ made. (x : Label)
         → object_at scene.now.types.now x ≡ Some (a_standard (standard_of standard))
         → StatementLowers scene.now (statement_of made)
@@ -129,7 +129,7 @@ fn lower_standard_call(
     match standard {
         Standard::Read => read(alloc, scene, given),
         Standard::Write => write(alloc, scene, given),
-        Standard::WriteLn => Ok(Statement::WriteLine),
+        Standard::WriteLn => Ok(Instruction::WriteLine),
     }
 }
 
@@ -137,17 +137,17 @@ fn read(
     alloc: Global,
     scene: &Scene<'_, '_, '_>,
     given: &Option<Vec<Expression>>,
-) -> Result<Statement, AllocError>
+) -> Result<Instruction, AllocError>
     ensures { IfOk result (λ made. (x : Label)
         → object_at scene.now.types.now x ≡ Some (a_standard reads)
         → StatementLowers scene.now (statement_of made)
         (calls x (in_labels scene.now.resolved.now (arguments_of given.now)))) }
 {
     match first(given) {
-        None => Ok(Statement::WriteLine),
+        None => Ok(Instruction::WriteLine),
         Some(e) => {
             let at = scene.passed(alloc, e)?;
-            Ok(Statement::Read(at.place))
+            Ok(Instruction::Read(at.place))
         }
     }
 }
@@ -156,17 +156,17 @@ fn write(
     alloc: Global,
     scene: &Scene<'_, '_, '_>,
     given: &Option<Vec<Expression>>,
-) -> Result<Statement, AllocError>
+) -> Result<Instruction, AllocError>
     ensures { IfOk result (λ made. (x : Label)
         → object_at scene.now.types.now x ≡ Some (a_standard writes)
         → StatementLowers scene.now (statement_of made)
         (calls x (in_labels scene.now.resolved.now (arguments_of given.now)))) }
 {
     match first(given) {
-        None => Ok(Statement::WriteLine),
+        None => Ok(Instruction::WriteLine),
         Some(e) => {
             let n = scene.number(alloc, e)?;
-            Ok(Statement::Write(n))
+            Ok(Instruction::Write(n))
         }
     }
 }

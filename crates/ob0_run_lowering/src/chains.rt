@@ -5,7 +5,7 @@ ghost use Rattle.ob0_run_machine.specs.Lowered as machine;
 ghost use Rattle.ob0_run_machine.specs.View.{all_in, any_in, applied, chained_in, first_of, number_of, operation_of, operator_of, truth_of};
 
 use ob0_run_machine::code::{
-    Chain, First, Link, Number, Operation, Operator, Several, Truth, Truths,
+    Chain, FirstOperand, Link, Number, Operation, Operator, Several, Truth, Truths,
 };
 use std::alloc::{AllocError, Global};
 
@@ -44,7 +44,7 @@ fn link(operator: Operator, right: Number) -> Link
 }
 
 /// One operation on a number that is none itself.
-fn single(alloc: Global, first: First, link: Link) -> Result<Number, AllocError>
+fn single(alloc: Global, first: FirstOperand, link: Link) -> Result<Number, AllocError>
     ensures { IfOk result (λ n. number_of n ≡ applied link (first_of first)) }
 {
     Ok(Number::Operation(Box::new(alloc, Operation { first, link })?))
@@ -84,10 +84,10 @@ pub(crate) fn operation(
     match left {
         Number::Chain(chain) => longer(alloc, Box::into_inner(chain), link),
         Number::Operation(operation) => two(alloc, Box::into_inner(operation), link),
-        Number::Literal(n) => single(alloc, First::Literal(n), link),
-        Number::Variable(v) => single(alloc, First::Variable(v), link),
-        Number::Cell(place) => single(alloc, First::Cell(place), link),
-        Number::Negative(number) => single(alloc, First::Negative(number), link),
+        Number::Literal(n) => single(alloc, FirstOperand::Literal(n), link),
+        Number::Variable(v) => single(alloc, FirstOperand::Variable(v), link),
+        Number::Cell(place) => single(alloc, FirstOperand::Cell(place), link),
+        Number::Negative(number) => single(alloc, FirstOperand::Negative(number), link),
     }
 }
 

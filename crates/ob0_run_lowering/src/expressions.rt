@@ -5,7 +5,7 @@ ghost use Rattle.ob0_tree.specs.View.{expression_of};
 ghost use Rattle.ob0_tree.specs.declared.tree.Designator.{out-Designator};
 ghost use Rattle.ob0_types_rules.specs.Selected.{selectors_in};
 ghost use Rattle.ob0_run_lowering.specs.Means.{Locates, LocatesAlone, Lowers, LowersArgument, LowersNumber, LowersTruth};
-ghost use Rattle.ob0_run_lowering.specs.Parts.{IsNumberOf, IsPlaceOf, IsTruthOf, IsValueOf};
+ghost use Rattle.ob0_run_lowering.specs.Parts.{IsNumberOf, IsTypedPlaceOf, IsTruthOf, IsValueOf};
 ghost use Rattle.ob0_run_lowering.specs.Scenes.{HasSmall};
 
 use crate::lowered::{Lowered, TypedPlace};
@@ -61,7 +61,7 @@ fn nowhere() -> TypedPlace {
 
 /// A place that was found.
 fn place_of(found: Option<TypedPlace>) -> TypedPlace
-    ensures { IsPlaceOf found result }
+    ensures { IsTypedPlaceOf found result }
 {
     match found {
         Some(located) => located,

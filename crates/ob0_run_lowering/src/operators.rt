@@ -172,23 +172,23 @@ pub(crate) fn negated(alloc: Global, operand: Lowered) -> Result<Lowered, AllocE
     }
 }
 
-fn relation_in(relation: Relation) -> code::Relation
+fn relation_in(relation: Relation) -> code::Comparator
     ensures { view.relation_of result ≡ relation_of relation }
 {
     match relation {
-        Relation::Equal => code::Relation::Equal,
-        Relation::NotEqual => code::Relation::NotEqual,
-        Relation::Less => code::Relation::Less,
-        Relation::LessEqual => code::Relation::LessEqual,
-        Relation::Greater => code::Relation::Greater,
-        Relation::GreaterEqual => code::Relation::GreaterEqual,
+        Relation::Equal => code::Comparator::Equal,
+        Relation::NotEqual => code::Comparator::NotEqual,
+        Relation::Less => code::Comparator::Less,
+        Relation::LessEqual => code::Comparator::LessEqual,
+        Relation::Greater => code::Comparator::Greater,
+        Relation::GreaterEqual => code::Comparator::GreaterEqual,
     }
 }
 
 /// A relation of a variable with a number: with a literal and with a variable it is one node.
 fn compare_variable(
     alloc: Global,
-    relation: code::Relation,
+    relation: code::Comparator,
     variable: Variable,
     right: Number,
 ) -> Result<Truth, AllocError>

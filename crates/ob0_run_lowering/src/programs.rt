@@ -28,14 +28,14 @@ use std::alloc::{AllocError, Global};
 #[derive(Drop)]
 pub(crate) struct Lowering {
     pub(crate) sight: VisibleSites,
-    pub(crate) procedures: Vec<code::Procedure>,
+    pub(crate) procedures: Vec<code::Routine>,
     pub(crate) most: usize,
 }
 
 /// The program of a module, none of whose activations has more than `most_cells` cells, those of its parameters among them.
 #[derive(Drop)]
 pub struct Program {
-    pub code: code::Program,
+    pub code: code::LoweredCode,
     pub most_cells: usize,
 }
 
@@ -55,11 +55,11 @@ impl Lowering {
     ghost use Rattle.ob0_scope_rules.specs.Resolution.{ordinal_in};
     ghost use Rattle.ob0_run_lowering.specs.Scenes.{site_at};
     ghost use Rattle.ob0_run_lowering.specs.declared.scene.Site.TheVariants as site;
-    ghost use Rattle.ob0_run_machine.specs.declared.code.Procedure as code;
+    ghost use Rattle.ob0_run_machine.specs.declared.code.Routine as code;
     ghost use Rattle.ob0_run_lowering.specs.Placed.{Follows, put_at};
 
     /// Keeps the code of a procedure at its index.
-    fn keep(&mut self, index: usize, entry: code::Procedure)
+    fn keep(&mut self, index: usize, entry: code::Routine)
         ensures procedures { self.new.procedures.items
             ≡ slice_set self.old.procedures.items index entry }
         ensures sight { self.new.sight ≡ self.old.sight }
@@ -84,13 +84,13 @@ impl Lowering {
             (site_at self.old.sight.sites.items) k) }
         ensures follows { IfOk result (λ i. Follows self.old.sight self.new.sight) }
         ensures most { IfOk result (λ i. self.new.most ≡ self.old.most) }
-        ensures pushed { IfOk result (λ i. (e : code.Procedure)
+        ensures pushed { IfOk result (λ i. (e : code.Routine)
             × (self.new.procedures.items ≡ self.old.procedures.items ++ e ∷ [])) }
     {
         let index = self.procedures.len();
         let ordinal = ground.resolved.ordinal_at(name);
         self.sight.bind(ordinal, Site::Procedure(depth, index))?;
-        self.procedures.push(code::Procedure {
+        self.procedures.push(code::Routine {
             cells: 0,
             body: Vec::new(ground.alloc),
         })?;
@@ -118,7 +118,7 @@ impl Lowering {
         let frame = Frame {
             depth: inside,
             cells: 0,
-            lent: 0,
+            references: 0,
         };
         let frame = self.sight.parameters(ground, frame, &p.formals)?;
         let entry = self.block(ground, frame, &p.block)?;
@@ -134,7 +134,7 @@ impl Lowering {
         ground: &LoweringContext<'_, '_, '_>,
         frame: Frame,
         b: &Block,
-    ) -> Result<code::Procedure, AllocError>
+    ) -> Result<code::Routine, AllocError>
         ensures { IfOk result (LowersBlock ground.now.types.now self.old self.new frame
             (in_labels ground.now.resolved.now (block_of b.now))) }
     {
@@ -150,7 +150,7 @@ impl Lowering {
             depth: own.depth,
         };
         let body = body(ground.alloc, &scene, &b.body)?;
-        Ok(code::Procedure {
+        Ok(code::Routine {
             cells: own.cells - frame.cells,
             body,
         })
@@ -187,10 +187,10 @@ pub fn lower<'t>(
     let frame = Frame {
         depth: 0,
         cells: 0,
-        lent: 0,
+        references: 0,
     };
     let entry = lowering.block(&ground, frame, resolved.module().block())?;
-    let code = code::Program {
+    let code = code::LoweredCode {
         cells: entry.cells,
         body: entry.body,
         procedures: lowering.procedures,

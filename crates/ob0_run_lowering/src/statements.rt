@@ -19,7 +19,7 @@ pub fn body(
     alloc: Global,
     scene: &Scene<'_, '_, '_>,
     statements: &Option<Vec<Statement>>,
-) -> Result<Vec<code::Statement>, AllocError>
+) -> Result<Vec<code::Instruction>, AllocError>
     ensures { IfOk result (λ made. BodyLowers scene.now (sequence_of made.items)
         (in_labels scene.now.resolved.now (body_of statements.now))) }
 {
@@ -30,7 +30,7 @@ pub fn body(
 }
 
 /// Adds the code of a statement, where it has some.
-fn add(made: &mut Vec<code::Statement>, next: Option<code::Statement>) -> Result<(), AllocError>
+fn add(made: &mut Vec<code::Instruction>, next: Option<code::Instruction>) -> Result<(), AllocError>
     ensures { OnOk result (made.new.items ≡ made.old.items ++ option_to_list next) }
 {
     match next {
@@ -48,7 +48,7 @@ fn statement(
     alloc: Global,
     scene: &Scene<'_, '_, '_>,
     s: &Statement,
-) -> Result<Option<code::Statement>, AllocError>
+) -> Result<Option<code::Instruction>, AllocError>
     ensures { IfOk result (λ made. CodeLowers scene.now (option_map statement_of made)
         (in_labels scene.now.resolved.now (view.statement_of s.now))) }
 {
@@ -60,12 +60,12 @@ fn statement(
         Statement::While(w) => {
             let condition = scene.truth(alloc, &w.condition)?;
             let body = sequence(alloc, scene, &w.body)?;
-            Ok(Some(code::Statement::While(code::While { condition, body })))
+            Ok(Some(code::Instruction::While(code::WhileLoop { condition, body })))
         }
         Statement::Repeat(r) => {
             let body = sequence(alloc, scene, &r.body)?;
             let condition = scene.truth(alloc, &r.condition)?;
-            Ok(Some(code::Statement::Repeat(code::Repeat { body, condition })))
+            Ok(Some(code::Instruction::Repeat(code::RepeatLoop { body, condition })))
         }
     }
 }
@@ -76,7 +76,7 @@ fn sequence(
     alloc: Global,
     scene: &Scene<'_, '_, '_>,
     statements: &Vec<Statement>,
-) -> Result<Vec<code::Statement>, AllocError>
+) -> Result<Vec<code::Instruction>, AllocError>
     ensures { IfOk result (λ made. SequenceLowers scene.now (sequence_of made.items)
         (in_labels scene.now.resolved.now (sequence_in statements.now))) }
 {
@@ -90,7 +90,11 @@ fn sequence(
 
 /// The code of IF with its ELSIF and ELSE parts.
 #[cycle(statements)]
-fn branches(alloc: Global, scene: &Scene<'_, '_, '_>, i: &If) -> Result<code::Statement, AllocError>
+fn branches(
+    alloc: Global,
+    scene: &Scene<'_, '_, '_>,
+    i: &If,
+) -> Result<code::Instruction, AllocError>
     ensures { IfOk result (λ made. StatementLowers scene.now (statement_of made)
         (in_labels scene.now.resolved.now (if_of i.now))) }
 {
@@ -107,13 +111,13 @@ fn branches(alloc: Global, scene: &Scene<'_, '_, '_>, i: &If) -> Result<code::St
         branches.push(code::Branch { condition, body })?;
     }
     match &i.otherwise {
-        None => Ok(code::Statement::If(code::If {
+        None => Ok(code::Instruction::If(code::Conditional {
             branches,
             otherwise: Vec::new(alloc),
         })),
         Some(statements) => {
             let otherwise = sequence(alloc, scene, statements)?;
-            Ok(code::Statement::If(code::If {
+            Ok(code::Instruction::If(code::Conditional {
                 branches,
                 otherwise,
             }))

@@ -28,7 +28,7 @@ pub(crate) struct VisibleSites {
 pub(crate) struct Frame {
     pub(crate) depth: usize,
     pub(crate) cells: usize,
-    pub(crate) lent: usize,
+    pub(crate) references: usize,
 }
 
 /// Where the next variable of an activation is.
@@ -52,7 +52,7 @@ impl Frame {
         Some(Frame {
             depth: self.depth,
             cells,
-            lent: self.lent,
+            references: self.references,
         })
     }
 }
@@ -173,14 +173,14 @@ impl VisibleSites {
     {
         let ordinal = ground.resolved.ordinal_at(name);
         if by_place {
-            let Some(lent) = frame.lent.checked_add(1) else {
+            let Some(references) = frame.references.checked_add(1) else {
                 return Err(AllocError);
             };
-            self.bind(ordinal, Site::Lent(frame.depth, frame.lent))?;
+            self.bind(ordinal, Site::Lent(frame.depth, frame.references))?;
             return Ok(Frame {
                 depth: frame.depth,
                 cells: frame.cells,
-                lent,
+                references,
             });
         }
         let Some(next) = frame.with(ground.size(name)) else {

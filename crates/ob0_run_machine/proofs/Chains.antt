@@ -5,26 +5,26 @@ use Rattle.ob0_run_machine.specs.declared.code.Link.{Link}
 use Rattle.ob0_run_machine.specs.declared.code.Link as link
 use Rattle.ob0_run_machine.specs.declared.code.Chain.{out-Chain}
 use Rattle.ob0_run_machine.specs.declared.code.Number.{Chain, Row_of-Link, end_of-Link, more_of-Link, items-the_row-Link, items_hidden-the_row-Link-0}
-use Rattle.ob0_run_machine.specs.declared.code.First.TheBlock.{hidden-the_row-Link-0}
-use Rattle.ob0_run_machine.specs.Evaluation.{Levels, Outcome, ends, gives, number, ◌>>=◌}
+use Rattle.ob0_run_machine.specs.declared.code.FirstOperand.TheBlock.{hidden-the_row-Link-0}
+use Rattle.ob0_run_machine.specs.Evaluation.{Levels, StepResult, ends, gives, number, ◌>>=◌}
 use Rattle.ob0_run_machine.specs.Lowered as lowered
 use Rattle.ob0_run_machine.specs.Answers.{linked}
 use Rattle.ob0_run_machine.specs.View.{applied, chained_by, chained_from, chained_in, first_of, number_of}
 
-pub bind_gives : {A : Type 0} (o : Outcome A) → (o >>= (λ a. gives a)) ≡ o
+pub bind_gives : {A : Type 0} (o : StepResult A) → (o >>= (λ a. gives a)) ≡ o
 bind_gives (gives a) = refl
 bind_gives (ends e) = refl
 
-pub bind_assoc : {A B C : Type 0} (o : Outcome A) (f : A → Outcome B) (g : B → Outcome C) → ((o >>= f) >>= g) ≡ (o >>= (λ a. f a >>= g))
+pub bind_assoc : {A B C : Type 0} (o : StepResult A) (f : A → StepResult B) (g : B → StepResult C) → ((o >>= f) >>= g) ≡ (o >>= (λ a. f a >>= g))
 bind_assoc (gives a) f g = refl
 bind_assoc (ends e) f g = refl
 
-pub bind_same : {A B : Type 0} (o : Outcome A) (f g : A → Outcome B) → ((a : A) → f a ≡ g a) → (o >>= f) ≡ (o >>= g)
+pub bind_same : {A B : Type 0} (o : StepResult A) (f g : A → StepResult B) → ((a : A) → f a ≡ g a) → (o >>= f) ≡ (o >>= g)
 bind_same (gives a) f g h = h a
 bind_same (ends e) f g h = refl
 
 -- what a number becomes by the operations that are left
-abbrev pub continued : Levels → List ℤ → List Link → ℤ → Outcome ℤ
+abbrev pub continued : Levels → List ℤ → List Link → ℤ → StepResult ℤ
 continued ls cells [] a = gives a
 continued ls cells (l ∷ rest) a = linked ls cells l a >>= continued ls cells rest
 
@@ -49,16 +49,16 @@ chained ls cells left (l ∷ rest) = chained ls cells (applied l left) rest
     ∙ bind_assoc (number ls cells left) (linked ls cells l) (continued ls cells rest)
 
 -- what was operated so far, with what is left, is the whole
-pub record Continuing (ls : Levels) (cells : List ℤ) (whole : Outcome ℤ) (links : List Link) (done : ℕ) (left : ℤ) : Type 0 where
+pub record Continuing (ls : Levels) (cells : List ℤ) (whole : StepResult ℤ) (links : List Link) (done : ℕ) (left : ℤ) : Type 0 where
   pub so_far : whole ≡ continued ls cells (drop done links) left
 
-pub chain_fails : (ls : Levels) (cells : List ℤ) (first : lowered.Number) (links : List Link) (o : Outcome ℤ) → o ≡ number ls cells first → (o >>= continued ls cells links) ≡ number ls cells (chained_from first links)
+pub chain_fails : (ls : Levels) (cells : List ℤ) (first : lowered.Number) (links : List Link) (o : StepResult ℤ) → o ≡ number ls cells first → (o >>= continued ls cells links) ≡ number ls cells (chained_from first links)
 chain_fails ls cells first links o h = ap (λ o. o >>= continued ls cells links) h ∙ sym (chained ls cells first links)
 
 pub chain_begins : (ls : Levels) (cells : List ℤ) (first : lowered.Number) (links : List Link) (a : ℤ) → gives a ≡ number ls cells first → Continuing ls cells (number ls cells (chained_from first links)) links 0 a
 chain_begins ls cells first links a h = record { so_far = sym (chain_fails ls cells first links (gives a) h) }
 
-pub chain_goes : {ls : Levels} {cells : List ℤ} {whole : Outcome ℤ} {links : List Link} {done : ℕ} {left : ℤ} (l : Link) (o : Outcome ℤ)
+pub chain_goes : {ls : Levels} {cells : List ℤ} {whole : StepResult ℤ} {links : List Link} {done : ℕ} {left : ℤ} (l : Link) (o : StepResult ℤ)
     → Continuing ls cells whole links done left → done < length links → l ≡ get_or links done l
     → o ≡ linked ls cells l left
     → whole ≡ (o >>= continued ls cells (drop (done + 1) links))
@@ -66,13 +66,13 @@ chain_goes {ls = ls} {cells = cells} {links = links} {done = done} {left = left}
     let split : drop done links ≡ l ∷ drop (done + 1) links = drop_more links done l less ∙ ap (λ z. z ∷ drop (done + 1) links) (sym is) in
     c.so_far ∙ ap (λ ls'. continued ls cells ls' left) split ∙ ap (λ o. o >>= continued ls cells (drop (done + 1) links)) (sym h)
 
-pub chain_on : {ls : Levels} {cells : List ℤ} {whole : Outcome ℤ} {links : List Link} {done : ℕ} {left : ℤ} (l : Link) (b : ℤ)
+pub chain_on : {ls : Levels} {cells : List ℤ} {whole : StepResult ℤ} {links : List Link} {done : ℕ} {left : ℤ} (l : Link) (b : ℤ)
     → Continuing ls cells whole links done left → done < length links → l ≡ get_or links done l
     → gives b ≡ linked ls cells l left
     → Continuing ls cells whole links (done + 1) b
 chain_on l b c less is h = record { so_far = chain_goes l (gives b) c less is h }
 
-pub chain_ends : {ls : Levels} {cells : List ℤ} {whole : Outcome ℤ} {links : List Link} {done : ℕ} {left : ℤ} → Continuing ls cells whole links done left → length links ≤ done → gives left ≡ whole
+pub chain_ends : {ls : Levels} {cells : List ℤ} {whole : StepResult ℤ} {links : List Link} {done : ℕ} {left : ℤ} → Continuing ls cells whole links done left → length links ≤ done → gives left ≡ whole
 chain_ends {ls = ls} {cells = cells} {links = links} {done = done} {left = left} c all = sym (c.so_far ∙ ap (λ ls'. continued ls cells ls' left) (drop_all done links all))
 
 chained_listed : (n : _) (row : Row_of-Link n) (left : lowered.Number) → chained_by row left ≡ chained_from left (items-the_row-Link n row)

@@ -5,11 +5,11 @@ use Rattle.ob0_run_machine.specs.declared.code.Argument.{Argument}
 use Rattle.ob0_run_machine.specs.declared.level.Level as level
 use Rattle.ob0_run_machine.specs.Levels.{levels_after, levels_of, levels_seen}
 use Rattle.ob0_run_machine.specs.declared.code.Branch.{Branch}
-use Rattle.ob0_run_machine.specs.declared.code.Call as call
-use Rattle.ob0_run_machine.specs.declared.code.If.{If, out-If}
-use Rattle.ob0_run_machine.specs.declared.code.Repeat.{Repeat}
-use Rattle.ob0_run_machine.specs.declared.code.Statement.{Statement}
-use Rattle.ob0_run_machine.specs.declared.code.While.{While}
+use Rattle.ob0_run_machine.specs.declared.code.ProcedureCall as call
+use Rattle.ob0_run_machine.specs.declared.code.Conditional.{Conditional, out-Conditional}
+use Rattle.ob0_run_machine.specs.declared.code.RepeatLoop.{RepeatLoop}
+use Rattle.ob0_run_machine.specs.declared.code.Instruction.{Instruction}
+use Rattle.ob0_run_machine.specs.declared.code.WhileLoop.{WhileLoop}
 use Rattle.ob0_run_machine.specs.declared.ending.Ending.{Ending}
 use Rattle.ob0_run_machine.specs.declared.ending.Stop.{Stop}
 use Rattle.ob0_run_machine.specs.declared.ending.Stop.TheVariants as stop
@@ -17,17 +17,17 @@ use Rattle.ob0_run_machine.specs.declared.machine.Machine.{Machine}
 use Rattle.ob0_run_machine.specs.declared.memory.Memory.{Memory}
 use Rattle.ob0_run_machine.specs.Allocations.{has_failed}
 use Rattle.ob0_run_machine.specs.Answers.{end_at, end_of}
-use Rattle.ob0_run_machine.specs.Evaluation.{End, Levels, Outcome, TurnBound, ends, gives, truth}
-use Rattle.ob0_run_machine.specs.Execution.{Calls, Passed, Progress, State, choose, entered, execute, execute_all, execute_branches, continue_with, pass_all, running, stopped, turns, turns_until, use_in}
+use Rattle.ob0_run_machine.specs.Evaluation.{Halt, Levels, StepResult, TurnBound, ends, gives, truth}
+use Rattle.ob0_run_machine.specs.Execution.{CallEffect, Passed, MachineProgress, MachineState, choose, entered, execute, execute_all, execute_branches, continue_with, pass_all, running, stopped, turns, turns_until, use_in}
 use Rattle.ob0_run_machine.specs.Lowered as lowered
-use Rattle.ob0_run_machine.specs.Machines.{MachineDoes, Doing, Performs, Post, MachineSteps, Stops, StopsPassing, executed, executed_all, entering, items_out, passed_in, state_of}
+use Rattle.ob0_run_machine.specs.Machines.{MachineDoes, Doing, Performs, Post, MachineSteps, StopsRun, StopsPassing, executed, executed_all, entering, items_out, passed_in, state_of}
 use Rattle.ob0_run_machine.specs.View.{all_branches, argument_of, branches_in, call_of, repeat_of, sequence_of, statement_of, truth_of, while_of}
 
-stopped_then : (o : Option End) (m : Machine) (p : Progress) (k : State → Progress) → Stops o m p → Stops o m (continue_with p k)
+stopped_then : (o : Option Halt) (m : Machine) (p : MachineProgress) (k : MachineState → MachineProgress) → StopsRun o m p → StopsRun o m (continue_with p k)
 stopped_then (Some x) m p k h = ap (λ p. continue_with p k) h
 stopped_then None m p k h = h
 
-failed_then : (e : Stop) (m : Machine) (p : Progress) (k : State → Progress) → MachineSteps (Err e) m p → MachineSteps (Err e) m (continue_with p k)
+failed_then : (e : Stop) (m : Machine) (p : MachineProgress) (k : MachineState → MachineProgress) → MachineSteps (Err e) m p → MachineSteps (Err e) m (continue_with p k)
 failed_then e = stopped_then (end_at e)
 
 -- the exit of a `?`
@@ -36,46 +36,46 @@ leaving {post = post} {r = r} {m = m} {m' = m'} {f = f} q h = subst (λ r. Machi
 
 -- what is done ends the run so
 abbrev pub EndsRun : Post → Ending → Machine → Machine → Doing → Type 0
-EndsRun post e m m' f = (enters : Calls) → Performs post enters → f enters (state_of m) ≡ stopped (end_of e) (items_out m'.output.items)
+EndsRun post e m m' f = (enters : CallEffect) → Performs post enters → f enters (state_of m) ≡ stopped (end_of e) (items_out m'.output.items)
 
 -- the exit of a `?` at what ends the run
 pub ending_by : {post : Post} {r : Result (Unit {0}) Stop} {m m' : Machine} {f : Doing} (e : Ending) → (y : Stop) × (r ≡ Err y) × (end_at y ≡ Some (end_of e))
     → EndsRun post e m m' f → MachineDoes post r m m' f
-ending_by {m = m} {m' = m'} {f = f} e q h = leaving (q.0, q.1, refl) record { as_defined = λ enters p. subst (λ o. Stops o m' (f enters (state_of m))) (sym q.2) (h enters p) }
+ending_by {m = m} {m' = m'} {f = f} e q h = leaving (q.0, q.1, refl) record { as_defined = λ enters p. subst (λ o. StopsRun o m' (f enters (state_of m))) (sym q.2) (h enters p) }
 
 -- a truth that is known
-pub settled : {a b : Bool} {o : Outcome Bool} → gives a ≡ o → a ≡ b → gives b ≡ o
+pub settled : {a b : Bool} {o : StepResult Bool} → gives a ≡ o → a ≡ b → gives b ≡ o
 settled h e = sym (ap gives e) ∙ h
 
-pub does_statement : {post : Post} {r : Result (Unit {0}) Stop} {m m' : Machine} (t : ℕ) (ls : Levels) {a b : lowered.Statement} → a ≡ b → MachineDoes post r m m' (executed t ls a) → MachineDoes post r m m' (executed t ls b)
+pub does_statement : {post : Post} {r : Result (Unit {0}) Stop} {m m' : Machine} (t : ℕ) (ls : Levels) {a b : lowered.Instruction} → a ≡ b → MachineDoes post r m m' (executed t ls a) → MachineDoes post r m m' (executed t ls b)
 does_statement {post = post} {r = r} {m = m} {m' = m'} t ls e h = subst (λ a. MachineDoes post r m m' (executed t ls a)) e h
 
 -- sequences
 
 -- what was executed so far, with what is left, is the whole
-pub record InSequence (post : Post) (start now : Machine) (t : ℕ) (ls : Levels) (xs : List Statement) (k : ℕ) : Type 0 where
-  pub so_far : (enters : Calls) → Performs post enters → execute_all enters t ls (sequence_of xs) (state_of start) ≡ execute_all enters t ls (sequence_of (drop k xs)) (state_of now)
+pub record InSequence (post : Post) (start now : Machine) (t : ℕ) (ls : Levels) (xs : List Instruction) (k : ℕ) : Type 0 where
+  pub so_far : (enters : CallEffect) → Performs post enters → execute_all enters t ls (sequence_of xs) (state_of start) ≡ execute_all enters t ls (sequence_of (drop k xs)) (state_of now)
 
-execute-next : (enters : Calls) (t : ℕ) (ls : Levels) (xs : List Statement) (k : ℕ) (x : Statement) (s : State) → k < length xs → x ≡ get_or xs k x
+execute-next : (enters : CallEffect) (t : ℕ) (ls : Levels) (xs : List Instruction) (k : ℕ) (x : Instruction) (s : MachineState) → k < length xs → x ≡ get_or xs k x
     → execute_all enters t ls (sequence_of (drop k xs)) s ≡ continue_with (execute enters t ls (statement_of x) s) (execute_all enters t ls (sequence_of (drop (k + 1) xs)))
 unfolding execute
 execute-next enters t ls xs k x s less is = ap (λ ys. execute_all enters t ls (sequence_of ys) s) (drop_more xs k x less ∙ ap (λ z. z ∷ drop (k + 1) xs) (sym is))
 
-execute-last : (enters : Calls) (t : ℕ) (ls : Levels) (xs : List Statement) (k : ℕ) (s : State) → length xs ≤ k → execute_all enters t ls (sequence_of (drop k xs)) s ≡ running s
+execute-last : (enters : CallEffect) (t : ℕ) (ls : Levels) (xs : List Instruction) (k : ℕ) (s : MachineState) → length xs ≤ k → execute_all enters t ls (sequence_of (drop k xs)) s ≡ running s
 unfolding execute
 execute-last enters t ls xs k s all = ap (λ ys. execute_all enters t ls (sequence_of ys) s) (drop_all k xs all)
 
-pub sequence_begins : {post : Post} {start : Machine} {t : ℕ} {ls : Levels} {xs : List Statement} → InSequence post start start t ls xs 0
+pub sequence_begins : {post : Post} {start : Machine} {t : ℕ} {ls : Levels} {xs : List Instruction} → InSequence post start start t ls xs 0
 sequence_begins = record { so_far = λ enters p. refl }
 
-pub sequence_on : {post : Post} {start now m : Machine} {t : ℕ} {ls : Levels} {xs : List Statement} {k : ℕ} (u : Unit {0}) (x : Statement) → InSequence post start now t ls xs k → k < length xs → x ≡ get_or xs k x
+pub sequence_on : {post : Post} {start now m : Machine} {t : ℕ} {ls : Levels} {xs : List Instruction} {k : ℕ} (u : Unit {0}) (x : Instruction) → InSequence post start now t ls xs k → k < length xs → x ≡ get_or xs k x
     → MachineDoes post (Ok u) now m (executed t ls (statement_of x)) → InSequence post start m t ls xs (k + 1)
 sequence_on {now = now} {t = t} {ls = ls} {xs = xs} {k = k} u x c less is h = record {
   so_far = λ enters p.
       c.so_far enters p ∙ execute-next enters t ls xs k x (state_of now) less is ∙ ap (λ q. continue_with q (execute_all enters t ls (sequence_of (drop (k + 1) xs)))) (h.as_defined enters p);
 }
 
-pub sequence_fails : {post : Post} {start now m : Machine} {t : ℕ} {ls : Levels} {xs : List Statement} {k : ℕ} (e : Stop) (x : Statement) → InSequence post start now t ls xs k → k < length xs → x ≡ get_or xs k x
+pub sequence_fails : {post : Post} {start now m : Machine} {t : ℕ} {ls : Levels} {xs : List Instruction} {k : ℕ} (e : Stop) (x : Instruction) → InSequence post start now t ls xs k → k < length xs → x ≡ get_or xs k x
     → MachineDoes post (Err e) now m (executed t ls (statement_of x)) → MachineDoes post (Err e) start m (executed_all t ls (sequence_of xs))
 sequence_fails {now = now} {m = m} {t = t} {ls = ls} {xs = xs} {k = k} e x c less is h = record {
   as_defined = λ enters p.
@@ -83,44 +83,44 @@ sequence_fails {now = now} {m = m} {t = t} {ls = ls} {xs = xs} {k = k} e x c les
       (failed_then e m (execute enters t ls (statement_of x) (state_of now)) (execute_all enters t ls (sequence_of (drop (k + 1) xs))) (h.as_defined enters p));
 }
 
-pub sequence_ends : {post : Post} {start now : Machine} {t : ℕ} {ls : Levels} {xs : List Statement} {k : ℕ} (u : Unit {0}) → InSequence post start now t ls xs k → length xs ≤ k → MachineDoes post (Ok u) start now (executed_all t ls (sequence_of xs))
+pub sequence_ends : {post : Post} {start now : Machine} {t : ℕ} {ls : Levels} {xs : List Instruction} {k : ℕ} (u : Unit {0}) → InSequence post start now t ls xs k → length xs ≤ k → MachineDoes post (Ok u) start now (executed_all t ls (sequence_of xs))
 sequence_ends {now = now} {t = t} {ls = ls} {xs = xs} {k = k} u c all = record { as_defined = λ enters p. c.so_far enters p ∙ execute-last enters t ls xs k (state_of now) all }
 
 -- branches
 
-abbrev pub from_branches : Calls → ℕ → Levels → If → List Branch → State → Progress
-from_branches enters t ls i bs = execute_branches enters t ls (all_branches bs) (execute_all enters t ls (sequence_of (out-If i).otherwise.items))
+abbrev pub from_branches : CallEffect → ℕ → Levels → Conditional → List Branch → MachineState → MachineProgress
+from_branches enters t ls i bs = execute_branches enters t ls (all_branches bs) (execute_all enters t ls (sequence_of (out-Conditional i).otherwise.items))
 
-pub record InBranches (post : Post) (start now : Machine) (t : ℕ) (ls : Levels) (i : If) (xs : List Branch) (k : ℕ) : Type 0 where
-  pub so_far : (enters : Calls) → Performs post enters → execute enters t ls (branches_in i) (state_of start) ≡ from_branches enters t ls i (drop k xs) (state_of now)
+pub record InBranches (post : Post) (start now : Machine) (t : ℕ) (ls : Levels) (i : Conditional) (xs : List Branch) (k : ℕ) : Type 0 where
+  pub so_far : (enters : CallEffect) → Performs post enters → execute enters t ls (branches_in i) (state_of start) ≡ from_branches enters t ls i (drop k xs) (state_of now)
 
-branch-next : (enters : Calls) (t : ℕ) (ls : Levels) (i : If) (xs : List Branch) (k : ℕ) (x : Branch) (s : State) → k < length xs → x ≡ get_or xs k x
+branch-next : (enters : CallEffect) (t : ℕ) (ls : Levels) (i : Conditional) (xs : List Branch) (k : ℕ) (x : Branch) (s : MachineState) → k < length xs → x ≡ get_or xs k x
     → from_branches enters t ls i (drop k xs) s ≡ choose s (truth ls s.cells (truth_of x.condition)) (execute_all enters t ls (sequence_of x.body.items)) (from_branches enters t ls i (drop (k + 1) xs))
 unfolding execute
 branch-next enters t ls i xs k x s less is = ap (λ ys. from_branches enters t ls i ys s) (drop_more xs k x less ∙ ap (λ z. z ∷ drop (k + 1) xs) (sym is))
 
-branch-last : (enters : Calls) (t : ℕ) (ls : Levels) (i : If) (xs : List Branch) (k : ℕ) (s : State) → length xs ≤ k → from_branches enters t ls i (drop k xs) s ≡ execute_all enters t ls (sequence_of (out-If i).otherwise.items) s
+branch-last : (enters : CallEffect) (t : ℕ) (ls : Levels) (i : Conditional) (xs : List Branch) (k : ℕ) (s : MachineState) → length xs ≤ k → from_branches enters t ls i (drop k xs) s ≡ execute_all enters t ls (sequence_of (out-Conditional i).otherwise.items) s
 unfolding execute
 branch-last enters t ls i xs k s all = ap (λ ys. from_branches enters t ls i ys s) (drop_all k xs all)
 
-pub branches_begin : {post : Post} {start : Machine} {t : ℕ} {ls : Levels} {i : If} {xs : List Branch} → xs ≡ (out-If i).branches.items → InBranches post start start t ls i xs 0
+pub branches_begin : {post : Post} {start : Machine} {t : ℕ} {ls : Levels} {i : Conditional} {xs : List Branch} → xs ≡ (out-Conditional i).branches.items → InBranches post start start t ls i xs 0
 unfolding execute
 branches_begin {start = start} {t = t} {ls = ls} {i = i} same = record { so_far = λ enters p. ap (λ ys. from_branches enters t ls i ys (state_of start)) (sym same) }
 
-pub branches_on : {post : Post} {start now : Machine} {t : ℕ} {ls : Levels} {i : If} {xs : List Branch} {k : ℕ} (x : Branch) → InBranches post start now t ls i xs k → k < length xs → x ≡ get_or xs k x
+pub branches_on : {post : Post} {start now : Machine} {t : ℕ} {ls : Levels} {i : Conditional} {xs : List Branch} {k : ℕ} (x : Branch) → InBranches post start now t ls i xs k → k < length xs → x ≡ get_or xs k x
     → gives false ≡ truth ls now.cells.items (truth_of x.condition) → InBranches post start now t ls i xs (k + 1)
 branches_on {now = now} {t = t} {ls = ls} {i = i} {xs = xs} {k = k} x c less is h = record {
   so_far = λ enters p. c.so_far enters p ∙ branch-next enters t ls i xs k x (state_of now) less is
       ∙ ap (λ o. choose (state_of now) o (execute_all enters t ls (sequence_of x.body.items)) (from_branches enters t ls i (drop (k + 1) xs))) (sym h);
 }
 
-pub branches_fail : {post : Post} {start now : Machine} {t : ℕ} {ls : Levels} {i : If} {xs : List Branch} {k : ℕ} (e : Ending) (x : Branch) → InBranches post start now t ls i xs k → k < length xs → x ≡ get_or xs k x
+pub branches_fail : {post : Post} {start now : Machine} {t : ℕ} {ls : Levels} {i : Conditional} {xs : List Branch} {k : ℕ} (e : Ending) (x : Branch) → InBranches post start now t ls i xs k → k < length xs → x ≡ get_or xs k x
     → ends (end_of e) ≡ truth ls now.cells.items (truth_of x.condition) → EndsRun post e start now (executed t ls (branches_in i))
 branches_fail {now = now} {t = t} {ls = ls} {i = i} {xs = xs} {k = k} e x c less is h = λ enters p.
     c.so_far enters p ∙ branch-next enters t ls i xs k x (state_of now) less is
     ∙ ap (λ o. choose (state_of now) o (execute_all enters t ls (sequence_of x.body.items)) (from_branches enters t ls i (drop (k + 1) xs))) (sym h)
 
-pub branch_taken : {post : Post} {start now m : Machine} {t : ℕ} {ls : Levels} {i : If} {xs : List Branch} {k : ℕ} (r : Result (Unit {0}) Stop) (ss : List Statement) (x : Branch) → InBranches post start now t ls i xs k → k < length xs → x ≡ get_or xs k x
+pub branch_taken : {post : Post} {start now m : Machine} {t : ℕ} {ls : Levels} {i : Conditional} {xs : List Branch} {k : ℕ} (r : Result (Unit {0}) Stop) (ss : List Instruction) (x : Branch) → InBranches post start now t ls i xs k → k < length xs → x ≡ get_or xs k x
     → gives true ≡ truth ls now.cells.items (truth_of x.condition) → ss ≡ x.body.items → MachineDoes post r now m (executed_all t ls (sequence_of ss)) → MachineDoes post r start m (executed t ls (branches_in i))
 branch_taken {now = now} {m = m} {t = t} {ls = ls} {i = i} {xs = xs} {k = k} r ss x c less is h same d = record {
   as_defined = λ enters p.
@@ -129,8 +129,8 @@ branch_taken {now = now} {m = m} {t = t} {ls = ls} {i = i} {xs = xs} {k = k} r s
       ∙ ap (λ ss. execute_all enters t ls (sequence_of ss) (state_of now)) (sym same))) (d.as_defined enters p);
 }
 
-pub branches_end : {post : Post} {start now m : Machine} {t : ℕ} {ls : Levels} {i : If} {xs : List Branch} {k : ℕ} (r : Result (Unit {0}) Stop) (ss : List Statement) → InBranches post start now t ls i xs k → length xs ≤ k
-    → ss ≡ (out-If i).otherwise.items → MachineDoes post r now m (executed_all t ls (sequence_of ss)) → MachineDoes post r start m (executed t ls (branches_in i))
+pub branches_end : {post : Post} {start now m : Machine} {t : ℕ} {ls : Levels} {i : Conditional} {xs : List Branch} {k : ℕ} (r : Result (Unit {0}) Stop) (ss : List Instruction) → InBranches post start now t ls i xs k → length xs ≤ k
+    → ss ≡ (out-Conditional i).otherwise.items → MachineDoes post r now m (executed_all t ls (sequence_of ss)) → MachineDoes post r start m (executed t ls (branches_in i))
 branches_end {now = now} {m = m} {t = t} {ls = ls} {i = i} {xs = xs} {k = k} r ss c all same d = record {
   as_defined = λ enters p.
       subst (MachineSteps r m) (sym (c.so_far enters p ∙ branch-last enters t ls i xs k (state_of now) all ∙ ap (λ ss. execute_all enters t ls (sequence_of ss) (state_of now)) (sym same))) (d.as_defined enters p);
@@ -138,27 +138,27 @@ branches_end {now = now} {m = m} {t = t} {ls = ls} {i = i} {xs = xs} {k = k} r s
 
 -- WHILE
 
-abbrev pub turning : Calls → ℕ → ℕ → Levels → While → State → Progress
+abbrev pub turning : CallEffect → ℕ → ℕ → Levels → WhileLoop → MachineState → MachineProgress
 turning enters left t ls w = turns left (λ s'. truth ls s'.cells (truth_of w.condition)) (execute_all enters t ls (sequence_of w.body.items))
 
-pub record InWhile (post : Post) (start now : Machine) (t : ℕ) (ls : Levels) (w : While) (left : ℕ) : Type 0 where
-  pub so_far : (enters : Calls) → Performs post enters → execute enters t ls (while_of w) (state_of start) ≡ turning enters left t ls w (state_of now)
+pub record InWhile (post : Post) (start now : Machine) (t : ℕ) (ls : Levels) (w : WhileLoop) (left : ℕ) : Type 0 where
+  pub so_far : (enters : CallEffect) → Performs post enters → execute enters t ls (while_of w) (state_of start) ≡ turning enters left t ls w (state_of now)
 
-pub while_begins : {post : Post} {start : Machine} {t : ℕ} {ls : Levels} {w : While} → InWhile post start start t ls w t
+pub while_begins : {post : Post} {start : Machine} {t : ℕ} {ls : Levels} {w : WhileLoop} → InWhile post start start t ls w t
 unfolding execute
 while_begins = record { so_far = λ enters p. refl }
 
 -- a turn more, or the bound
-pub once_more : Calls → ℕ → ℕ → Levels → While → State → Progress
+pub once_more : CallEffect → ℕ → ℕ → Levels → WhileLoop → MachineState → MachineProgress
 once_more enters zero t ls w s = stopped TurnBound s.output
 once_more enters (suc left) t ls w s = continue_with (execute_all enters t ls (sequence_of w.body.items) s) (turning enters left t ls w)
 
-turning-goes : (enters : Calls) (left t : ℕ) (ls : Levels) (w : While) (s : State) → turning enters left t ls w s ≡ choose s (truth ls s.cells (truth_of w.condition)) (once_more enters left t ls w) running
+turning-goes : (enters : CallEffect) (left t : ℕ) (ls : Levels) (w : WhileLoop) (s : MachineState) → turning enters left t ls w s ≡ choose s (truth ls s.cells (truth_of w.condition)) (once_more enters left t ls w) running
 unfolding once_more
 turning-goes enters zero t ls w s = refl
 turning-goes enters (suc left) t ls w s = refl
 
-once-none : (enters : Calls) (left t : ℕ) (ls : Levels) (w : While) (s : State) → left ≡ 0 → once_more enters left t ls w s ≡ stopped TurnBound s.output
+once-none : (enters : CallEffect) (left t : ℕ) (ls : Levels) (w : WhileLoop) (s : MachineState) → left ≡ 0 → once_more enters left t ls w s ≡ stopped TurnBound s.output
 unfolding once_more
 once-none enters left t ls w s e = ap (λ left. once_more enters left t ls w s) e
 
@@ -166,34 +166,34 @@ one_less : (n : ℕ) → n ≢ 0 → n ≡ suc (n - 1)
 one_less zero h = absurd (h refl)
 one_less (suc n) h = omega arith
 
-once-more : (enters : Calls) (left t : ℕ) (ls : Levels) (w : While) (s : State) → left ≢ 0 → once_more enters left t ls w s ≡ continue_with (execute_all enters t ls (sequence_of w.body.items) s) (turning enters (left - 1) t ls w)
+once-more : (enters : CallEffect) (left t : ℕ) (ls : Levels) (w : WhileLoop) (s : MachineState) → left ≢ 0 → once_more enters left t ls w s ≡ continue_with (execute_all enters t ls (sequence_of w.body.items) s) (turning enters (left - 1) t ls w)
 unfolding once_more
 once-more enters left t ls w s e = ap (λ left. once_more enters left t ls w s) (one_less left e)
 
-while-chosen : {post : Post} {start now : Machine} {t : ℕ} {ls : Levels} {w : While} {left : ℕ} (o : Outcome Bool) → InWhile post start now t ls w left → o ≡ truth ls now.cells.items (truth_of w.condition)
-    → (enters : Calls) → Performs post enters → execute enters t ls (while_of w) (state_of start) ≡ choose (state_of now) o (once_more enters left t ls w) running
+while-chosen : {post : Post} {start now : Machine} {t : ℕ} {ls : Levels} {w : WhileLoop} {left : ℕ} (o : StepResult Bool) → InWhile post start now t ls w left → o ≡ truth ls now.cells.items (truth_of w.condition)
+    → (enters : CallEffect) → Performs post enters → execute enters t ls (while_of w) (state_of start) ≡ choose (state_of now) o (once_more enters left t ls w) running
 while-chosen {now = now} {t = t} {ls = ls} {w = w} {left = left} o c h enters p = c.so_far enters p ∙ turning-goes enters left t ls w (state_of now) ∙ ap (λ o. choose (state_of now) o (once_more enters left t ls w) running) (sym h)
 
-pub while_fails : {post : Post} {start now : Machine} {t : ℕ} {ls : Levels} {w : While} {left : ℕ} (e : Ending) → InWhile post start now t ls w left → ends (end_of e) ≡ truth ls now.cells.items (truth_of w.condition)
+pub while_fails : {post : Post} {start now : Machine} {t : ℕ} {ls : Levels} {w : WhileLoop} {left : ℕ} (e : Ending) → InWhile post start now t ls w left → ends (end_of e) ≡ truth ls now.cells.items (truth_of w.condition)
     → EndsRun post e start now (executed t ls (while_of w))
 while_fails e c h = while-chosen (ends (end_of e)) c h
 
-pub while_ends : {post : Post} {start now : Machine} {t : ℕ} {ls : Levels} {w : While} {left : ℕ} (u : Unit {0}) → InWhile post start now t ls w left → gives false ≡ truth ls now.cells.items (truth_of w.condition)
+pub while_ends : {post : Post} {start now : Machine} {t : ℕ} {ls : Levels} {w : WhileLoop} {left : ℕ} (u : Unit {0}) → InWhile post start now t ls w left → gives false ≡ truth ls now.cells.items (truth_of w.condition)
     → MachineDoes post (Ok u) start now (executed t ls (while_of w))
 while_ends u c h = record { as_defined = while-chosen (gives false) c h }
 
-pub while_bound : {post : Post} {start now : Machine} {t : ℕ} {ls : Levels} {w : While} {left : ℕ} → InWhile post start now t ls w left → gives true ≡ truth ls now.cells.items (truth_of w.condition) → left ≡ 0
+pub while_bound : {post : Post} {start now : Machine} {t : ℕ} {ls : Levels} {w : WhileLoop} {left : ℕ} → InWhile post start now t ls w left → gives true ≡ truth ls now.cells.items (truth_of w.condition) → left ≡ 0
     → MachineDoes post (Err stop.TurnBound) start now (executed t ls (while_of w))
 while_bound {now = now} {t = t} {ls = ls} {w = w} {left = left} c h e = record { as_defined = λ enters p. while-chosen (gives true) c h enters p ∙ once-none enters left t ls w (state_of now) e }
 
-pub while_on : {post : Post} {start now m : Machine} {t : ℕ} {ls : Levels} {w : While} {left : ℕ} (u : Unit {0}) (ss : List Statement) → InWhile post start now t ls w left → gives true ≡ truth ls now.cells.items (truth_of w.condition) → left ≢ 0
+pub while_on : {post : Post} {start now m : Machine} {t : ℕ} {ls : Levels} {w : WhileLoop} {left : ℕ} (u : Unit {0}) (ss : List Instruction) → InWhile post start now t ls w left → gives true ≡ truth ls now.cells.items (truth_of w.condition) → left ≢ 0
     → ss ≡ w.body.items → MachineDoes post (Ok u) now m (executed_all t ls (sequence_of ss)) → InWhile post start m t ls w (left - 1)
 while_on {now = now} {t = t} {ls = ls} {w = w} {left = left} u ss c h e same d = record {
   so_far = λ enters p. while-chosen (gives true) c h enters p ∙ once-more enters left t ls w (state_of now) e
       ∙ ap (λ q. continue_with q (turning enters (left - 1) t ls w)) (ap (λ ss. execute_all enters t ls (sequence_of ss) (state_of now)) (sym same) ∙ d.as_defined enters p);
 }
 
-pub while_body_fails : {post : Post} {start now m : Machine} {t : ℕ} {ls : Levels} {w : While} {left : ℕ} (x : Stop) (ss : List Statement) → InWhile post start now t ls w left → gives true ≡ truth ls now.cells.items (truth_of w.condition) → left ≢ 0
+pub while_body_fails : {post : Post} {start now m : Machine} {t : ℕ} {ls : Levels} {w : WhileLoop} {left : ℕ} (x : Stop) (ss : List Instruction) → InWhile post start now t ls w left → gives true ≡ truth ls now.cells.items (truth_of w.condition) → left ≢ 0
     → ss ≡ w.body.items → MachineDoes post (Err x) now m (executed_all t ls (sequence_of ss)) → MachineDoes post (Err x) start m (executed t ls (while_of w))
 while_body_fails {now = now} {m = m} {t = t} {ls = ls} {w = w} {left = left} x ss c h e same d = record {
   as_defined = λ enters p.
@@ -204,38 +204,38 @@ while_body_fails {now = now} {m = m} {t = t} {ls = ls} {w = w} {left = left} x s
 
 -- REPEAT
 
-abbrev pub turning_until : Calls → ℕ → ℕ → Levels → Repeat → State → Progress
+abbrev pub turning_until : CallEffect → ℕ → ℕ → Levels → RepeatLoop → MachineState → MachineProgress
 turning_until enters left t ls r = turns_until left (λ s'. truth ls s'.cells (truth_of r.condition)) (execute_all enters t ls (sequence_of r.body.items))
 
-pub record InRepeat (post : Post) (start now : Machine) (t : ℕ) (ls : Levels) (r : Repeat) (left : ℕ) : Type 0 where
-  pub so_far : (enters : Calls) → Performs post enters → execute enters t ls (repeat_of r) (state_of start) ≡ turning_until enters left t ls r (state_of now)
+pub record InRepeat (post : Post) (start now : Machine) (t : ℕ) (ls : Levels) (r : RepeatLoop) (left : ℕ) : Type 0 where
+  pub so_far : (enters : CallEffect) → Performs post enters → execute enters t ls (repeat_of r) (state_of start) ≡ turning_until enters left t ls r (state_of now)
 
-pub repeat_begins : {post : Post} {start : Machine} {t : ℕ} {ls : Levels} {r : Repeat} {left : ℕ} → left ≡ t - 1 → InRepeat post start start t ls r left
+pub repeat_begins : {post : Post} {start : Machine} {t : ℕ} {ls : Levels} {r : RepeatLoop} {left : ℕ} → left ≡ t - 1 → InRepeat post start start t ls r left
 unfolding execute
 repeat_begins {start = start} {t = t} {ls = ls} {r = r} e = record { so_far = λ enters p. ap (λ left. turning_until enters left t ls r (state_of start)) (sym e) }
 
-pub again : Calls → ℕ → ℕ → Levels → Repeat → State → Progress
+pub again : CallEffect → ℕ → ℕ → Levels → RepeatLoop → MachineState → MachineProgress
 again enters zero t ls r s = stopped TurnBound s.output
 again enters (suc left) t ls r s = turning_until enters left t ls r s
 
 -- after a turn
-abbrev pub turned : Calls → ℕ → ℕ → Levels → Repeat → State → Progress
+abbrev pub turned : CallEffect → ℕ → ℕ → Levels → RepeatLoop → MachineState → MachineProgress
 turned enters left t ls r s = choose s (truth ls s.cells (truth_of r.condition)) running (again enters left t ls r)
 
-until-goes : (enters : Calls) (left t : ℕ) (ls : Levels) (r : Repeat) (s : State) → turning_until enters left t ls r s ≡ continue_with (execute_all enters t ls (sequence_of r.body.items) s) (turned enters left t ls r)
+until-goes : (enters : CallEffect) (left t : ℕ) (ls : Levels) (r : RepeatLoop) (s : MachineState) → turning_until enters left t ls r s ≡ continue_with (execute_all enters t ls (sequence_of r.body.items) s) (turned enters left t ls r)
 unfolding again
 until-goes enters zero t ls r s = refl
 until-goes enters (suc left) t ls r s = refl
 
-again-none : (enters : Calls) (left t : ℕ) (ls : Levels) (r : Repeat) (s : State) → left ≡ 0 → again enters left t ls r s ≡ stopped TurnBound s.output
+again-none : (enters : CallEffect) (left t : ℕ) (ls : Levels) (r : RepeatLoop) (s : MachineState) → left ≡ 0 → again enters left t ls r s ≡ stopped TurnBound s.output
 unfolding again
 again-none enters left t ls r s e = ap (λ left. again enters left t ls r s) e
 
-again-more : (enters : Calls) (left t : ℕ) (ls : Levels) (r : Repeat) (s : State) → left ≢ 0 → again enters left t ls r s ≡ turning_until enters (left - 1) t ls r s
+again-more : (enters : CallEffect) (left t : ℕ) (ls : Levels) (r : RepeatLoop) (s : MachineState) → left ≢ 0 → again enters left t ls r s ≡ turning_until enters (left - 1) t ls r s
 unfolding again
 again-more enters left t ls r s e = ap (λ left. again enters left t ls r s) (one_less left e)
 
-pub repeat_body_fails : {post : Post} {start now m : Machine} {t : ℕ} {ls : Levels} {r : Repeat} {left : ℕ} (x : Stop) (ss : List Statement) → InRepeat post start now t ls r left
+pub repeat_body_fails : {post : Post} {start now m : Machine} {t : ℕ} {ls : Levels} {r : RepeatLoop} {left : ℕ} (x : Stop) (ss : List Instruction) → InRepeat post start now t ls r left
     → ss ≡ r.body.items → MachineDoes post (Err x) now m (executed_all t ls (sequence_of ss)) → MachineDoes post (Err x) start m (executed t ls (repeat_of r))
 repeat_body_fails {now = now} {m = m} {t = t} {ls = ls} {r = r} {left = left} x ss c same d = record {
   as_defined = λ enters p.
@@ -245,62 +245,62 @@ repeat_body_fails {now = now} {m = m} {t = t} {ls = ls} {r = r} {left = left} x 
 }
 
 -- a turn was made
-pub record Turned (post : Post) (start now : Machine) (t : ℕ) (ls : Levels) (r : Repeat) (left : ℕ) : Type 0 where
-  pub so_far : (enters : Calls) → Performs post enters → execute enters t ls (repeat_of r) (state_of start) ≡ turned enters left t ls r (state_of now)
+pub record Turned (post : Post) (start now : Machine) (t : ℕ) (ls : Levels) (r : RepeatLoop) (left : ℕ) : Type 0 where
+  pub so_far : (enters : CallEffect) → Performs post enters → execute enters t ls (repeat_of r) (state_of start) ≡ turned enters left t ls r (state_of now)
 
-pub turn_made : {post : Post} {start now m : Machine} {t : ℕ} {ls : Levels} {r : Repeat} {left : ℕ} (u : Unit {0}) (ss : List Statement) → InRepeat post start now t ls r left
+pub turn_made : {post : Post} {start now m : Machine} {t : ℕ} {ls : Levels} {r : RepeatLoop} {left : ℕ} (u : Unit {0}) (ss : List Instruction) → InRepeat post start now t ls r left
     → ss ≡ r.body.items → MachineDoes post (Ok u) now m (executed_all t ls (sequence_of ss)) → Turned post start m t ls r left
 turn_made {now = now} {t = t} {ls = ls} {r = r} {left = left} u ss c same d = record {
   so_far = λ enters p. c.so_far enters p ∙ until-goes enters left t ls r (state_of now)
       ∙ ap (λ q. continue_with q (turned enters left t ls r)) (ap (λ ss. execute_all enters t ls (sequence_of ss) (state_of now)) (sym same) ∙ d.as_defined enters p);
 }
 
-turned-chosen : {post : Post} {start now : Machine} {t : ℕ} {ls : Levels} {r : Repeat} {left : ℕ} (o : Outcome Bool) → Turned post start now t ls r left → o ≡ truth ls now.cells.items (truth_of r.condition)
-    → (enters : Calls) → Performs post enters → execute enters t ls (repeat_of r) (state_of start) ≡ choose (state_of now) o running (again enters left t ls r)
+turned-chosen : {post : Post} {start now : Machine} {t : ℕ} {ls : Levels} {r : RepeatLoop} {left : ℕ} (o : StepResult Bool) → Turned post start now t ls r left → o ≡ truth ls now.cells.items (truth_of r.condition)
+    → (enters : CallEffect) → Performs post enters → execute enters t ls (repeat_of r) (state_of start) ≡ choose (state_of now) o running (again enters left t ls r)
 turned-chosen {now = now} {t = t} {ls = ls} {r = r} {left = left} o c h enters p = c.so_far enters p ∙ ap (λ o. choose (state_of now) o running (again enters left t ls r)) (sym h)
 
-pub repeat_fails : {post : Post} {start now : Machine} {t : ℕ} {ls : Levels} {r : Repeat} {left : ℕ} (e : Ending) → Turned post start now t ls r left → ends (end_of e) ≡ truth ls now.cells.items (truth_of r.condition)
+pub repeat_fails : {post : Post} {start now : Machine} {t : ℕ} {ls : Levels} {r : RepeatLoop} {left : ℕ} (e : Ending) → Turned post start now t ls r left → ends (end_of e) ≡ truth ls now.cells.items (truth_of r.condition)
     → EndsRun post e start now (executed t ls (repeat_of r))
 repeat_fails e c h = turned-chosen (ends (end_of e)) c h
 
-pub repeat_ends : {post : Post} {start now : Machine} {t : ℕ} {ls : Levels} {r : Repeat} {left : ℕ} (u : Unit {0}) → Turned post start now t ls r left → gives true ≡ truth ls now.cells.items (truth_of r.condition)
+pub repeat_ends : {post : Post} {start now : Machine} {t : ℕ} {ls : Levels} {r : RepeatLoop} {left : ℕ} (u : Unit {0}) → Turned post start now t ls r left → gives true ≡ truth ls now.cells.items (truth_of r.condition)
     → MachineDoes post (Ok u) start now (executed t ls (repeat_of r))
 repeat_ends u c h = record { as_defined = turned-chosen (gives true) c h }
 
-pub repeat_bound : {post : Post} {start now : Machine} {t : ℕ} {ls : Levels} {r : Repeat} {left : ℕ} → Turned post start now t ls r left → gives false ≡ truth ls now.cells.items (truth_of r.condition) → left ≡ 0
+pub repeat_bound : {post : Post} {start now : Machine} {t : ℕ} {ls : Levels} {r : RepeatLoop} {left : ℕ} → Turned post start now t ls r left → gives false ≡ truth ls now.cells.items (truth_of r.condition) → left ≡ 0
     → MachineDoes post (Err stop.TurnBound) start now (executed t ls (repeat_of r))
 repeat_bound {now = now} {t = t} {ls = ls} {r = r} {left = left} c h e = record { as_defined = λ enters p. turned-chosen (gives false) c h enters p ∙ again-none enters left t ls r (state_of now) e }
 
-pub repeat_on : {post : Post} {start now : Machine} {t : ℕ} {ls : Levels} {r : Repeat} {left : ℕ} → Turned post start now t ls r left → gives false ≡ truth ls now.cells.items (truth_of r.condition) → left ≢ 0
+pub repeat_on : {post : Post} {start now : Machine} {t : ℕ} {ls : Levels} {r : RepeatLoop} {left : ℕ} → Turned post start now t ls r left → gives false ≡ truth ls now.cells.items (truth_of r.condition) → left ≢ 0
     → InRepeat post start now t ls r (left - 1)
 repeat_on {now = now} {t = t} {ls = ls} {r = r} {left = left} c h e = record { so_far = λ enters p. turned-chosen (gives false) c h enters p ∙ again-more enters left t ls r (state_of now) e }
 
 -- calls
 
-pub call-goes : (t : ℕ) (ls : Levels) (c : call.Call) (enters : Calls) (s : State)
+pub call-goes : (t : ℕ) (ls : Levels) (c : call.ProcedureCall) (enters : CallEffect) (s : MachineState)
     → executed t ls (call_of c) enters s ≡ use_in s (pass_all ls (map argument_of c.arguments.items) (passed_in s.cells [])) (λ p. enters c.procedure (entered ls (length s.cells) c.up p) record s { cells = p.cells })
 unfolding execute
 call-goes t ls c enters s = refl
 
-passing_stops : (m m' : Machine) (o : Option End) (memory : Memory) → m'.output ≡ m.output → m'.memory ≡ memory → (given : Outcome Passed) (next : Passed → Progress)
-    → StopsPassing o memory given → Stops o m' (use_in (state_of m) given next)
+passing_stops : (m m' : Machine) (o : Option Halt) (memory : Memory) → m'.output ≡ m.output → m'.memory ≡ memory → (given : StepResult Passed) (next : Passed → MachineProgress)
+    → StopsPassing o memory given → StopsRun o m' (use_in (state_of m) given next)
 passing_stops m m' (Some x) memory out kept given next h = ap (λ o. use_in (state_of m) o next) h ∙ ap (λ o. stopped x (items_out o.items)) (sym out)
 passing_stops m m' None memory out kept given next h = ap has_failed kept ∙ h
 
-pub call_fails : {post : Post} {m m' : Machine} (memory : Memory) (e : Stop) (t : ℕ) (ls : Levels) (c : call.Call) (xs : List Argument) (none : List ℕ)
+pub call_fails : {post : Post} {m m' : Machine} (memory : Memory) (e : Stop) (t : ℕ) (ls : Levels) (c : call.ProcedureCall) (xs : List Argument) (none : List ℕ)
     → none ≡ [] → xs ≡ c.arguments.items → StopsPassing (end_at e) memory (pass_all ls (map argument_of xs) (passed_in m.cells.items none)) → m'.output ≡ m.output → m'.memory ≡ memory
     → MachineDoes post (Err e) m m' (executed t ls (call_of c))
 call_fails {m = m} {m' = m'} memory e t ls c xs none empty same h out kept = record {
-  as_defined = λ enters p. subst (Stops (end_at e) m') (sym (call-goes t ls c enters (state_of m)
+  as_defined = λ enters p. subst (StopsRun (end_at e) m') (sym (call-goes t ls c enters (state_of m)
       ∙ ap (λ o. use_in (state_of m) o (λ p. enters c.procedure (entered ls (length m.cells.items) c.up p) record (state_of m) { cells = p.cells }))
       (ap (λ xs. pass_all ls (map argument_of xs) (passed_in m.cells.items [])) (sym same) ∙ ap (λ none. pass_all ls (map argument_of xs) (passed_in m.cells.items none)) (sym empty))))
       (passing_stops m m' (end_at e) memory out kept _ _ h);
 }
 
-pub call_enters : {post : Post} {m m' : Machine} {r : Result (Unit {0}) Stop} (cells : List ℤ) (addresses : List ℕ) (t : ℕ) (ls inner : Levels) (c : call.Call) (xs : List Argument) (none : List ℕ)
+pub call_enters : {post : Post} {m m' : Machine} {r : Result (Unit {0}) Stop} (cells : List ℤ) (addresses : List ℕ) (t : ℕ) (ls inner : Levels) (c : call.ProcedureCall) (xs : List Argument) (none : List ℕ)
     → none ≡ [] → xs ≡ c.arguments.items → pass_all ls (map argument_of xs) (passed_in m.cells.items none) ≡ gives (passed_in cells addresses)
     → inner ≡ entered ls (length m.cells.items) c.up (passed_in cells addresses)
-    → ((enters : Calls) → Performs post enters → MachineSteps r m' (enters c.procedure inner (record (state_of m) { cells = cells })))
+    → ((enters : CallEffect) → Performs post enters → MachineSteps r m' (enters c.procedure inner (record (state_of m) { cells = cells })))
     → MachineDoes post r m m' (executed t ls (call_of c))
 call_enters {m = m} {m' = m'} {r = r} cells addresses t ls inner c xs none empty same h seen done = record {
   as_defined = λ enters p.
@@ -312,19 +312,19 @@ call_enters {m = m} {m' = m'} {r = r} cells addresses t ls inner c xs none empty
 }
 
 pub enters_as : {post : Post} {m m' : Machine} {r : Result (Unit {0}) Stop} (k up base : ℕ) (addresses : List ℕ) (ls inner : Levels) → inner ≡ entered ls base up (passed_in m.cells.items addresses)
-    → ((enters : Calls) → Performs post enters → MachineSteps r m' (enters k inner (state_of m))) → MachineDoes post r m m' (entering k up ls base addresses)
+    → ((enters : CallEffect) → Performs post enters → MachineSteps r m' (enters k inner (state_of m))) → MachineDoes post r m m' (entering k up ls base addresses)
 enters_as {m = m} {m' = m'} {r = r} k up base addresses ls inner seen done = record { as_defined = λ enters p. subst (λ seen. MachineSteps r m' (enters k seen (state_of m))) seen (done enters p) }
 
 -- the levels of an activation that is made
-behind : (o : _) → levels_after (level.back-Level-enclosing o) ≡ levels_seen o
-behind None = refl
-behind (Some l) = refl
+following : (o : _) → levels_after (level.back-Level-enclosing o) ≡ levels_seen o
+following None = refl
+following (Some l) = refl
 
 pub level_made : (x : _) → levels_of (level.roll-Level x) ≡ record { base = x.base; addresses = x.addresses.now } ∷ levels_seen x.enclosing
-level_made x = ap levels_of (level.rolls-Level' x) ∙ ap (λ outer. record { base = x.base; addresses = x.addresses.now } ∷ outer) (behind x.enclosing)
+level_made x = ap levels_of (level.rolls-Level' x) ∙ ap (λ outer. record { base = x.base; addresses = x.addresses.now } ∷ outer) (following x.enclosing)
 
 pub entered_as : {base n : ℕ} {addresses given : List ℕ} {outer seen : Levels} → base ≡ n → addresses ≡ given → outer ≡ seen → record { base = base; addresses = addresses } ∷ outer ≡ record { base = n; addresses = given } ∷ seen
 entered_as {base} {n} {addresses} {given} {outer} {seen} a b c = cc
 
-pub does_sequence : {post : Post} {r : Result (Unit {0}) Stop} {m m' : Machine} (t : ℕ) (ls : Levels) {xs ys : List Statement} → xs ≡ ys → MachineDoes post r m m' (executed_all t ls (sequence_of xs)) → MachineDoes post r m m' (executed_all t ls (sequence_of ys))
+pub does_sequence : {post : Post} {r : Result (Unit {0}) Stop} {m m' : Machine} (t : ℕ) (ls : Levels) {xs ys : List Instruction} → xs ≡ ys → MachineDoes post r m m' (executed_all t ls (sequence_of xs)) → MachineDoes post r m m' (executed_all t ls (sequence_of ys))
 does_sequence {post = post} {r = r} {m = m} {m' = m'} t ls e h = subst (λ xs. MachineDoes post r m m' (executed_all t ls (sequence_of xs))) e h

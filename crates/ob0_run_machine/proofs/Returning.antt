@@ -1,6 +1,6 @@
 -- Calls: the body of a procedure runs, and its cells are given up.
 use Rattle.std.proofs.Common.{◌≡◌, ◌≢◌, ℕ, zero, suc, arith, ◌-◌, ℤ, refl, sym, ap, ◌∙◌, subst, Ok, Err, List, [], ◌++◌, take, Option, None, Some, Result, IsErr}
-use Rattle.ob0_run_machine.specs.declared.code.Program.{Program}
+use Rattle.ob0_run_machine.specs.declared.code.LoweredCode.{LoweredCode}
 use Rattle.ob0_run_machine.specs.declared.ending.Stop.{Stop}
 use Rattle.ob0_run_machine.specs.declared.ending.Stop.TheVariants as stop
 use Rattle.ob0_run_machine.specs.declared.level.Level as level
@@ -8,20 +8,20 @@ use Rattle.ob0_run_machine.specs.declared.machine.Machine.{Machine}
 use Rattle.ob0_run_machine.specs.Answers.{end_at}
 use Rattle.ob0_run_machine.specs.Evaluation as ending
 use Rattle.ob0_run_machine.specs.Evaluation.{CallBound, Levels, innermost}
-use Rattle.ob0_run_machine.specs.Execution.{Progress, State, Written, activate, call, execute_all, finished, drop_variables, outermost, run, running, stopped, zeros}
+use Rattle.ob0_run_machine.specs.Execution.{MachineProgress, MachineState, OutputItem, activate, call, execute_all, finished, drop_variables, outermost, run, running, stopped, zeros}
 use Rattle.ob0_run_machine.specs.Levels.{levels_of}
-use Rattle.ob0_run_machine.specs.Lowered.{Procedure}
-use Rattle.ob0_run_machine.specs.Machines.{MachineDoes, Enters, Stops, Performs, Post, MachineSteps, activated, executed_all, items_out, state_of}
+use Rattle.ob0_run_machine.specs.Lowered.{Routine}
+use Rattle.ob0_run_machine.specs.Machines.{MachineDoes, Enters, StopsRun, Performs, Post, MachineSteps, activated, executed_all, items_out, state_of}
 use Rattle.ob0_run_machine.specs.declared.machine.Item.{Item}
 use Rattle.ob0_run_machine.specs.Lowered as lowered
 use Rattle.ob0_run_machine.specs.View.{program_of, sequence_of}
-use Rattle.ob0_run_machine.specs.declared.code.Statement.{Statement}
+use Rattle.ob0_run_machine.specs.declared.code.Instruction.{Instruction}
 use Rattle.ob0_run_machine.specs.Outcomes.{EndsAs, IsEndOf, block_run, end_in}
-use Rattle.ob0_run_machine.specs.declared.running.End.{End}
+use Rattle.ob0_run_machine.specs.declared.running.Halt.{Halt}
 use Rattle.std.specs.declared.alloc.AllocError.{AllocError}
 use Rattle.std.specs.Prelude.{slice_get}
 
-call-none : (ps : List Procedure) (c t k : ℕ) (ls : Levels) (s : State) → c ≡ 0 → call ps c t k ls s ≡ stopped CallBound s.output
+call-none : (ps : List Routine) (c t k : ℕ) (ls : Levels) (s : MachineState) → c ≡ 0 → call ps c t k ls s ≡ stopped CallBound s.output
 unfolding call
 call-none ps c t k ls s e = ap (λ c. call ps c t k ls s) e
 
@@ -29,57 +29,57 @@ one_less : (n : ℕ) → n ≢ 0 → n ≡ suc (n - 1)
 one_less zero h = absurd (h refl)
 one_less (suc n) h = omega arith
 
-call-goes : (ps : List Procedure) (c t k : ℕ) (ls : Levels) (s : State) → c ≢ 0 → call ps c t k ls s ≡ drop_variables (innermost ls).base (activate (call ps (c - 1) t) t ls (slice_get ps k) s)
+call-goes : (ps : List Routine) (c t k : ℕ) (ls : Levels) (s : MachineState) → c ≢ 0 → call ps c t k ls s ≡ drop_variables (innermost ls).base (activate (call ps (c - 1) t) t ls (slice_get ps k) s)
 unfolding call
 call-goes ps c t k ls s e = ap (λ c. call ps c t k ls s) (one_less c e)
 
-pub call_ends : (m : Machine) (program : Program) (c t k : ℕ) (l : level.Level) → c ≡ 0 → Enters (Err stop.CallBound) m m program c t k l
+pub call_ends : (m : Machine) (program : LoweredCode) (c t k : ℕ) (l : level.Level) → c ≡ 0 → Enters (Err stop.CallBound) m m program c t k l
 call_ends m program c t k l e = call-none (program_of program).procedures c t k (levels_of l) (state_of m) e
 
-module _ (m m₂ : Machine) (program : Program) (c t k : ℕ) (l : level.Level) (o : Option Procedure) (post : Post) (more : c ≢ 0) (found : o ≡ slice_get (program_of program).procedures k)
+module _ (m m₂ : Machine) (program : LoweredCode) (c t k : ℕ) (l : level.Level) (o : Option Routine) (post : Post) (more : c ≢ 0) (found : o ≡ slice_get (program_of program).procedures k)
     (performs : Performs post (call (program_of program).procedures (c - 1) t)) where
   goes : call (program_of program).procedures c t k (levels_of l) (state_of m) ≡ drop_variables (innermost (levels_of l)).base (activate (call (program_of program).procedures (c - 1) t) t (levels_of l) o (state_of m))
   goes = call-goes (program_of program).procedures c t k (levels_of l) (state_of m) more
       ∙ ap (λ o. drop_variables (innermost (levels_of l)).base (activate (call (program_of program).procedures (c - 1) t) t (levels_of l) o (state_of m))) (sym found)
 
-  dropped : (o : Option ending.End) (p : Progress) → Stops o m₂ p → Stops o m₂ (drop_variables (innermost (levels_of l)).base p)
+  dropped : (o : Option ending.Halt) (p : MachineProgress) → StopsRun o m₂ p → StopsRun o m₂ (drop_variables (innermost (levels_of l)).base p)
   dropped (Some x) p h = ap (drop_variables (innermost (levels_of l)).base) h
   dropped None p h = h
 
   pub call_fails : (e : Stop) → MachineDoes post (Err e) m m₂ (activated o t (levels_of l)) → Enters (Err e) m m₂ program c t k l
-  call_fails e d = subst (Stops (end_at e) m₂) (sym goes) (dropped (end_at e) _ (d.as_defined _ performs))
+  call_fails e d = subst (StopsRun (end_at e) m₂) (sym goes) (dropped (end_at e) _ (d.as_defined _ performs))
 
   pub call_returns : (m₃ : Machine) (u v : Unit {0}) → MachineDoes post (Ok u) m m₂ (activated o t (levels_of l)) → state_of m₃ ≡ record (state_of m₂) { cells = take (innermost (levels_of l)).base m₂.cells.items } → Enters (Ok v) m m₃ program c t k l
   call_returns m₃ u v d cut = goes ∙ ap (drop_variables (innermost (levels_of l)).base) (d.as_defined _ performs) ∙ ap running (sym cut)
 
 -- the body
-pub activates_none : {post : Post} {m : Machine} {o : Option Procedure} (u : Unit {0}) (t : ℕ) (ls : Levels) → o ≡ None → MachineDoes post (Ok u) m m (activated o t ls)
+pub activates_none : {post : Post} {m : Machine} {o : Option Routine} (u : Unit {0}) (t : ℕ) (ls : Levels) → o ≡ None → MachineDoes post (Ok u) m m (activated o t ls)
 unfolding activate
 activates_none {m = m} u t ls e = record { as_defined = λ enters p. ap (λ o. activate enters t ls o (state_of m)) e }
 
-activate-goes : (enters : _) (t : ℕ) (ls : Levels) (o : Option Procedure) (p : Procedure) (s : State) → o ≡ Some p → activate enters t ls o s ≡ execute_all enters t ls p.body (record s { cells = s.cells ++ zeros p.cells })
+activate-goes : (enters : _) (t : ℕ) (ls : Levels) (o : Option Routine) (p : Routine) (s : MachineState) → o ≡ Some p → activate enters t ls o s ≡ execute_all enters t ls p.body (record s { cells = s.cells ++ zeros p.cells })
 unfolding activate
 activate-goes enters t ls o p s e = ap (λ o. activate enters t ls o s) e
 
-pub activates : {post : Post} {r : Result (Unit {0}) Stop} {m m₂ m' : Machine} {o : Option Procedure} (t : ℕ) (ls : Levels) (p : Procedure) → o ≡ Some p → state_of m₂ ≡ record (state_of m) { cells = m.cells.items ++ zeros p.cells }
+pub activates : {post : Post} {r : Result (Unit {0}) Stop} {m m₂ m' : Machine} {o : Option Routine} (t : ℕ) (ls : Levels) (p : Routine) → o ≡ Some p → state_of m₂ ≡ record (state_of m) { cells = m.cells.items ++ zeros p.cells }
     → MachineDoes post r m₂ m' (executed_all t ls p.body) → MachineDoes post r m m' (activated o t ls)
 activates {r = r} {m = m} {m' = m'} {o = o} t ls p e more d = record {
   as_defined = λ enters performs.
       subst (MachineSteps r m') (sym (activate-goes enters t ls o p (state_of m) e ∙ ap (execute_all enters t ls p.body) (sym more))) (d.as_defined enters performs);
 }
 
-pub leaving_steps : (r : Result (Unit {0}) Stop) (e : Stop) (m : Machine) (p : Progress) → (y : Stop) × (r ≡ Err y) × (y ≡ e) → MachineSteps (Err e) m p → MachineSteps r m p
+pub leaving_steps : (r : Result (Unit {0}) Stop) (e : Stop) (m : Machine) (p : MachineProgress) → (y : Stop) × (r ≡ Err y) × (y ≡ e) → MachineSteps (Err e) m p → MachineSteps r m p
 leaving_steps r e m p q h = subst (λ r. MachineSteps r m p) (sym q.1) (subst (λ y. MachineSteps (Err y) m p) (sym q.2) h)
 
 -- the statements of a program
-pub block_runs : (m m' : Machine) (program : Program) (c t : ℕ) (r : Result (Unit {0}) Stop) (post : Post) (inner : Levels) (xs : List Statement) → Performs post (call (program_of program).procedures c t)
+pub block_runs : (m m' : Machine) (program : LoweredCode) (c t : ℕ) (r : Result (Unit {0}) Stop) (post : Post) (inner : Levels) (xs : List Instruction) → Performs post (call (program_of program).procedures c t)
     → inner ≡ outermost → xs ≡ program.body.items → MachineDoes post r m m' (executed_all t inner (sequence_of xs)) → MachineSteps r m' (block_run (program_of program) c t (state_of m))
 block_runs m m' program c t r post inner xs performs seen same d =
     subst (λ xs. MachineSteps r m' (executed_all t outermost (sequence_of xs) (call (program_of program).procedures c t) (state_of m))) same
     (subst (λ inner. MachineSteps r m' (executed_all t inner (sequence_of xs) (call (program_of program).procedures c t) (state_of m))) seen (d.as_defined _ performs))
 
 -- whole runs
-abbrev pub state_with : List ℤ → List ℤ → List Written → State
+abbrev pub state_with : List ℤ → List ℤ → List OutputItem → MachineState
 state_with cells input output = record { cells = cells; input = input; output = output }
 
 abbrev given : {A E : Type 0} → A → Result A E → A
@@ -89,17 +89,17 @@ given d (Err e) = d
 ok-same : {A E : Type 0} {a b : A} (r : Result A E) → r ≡ Ok a → r ≡ Ok b → a ≡ b
 ok-same {a = a} r h k = sym (ap (given a) h) ∙ ap (given a) k
 
-ended_at : (o : Option ending.End) (m : Machine) (p : Progress) (r : Result End AllocError) (end : End) → r ≡ Ok end → EndsAs o r → Stops o m p
+ended_at : (o : Option ending.Halt) (m : Machine) (p : MachineProgress) (r : Result Halt AllocError) (end : Halt) → r ≡ Ok end → EndsAs o r → StopsRun o m p
     → record { output = items_out m.output.items; ending = end_in end } ≡ finished p
 ended_at (Some e) m p r end is h steps = ap (λ e. record { output = items_out m.output.items; ending = e }) (ap end_in (ok-same r is h.1) ∙ h.2) ∙ sym (ap finished steps)
 ended_at None m p r end is h steps = let no = subst IsErr is h in absurd (cc)
 
-pub ended_by : (m : Machine) (p : Progress) (executed : Result (Unit {0}) Stop) (r : Result End AllocError) (end : End) → r ≡ Ok end → IsEndOf executed r → MachineSteps executed m p
+pub ended_by : (m : Machine) (p : MachineProgress) (executed : Result (Unit {0}) Stop) (r : Result Halt AllocError) (end : Halt) → r ≡ Ok end → IsEndOf executed r → MachineSteps executed m p
     → record { output = items_out m.output.items; ending = end_in end } ≡ finished p
 ended_by m p (Ok done) r end is h steps = ap (λ e. record { output = items_out m.output.items; ending = end_in e }) (ok-same r is h) ∙ sym (ap finished steps)
 ended_by m p (Err s) r end is h steps = ended_at (end_at s) m p r end is h steps
 
-pub finishes : (program : lowered.Program) (input : List ℤ) (c t : ℕ) (s : State) (p : Progress) → s ≡ record { cells = zeros program.cells; input = input; output = [] } → block_run program c t s ≡ p → finished p ≡ run program input c t
+pub finishes : (program : lowered.LoweredCode) (input : List ℤ) (c t : ℕ) (s : MachineState) (p : MachineProgress) → s ≡ record { cells = zeros program.cells; input = input; output = [] } → block_run program c t s ≡ p → finished p ≡ run program input c t
 unfolding run
 finishes program input c t s p begun h = sym (ap finished h) ∙ ap (λ s. finished (block_run program c t s)) begun
 

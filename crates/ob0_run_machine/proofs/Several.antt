@@ -4,14 +4,14 @@ use Rattle.std.proofs.lemmas.List.{drop_all, drop_more}
 use Rattle.ob0_run_machine.specs.declared.code.Several.{out-Several}
 use Rattle.ob0_run_machine.specs.declared.code.Truth.{Truth, All, Any, Row_of-Truth, end_of-Truth, more_of-Truth, items-the_row-Truth, items_hidden-the_row-Truth-0}
 use Rattle.ob0_run_machine.specs.declared.code.Truth.TheBlock.{hidden-the_row-Truth-0}
-use Rattle.ob0_run_machine.specs.Evaluation.{Levels, Outcome, gives, truth, ◌>>=◌}
+use Rattle.ob0_run_machine.specs.Evaluation.{Levels, StepResult, gives, truth, ◌>>=◌}
 use Rattle.ob0_run_machine.specs.Lowered as lowered
 use Rattle.ob0_run_machine.specs.View.{all_from, all_in, all_of, any_from, any_in, any_of, truth_of}
 use Rattle.ob0_run_machine.proofs.Chains.{bind_assoc, bind_gives}
 
 -- what a truth becomes by one more
 abbrev pub Joining : Type 0
-Joining = Bool → Outcome Bool → Outcome Bool
+Joining = Bool → StepResult Bool → StepResult Bool
 
 abbrev pub with_and : Joining
 with_and a o = if a then o else gives false
@@ -20,7 +20,7 @@ abbrev pub with_or : Joining
 with_or a o = if a then gives true else o
 
 -- what a truth becomes by those that are left
-abbrev pub joined : Joining → Levels → List ℤ → List Truth → Bool → Outcome Bool
+abbrev pub joined : Joining → Levels → List ℤ → List Truth → Bool → StepResult Bool
 joined join ls cells [] a = gives a
 joined join ls cells (t ∷ ts) a = join a (truth ls cells (truth_of t)) >>= joined join ls cells ts
 
@@ -35,28 +35,28 @@ any_joined ls cells left (t ∷ ts) = any_joined ls cells (lowered.either left (
     ∙ bind_assoc (truth ls cells left) (λ a. with_or a (truth ls cells (truth_of t))) (joined with_or ls cells ts)
 
 -- what was joined so far, with what is left, is the whole
-pub record Joined (join : Joining) (ls : Levels) (cells : List ℤ) (whole : Outcome Bool) (ts : List Truth) (done : ℕ) (left : Bool) : Type 0 where
+pub record Joined (join : Joining) (ls : Levels) (cells : List ℤ) (whole : StepResult Bool) (ts : List Truth) (done : ℕ) (left : Bool) : Type 0 where
   pub so_far : whole ≡ joined join ls cells (drop done ts) left
 
-pub all_fails : (ls : Levels) (cells : List ℤ) (first : lowered.Truth) (ts : List Truth) (o : Outcome Bool) → o ≡ truth ls cells first → (o >>= joined with_and ls cells ts) ≡ truth ls cells (all_from first ts)
+pub all_fails : (ls : Levels) (cells : List ℤ) (first : lowered.Truth) (ts : List Truth) (o : StepResult Bool) → o ≡ truth ls cells first → (o >>= joined with_and ls cells ts) ≡ truth ls cells (all_from first ts)
 all_fails ls cells first ts o h = ap (λ o. o >>= joined with_and ls cells ts) h ∙ sym (all_joined ls cells first ts)
 
-pub any_fails : (ls : Levels) (cells : List ℤ) (first : lowered.Truth) (ts : List Truth) (o : Outcome Bool) → o ≡ truth ls cells first → (o >>= joined with_or ls cells ts) ≡ truth ls cells (any_from first ts)
+pub any_fails : (ls : Levels) (cells : List ℤ) (first : lowered.Truth) (ts : List Truth) (o : StepResult Bool) → o ≡ truth ls cells first → (o >>= joined with_or ls cells ts) ≡ truth ls cells (any_from first ts)
 any_fails ls cells first ts o h = ap (λ o. o >>= joined with_or ls cells ts) h ∙ sym (any_joined ls cells first ts)
 
-pub joined_goes : {join : Joining} {ls : Levels} {cells : List ℤ} {whole : Outcome Bool} {ts : List Truth} {done : ℕ} {left : Bool} (t : Truth) (o : Outcome Bool)
+pub joined_goes : {join : Joining} {ls : Levels} {cells : List ℤ} {whole : StepResult Bool} {ts : List Truth} {done : ℕ} {left : Bool} (t : Truth) (o : StepResult Bool)
     → Joined join ls cells whole ts done left → done < length ts → t ≡ get_or ts done t → o ≡ join left (truth ls cells (truth_of t))
     → whole ≡ (o >>= joined join ls cells (drop (done + 1) ts))
 joined_goes {join = join} {ls = ls} {cells = cells} {ts = ts} {done = done} {left = left} t o c less is h =
     let split : drop done ts ≡ t ∷ drop (done + 1) ts = drop_more ts done t less ∙ ap (λ z. z ∷ drop (done + 1) ts) (sym is) in
     c.so_far ∙ ap (λ us. joined join ls cells us left) split ∙ ap (λ o. o >>= joined join ls cells (drop (done + 1) ts)) (sym h)
 
-pub joined_on : {join : Joining} {ls : Levels} {cells : List ℤ} {whole : Outcome Bool} {ts : List Truth} {done : ℕ} {left : Bool} (t : Truth) (b : Bool)
+pub joined_on : {join : Joining} {ls : Levels} {cells : List ℤ} {whole : StepResult Bool} {ts : List Truth} {done : ℕ} {left : Bool} (t : Truth) (b : Bool)
     → Joined join ls cells whole ts done left → done < length ts → t ≡ get_or ts done t → gives b ≡ join left (truth ls cells (truth_of t))
     → Joined join ls cells whole ts (done + 1) b
 joined_on t b c less is h = record { so_far = joined_goes t (gives b) c less is h }
 
-pub joined_ends : {join : Joining} {ls : Levels} {cells : List ℤ} {whole : Outcome Bool} {ts : List Truth} {done : ℕ} {left : Bool} → Joined join ls cells whole ts done left → length ts ≤ done → gives left ≡ whole
+pub joined_ends : {join : Joining} {ls : Levels} {cells : List ℤ} {whole : StepResult Bool} {ts : List Truth} {done : ℕ} {left : Bool} → Joined join ls cells whole ts done left → length ts ≤ done → gives left ≡ whole
 joined_ends {join = join} {ls = ls} {cells = cells} {ts = ts} {done = done} {left = left} c all = sym (c.so_far ∙ ap (λ us. joined join ls cells us left) (drop_all done ts all))
 
 all_listed : (n : _) (row : Row_of-Truth n) (left : lowered.Truth) → all_of row left ≡ all_from left (items-the_row-Truth n row)

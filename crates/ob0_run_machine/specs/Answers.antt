@@ -6,7 +6,7 @@ use Rattle.ob0_run_machine.specs.declared.ending.Ending.TheVariants as ending
 use Rattle.ob0_run_machine.specs.declared.ending.Stop.{Stop}
 use Rattle.ob0_run_machine.specs.declared.ending.Stop.TheVariants as stop
 use Rattle.ob0_run_machine.specs.Evaluation as evaluation
-use Rattle.ob0_run_machine.specs.Evaluation.{End, Levels, Outcome, ends, gives, number, operate, ◌>>=◌}
+use Rattle.ob0_run_machine.specs.Evaluation.{Halt, Levels, StepResult, ends, gives, number, operate, ◌>>=◌}
 use Rattle.ob0_run_machine.specs.declared.code.Link.{Link}
 use Rattle.ob0_run_machine.specs.declared.evaluated.Evaluated.{Evaluated}
 use Rattle.ob0_run_machine.specs.declared.evaluated.Evaluated.TheVariants as evaluated
@@ -14,7 +14,7 @@ use Rattle.ob0_run_machine.specs.Lowered.{literal}
 use Rattle.ob0_run_machine.specs.View.{applied}
 
 -- how a run ends
-abbrev pub end_of : Ending → End
+abbrev pub end_of : Ending → Halt
 end_of ending.Overflow = evaluation.Overflow
 end_of ending.Divisor = evaluation.Divisor
 end_of ending.Index = evaluation.Index
@@ -23,7 +23,7 @@ end_of ending.CallBound = evaluation.CallBound
 end_of ending.TurnBound = evaluation.TurnBound
 
 -- the end of a run at a step that gives nothing; none where an allocation failed
-abbrev pub end_at : Stop → Option End
+abbrev pub end_at : Stop → Option Halt
 end_at stop.Overflow = Some evaluation.Overflow
 end_at stop.Divisor = Some evaluation.Divisor
 end_at stop.Index = Some evaluation.Index
@@ -33,12 +33,12 @@ end_at stop.TurnBound = Some evaluation.TurnBound
 end_at stop.Memory = None
 
 -- an answer is what a step gives or how it ends the run
-abbrev pub outcome_of_result : {A : Type 0} → Result A Ending → Outcome A
+abbrev pub outcome_of_result : {A : Type 0} → Result A Ending → StepResult A
 outcome_of_result (Ok a) = gives a
 outcome_of_result (Err e) = ends (end_of e)
 
 -- the same of an evaluation
-abbrev pub outcome_of : {A : Type 0} → Evaluated A → Outcome A
+abbrev pub outcome_of : {A : Type 0} → Evaluated A → StepResult A
 outcome_of (evaluated.Value a) = gives a
 outcome_of evaluated.Overflow = ends evaluation.Overflow
 outcome_of evaluated.Divisor = ends evaluation.Divisor
@@ -48,10 +48,10 @@ outcome_of evaluated.CallBound = ends evaluation.CallBound
 outcome_of evaluated.TurnBound = ends evaluation.TurnBound
 
 -- a number that is there is given, one that isn't is past the 32 bits
-abbrev pub if_there : Option ℤ → Outcome ℤ
+abbrev pub if_there : Option ℤ → StepResult ℤ
 if_there None = ends evaluation.Overflow
 if_there (Some n) = gives n
 
 -- a number with one operation more
-abbrev pub linked : Levels → List ℤ → Link → ℤ → Outcome ℤ
+abbrev pub linked : Levels → List ℤ → Link → ℤ → StepResult ℤ
 linked ls cells l left = number ls cells (applied l (literal left))

@@ -1,20 +1,20 @@
 -- The value of places, numbers and truths of lowered code, in activations and over cells.
 -- Rule: none; for contracts of the machine: what lowered expressions mean, by the rules of docs/LANGUAGE.md, Runs 2 to 4.
 use Rattle.std.specs.Prelude.{ℕ, zero, suc, ◌+◌, ◌-◌, ◌*◌, ◌/◌, ◌%◌, ◌^◌, Bool, true, false, not, ◌&&◌, List, [], ◌∷◌, ℤ, pos, negsuc, ◌+ℤ◌, ◌-ℤ◌, ◌*ℤ◌, neg_ℤ, if◌then◌else◌, nat_lt, slice_index_or, int_lt, int_le, drop}
-use Rattle.ob0_run_machine.specs.Lowered.{Place, in_module, here, outside, passed, element, part, Number, literal, cell, negative, operation, Operator, sum, difference, product, quotient, remainder, Relation, equal, not_equal, less, less_equal, greater, greater_equal, Truth, constant, flag, negation, both, either, related, same, different}
+use Rattle.ob0_run_machine.specs.Lowered.{Place, in_module, here, outside, passed, element, part, Number, literal, cell, negative, operation, Operator, sum, difference, product, quotient, remainder, Comparator, equal, not_equal, less, less_equal, greater, greater_equal, Truth, constant, flag, negation, both, either, related, same, different}
 
 infixl 20 ◌>>=◌
 -- how a run ends
-pub data End : Type 0 where
-  Done Overflow Divisor Index InputEnd CallBound TurnBound : End
+pub data Halt : Type 0 where
+  Done Overflow Divisor Index InputEnd CallBound TurnBound : Halt
 
 -- a step of a run gives something, or it ends the run
-pub data Outcome (A : Type 0) : Type 0 where
-  gives : A → Outcome A
-  ends : End → Outcome A
+pub data StepResult (A : Type 0) : Type 0 where
+  gives : A → StepResult A
+  ends : Halt → StepResult A
 
 -- one evaluation after another: an end of the first is the end of both
-abbrev pub ◌>>=◌ : {A B : Type 0} → Outcome A → (A → Outcome B) → Outcome B
+abbrev pub ◌>>=◌ : {A B : Type 0} → StepResult A → (A → StepResult B) → StepResult B
 ◌>>=◌ (gives a) next = next a
 ◌>>=◌ (ends e) next = ends e
 
@@ -41,7 +41,7 @@ abbrev pub forward : ℕ → ℕ → ℕ
 forward address offset = (address + offset) % 2 ^ 64
 
 -- an element of an array is there for an index from 0 on and below the length
-abbrev pub element_at : ℕ → ℕ → ℕ → ℤ → Outcome ℕ
+abbrev pub element_at : ℕ → ℕ → ℕ → ℤ → StepResult ℕ
 element_at address length stride (pos i) =
     if nat_lt i length then gives (forward address (i * stride)) else ends Index
 element_at address length stride (negsuc i) = ends Index
@@ -56,7 +56,7 @@ fits (pos n) = nat_lt n (2 ^ 31)
 fits (negsuc n) = nat_lt n (2 ^ 31)
 
 -- a result of 32 bits, or Overflow
-abbrev pub in_range : ℤ → Outcome ℤ
+abbrev pub in_range : ℤ → StepResult ℤ
 in_range n = if fits n then gives n else ends Overflow
 
 -- DIV rounds down and MOD is the rest from 0 on, for a divisor above 0
@@ -70,13 +70,13 @@ remainder_of (pos a) b = pos (a % b)
 remainder_of (negsuc a) b = pos (b - suc (a % b))
 
 -- by a divisor below 1 nothing is divided
-abbrev pub divided_by : (ℤ → ℕ → ℤ) → ℤ → ℤ → Outcome ℤ
+abbrev pub divided_by : (ℤ → ℕ → ℤ) → ℤ → ℤ → StepResult ℤ
 divided_by result a (pos zero) = ends Divisor
 divided_by result a (pos (suc b)) = in_range (result a (suc b))
 divided_by result a (negsuc b) = ends Divisor
 
 -- an operator on two numbers
-abbrev pub operate : Operator → ℤ → ℤ → Outcome ℤ
+abbrev pub operate : Operator → ℤ → ℤ → StepResult ℤ
 operate sum a b = in_range (a +ℤ b)
 operate difference a b = in_range (a -ℤ b)
 operate product a b = in_range (a *ℤ b)
@@ -84,7 +84,7 @@ operate quotient a b = divided_by quotient_of a b
 operate remainder a b = divided_by remainder_of a b
 
 abbrev mutual
-  pub address : Levels → List ℤ → Place → Outcome ℕ
+  pub address : Levels → List ℤ → Place → StepResult ℕ
   address ls cells (in_module offset) = gives offset
   address ls cells (here offset) = gives (forward (innermost ls).base offset)
   address ls cells (outside up offset) = gives (forward (level_at ls up).base offset)
@@ -93,14 +93,14 @@ abbrev mutual
       address ls cells p >>= (λ a. number ls cells i >>= element_at a length stride)
   address ls cells (part p offset) = address ls cells p >>= (λ a. gives (forward a offset))
 
-  pub number : Levels → List ℤ → Number → Outcome ℤ
+  pub number : Levels → List ℤ → Number → StepResult ℤ
   number ls cells (literal n) = gives n
   number ls cells (cell p) = address ls cells p >>= (λ a. gives (cell_at cells a))
   number ls cells (negative n) = number ls cells n >>= (λ a. in_range (neg_ℤ a))
   number ls cells (operation o m n) = number ls cells m >>= (λ a. number ls cells n >>= operate o a)
 
 -- a relation between two numbers
-abbrev pub compare : Relation → ℤ → ℤ → Bool
+abbrev pub compare : Comparator → ℤ → ℤ → Bool
 compare equal a b = int_le a b && int_le b a
 compare not_equal a b = not (int_le a b && int_le b a)
 compare less a b = int_lt a b
@@ -125,7 +125,7 @@ alike true b = b
 alike false b = not b
 
 -- the value of a truth
-abbrev pub truth : Levels → List ℤ → Truth → Outcome Bool
+abbrev pub truth : Levels → List ℤ → Truth → StepResult Bool
 truth ls cells (constant b) = gives b
 truth ls cells (flag p) = address ls cells p >>= (λ a. gives (is_true (cell_at cells a)))
 truth ls cells (negation t) = truth ls cells t >>= (λ a. gives (not a))

@@ -2,47 +2,47 @@
 -- rest of the input, and bounds c on open calls and t on the turns of a loop.
 -- Rule: none; for contracts of the machine: what lowered statements mean, by the rules of docs/LANGUAGE.md, Runs 5 to 10.
 use Rattle.std.specs.Prelude.{ℕ, zero, suc, ◌+◌, ◌-◌, Bool, true, false, ◌&&◌, List, [], ◌∷◌, ◌++◌, length, take, drop, replicate, ℤ, pos, Some, None, Option, if◌then◌else◌, nat_le, slice_get, slice_set}
-use Rattle.ob0_run_machine.specs.Lowered.{Argument, by_place, by_number, by_truth, by_block, Statement, stores_number, stores_truth, copies, reads, writes, writes_line, chooses, while_loop, repeat_loop, calls, Statements, no_statement, before, Branches, no_branch, branch, Procedure, Program}
-use Rattle.ob0_run_machine.specs.Evaluation.{CallBound, Done, End, InputEnd, Outcome, Levels, TurnBound, address, as_cell, ends, gives, innermost, number, truth, ◌>>=◌}
+use Rattle.ob0_run_machine.specs.Lowered.{LoweredArgument, by_place, by_number, by_truth, by_block, Instruction, stores_number, stores_truth, copies, reads, writes, writes_line, chooses, while_loop, repeat_loop, calls, Instructions, no_statement, before, Branches, no_branch, branch, Routine, LoweredCode}
+use Rattle.ob0_run_machine.specs.Evaluation.{CallBound, Done, Halt, InputEnd, StepResult, Levels, TurnBound, address, as_cell, ends, gives, innermost, number, truth, ◌>>=◌}
 
 -- an item of output
-pub data Written : Type 0 where
-  number_out : ℤ → Written
-  line_out : Written
+pub data OutputItem : Type 0 where
+  number_out : ℤ → OutputItem
+  line_out : OutputItem
 
 -- the cells of all variables, those of the module first
-pub record State : Type 0 where
+pub record MachineState : Type 0 where
   pub cells : List ℤ
   pub input : List ℤ
-  pub output : List Written
+  pub output : List OutputItem
 
 -- a run goes on, or it has ended; what was output before remains
-pub data Progress : Type 0 where
-  running : State → Progress
-  stopped : End → List Written → Progress
+pub data MachineProgress : Type 0 where
+  running : MachineState → MachineProgress
+  stopped : Halt → List OutputItem → MachineProgress
 
 -- what an evaluation gives, used in a state
-abbrev pub use_in : {A : Type 0} → State → Outcome A → (A → Progress) → Progress
+abbrev pub use_in : {A : Type 0} → MachineState → StepResult A → (A → MachineProgress) → MachineProgress
 use_in s (gives a) next = next a
 use_in s (ends e) next = stopped e s.output
 
 -- a run that goes on is continued; one that has ended stays so
-abbrev pub continue_with : Progress → (State → Progress) → Progress
+abbrev pub continue_with : MachineProgress → (MachineState → MachineProgress) → MachineProgress
 continue_with (running s) next = next s
 continue_with (stopped e out) next = stopped e out
 
 -- one of two ways, by a condition
-abbrev pub choose : State → Outcome Bool → (State → Progress) → (State → Progress) → Progress
+abbrev pub choose : MachineState → StepResult Bool → (MachineState → MachineProgress) → (MachineState → MachineProgress) → MachineProgress
 choose s (gives true) when_true when_false = when_true s
 choose s (gives false) when_true when_false = when_false s
 choose s (ends e) when_true when_false = stopped e s.output
 
 -- the state with one more item of output
-abbrev pub append_output : State → Written → State
+abbrev pub append_output : MachineState → OutputItem → MachineState
 append_output s i = record s { output = s.output ++ i ∷ [] }
 
 -- a cell that isn't there stays so
-abbrev pub store_at : State → ℕ → ℤ → State
+abbrev pub store_at : MachineState → ℕ → ℤ → MachineState
 store_at s a n = record s { cells = slice_set s.cells a n }
 
 -- so many cells from one address go to another, where both are there; else nothing changes
@@ -62,7 +62,7 @@ block_at cells from n =
     if nat_le (from + n) (length cells) then take n (drop from cells) else zeros n
 
 -- `Read` takes the next number of the input, or ends with InputEnd
-abbrev pub read_number : State → ℕ → List ℤ → Progress
+abbrev pub read_number : MachineState → ℕ → List ℤ → MachineProgress
 read_number s a [] = stopped InputEnd s.output
 read_number s a (n ∷ rest) = running (store_at (record s { input = rest }) a n)
 
@@ -76,7 +76,7 @@ abbrev pub pass_cells : Passed → List ℤ → Passed
 pass_cells p more = record p { cells = p.cells ++ more }
 
 -- an argument is passed: a VAR parameter's address, or cells
-abbrev pub pass : Levels → Argument → Passed → Outcome Passed
+abbrev pub pass : Levels → LoweredArgument → Passed → StepResult Passed
 pass ls (by_place p) done =
     address ls done.cells p >>= (λ a. gives record done { addresses = done.addresses ++ a ∷ [] })
 pass ls (by_number n) done = number ls done.cells n >>= (λ a. gives (pass_cells done (a ∷ [])))
@@ -86,12 +86,12 @@ pass ls (by_block p n) done =
     address ls done.cells p >>= (λ a. gives (pass_cells done (block_at done.cells a n)))
 
 -- arguments are evaluated and passed from left to right
-abbrev pub pass_all : Levels → List Argument → Passed → Outcome Passed
+abbrev pub pass_all : Levels → List LoweredArgument → Passed → StepResult Passed
 pass_all ls [] done = gives done
 pass_all ls (a ∷ as_given) done = pass ls a done >>= pass_all ls as_given
 
 -- a loop evaluates its condition; where it is TRUE and t turns were made, it ends with TurnBound; else one more turn is made
-abbrev pub turns : ℕ → (State → Outcome Bool) → (State → Progress) → State → Progress
+abbrev pub turns : ℕ → (MachineState → StepResult Bool) → (MachineState → MachineProgress) → MachineState → MachineProgress
 turns zero condition statements s =
     choose s (condition s) (λ s'. stopped TurnBound s'.output) running
 turns (suc t) condition statements s =
@@ -100,7 +100,7 @@ turns (suc t) condition statements s =
 
 -- REPEAT makes a turn and then evaluates its condition: TRUE ends the statement; FALSE ends it with TurnBound where no more
 -- turns may be made, t more after this one; else one more turn is made
-abbrev pub turns_until : ℕ → (State → Outcome Bool) → (State → Progress) → State → Progress
+abbrev pub turns_until : ℕ → (MachineState → StepResult Bool) → (MachineState → MachineProgress) → MachineState → MachineProgress
 turns_until zero condition turn s =
     continue_with (turn s)
     (λ s'. choose s' (condition s') running (λ s''. stopped TurnBound s''.output))
@@ -108,8 +108,8 @@ turns_until (suc t) condition turn s =
     continue_with (turn s) (λ s'. choose s' (condition s') running (turns_until t condition turn))
 
 -- what a procedure does where it is called: the activations that its body sees, its own first, whose arguments are passed
-abbrev pub Calls : Type 0
-Calls = ℕ → Levels → State → Progress
+abbrev pub CallEffect : Type 0
+CallEffect = ℕ → Levels → MachineState → MachineProgress
 
 -- the activations that a called procedure sees
 abbrev pub entered : Levels → (base up : ℕ) → Passed → Levels
@@ -117,7 +117,7 @@ entered ls base up p = record { base = base; addresses = p.addresses } ∷ drop 
 
 -- an assignment finds its place, then evaluates its right side, then stores
 unfoldable mutual
-  pub execute : Calls → ℕ → Levels → Statement → State → Progress
+  pub execute : CallEffect → ℕ → Levels → Instruction → MachineState → MachineProgress
   execute enter t ls (stores_number p n) s =
       use_in s (address ls s.cells p)
       (λ a. use_in s (number ls s.cells n) (λ v. running (store_at s a v)))
@@ -141,31 +141,31 @@ unfoldable mutual
       use_in s (pass_all ls args record { cells = s.cells; addresses = [] })
       (λ p. enter k (entered ls (length s.cells) up p) record s { cells = p.cells })
 
-  pub execute_all : Calls → ℕ → Levels → Statements → State → Progress
+  pub execute_all : CallEffect → ℕ → Levels → Instructions → MachineState → MachineProgress
   execute_all enter t ls no_statement s = running s
   execute_all enter t ls (before a rest) s =
       continue_with (execute enter t ls a s) (execute_all enter t ls rest)
 
-  pub execute_branches : Calls → ℕ → Levels → Branches → (State → Progress) → State → Progress
+  pub execute_branches : CallEffect → ℕ → Levels → Branches → (MachineState → MachineProgress) → MachineState → MachineProgress
   execute_branches enter t ls no_branch otherwise s = otherwise s
   execute_branches enter t ls (branch c body rest) otherwise s =
       choose s (truth ls s.cells c) (execute_all enter t ls body)
       (execute_branches enter t ls rest otherwise)
 
 -- a call that returns drops its cells: the first n stay
-abbrev pub drop_variables : ℕ → Progress → Progress
+abbrev pub drop_variables : ℕ → MachineProgress → MachineProgress
 drop_variables n (running s) = running record s { cells = take n s.cells }
 drop_variables n (stopped e out) = stopped e out
 
 -- the body of a procedure runs with its own cells after its arguments; what isn't there does nothing
-unfoldable pub activate : Calls → ℕ → Levels → Option Procedure → State → Progress
+unfoldable pub activate : CallEffect → ℕ → Levels → Option Routine → MachineState → MachineProgress
 unfolding execute_all
 activate enter t ls None s = running s
 activate enter t ls (Some p) s =
     execute_all enter t ls p.body record s { cells = s.cells ++ zeros p.cells }
 
 -- calls, of which c more may be open
-unfoldable pub call : List Procedure → ℕ → ℕ → Calls
+unfoldable pub call : List Routine → ℕ → ℕ → CallEffect
 unfolding activate
 call procedures zero t k ls s = stopped CallBound s.output
 call procedures (suc c) t k ls s =
@@ -173,12 +173,12 @@ call procedures (suc c) t k ls s =
     (activate (call procedures c t) t ls (slice_get procedures k) s)
 
 -- the output and the end of a run
-pub record Run : Type 0 where
-  pub output : List Written
-  pub ending : End
+pub record MachineRun : Type 0 where
+  pub output : List OutputItem
+  pub ending : Halt
 
 -- a run that reaches the end of the program ends with Done
-abbrev pub finished : Progress → Run
+abbrev pub finished : MachineProgress → MachineRun
 finished (running s) = record { output = s.output; ending = Done }
 finished (stopped e out) = record { output = out; ending = e }
 
@@ -187,7 +187,7 @@ abbrev pub outermost : Levels
 outermost = record { base = 0; addresses = [] } ∷ []
 
 -- the run of a program on an input
-unfoldable pub run : Program → List ℤ → ℕ → ℕ → Run
+unfoldable pub run : LoweredCode → List ℤ → ℕ → ℕ → MachineRun
 unfolding execute_all call
 run program input c t =
     finished (execute_all (call program.procedures c t) t outermost program.body record

@@ -30,8 +30,8 @@ mutual
     operation : Operator → Number → Number → Number
 
 -- the relations of numbers
-pub data Relation : Type 0 where
-  equal not_equal less less_equal greater greater_equal : Relation
+pub data Comparator : Type 0 where
+  equal not_equal less less_equal greater greater_equal : Comparator
 
 -- truth values
 pub data Truth : Type 0 where
@@ -39,47 +39,47 @@ pub data Truth : Type 0 where
   flag : Place → Truth
   negation : Truth → Truth
   both either : Truth → Truth → Truth
-  related : Relation → Number → Number → Truth
+  related : Comparator → Number → Number → Truth
   same different : Truth → Truth → Truth
 
 -- a place for a VAR parameter, a value for another: a number, a truth, or the cells of an array or a record
-pub data Argument : Type 0 where
-  by_place : Place → Argument
-  by_number : Number → Argument
-  by_truth : Truth → Argument
-  by_block : Place → (cells : ℕ) → Argument
+pub data LoweredArgument : Type 0 where
+  by_place : Place → LoweredArgument
+  by_number : Number → LoweredArgument
+  by_truth : Truth → LoweredArgument
+  by_block : Place → (cells : ℕ) → LoweredArgument
 
 mutual
-  pub data Statement : Type 0 where
-    stores_number : Place → Number → Statement
-    stores_truth : Place → Truth → Statement
+  pub data Instruction : Type 0 where
+    stores_number : Place → Number → Instruction
+    stores_truth : Place → Truth → Instruction
     -- so many cells from the second place go to the first
-    copies : Place → Place → (cells : ℕ) → Statement
-    reads : Place → Statement
-    writes : Number → Statement
-    writes_line : Statement
+    copies : Place → Place → (cells : ℕ) → Instruction
+    reads : Place → Instruction
+    writes : Number → Instruction
+    writes_line : Instruction
     -- IF and its ELSIF parts, and what is executed where no condition is TRUE
-    chooses : Branches → Statements → Statement
-    while_loop : Truth → Statements → Statement
-    repeat_loop : Statements → Truth → Statement
+    chooses : Branches → Instructions → Instruction
+    while_loop : Truth → Instructions → Instruction
+    repeat_loop : Instructions → Truth → Instruction
     -- of a procedure that is declared in the activation so many levels out
-    calls : (procedure up : ℕ) → List Argument → Statement
+    calls : (procedure up : ℕ) → List LoweredArgument → Instruction
 
-  pub data Statements : Type 0 where
-    no_statement : Statements
-    before : Statement → Statements → Statements
+  pub data Instructions : Type 0 where
+    no_statement : Instructions
+    before : Instruction → Instructions → Instructions
 
   pub data Branches : Type 0 where
     no_branch : Branches
-    branch : Truth → Statements → Branches → Branches
+    branch : Truth → Instructions → Branches → Branches
 
 -- a procedure has so many cells beside those of its parameters
-pub record Procedure : Type 0 where
+pub record Routine : Type 0 where
   pub cells : ℕ
-  pub body : Statements
+  pub body : Instructions
 
 -- a module has so many cells of its own
-pub record Program : Type 0 where
+pub record LoweredCode : Type 0 where
   pub cells : ℕ
-  pub body : Statements
-  pub procedures : List Procedure
+  pub body : Instructions
+  pub procedures : List Routine

@@ -12,48 +12,48 @@ use Rattle.ob0_run_machine.specs.declared.machine.Machine.{Machine}
 use Rattle.ob0_run_machine.specs.declared.memory.Memory.{Memory}
 use Rattle.ob0_run_machine.specs.Allocations.{has_failed}
 use Rattle.ob0_run_machine.specs.Answers.{end_at, end_of}
-use Rattle.ob0_run_machine.specs.Evaluation.{End, Levels, Outcome, ends, gives}
-use Rattle.ob0_run_machine.specs.Execution.{Calls, Passed, Progress, State, Written, activate, call, entered, execute, execute_all, line_out, number_out, running, stopped}
+use Rattle.ob0_run_machine.specs.Evaluation.{Halt, Levels, StepResult, ends, gives}
+use Rattle.ob0_run_machine.specs.Execution.{CallEffect, Passed, MachineProgress, MachineState, OutputItem, activate, call, entered, execute, execute_all, line_out, number_out, running, stopped}
 use Rattle.ob0_run_machine.specs.Levels.{levels_of}
-use Rattle.ob0_run_machine.specs.Lowered.{Procedure, Statement, Statements}
+use Rattle.ob0_run_machine.specs.Lowered.{Routine, Instruction, Instructions}
 use Rattle.ob0_run_machine.specs.View.{program_of}
-use Rattle.ob0_run_machine.specs.declared.code.Program.{Program}
+use Rattle.ob0_run_machine.specs.declared.code.LoweredCode.{LoweredCode}
 
 -- an item of output of the code
-abbrev pub item_of : Item → Written
+abbrev pub item_of : Item → OutputItem
 item_of (item.Number n) = number_out n
 item_of item.Line = line_out
 
 -- the output of the code
-abbrev pub items_out : List Item → List Written
+abbrev pub items_out : List Item → List OutputItem
 items_out = map item_of
 
 -- the state of a machine
-abbrev pub state_of : Machine → State
+abbrev pub state_of : Machine → MachineState
 state_of m =
     record { cells = m.cells.items; input = m.input.now; output = items_out m.output.items }
 
 -- a step that takes no memory goes on in the state that it leaves, or ends the run with what was output
-abbrev pub moved : Result (Unit {0}) Ending → Machine → Progress
+abbrev pub moved : Result (Unit {0}) Ending → Machine → MachineProgress
 moved (Ok done) m = running (state_of m)
 moved (Err e) m = stopped (end_of e) (items_out m.output.items)
 
 -- a step that gives nothing ends the run with what was output; it ends nothing only where an allocation has failed
-abbrev pub Stops : Option End → Machine → Progress → Type 0
-Stops (Some e) m p = p ≡ stopped e (items_out m.output.items)
-Stops None m p = has_failed m.memory ≡ true
+abbrev pub StopsRun : Option Halt → Machine → MachineProgress → Type 0
+StopsRun (Some e) m p = p ≡ stopped e (items_out m.output.items)
+StopsRun None m p = has_failed m.memory ≡ true
 
 -- the same of any step
-abbrev pub MachineSteps : Result (Unit {0}) Stop → Machine → Progress → Type 0
+abbrev pub MachineSteps : Result (Unit {0}) Stop → Machine → MachineProgress → Type 0
 MachineSteps (Ok done) m p = p ≡ running (state_of m)
-MachineSteps (Err s) m p = Stops (end_at s) m p
+MachineSteps (Err s) m p = StopsRun (end_at s) m p
 
 -- what a closure that performs calls does: the machine before it, the procedure, the activation, its answer and the machine after it
 abbrev pub Post : Type 1
 Post = MutBor Machine → ℕ → Bor level.Level → Result (Unit {0}) Stop → MutBor Machine → Type 0
 
 -- calls do what `enters` says
-abbrev pub Performs : Post → Calls → Type 0
+abbrev pub Performs : Post → CallEffect → Type 0
 Performs post enters =
     (at : MutBor Machine) (k : ℕ) (l : Bor level.Level) (r : Result (Unit {0}) Stop)
     (after : MutBor Machine)
@@ -61,19 +61,19 @@ Performs post enters =
 
 -- what a part of a program does, by what calls do
 abbrev pub Doing : Type 0
-Doing = Calls → State → Progress
+Doing = CallEffect → MachineState → MachineProgress
 
 -- what a statement does
-abbrev pub executed : ℕ → Levels → Statement → Doing
+abbrev pub executed : ℕ → Levels → Instruction → Doing
 executed t ls a enters s = execute enters t ls a s
 
 -- what statements do
-abbrev pub executed_all : ℕ → Levels → Statements → Doing
+abbrev pub executed_all : ℕ → Levels → Instructions → Doing
 executed_all t ls as_listed enters s = execute_all enters t ls as_listed s
 
 -- a step of the machine does what `doing` says, where calls do what they say
 pub record MachineDoes (post : Post) (r : Result (Unit {0}) Stop) (m m' : Machine) (doing : Doing) : Type 0 where
-  pub as_defined : (enters : Calls)
+  pub as_defined : (enters : CallEffect)
       → Performs post enters
       → MachineSteps r m' (doing enters (state_of m))
 
@@ -87,24 +87,24 @@ entering k up ls base addresses enters s =
     enters k (entered ls base up (passed_in s.cells addresses)) s
 
 -- arguments that can't be passed end the run; they end nothing only where an allocation has failed
-abbrev pub StopsPassing : Option End → Memory → Outcome Passed → Type 0
+abbrev pub StopsPassing : Option Halt → Memory → StepResult Passed → Type 0
 StopsPassing (Some e) memory o = o ≡ ends e
 StopsPassing None memory o = has_failed memory ≡ true
 
 -- an argument is passed, or it ends the run
-abbrev pub Passes : Result (Unit {0}) Stop → Memory → List ℤ → List ℕ → Outcome Passed → Type 0
+abbrev pub Passes : Result (Unit {0}) Stop → Memory → List ℤ → List ℕ → StepResult Passed → Type 0
 Passes (Ok done) memory cells addresses o = o ≡ gives (passed_in cells addresses)
 Passes (Err s) memory cells addresses o = StopsPassing (end_at s) memory o
 
 -- the body of a procedure runs, if there is one
-abbrev pub activated : Option Procedure → ℕ → Levels → Doing
+abbrev pub activated : Option Routine → ℕ → Levels → Doing
 activated o t ls enters s = activate enters t ls o s
 
 -- a call, of which c may be open, does what it does in the program
 abbrev pub Enters : Result (Unit {0}) Stop
     → Machine
     → Machine
-    → Program
+    → LoweredCode
     → ℕ
     → ℕ
     → ℕ

@@ -2,36 +2,36 @@
 -- Rule: none; for contracts: what values of the code mean.
 use Rattle.std.specs.Prelude.{◌≡◌, ℕ, IsErr, Ok, Err, None, Option, Result, Some}
 use Rattle.std.specs.declared.alloc.AllocError.{AllocError}
-use Rattle.ob0_run_machine.specs.declared.running.End as code_end
-use Rattle.ob0_run_machine.specs.declared.running.End.TheVariants as code
-use Rattle.ob0_run_machine.specs.declared.running.Outcome.{Outcome}
+use Rattle.ob0_run_machine.specs.declared.running.Halt as code_end
+use Rattle.ob0_run_machine.specs.declared.running.Halt.TheVariants as code
+use Rattle.ob0_run_machine.specs.declared.running.Execution.{Execution}
 use Rattle.ob0_run_machine.specs.declared.ending.Stop.{Stop}
 use Rattle.ob0_run_machine.specs.Answers.{end_at, end_of}
-use Rattle.ob0_run_machine.specs.Evaluation.{Done, End}
-use Rattle.ob0_run_machine.specs.Execution.{Progress, Run, State, call, execute_all, outermost}
-use Rattle.ob0_run_machine.specs.Lowered.{Program}
+use Rattle.ob0_run_machine.specs.Evaluation.{Done, Halt}
+use Rattle.ob0_run_machine.specs.Execution.{MachineProgress, MachineRun, MachineState, call, execute_all, outermost}
+use Rattle.ob0_run_machine.specs.Lowered.{LoweredCode}
 use Rattle.ob0_run_machine.specs.Machines.{items_out}
 
 -- an end of the code
-abbrev pub end_in : code_end.End → End
+abbrev pub end_in : code_end.Halt → Halt
 end_in code.Done = Done
 end_in (code.Ended e) = end_of e
 
--- this end is told, and an error where there is none
-abbrev pub EndsAs : Option End → Result code_end.End AllocError → Type 0
-EndsAs (Some e) r = (x : code_end.End) × (r ≡ Ok x) × (end_in x ≡ e)
+-- this end is returned, and an error where there is none
+abbrev pub EndsAs : Option Halt → Result code_end.Halt AllocError → Type 0
+EndsAs (Some e) r = (x : code_end.Halt) × (r ≡ Ok x) × (end_in x ≡ e)
 EndsAs None r = IsErr r
 
 -- statements that return have reached the end of the program, a rule that they break ends the run, and nothing else but an
 -- allocation that failed leaves it without an end
-abbrev pub IsEndOf : Result (Unit {0}) Stop → Result code_end.End AllocError → Type 0
+abbrev pub IsEndOf : Result (Unit {0}) Stop → Result code_end.Halt AllocError → Type 0
 IsEndOf (Ok done) r = r ≡ Ok code.Done
 IsEndOf (Err s) r = EndsAs (end_at s) r
 
 -- an outcome of the code as a run
-abbrev pub run_of : Outcome → Run
+abbrev pub run_of : Execution → MachineRun
 run_of o = record { output = items_out o.output.items; ending = end_in o.end }
 
 -- the statements of a program, from a state on
-abbrev pub block_run : Program → ℕ → ℕ → State → Progress
+abbrev pub block_run : LoweredCode → ℕ → ℕ → MachineState → MachineProgress
 block_run program c t s = execute_all (call program.procedures c t) t outermost program.body s

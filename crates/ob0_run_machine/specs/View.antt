@@ -5,8 +5,8 @@ use Rattle.ob0_run_machine.specs.declared.code.Place as place
 use Rattle.ob0_run_machine.specs.declared.code.Place.{Place}
 use Rattle.ob0_run_machine.specs.declared.code.Number as number
 use Rattle.ob0_run_machine.specs.declared.code.Number.{Number}
-use Rattle.ob0_run_machine.specs.declared.code.First as first
-use Rattle.ob0_run_machine.specs.declared.code.First.{First}
+use Rattle.ob0_run_machine.specs.declared.code.FirstOperand as first
+use Rattle.ob0_run_machine.specs.declared.code.FirstOperand.{FirstOperand}
 use Rattle.ob0_run_machine.specs.declared.code.Chain as chain
 use Rattle.ob0_run_machine.specs.declared.code.Variable.{Variable}
 use Rattle.ob0_run_machine.specs.declared.code.Variable.TheVariants as variable
@@ -18,22 +18,22 @@ use Rattle.ob0_run_machine.specs.declared.code.Link as link
 use Rattle.ob0_run_machine.specs.declared.code.Element.{Element, out-Element}
 use Rattle.ob0_run_machine.specs.declared.code.Link.{Link}
 use Rattle.ob0_run_machine.specs.declared.code.Operands.{Operands}
-use Rattle.ob0_run_machine.specs.declared.code.Relation.{Relation}
-use Rattle.ob0_run_machine.specs.declared.code.Relation.TheVariants as relation
+use Rattle.ob0_run_machine.specs.declared.code.Comparator.{Comparator}
+use Rattle.ob0_run_machine.specs.declared.code.Comparator.TheVariants as relation
 use Rattle.ob0_run_machine.specs.declared.code.Truth as truth
 use Rattle.ob0_run_machine.specs.declared.code.Truth.{Truth}
 use Rattle.ob0_run_machine.specs.declared.code.Several.{Several, out-Several}
 use Rattle.ob0_run_machine.specs.declared.code.Argument as argument_type
 use Rattle.ob0_run_machine.specs.declared.code.Argument.TheVariants as argument
-use Rattle.ob0_run_machine.specs.declared.code.Statement as statement
-use Rattle.ob0_run_machine.specs.declared.code.Statement.{Statement}
-use Rattle.ob0_run_machine.specs.declared.code.If as if_statement
+use Rattle.ob0_run_machine.specs.declared.code.Instruction as statement
+use Rattle.ob0_run_machine.specs.declared.code.Instruction.{Instruction}
+use Rattle.ob0_run_machine.specs.declared.code.Conditional as if_statement
 use Rattle.ob0_run_machine.specs.declared.code.Branch.{Branch}
-use Rattle.ob0_run_machine.specs.declared.code.While.{While}
-use Rattle.ob0_run_machine.specs.declared.code.Repeat.{Repeat}
-use Rattle.ob0_run_machine.specs.declared.code.Call as call
-use Rattle.ob0_run_machine.specs.declared.code.Procedure as procedure
-use Rattle.ob0_run_machine.specs.declared.code.Program as program
+use Rattle.ob0_run_machine.specs.declared.code.WhileLoop.{WhileLoop}
+use Rattle.ob0_run_machine.specs.declared.code.RepeatLoop.{RepeatLoop}
+use Rattle.ob0_run_machine.specs.declared.code.ProcedureCall as call
+use Rattle.ob0_run_machine.specs.declared.code.Routine as procedure
+use Rattle.ob0_run_machine.specs.declared.code.LoweredCode as program
 use Rattle.ob0_run_machine.specs.Lowered as lowered
 
 -- an operator of the code
@@ -70,7 +70,7 @@ abbrev mutual
   number_of (number.Operation' pointer begin l) = applied l (first_of begin)
   number_of (number.Chain' pointer begin shape row) = chained_by row (first_of begin)
 
-  pub first_of : First → lowered.Number
+  pub first_of : FirstOperand → lowered.Number
   first_of (first.Literal n) = lowered.literal n
   first_of (first.Variable v) = lowered.cell (variable_of v)
   first_of (first.Cell p) = lowered.cell (place_of p)
@@ -123,7 +123,7 @@ abbrev pub chained_in : chain.Chain → lowered.Number
 chained_in c = chained_from (first_of (chain.out-Chain c).first) (chain.out-Chain c).rest.items
 
 -- a relation of the code
-abbrev pub relation_of : Relation → lowered.Relation
+abbrev pub relation_of : Comparator → lowered.Comparator
 relation_of relation.Equal = lowered.equal
 relation_of relation.NotEqual = lowered.not_equal
 relation_of relation.Less = lowered.less
@@ -132,11 +132,11 @@ relation_of relation.Greater = lowered.greater
 relation_of relation.GreaterEqual = lowered.greater_equal
 
 -- two numbers that are compared
-abbrev pub related_by : Relation → Operands → lowered.Truth
+abbrev pub related_by : Comparator → Operands → lowered.Truth
 related_by r o = lowered.related (relation_of r) (number_of o.left) (number_of o.right)
 
 -- a variable that is compared
-abbrev pub compared_by : Relation → Variable → lowered.Number → lowered.Truth
+abbrev pub compared_by : Comparator → Variable → lowered.Number → lowered.Truth
 compared_by r v n = lowered.related (relation_of r) (lowered.cell (variable_of v)) n
 
 abbrev mutual
@@ -182,18 +182,18 @@ abbrev pub any_in : Several → lowered.Truth
 any_in s = any_from (truth_of (out-Several s).first) (out-Several s).rest.items
 
 -- an argument of the code
-abbrev pub argument_of : argument_type.Argument → lowered.Argument
+abbrev pub argument_of : argument_type.Argument → lowered.LoweredArgument
 argument_of (argument.Place p) = lowered.by_place (place_of p)
 argument_of (argument.Number n) = lowered.by_number (number_of n)
 argument_of (argument.Truth t) = lowered.by_truth (truth_of t)
 argument_of (argument.Block p n) = lowered.by_block (place_of p) n
 
 -- a call of the code
-abbrev pub call_of : call.Call → lowered.Statement
+abbrev pub call_of : call.ProcedureCall → lowered.Instruction
 call_of c = lowered.calls c.procedure c.up (map argument_of c.arguments.items)
 
 abbrev mutual
-  pub statement_of : Statement → lowered.Statement
+  pub statement_of : Instruction → lowered.Instruction
   statement_of (statement.StoreNumber p n) = lowered.stores_number (place_of p) (number_of n)
   statement_of (statement.StoreVariable v n) = lowered.stores_number (variable_of v) (number_of n)
   statement_of (statement.Update v l) =
@@ -209,13 +209,13 @@ abbrev mutual
       lowered.repeat_loop (statements_of row) (truth_of c)
   statement_of (statement.Call c) = call_of c
 
-  pub if_of : if_statement.If → lowered.Statement
+  pub if_of : if_statement.Conditional → lowered.Instruction
   if_of (if_statement.If' shape branches shape' otherwise) =
       lowered.chooses (branches_of branches) (statements_of otherwise)
 
-  pub statements_of : {n : _} → statement.Row_of-Statement n → lowered.Statements
-  statements_of statement.end_of-Statement = lowered.no_statement
-  statements_of (statement.more_of-Statement s row) =
+  pub statements_of : {n : _} → statement.Row_of-Instruction n → lowered.Instructions
+  statements_of statement.end_of-Instruction = lowered.no_statement
+  statements_of (statement.more_of-Instruction s row) =
       lowered.before (statement_of s) (statements_of row)
 
   pub branches_of : {n : _} → if_statement.Row_of-Branch n → lowered.Branches
@@ -224,16 +224,16 @@ abbrev mutual
       lowered.branch (truth_of c) (statements_of body) (branches_of row)
 
 -- the same of a `Vec`'s elements
-abbrev pub sequence_of : List Statement → lowered.Statements
+abbrev pub sequence_of : List Instruction → lowered.Instructions
 sequence_of [] = lowered.no_statement
 sequence_of (s ∷ ss) = lowered.before (statement_of s) (sequence_of ss)
 
 -- a WHILE of the code
-abbrev pub while_of : While → lowered.Statement
+abbrev pub while_of : WhileLoop → lowered.Instruction
 while_of w = lowered.while_loop (truth_of w.condition) (sequence_of w.body.items)
 
 -- a REPEAT of the code
-abbrev pub repeat_of : Repeat → lowered.Statement
+abbrev pub repeat_of : RepeatLoop → lowered.Instruction
 repeat_of r = lowered.repeat_loop (sequence_of r.body.items) (truth_of r.condition)
 
 -- the branches of an IF of the code
@@ -243,11 +243,11 @@ all_branches (b ∷ bs) =
     lowered.branch (truth_of b.condition) (sequence_of b.body.items) (all_branches bs)
 
 -- a procedure of the code
-abbrev pub procedure_of : procedure.Procedure → lowered.Procedure
+abbrev pub procedure_of : procedure.Routine → lowered.Routine
 procedure_of p = record { cells = p.cells; body = sequence_of p.body.items }
 
 -- a program of the code
-abbrev pub program_of : program.Program → lowered.Program
+abbrev pub program_of : program.LoweredCode → lowered.LoweredCode
 program_of p =
     record {
       cells = p.cells;
@@ -256,7 +256,7 @@ program_of p =
     }
 
 -- an IF of the code
-abbrev pub branches_in : if_statement.If → lowered.Statement
+abbrev pub branches_in : if_statement.Conditional → lowered.Instruction
 branches_in i =
-    lowered.chooses (all_branches (if_statement.out-If i).branches.items)
-    (sequence_of (if_statement.out-If i).otherwise.items)
+    lowered.chooses (all_branches (if_statement.out-Conditional i).branches.items)
+    (sequence_of (if_statement.out-Conditional i).otherwise.items)

@@ -6,7 +6,7 @@ ghost use Rattle.ob0_run_machine.specs.Levels.{levels_of};
 ghost use Rattle.ob0_run_machine.specs.Machines.{MachineDoes, Enters, activated, state_of};
 ghost use Rattle.ob0_run_machine.specs.View.{procedure_of, program_of};
 
-use crate::code::{Procedure, Program};
+use crate::code::{LoweredCode, Routine};
 use crate::ending::Stop;
 use crate::level::Level;
 use crate::machine::Machine;
@@ -14,7 +14,7 @@ use crate::statements::sequence;
 
 /// The procedure at an index.
 #[inline(always)]
-fn procedure_at<'p>(procedures: &'p [Procedure], procedure: usize) -> Option<&'p Procedure>
+fn procedure_at<'p>(procedures: &'p [Routine], procedure: usize) -> Option<&'p Routine>
     ensures { option_map (λ p. procedure_of p.now) result
         ≡ slice_get (map procedure_of procedures.now) procedure }
 {
@@ -26,7 +26,7 @@ fn procedure_at<'p>(procedures: &'p [Procedure], procedure: usize) -> Option<&'p
 
 /// The body of a procedure, with its own cells after its arguments.
 fn activate<F: Fn(&mut Machine<'_>, usize, &Level<'_>) -> Result<(), Stop>>(
-    procedure: Option<&Procedure>,
+    procedure: Option<&Routine>,
     level: &Level<'_>,
     turns: u32,
     machine: &mut Machine<'_>,
@@ -60,7 +60,7 @@ fn drop_variables(machine: &mut Machine<'_>, level: &Level<'_>)
 /// A call of a procedure, where so many calls more may be open.
 #[inline(never)]
 pub(crate) fn call(
-    program: &Program,
+    program: &LoweredCode,
     calls: u32,
     turns: u32,
     machine: &mut Machine<'_>,

@@ -70,7 +70,7 @@ pub enum Number {
 /// What operations in a row begin with: a number that is no operation. So no row is nested in the left operand of another.
 #[cycle(numbers)]
 #[derive(Drop)]
-pub enum First {
+pub enum FirstOperand {
     Literal(i32),
     Variable(Variable),
     Cell(Place),
@@ -81,7 +81,7 @@ pub enum First {
 #[cycle(numbers)]
 #[derive(Drop)]
 pub struct Operation {
-    pub first: First,
+    pub first: FirstOperand,
     pub link: Link,
 }
 
@@ -89,7 +89,7 @@ pub struct Operation {
 #[cycle(numbers)]
 #[derive(Drop)]
 pub struct Chain {
-    pub first: First,
+    pub first: FirstOperand,
     pub rest: Vec<Link>,
 }
 
@@ -112,7 +112,7 @@ pub enum Link {
 
 /// The relations of numbers.
 #[derive(Clone, Copy, PartialEq, Eq, Debug)]
-pub enum Relation {
+pub enum Comparator {
     Equal,
     NotEqual,
     Less,
@@ -141,10 +141,10 @@ pub enum Truth {
     All(Box<Several>),
     /// Many truths joined by `OR`.
     Any(Box<Several>),
-    Related(Relation, Box<Operands>),
+    Related(Comparator, Box<Operands>),
     /// A variable compared with a literal: a `Related` in one step, as the next is.
-    ComparedToLiteral(Relation, Variable, i32),
-    ComparedToVariable(Relation, Variable, Variable),
+    ComparedToLiteral(Comparator, Variable, i32),
+    ComparedToVariable(Comparator, Variable, Variable),
     Same(Box<Truths>),
     Different(Box<Truths>),
 }
@@ -178,7 +178,7 @@ pub enum Argument {
 /// A statement. An empty statement has no code.
 #[cycle(statements)]
 #[derive(Drop)]
-pub enum Statement {
+pub enum Instruction {
     StoreNumber(Place, Number),
     /// The same to a variable.
     StoreVariable(Variable, Number),
@@ -190,18 +190,18 @@ pub enum Statement {
     Read(Place),
     Write(Number),
     WriteLine,
-    If(If),
-    While(While),
-    Repeat(Repeat),
-    Call(Call),
+    If(Conditional),
+    While(WhileLoop),
+    Repeat(RepeatLoop),
+    Call(ProcedureCall),
 }
 
 /// IF and its ELSIF parts, and what is executed where no condition is TRUE.
 #[cycle(statements)]
 #[derive(Drop)]
-pub struct If {
+pub struct Conditional {
     pub branches: Vec<Branch>,
-    pub otherwise: Vec<Statement>,
+    pub otherwise: Vec<Instruction>,
 }
 
 /// A condition, and the statements that are run where it is TRUE.
@@ -209,28 +209,28 @@ pub struct If {
 #[derive(Drop)]
 pub struct Branch {
     pub condition: Truth,
-    pub body: Vec<Statement>,
+    pub body: Vec<Instruction>,
 }
 
 /// A WHILE: its condition and its statements.
 #[cycle(statements)]
 #[derive(Drop)]
-pub struct While {
+pub struct WhileLoop {
     pub condition: Truth,
-    pub body: Vec<Statement>,
+    pub body: Vec<Instruction>,
 }
 
 /// A REPEAT: its statements and the condition that ends it.
 #[cycle(statements)]
 #[derive(Drop)]
-pub struct Repeat {
-    pub body: Vec<Statement>,
+pub struct RepeatLoop {
+    pub body: Vec<Instruction>,
     pub condition: Truth,
 }
 
 /// A call of a procedure that is declared in the activation so many levels out.
 #[derive(Drop)]
-pub struct Call {
+pub struct ProcedureCall {
     pub procedure: usize,
     pub up: usize,
     pub arguments: Vec<Argument>,
@@ -238,15 +238,15 @@ pub struct Call {
 
 /// A procedure has so many cells beside those of its parameters.
 #[derive(Drop)]
-pub struct Procedure {
+pub struct Routine {
     pub cells: usize,
-    pub body: Vec<Statement>,
+    pub body: Vec<Instruction>,
 }
 
 /// A module has so many cells of its own.
 #[derive(Drop)]
-pub struct Program {
+pub struct LoweredCode {
     pub cells: usize,
-    pub body: Vec<Statement>,
-    pub procedures: Vec<Procedure>,
+    pub body: Vec<Instruction>,
+    pub procedures: Vec<Routine>,
 }

@@ -10,8 +10,8 @@ ghost use Rattle.ob0_run_machine.specs.Levels.{levels_of};
 ghost use Rattle.ob0_run_machine.specs.View.{all_in, any_in, applied, chained_in, compared_by, element_of, first_of, number_of, operation_of, operator_of, place_of, related_by, row_of, truth_of, variable_of};
 
 use crate::code::{
-    Chain, Element, First, Link, Number, Operands, Operation, Operator, Place, Relation, Row,
-    Several, Truth, Truths, Variable,
+    Chain, Comparator, Element, FirstOperand, Link, Number, Operands, Operation, Operator, Place,
+    Row, Several, Truth, Truths, Variable,
 };
 use crate::ending::Ending;
 use crate::evaluated::{Evaluated, flat, unpacked};
@@ -134,17 +134,17 @@ pub(crate) fn evaluate_number(n: &Number, level: &Level<'_>, cells: &[i32]) -> R
 /// What operations begin with.
 #[inline(always)]
 #[cycle(evaluation)]
-fn evaluate_first(n: &First, level: &Level<'_>, cells: &[i32]) -> Result<i32, Ending>
+fn evaluate_first(n: &FirstOperand, level: &Level<'_>, cells: &[i32]) -> Result<i32, Ending>
     ensures { outcome_of_result result ≡ number (levels_of level.now) cells.now (first_of n.now) }
 {
     match n {
-        First::Literal(n) => Ok(*n),
-        First::Variable(variable) => Ok(value_of(*variable, level, cells)),
-        First::Cell(place) => {
+        FirstOperand::Literal(n) => Ok(*n),
+        FirstOperand::Variable(variable) => Ok(value_of(*variable, level, cells)),
+        FirstOperand::Cell(place) => {
             let a = locate(place, level, cells)?;
             Ok(cell_at(cells, a))
         }
-        First::Negative(operand) => unpacked(opposite(operand, level, cells)),
+        FirstOperand::Negative(operand) => unpacked(opposite(operand, level, cells)),
     }
 }
 
@@ -167,7 +167,7 @@ fn operation(o: &Operation, level: &Level<'_>, cells: &[i32]) -> Evaluated<i32>
     ensures { outcome_of result ≡ number (levels_of level.now) cells.now (operation_of o.now) }
 {
     match &o.first {
-        First::Variable(v) => flat(apply(&o.link, value_of(*v, level, cells), level, cells)),
+        FirstOperand::Variable(v) => flat(apply(&o.link, value_of(*v, level, cells), level, cells)),
         _ => any_operation(o, level, cells),
     }
 }
@@ -327,7 +327,7 @@ fn any_truth(t: &Truth, level: &Level<'_>, cells: &[i32]) -> Result<bool, Ending
 /// Whether a relation holds between what a variable holds and a number.
 #[inline(always)]
 fn compare_variable(
-    relation: Relation,
+    relation: Comparator,
     variable: Variable,
     right: i32,
     level: &Level<'_>,
@@ -342,7 +342,7 @@ fn compare_variable(
 /// Whether a relation holds between two numbers.
 #[inline(always)]
 fn compare_operands(
-    relation: Relation,
+    relation: Comparator,
     operands: &Operands,
     level: &Level<'_>,
     cells: &[i32],

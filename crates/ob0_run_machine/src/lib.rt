@@ -17,4 +17,4 @@ mod statements;
 
 pub use ending::Ending;
 pub use machine::Item;
-pub use running::{End, Outcome, run};
+pub use running::{Execution, Halt, run};

@@ -6,7 +6,7 @@ ghost use Rattle.ob0_run_machine.specs.Evaluation.{alike, compare, element_at, f
 ghost use Rattle.ob0_run_machine.specs.Lowered.{difference, product, quotient, remainder, sum};
 ghost use Rattle.ob0_run_machine.specs.View.{operator_of, relation_of};
 
-use crate::code::{Operator, Relation};
+use crate::code::{Comparator, Operator};
 use crate::ending::Ending;
 
 /// A number where it could be computed in 32 bits, else an overflow.
@@ -88,16 +88,16 @@ pub(crate) fn negative(number: i32) -> Result<i32, Ending>
 
 /// Whether two numbers are in a relation.
 #[inline(always)]
-pub(crate) fn compare(relation: Relation, left: i32, right: i32) -> bool
+pub(crate) fn compare(relation: Comparator, left: i32, right: i32) -> bool
     ensures { result ≡ compare (relation_of relation) left right }
 {
     match relation {
-        Relation::Equal => left == right,
-        Relation::NotEqual => left != right,
-        Relation::Less => left < right,
-        Relation::LessEqual => left <= right,
-        Relation::Greater => right < left,
-        Relation::GreaterEqual => right <= left,
+        Comparator::Equal => left == right,
+        Comparator::NotEqual => left != right,
+        Comparator::Less => left < right,
+        Comparator::LessEqual => left <= right,
+        Comparator::Greater => right < left,
+        Comparator::GreaterEqual => right <= left,
     }
 }
 

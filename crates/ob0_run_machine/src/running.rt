@@ -7,7 +7,7 @@ ghost use Rattle.ob0_run_machine.specs.Machines.{MachineSteps, state_of};
 ghost use Rattle.ob0_run_machine.specs.View.{program_of};
 
 use crate::calls::call;
-use crate::code::Program;
+use crate::code::LoweredCode;
 use crate::ending::{Ending, Stop};
 use crate::level::Level;
 use crate::machine::{Item, Machine};
@@ -17,7 +17,7 @@ use std::alloc::{AllocError, Global};
 
 /// How a run ends.
 #[derive(Clone, Copy, PartialEq, Eq, Debug)]
-pub enum End {
+pub enum Halt {
     /// The end of the program.
     Done,
     Ended(Ending),
@@ -25,13 +25,18 @@ pub enum End {
 
 /// What a run output, and how it ended.
 #[derive(Drop)]
-pub struct Outcome {
+pub struct Execution {
     pub output: Vec<Item>,
-    pub end: End,
+    pub end: Halt,
 }
 
 /// The statements of a program.
-fn execute(program: &Program, calls: u32, turns: u32, machine: &mut Machine<'_>) -> Result<(), Stop>
+fn execute(
+    program: &LoweredCode,
+    calls: u32,
+    turns: u32,
+    machine: &mut Machine<'_>,
+) -> Result<(), Stop>
     ensures { MachineSteps result machine.new
         (block_run (program_of program.now) calls turns (state_of machine.old)) }
 {
@@ -47,18 +52,18 @@ fn execute(program: &Program, calls: u32, turns: u32, machine: &mut Machine<'_>)
 }
 
 /// The end of a run whose statements returned this. An error exactly where an allocation failed.
-fn end_of(executed: Result<(), Stop>) -> Result<End, AllocError>
+fn end_of(executed: Result<(), Stop>) -> Result<Halt, AllocError>
     ensures { IsEndOf executed result }
 {
     match executed {
-        Ok(()) => Ok(End::Done),
+        Ok(()) => Ok(Halt::Done),
         Err(stop) => match stop {
-            Stop::Overflow => Ok(End::Ended(Ending::Overflow)),
-            Stop::Divisor => Ok(End::Ended(Ending::Divisor)),
-            Stop::Index => Ok(End::Ended(Ending::Index)),
-            Stop::InputEnd => Ok(End::Ended(Ending::InputEnd)),
-            Stop::CallBound => Ok(End::Ended(Ending::CallBound)),
-            Stop::TurnBound => Ok(End::Ended(Ending::TurnBound)),
+            Stop::Overflow => Ok(Halt::Ended(Ending::Overflow)),
+            Stop::Divisor => Ok(Halt::Ended(Ending::Divisor)),
+            Stop::Index => Ok(Halt::Ended(Ending::Index)),
+            Stop::InputEnd => Ok(Halt::Ended(Ending::InputEnd)),
+            Stop::CallBound => Ok(Halt::Ended(Ending::CallBound)),
+            Stop::TurnBound => Ok(Halt::Ended(Ending::TurnBound)),
             Stop::Memory => Err(AllocError),
         },
     }
@@ -72,11 +77,11 @@ fn end_of(executed: Result<(), Stop>) -> Result<End, AllocError>
 /// Out of memory.
 pub fn run(
     alloc: Global,
-    program: &Program,
+    program: &LoweredCode,
     input: &[i32],
     calls: u32,
     turns: u32,
-) -> Result<Outcome, AllocError>
+) -> Result<Execution, AllocError>
     ensures { IfOk result (λ o. run_of o ≡ run (program_of program.now) input.now calls turns) }
 {
     let mut memory = Memory::new(alloc);
@@ -89,7 +94,7 @@ pub fn run(
         output: Vec::new(alloc),
     };
     let end = end_of(execute(program, calls, turns, &mut machine))?;
-    Ok(Outcome {
+    Ok(Execution {
         output: machine.output,
         end,
     })

@@ -3,14 +3,17 @@
 ghost use Rattle.std.specs.Prelude.{◌≡◌, ℕ};
 ghost use Rattle.ob0_run_machine.specs.Answers.{outcome_of_result};
 ghost use Rattle.ob0_run_machine.specs.Evaluation.{truth};
-ghost use Rattle.ob0_run_machine.specs.Execution.{Calls, execute};
+ghost use Rattle.ob0_run_machine.specs.Execution.{CallEffect, execute};
 ghost use Rattle.ob0_run_machine.specs.Levels.{levels_of};
 ghost use Rattle.ob0_run_machine.specs.Lowered as lowered;
 ghost use Rattle.ob0_run_machine.specs.Machines.{MachineDoes, MachineSteps, entering, executed, executed_all, moved, state_of};
 ghost use Rattle.ob0_run_machine.specs.View.{applied, branches_in, call_of, number_of, place_of, repeat_of, sequence_of, statement_of, truth_of, variable_of, while_of};
 
 use crate::addresses::Addresses;
-use crate::code::{Call, If, Link, Number, Place, Repeat, Statement, Truth, Variable, While};
+use crate::code::{
+    Conditional, Instruction, Link, Number, Place, ProcedureCall, RepeatLoop, Truth, Variable,
+    WhileLoop,
+};
 use crate::ending::{Ending, Stop};
 use crate::evaluating::{evaluate_number, evaluate_truth, evaluate_update, locate, variable_at};
 use crate::level::{Level, outside};
@@ -26,7 +29,7 @@ fn store_number(
     level: &Level<'_>,
     machine: &mut Machine<'_>,
 ) -> Result<(), Ending>
-    ensures { (enters : Calls) (t : ℕ)
+    ensures { (enters : CallEffect) (t : ℕ)
         → moved result machine.new
         ≡ execute enters t (levels_of level.now)
         (lowered.stores_number (place_of place.now) (number_of n.now)) (state_of machine.old) }
@@ -46,7 +49,7 @@ fn store_variable(
     level: &Level<'_>,
     machine: &mut Machine<'_>,
 ) -> Result<(), Ending>
-    ensures { (enters : Calls) (t : ℕ)
+    ensures { (enters : CallEffect) (t : ℕ)
         → moved result machine.new
         ≡ execute enters t (levels_of level.now)
         (lowered.stores_number (variable_of variable) (number_of n.now)) (state_of machine.old) }
@@ -65,7 +68,7 @@ fn update(
     level: &Level<'_>,
     machine: &mut Machine<'_>,
 ) -> Result<(), Ending>
-    ensures { (enters : Calls) (t : ℕ)
+    ensures { (enters : CallEffect) (t : ℕ)
         → moved result machine.new
         ≡ execute enters t (levels_of level.now) (lowered.stores_number (variable_of variable)
         (applied link.now (lowered.cell (variable_of variable)))) (state_of machine.old) }
@@ -83,7 +86,7 @@ fn store_truth(
     level: &Level<'_>,
     machine: &mut Machine<'_>,
 ) -> Result<(), Ending>
-    ensures { (enters : Calls) (turns : ℕ)
+    ensures { (enters : CallEffect) (turns : ℕ)
         → moved result machine.new
         ≡ execute enters turns (levels_of level.now)
         (lowered.stores_truth (place_of place.now) (truth_of t.now)) (state_of machine.old) }
@@ -102,7 +105,7 @@ fn copy_block(
     level: &Level<'_>,
     machine: &mut Machine<'_>,
 ) -> Result<(), Ending>
-    ensures { (enters : Calls) (t : ℕ)
+    ensures { (enters : CallEffect) (t : ℕ)
         → moved result machine.new
         ≡ execute enters t (levels_of level.now)
         (lowered.copies (place_of to.now) (place_of from.now) count) (state_of machine.old) }
@@ -115,7 +118,7 @@ fn copy_block(
 
 #[tactic(auto, unfolding(crate::specs::Execution::execute))]
 fn read(place: &Place, level: &Level<'_>, machine: &mut Machine<'_>) -> Result<(), Ending>
-    ensures { (enters : Calls) (t : ℕ)
+    ensures { (enters : CallEffect) (t : ℕ)
         → moved result machine.new
         ≡ execute enters t (levels_of level.now) (lowered.reads (place_of place.now))
         (state_of machine.old) }
@@ -126,7 +129,7 @@ fn read(place: &Place, level: &Level<'_>, machine: &mut Machine<'_>) -> Result<(
 
 #[tactic(auto, unfolding(crate::specs::Execution::execute))]
 fn write(n: &Number, level: &Level<'_>, machine: &mut Machine<'_>) -> Result<(), Stop>
-    ensures { (enters : Calls) (t : ℕ)
+    ensures { (enters : CallEffect) (t : ℕ)
         → MachineSteps result machine.new (execute enters t (levels_of level.now)
         (lowered.writes (number_of n.now)) (state_of machine.old)) }
 {
@@ -137,7 +140,7 @@ fn write(n: &Number, level: &Level<'_>, machine: &mut Machine<'_>) -> Result<(),
 
 #[tactic(auto, unfolding(crate::specs::Execution::execute))]
 fn write_line(level: &Level<'_>, machine: &mut Machine<'_>) -> Result<(), Stop>
-    ensures { (enters : Calls) (t : ℕ)
+    ensures { (enters : CallEffect) (t : ℕ)
         → MachineSteps result machine.new
         (execute enters t (levels_of level.now) lowered.writes_line (state_of machine.old)) }
 {
@@ -148,7 +151,7 @@ fn write_line(level: &Level<'_>, machine: &mut Machine<'_>) -> Result<(), Stop>
 /// Enters the procedure of a call, whose arguments are passed.
 #[inline(always)]
 fn run_body<F: Fn(&mut Machine<'_>, usize, &Level<'_>) -> Result<(), Stop>>(
-    c: &Call,
+    c: &ProcedureCall,
     base: usize,
     addresses: &[usize],
     level: &Level<'_>,
@@ -170,7 +173,7 @@ fn run_body<F: Fn(&mut Machine<'_>, usize, &Level<'_>) -> Result<(), Stop>>(
 /// A call: its arguments are passed, then the procedure is entered.
 #[inline(never)]
 fn run_call<F: Fn(&mut Machine<'_>, usize, &Level<'_>) -> Result<(), Stop>>(
-    c: &Call,
+    c: &ProcedureCall,
     level: &Level<'_>,
     machine: &mut Machine<'_>,
     enter: &F,
@@ -213,7 +216,7 @@ fn evaluate_condition(
 #[inline(always)]
 #[cycle(execution)]
 fn statement<F: Fn(&mut Machine<'_>, usize, &Level<'_>) -> Result<(), Stop>>(
-    s: &Statement,
+    s: &Instruction,
     level: &Level<'_>,
     turns: u32,
     machine: &mut Machine<'_>,
@@ -224,18 +227,20 @@ fn statement<F: Fn(&mut Machine<'_>, usize, &Level<'_>) -> Result<(), Stop>>(
         (executed turns (levels_of level.now) (statement_of s.now)) }
 {
     match s {
-        Statement::StoreNumber(place, n) => Ok(store_number(place, n, level, machine)?),
-        Statement::StoreVariable(variable, n) => Ok(store_variable(*variable, n, level, machine)?),
-        Statement::Update(variable, link) => Ok(update(*variable, link, level, machine)?),
-        Statement::StoreTruth(place, t) => Ok(store_truth(place, t, level, machine)?),
-        Statement::Copy(to, from, count) => Ok(copy_block(to, from, *count, level, machine)?),
-        Statement::Read(place) => Ok(read(place, level, machine)?),
-        Statement::Write(n) => write(n, level, machine),
-        Statement::WriteLine => write_line(level, machine),
-        Statement::If(i) => branches(i, level, turns, machine, enter),
-        Statement::While(w) => run_loop(w, level, turns, machine, enter),
-        Statement::Repeat(r) => until(r, level, turns, machine, enter),
-        Statement::Call(c) => run_call(c, level, machine, enter),
+        Instruction::StoreNumber(place, n) => Ok(store_number(place, n, level, machine)?),
+        Instruction::StoreVariable(variable, n) => Ok(store_variable(
+            *variable, n, level, machine,
+        )?),
+        Instruction::Update(variable, link) => Ok(update(*variable, link, level, machine)?),
+        Instruction::StoreTruth(place, t) => Ok(store_truth(place, t, level, machine)?),
+        Instruction::Copy(to, from, count) => Ok(copy_block(to, from, *count, level, machine)?),
+        Instruction::Read(place) => Ok(read(place, level, machine)?),
+        Instruction::Write(n) => write(n, level, machine),
+        Instruction::WriteLine => write_line(level, machine),
+        Instruction::If(i) => branches(i, level, turns, machine, enter),
+        Instruction::While(w) => run_loop(w, level, turns, machine, enter),
+        Instruction::Repeat(r) => until(r, level, turns, machine, enter),
+        Instruction::Call(c) => run_call(c, level, machine, enter),
     }
 }
 
@@ -243,7 +248,7 @@ fn statement<F: Fn(&mut Machine<'_>, usize, &Level<'_>) -> Result<(), Stop>>(
 #[inline(never)]
 #[cycle(execution)]
 pub(crate) fn sequence<F: Fn(&mut Machine<'_>, usize, &Level<'_>) -> Result<(), Stop>>(
-    statements: &[Statement],
+    statements: &[Instruction],
     level: &Level<'_>,
     turns: u32,
     machine: &mut Machine<'_>,
@@ -263,7 +268,7 @@ pub(crate) fn sequence<F: Fn(&mut Machine<'_>, usize, &Level<'_>) -> Result<(), 
 #[inline(always)]
 #[cycle(execution)]
 fn branches<F: Fn(&mut Machine<'_>, usize, &Level<'_>) -> Result<(), Stop>>(
-    i: &If,
+    i: &Conditional,
     level: &Level<'_>,
     turns: u32,
     machine: &mut Machine<'_>,
@@ -285,7 +290,7 @@ fn branches<F: Fn(&mut Machine<'_>, usize, &Level<'_>) -> Result<(), Stop>>(
 #[inline(never)]
 #[cycle(execution)]
 fn run_loop<F: Fn(&mut Machine<'_>, usize, &Level<'_>) -> Result<(), Stop>>(
-    w: &While,
+    w: &WhileLoop,
     level: &Level<'_>,
     turns: u32,
     machine: &mut Machine<'_>,
@@ -312,7 +317,7 @@ fn run_loop<F: Fn(&mut Machine<'_>, usize, &Level<'_>) -> Result<(), Stop>>(
 #[inline(never)]
 #[cycle(execution)]
 fn until<F: Fn(&mut Machine<'_>, usize, &Level<'_>) -> Result<(), Stop>>(
-    r: &Repeat,
+    r: &RepeatLoop,
     level: &Level<'_>,
     turns: u32,
     machine: &mut Machine<'_>,

@@ -16,7 +16,7 @@ use Rattle.ob0_types_rules.specs.WellTyped.{Mode, by_place, by_value, section_mo
 use Rattle.ob0_types_rules.proofs.Agreeing.{Agree, HoldsOf, agree-map, agree-then, agree-value}
 use Rattle.ob0_types_rules.proofs.Constructors.{formals_constructors-relabel, procedure_constructors-relabel, types_constructors-relabel, variables_constructors-relabel}
 use Rattle.ob0_types_rules.proofs.TypeNaturality.{constant_value-map, constructors-map, denoted-map}
-use Rattle.ob0_run_rules.specs.Runs.{Activation, Argument, Calls, Code, Frame, Parameter, Progress, State, activate, allocate, bind_parameter, bind_parameters, call, declare_block, declare_procedures, declare_variables, execute_all, execute_body, finished, formal_modes, in_frame, parameters, passing, place_argument, run_over, statement_meanings, value_argument, with_procedures}
+use Rattle.ob0_run_rules.specs.Runs.{Activation, Argument, Calls, ProcedureText, Frame, Parameter, Progress, State, activate, allocate, bind_parameter, bind_parameters, call, declare_block, declare_procedures, declare_variables, execute_all, execute_body, finished, formal_modes, in_frame, parameters, passing, place_argument, run_over, statement_meanings, value_argument, with_procedures}
 use Rattle.ob0_run_rules.proofs.Noted.{Below, Below-from, Noted, OwnName, by_name, by_name-from, by_ordinal, by_ordinal-from, noted_from, numbered_code, numbered_object, scope_of}
 use Rattle.ob0_run_rules.proofs.RunNaturality.{execute_all-map}
 
@@ -44,7 +44,7 @@ pub passing-agrees : {N : Type 0} (naming : Naming N) (noted : Noted N) → pass
 passing-agrees naming [] = refl
 passing-agrees naming (b ∷ noted) = of_object b.object
   where
-    of_object : (o : Object Place (Code _)) → passing (Some (numbered_object naming (scope_of noted) b.ordinal o)) ≡ passing (Some o)
+    of_object : (o : Object Place (ProcedureText _)) → passing (Some (numbered_object naming (scope_of noted) b.ordinal o)) ≡ passing (Some o)
     of_object (a_type s) = refl
     of_object (a_constant v) = refl
     of_object (a_variable p) = refl
@@ -55,7 +55,7 @@ pub constant_of-agrees : {N : Type 0} (naming : Naming N) (noted : Noted N) → 
 constant_of-agrees naming [] = refl
 constant_of-agrees naming (b ∷ noted) = of_object b.object
   where
-    of_object : (o : Object Place (Code _)) → constant_of (Some (numbered_object naming (scope_of noted) b.ordinal o)) ≡ constant_of (Some o)
+    of_object : (o : Object Place (ProcedureText _)) → constant_of (Some (numbered_object naming (scope_of noted) b.ordinal o)) ≡ constant_of (Some o)
     of_object (a_type s) = refl
     of_object (a_constant v) = refl
     of_object (a_variable p) = refl
@@ -66,7 +66,7 @@ pub type_of_name-agrees : {N : Type 0} (naming : Naming N) (noted : Noted N) →
 type_of_name-agrees naming [] = refl
 type_of_name-agrees naming (b ∷ noted) = of_object b.object
   where
-    of_object : (o : Object Place (Code _)) → type_of_name (Some (numbered_object naming (scope_of noted) b.ordinal o)) ≡ type_of_name (Some o)
+    of_object : (o : Object Place (ProcedureText _)) → type_of_name (Some (numbered_object naming (scope_of noted) b.ordinal o)) ≡ type_of_name (Some o)
     of_object (a_type s) = refl
     of_object (a_constant v) = refl
     of_object (a_variable p) = refl
@@ -77,17 +77,17 @@ type_of_name-agrees naming (b ∷ noted) = of_object b.object
 abbrev pub label_in : {N : Type 0} → Naming N → Noted N → N → Label
 label_in naming noted = label_of naming (as_label naming) (scope_of noted)
 
-pub constants-agree : {N : Type 0} (naming : Naming N) (n : ℕ) (noted : Noted N) → Below n noted → (x : N) → constant_of ((meanings as_labels (by_ordinal naming noted)).stands_for (label_in naming noted x)) ≡ constant_of ((meanings naming (by_name noted)).stands_for x)
+pub constants-agree : {N : Type 0} (naming : Naming N) (n : ℕ) (noted : Noted N) → Below n noted → (x : N) → constant_of ((meanings as_labels (by_ordinal naming noted)).object_for (label_in naming noted x)) ≡ constant_of ((meanings naming (by_name noted)).object_for x)
 constants-agree naming n noted below x =
     ap (λ env. constant_of (newest env)) (by_ordinal-from naming n noted x below) ∙ constant_of-agrees naming (noted_from naming noted x)
     ∙ sym (ap (λ env. constant_of (newest env)) (by_name-from naming noted x))
 
-pub types-agree : {N : Type 0} (naming : Naming N) (n : ℕ) (noted : Noted N) → Below n noted → (x : N) → type_of_name ((meanings as_labels (by_ordinal naming noted)).stands_for (label_in naming noted x)) ≡ type_of_name ((meanings naming (by_name noted)).stands_for x)
+pub types-agree : {N : Type 0} (naming : Naming N) (n : ℕ) (noted : Noted N) → Below n noted → (x : N) → type_of_name ((meanings as_labels (by_ordinal naming noted)).object_for (label_in naming noted x)) ≡ type_of_name ((meanings naming (by_name noted)).object_for x)
 types-agree naming n noted below x =
     ap (λ env. type_of_name (newest env)) (by_ordinal-from naming n noted x below) ∙ type_of_name-agrees naming (noted_from naming noted x)
     ∙ sym (ap (λ env. type_of_name (newest env)) (by_name-from naming noted x))
 
-pub statement_meanings-agree : {N : Type 0} (naming : Naming N) (n : ℕ) (noted : Noted N) → Below n noted → (x : N) → (statement_meanings as_labels (by_ordinal naming noted)).stands_for (label_in naming noted x) ≡ (statement_meanings naming (by_name noted)).stands_for x
+pub statement_meanings-agree : {N : Type 0} (naming : Naming N) (n : ℕ) (noted : Noted N) → Below n noted → (x : N) → (statement_meanings as_labels (by_ordinal naming noted)).object_for (label_in naming noted x) ≡ (statement_meanings naming (by_name noted)).object_for x
 statement_meanings-agree naming n noted below x =
     ap (λ env. passing (newest env)) (by_ordinal-from naming n noted x below) ∙ passing-agrees naming (noted_from naming noted x)
     ∙ sym (ap (λ env. passing (newest env)) (by_name-from naming noted x))
@@ -354,7 +354,7 @@ unfolding execute_body
 body-agrees naming n noted below there here h t none = refl
 body-agrees naming n noted below there here h t (one (begins statements)) = λ i s.
     (execute_all-map (label_in naming noted) (as_label naming None) (statement_meanings as_labels (by_ordinal naming noted)) there t statements
-    ∙ (λ j. execute_all (record { stands_for = λ x. statement_meanings-agree naming n noted below x j; written = naming.written }) (λ x. h x j) t statements)) i s
+    ∙ (λ j. execute_all (record { object_for = λ x. statement_meanings-agree naming n noted below x j; written = naming.written }) (λ x. h x j) t statements)) i s
 
 -- a frame that both sides have, or that neither has, and what follows in it
 pub in_frame-agrees : {N : Type 0} (naming : Naming N) (P : NotedFrame N → Type 0) (s : State) (r : Option (Frame N)) (q : Option (Frame Label)) (here : Frame N → State → Progress) (there : Frame Label → State → Progress)
@@ -427,7 +427,7 @@ activate-agrees {N} naming there here known t n (b ∷ noted) below args s = of_
         (activation_declared naming j b.ordinal f (le_refl (suc b.ordinal), e, below.2) x (scope_of noted) (λ i. (sym e i, b.ordinal) ∷ scope_of noted) fs inner args)
         (λ g within. block-agrees naming there here known t k scope inner g within)
 
-    of_object : (o : Object Place (Code N)) → OwnName b.name o → activate as_labels there t ((declared b.ordinal, numbered_object naming (scope_of noted) b.ordinal o) ∷ by_ordinal naming noted) args s ≡ activate naming here t ((b.name, o) ∷ by_name noted) args s
+    of_object : (o : Object Place (ProcedureText N)) → OwnName b.name o → activate as_labels there t ((declared b.ordinal, numbered_object naming (scope_of noted) b.ordinal o) ∷ by_ordinal naming noted) args s ≡ activate naming here t ((b.name, o) ∷ by_name noted) args s
     of_object (a_type shape) own = refl
     of_object (a_constant v) own = refl
     of_object (a_variable p) own = refl

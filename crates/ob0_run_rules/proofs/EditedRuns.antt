@@ -17,14 +17,14 @@ use Rattle.ob0_types_rules.proofs.Agreeing.{Agree, HoldsOf, agree-map, agree-the
 use Rattle.ob0_types_rules.proofs.DenotedInlined.{StandsFor, constructors-inlined, uses-map}
 use Rattle.ob0_types_rules.proofs.EditedDeclarations.{Left, Outside, Worth, agree-known, not-constant, outside-right}
 use Rattle.ob0_types_rules.proofs.EditedModules.{IsFitted, inlining_keeps_well_typed-holds, leaving_out_keeps_well_typed-holds, left-fitted, marked_outermost, outermost-sound, read_edited-below, written-fitted}
-use Rattle.ob0_types_rules.proofs.EditedParts.{agree-weaken, all-left, bind_all, body-worth, edited-all, first-edited, formals-of, formals_constructors-leaf, heading-outside, left-join, left-then, mark_all, names_of, own-worth, procedure_constructors-edited, procedures-worth, read-all, rest-worth, types-of, types-outside, types_constructors-leaf, variables-of, variables_constructors-leaf}
+use Rattle.ob0_types_rules.proofs.EditedParts.{agree-weaken, all-left, bind_all, body-has_value, edited-all, first-edited, formals-of, formals_constructors-leaf, heading-outside, left-join, left-then, mark_all, names_of, own-has_value, procedure_constructors-edited, procedures-has_value, read-all, rest-has_value, types-of, types-outside, types_constructors-leaf, variables-of, variables_constructors-leaf}
 use Rattle.ob0_types_rules.proofs.EditedTypes.{procedures-below}
 use Rattle.ob0_types_rules.proofs.Inlined.{Stands}
-use Rattle.ob0_types_rules.proofs.Leaves.{AllStay, Here, Literal, denoted-leaf, edited-stands_for, edited_meanings, none-used, read-stands_for, read_meanings, seen-read, shown, uses-read}
-use Rattle.ob0_types_rules.proofs.Literals.{IsSeen, literal-worth, some_inverse}
+use Rattle.ob0_types_rules.proofs.Leaves.{AllStay, Here, Literal, denoted-leaf, edited-object_for, edited_meanings, none-used, read-object_for, read_meanings, seen-read, shown, uses-read}
+use Rattle.ob0_types_rules.proofs.Literals.{IsSeen, literal-has_value, some_inverse}
 use Rattle.ob0_types_rules.proofs.Marks.{IsRight, Mark, Marks, OfProcedure, Sound, Sound-from, Stays, found, is_left, knowns, marks_from, not-left, object_as, object_of, read, read-from, read_edited, read_edited-from, scope_marked}
 use Rattle.ob0_run_rules.specs.EditLaws.{InliningKeepsModules, LeavingOutKeepsModules}
-use Rattle.ob0_run_rules.specs.Runs.{Activation, Argument, Calls, Code, Frame, Parameter, Progress, State, activate, allocate, bind_parameter, bind_parameters, call, declare_block, declare_procedures, declare_variables, execute_all, execute_body, finished, formal_modes, in_frame, parameters, passing, place_argument, run, run_over, statement_meanings, stopped, value_argument, with_procedures}
+use Rattle.ob0_run_rules.specs.Runs.{Activation, Argument, Calls, ProcedureText, Frame, Parameter, Progress, State, activate, allocate, bind_parameter, bind_parameters, call, declare_block, declare_procedures, declare_variables, execute_all, execute_body, finished, formal_modes, in_frame, parameters, passing, place_argument, run, run_over, statement_meanings, stopped, value_argument, with_procedures}
 use Rattle.ob0_run_rules.proofs.ByOrdinal.{formal_names-parameters, parameter_names}
 use Rattle.ob0_run_rules.proofs.InlinedStatements.{execute_all-written}
 use Rattle.ob0_run_rules.proofs.RunNaturality.{execute_all-map}
@@ -33,13 +33,13 @@ use Rattle.std.proofs.lemmas.Bool.{cases_Bool}
 
 -- a procedure in a run, and the number of the first occurrence in its text
 pub record Text : Type 0 where
-  pub code : Code Name
+  pub code : ProcedureText Name
   pub at : ℕ
 
-abbrev pub before : ℕ → Text → Code Name
+abbrev pub before : ℕ → Text → ProcedureText Name
 before k t = t.code
 
-abbrev pub after : Edit → ℕ → Text → Code Name
+abbrev pub after : Edit → ℕ → Text → ProcedureText Name
 after edit k t = record { first_constructor = t.code.first_constructor; text = edited_procedure edit t.at (suc k) t.code.text }
 
 -- what is known of a procedure bound in a run: its name, its occurrences, and where in it the constant evaluates to what
@@ -47,7 +47,7 @@ pub record IsText (edit : Edit) (w : Value) (marks : Marks Place Text) (x : Name
   pub from_seven : 7 ≤ k
   pub named : procedure_name t.code.text ≡ x
   pub here : OneProcedure (Here edit w) t.at (scope_marked marks) k t.code.text
-  pub worth : Worth edit w k (after_procedure (suc k) t.code.text) (value_in_procedure ((x, no_constant) ∷ knowns marks) edit.constant (suc k) t.code.text)
+  pub has_value : Worth edit w k (after_procedure (suc k) t.code.text) (value_in_procedure ((x, no_constant) ∷ knowns marks) edit.constant (suc k) t.code.text)
 
 abbrev pub Run_sound : Edit → Value → ℕ → Marks Place Text → Type 0
 Run_sound edit w n marks = Sound edit w (IsText edit w) n marks
@@ -96,10 +96,10 @@ pub record RunTag : Type 0 where
   pub entering : List Argument → State → Progress
 
 abbrev pub run_tagged : Meanings RunTag Place (List Mode)
-run_tagged = record { stands_for = λ t. t.object; written = λ t. t.text }
+run_tagged = record { object_for = λ t. t.object; written = λ t. t.text }
 
 abbrev pub run_tag : Meanings Name Place (List Mode) → Calls Name → Name → RunTag
-run_tag meaning enter x = record { object = meaning.stands_for x; text = []; entering = enter x }
+run_tag meaning enter x = record { object = meaning.object_for x; text = []; entering = enter x }
 
 abbrev pub run_field : Name → RunTag
 run_field x = record { object = None; text = x; entering = λ args s. stopped Stuck s.output }
@@ -109,7 +109,7 @@ pub run-same : (edit : Edit) (w : Value) (marks : Marks Place Text) (there here 
 run-same edit w marks there here kept [] known = tt
 run-same edit w marks there here kept (x ∷ xs) known = (
   λ i. record {
-    object = (ap passing (edited-stands_for edit (after edit) marks x known.0) ∙ (passing-kept edit (found marks x) ∙ sym (ap passing (read-stands_for before marks x)))) i;
+    object = (ap passing (edited-object_for edit (after edit) marks x known.0) ∙ (passing-kept edit (found marks x) ∙ sym (ap passing (read-object_for before marks x)))) i;
     text = [];
     entering = kept x known.0 i;
   },
@@ -133,7 +133,7 @@ body-kept edit w lit n marks s there here kept t j (one (begins a)) known = λ i
     ∙ ⊎_elim
     (λ yes_shown. let seen : IsSeen (read_meanings before marks) w = seen-read edit w (IsText edit w) before n marks s yes_shown in
     execute_all-written (meanings_before marks) here t edit.uses edit.literal w record {
-      in_store = λ store. literal-worth (meanings_before marks) store edit.literal w lit.written lit.scalar (seen-passing (read before marks) w seen);
+      in_store = λ store. literal-has_value (meanings_before marks) store edit.literal w lit.written lit.scalar (seen-passing (read before marks) w seen);
     } j a (uses-map edit.uses (StandsFor (read_meanings before marks) w) (Stands (meanings_before marks) w) (λ x e. ap passing e) j (occurrences a) (uses-read edit w (IsText edit w) before n marks s j (occurrences a) known.0)))
     (λ not_shown. ap (execute_all (meanings_before marks) here t) (inline-nothing edit.uses edit.literal j a (none-used edit w j (scope_marked marks) (occurrences a) not_shown known.0)))
     (cases_Bool (shown w (scope_marked marks)))) i state
@@ -228,26 +228,26 @@ procedures-before i j k (more p rest) marks =
     (record { name = procedure_name p; ordinal = k; object = a_procedure record { code = record { first_constructor = i; text = p }; at = j } } ∷ marks)
 
 pub own-outside : (edit : Edit) (w : Value) (known : Known) (k : ℕ) (p : Tree Name (item procedure)) → Worth edit w k (after_procedure (suc k) p) (value_in_procedure known edit.constant (suc k) p) → Outside edit k (suc k)
-own-outside edit w known k (declares_procedure x fs b closing) worth l m =
+own-outside edit w known k (declares_procedure x fs b closing) has_value l m =
     let above : suc k ≤ after_names (suc k) (formal_names (formal_sections fs)) = le-after_names (suc k) (formal_names (formal_sections fs)) in
-    heading-outside edit w known k x closing fs b worth l (omega (arith, m, above))
+    heading-outside edit w known k x closing fs b has_value l (omega (arith, m, above))
 
 edited_procedure-name : (edit : Edit) (j k : ℕ) (p : Tree Name (item procedure)) → procedure_name (edited_procedure edit j k p) ≡ procedure_name p
 edited_procedure-name edit j k (declares_procedure x fs b closing) = refl
 
 pub procedures-after : (edit : Edit) (w : Value) (i j k : ℕ) (ps : Tree Name (items procedure)) (marks : Marks Place Text) → Worth edit w k (after_procedures k ps) (value_in_procedures (knowns marks) edit.constant k ps)
     → declare_procedures i (edited_procedures edit j k ps) (read_edited edit (after edit) marks) ≡ read_edited edit (after edit) (mark_procedures i j k ps marks)
-procedures-after edit w i j k end marks worth = refl
-procedures-after edit w i j k (more p rest) marks worth =
+procedures-after edit w i j k end marks has_value = refl
+procedures-after edit w i j k (more p rest) marks has_value =
     let jr : ℕ = j + length (occurrences p) in
     let p' : Tree Name (item procedure) = edited_procedure edit j (suc k) p in
     let rest' : Tree Name (items procedure) = edited_procedures edit jr (after_procedure (suc k) p) rest in
-    let c : Object Place (Code Name) = a_procedure record { first_constructor = i; text = p' } in
-    let own : Outside edit k (suc k) = own-outside edit w ((procedure_name p, no_constant) ∷ knowns marks) k p (own-worth edit w (knowns marks) k p rest worth) in
+    let c : Object Place (ProcedureText Name) = a_procedure record { first_constructor = i; text = p' } in
+    let own : Outside edit k (suc k) = own-outside edit w ((procedure_name p, no_constant) ∷ knowns marks) k p (own-has_value edit w (knowns marks) k p rest has_value) in
     (λ m. declare_procedures (i + procedure_constructors-edited edit j (suc k) p m) rest' ((edited_procedure-name edit j (suc k) p m, c) ∷ read_edited edit (after edit) marks))
     ∙ (ap (declare_procedures (i + procedure_constructors p) rest') (sym (ap (λ t. if t then read_edited edit (after edit) marks else (procedure_name p, c) ∷ read_edited edit (after edit) marks) (not-constant edit k own)))
     ∙ procedures-after edit w (i + procedure_constructors p) jr (after_procedure (suc k) p) rest
-    (record { name = procedure_name p; ordinal = k; object = a_procedure record { code = record { first_constructor = i; text = p }; at = j } } ∷ marks) (rest-worth edit w (knowns marks) k p rest worth))
+    (record { name = procedure_name p; ordinal = k; object = a_procedure record { code = record { first_constructor = i; text = p }; at = j } } ∷ marks) (rest-has_value edit w (knowns marks) k p rest has_value))
 
 abbrev pub RightFrame : Edit → Value → ℕ → Scope Name → MarkedFrame → Type 0
 RightFrame edit w n scope f = (scope_marked f.marks ≡ scope) × Run_sound edit w n f.marks
@@ -255,15 +255,15 @@ RightFrame edit w n scope f = (scope_marked f.marks ≡ scope) × Run_sound edit
 pub procedures-right : (edit : Edit) (w : Value) (i j k : ℕ) (ps : Tree Name (items procedure)) (marks : Marks Place Text) → Run_sound edit w k marks → 7 ≤ k → EachProcedure (Here edit w) j (scope_marked marks) k ps
     → Worth edit w k (after_procedures k ps) (value_in_procedures (knowns marks) edit.constant k ps)
     → (scope_marked (mark_procedures i j k ps marks) ≡ declare_procedure_names k ps (scope_marked marks)) × Run_sound edit w (after_procedures k ps) (mark_procedures i j k ps marks)
-procedures-right edit w i j k end marks s seven here worth = (refl, s)
-procedures-right edit w i j k (more p rest) marks s seven here worth =
-    let behind : suc k ≤ after_procedure (suc k) p = le-after_procedure (suc k) p in
-    let mine : Worth edit w k (after_procedure (suc k) p) (value_in_procedure ((procedure_name p, no_constant) ∷ knowns marks) edit.constant (suc k) p) = own-worth edit w (knowns marks) k p rest worth in
+procedures-right edit w i j k end marks s seven here has_value = (refl, s)
+procedures-right edit w i j k (more p rest) marks s seven here has_value =
+    let following : suc k ≤ after_procedure (suc k) p = le-after_procedure (suc k) p in
+    let mine : Worth edit w k (after_procedure (suc k) p) (value_in_procedure ((procedure_name p, no_constant) ∷ knowns marks) edit.constant (suc k) p) = own-has_value edit w (knowns marks) k p rest has_value in
     let t : Text = record { code = record { first_constructor = i; text = p }; at = j } in
     procedures-right edit w (i + procedure_constructors p) (j + length (occurrences p)) (after_procedure (suc k) p) rest
     (record { name = procedure_name p; ordinal = k; object = a_procedure t } ∷ marks)
-    (behind, outside-right edit w (procedure_name p) k (a_procedure t) seven (own-outside edit w ((procedure_name p, no_constant) ∷ knowns marks) k p mine), record { from_seven = seven; named = refl; here = here.0; worth = mine }, s)
-    (omega (arith, seven, behind)) here.1 (rest-worth edit w (knowns marks) k p rest worth)
+    (following, outside-right edit w (procedure_name p) k (a_procedure t) seven (own-outside edit w ((procedure_name p, no_constant) ∷ knowns marks) k p mine), record { from_seven = seven; named = refl; here = here.0; has_value = mine }, s)
+    (omega (arith, seven, following)) here.1 (rest-has_value edit w (knowns marks) k p rest has_value)
 
 -- a block's declarations
 pub block-kept : (edit : Edit) (w : Value) → Literal edit w → (i j k : ℕ) (f : MarkedFrame) → Run_sound edit w k f.marks → 7 ≤ k → (b : Tree Name block)
@@ -271,7 +271,7 @@ pub block-kept : (edit : Edit) (w : Value) → Literal edit w → (i j k : ℕ) 
     → Agree frame_before (frame_after edit) (RightFrame edit w (after_block k b) (body_scope k b (scope_marked f.marks)))
     (declare_block as_names i b (frame_before f)) (declare_block as_names i (edited_block edit j k b) (frame_after edit f))
 unfolding declare_block
-block-kept edit w lit i j k f s seven (has_body (declares cs ts vs ps) statements) here worth =
+block-kept edit w lit i j k f s seven (has_body (declares cs ts vs ps) statements) here has_value =
     let b : Tree Name block = has_body (declares cs ts vs ps) statements in
     let jt : ℕ = j + length (occurrences cs) in
     let jv : ℕ = j + length (occurrences cs) + length (occurrences ts) in
@@ -295,7 +295,7 @@ block-kept edit w lit i j k f s seven (has_body (declares cs ts vs ps) statement
     (λ env. option_map (with_procedures (after_variables i b) ps) (declare_variables as_names (after_types i b) (section_variables vs) record { env = env; store = f.store }))
     (there (types_constructors (section_types ts)) (variables_constructors (section_variables vs)) (leaf edit jv (section_variables vs)))
     (declare_first as_names (read before f.marks) i b) (declare_first as_names (read_edited edit (after edit) f.marks) i (edited_block edit j k b))
-    (first-edited edit w lit (IsText edit w) before (after edit) i j k f.marks s seven b here worth)
+    (first-edited edit w lit (IsText edit w) before (after edit) i j k f.marks s seven b here has_value)
     (λ inner left.
     let g : MarkedFrame = record { marks = inner; store = f.store } in
     agree-map frame_before (frame_after edit) (LeftFrame edit w (first_procedure k b) (declare_names (first_variable k b) (variable_names (section_variables vs)) (scope_marked inner)) (Some (bind_names (variable_names (section_variables vs)) no_constant (knowns inner))))
@@ -304,11 +304,11 @@ block-kept edit w lit i j k f s seven (has_body (declares cs ts vs ps) statement
     (declare_variables as_names (after_types i b) (section_variables vs) (frame_before g)) (declare_variables as_names (after_types i b) (leaf edit jv (section_variables vs)) (frame_after edit g))
     (variables-kept edit w lit (after_types i b) jv (first_variable k b) g left.sound (omega (arith, seven, above, types)) (section_variables vs)
     (subst (λ scope. EachVariable (Here edit w) jv scope (first_variable k b) (section_variables vs)) (sym left.scoped) here.2)
-    (λ l m. types-outside edit w (knowns f.marks) k b worth (omega (arith, l, types)) m))
+    (λ l m. types-outside edit w (knowns f.marks) k b has_value (omega (arith, l, types)) m))
     (λ h last.
     let final = left-then edit w (IsText edit w) (first_procedure k b) (declare_names (first_variable k b) (variable_names (section_variables vs)) (scope_marked inner)) (scope_marked inner) (procedures_scope k b (scope_marked f.marks)) (bind_names (variable_names (section_variables vs)) no_constant) known (knowns inner) h.marks
     (ap (declare_names (first_variable k b) (variable_names (section_variables vs))) left.scoped) left.value last in
-    let procedures = procedures-worth edit w (knowns f.marks) (knowns h.marks) k b worth final.value in
+    let procedures = procedures-has_value edit w (knowns f.marks) (knowns h.marks) k b has_value final.value in
     let right = procedures-right edit w (after_variables i b) jp (first_procedure k b) ps h.marks final.sound (omega (arith, seven, over)) (subst (λ scope. EachProcedure (Here edit w) jp scope (first_procedure k b) ps) (sym final.scoped) here.3) procedures in (
       record { marks = mark_procedures (after_variables i b) jp (first_procedure k b) ps h.marks; store = h.store },
       ap (λ env. record { env = env; store = h.store }) (procedures-before (after_variables i b) jp (first_procedure k b) ps h.marks),
@@ -395,7 +395,7 @@ pub activation-kept : (edit : Edit) (w : Value) → Literal edit w → (i j k : 
     (RightFrame edit w (after_block (after_names (suc k) (formal_names (formal_sections fs))) b) (body_scope (after_names (suc k) (formal_names (formal_sections fs))) b (declare_names (suc k) (formal_names (formal_sections fs)) (scope_marked f.marks))))
     (option_and_then (declare_block as_names (i + formals_constructors (formal_sections fs)) b) (bind_parameters (parameters (formal_sections fs)) args (frame_before f)))
     (option_and_then (declare_block as_names (i + formals_constructors (formal_sections (leaf edit j fs))) (edited_block edit (j + length (occurrences fs)) (after_names (suc k) (formal_names (formal_sections fs))) b)) (bind_parameters (parameters (formal_sections (leaf edit j fs))) args (frame_after edit f)))
-activation-kept edit w lit i j k f s seven x closing fs b each worth args =
+activation-kept edit w lit i j k f s seven x closing fs b each has_value args =
     let xs : List Name = formal_names (formal_sections fs) in
     let n : ℕ = after_names (suc k) xs in
     let jb : ℕ = j + length (occurrences fs) in
@@ -405,7 +405,7 @@ activation-kept edit w lit i j k f s seven x closing fs b each worth args =
     let above : suc k ≤ n = le-after_names (suc k) xs in
     let named : parameter_names (parameters (formal_sections fs)) ≡ xs = formal_names-parameters (formal_sections fs) in
     let outside : Outside edit (suc k) (after_names (suc k) (parameter_names (parameters (formal_sections fs)))) = λ l m.
-    heading-outside edit w (knowns f.marks) k x closing fs b worth (omega (arith, l)) (subst (λ ys. edit.constant < after_names (suc k) ys) named m) in
+    heading-outside edit w (knowns f.marks) k x closing fs b has_value (omega (arith, l)) (subst (λ ys. edit.constant < after_names (suc k) ys) named m) in
     subst₂ (λ m ps. Agree frame_before (frame_after edit) Result (option_and_then (declare_block as_names (i + formals_constructors (formal_sections fs)) b) (bind_parameters (parameters (formal_sections fs)) args (frame_before f)))
     (option_and_then (declare_block as_names (i + m) (edited_block edit jb n b)) (bind_parameters ps args (frame_after edit f))))
     (sym (ap formals_constructors (formals-of edit j fs) ∙ formals_constructors-leaf edit j (formal_sections fs))) (sym (ap parameters (formals-of edit j fs) ∙ parameters-leaf edit j (formal_sections fs)))
@@ -417,7 +417,7 @@ activation-kept edit w lit i j k f s seven x closing fs b each worth args =
     (λ g left. subst (λ inner. Agree frame_before (frame_after edit) (RightFrame edit w (after_block n b) (body_scope n b inner)) (declare_block as_names (i + formals_constructors (formal_sections fs)) b (frame_before g)) (declare_block as_names (i + formals_constructors (formal_sections fs)) (edited_block edit jb n b) (frame_after edit g))) left.scoped
     (block-kept edit w lit (i + formals_constructors (formal_sections fs)) jb n g left.sound (omega (arith, seven, above)) b
     (subst (λ inner. EachBlock (Here edit w) jb inner n b) (sym left.scoped) each)
-    (subst (λ known. Worth edit w n (after_block n b) (value_in_block known edit.constant n b)) (some_inverse left.value) (body-worth edit w (knowns f.marks) k x closing fs b worth)))))
+    (subst (λ known. Worth edit w n (after_block n b) (value_in_block known edit.constant n b)) (some_inverse left.value) (body-has_value edit w (knowns f.marks) k x closing fs b has_value)))))
 
 -- the newest mark isn't left out
 abbrev pub HeadStays : Edit → Marks Place Text → Type 0
@@ -450,12 +450,12 @@ activate-kept edit w lit there here known t n (b ∷ marks) sound head args s =
         let scope : Scope Name = declare_names (suc k) (formal_names (formal_sections fs)) (scope_marked f.marks) in
         let each : EachBlock (Here edit w) (j + length (occurrences fs)) scope m inner =
         subst (λ y. EachBlock (Here edit w) (j + length (occurrences fs)) (declare_names (suc k) (formal_names (formal_sections fs)) ((y, k) ∷ scope_marked marks)) m inner) text.named text.here.1 in
-        let outside : Outside edit k (suc k) = own-outside edit w ((b.name, no_constant) ∷ knowns marks) k (declares_procedure x fs inner closing) text.worth in
+        let outside : Outside edit k (suc k) = own-outside edit w ((b.name, no_constant) ∷ knowns marks) k (declares_procedure x fs inner closing) text.has_value in
         ap (λ env. in_frame s (option_and_then (declare_block as_names (i + formals_constructors (formal_sections (leaf edit j fs))) (edited_block edit (j + length (occurrences fs)) m inner)) (bind_parameters (parameters (formal_sections (leaf edit j fs))) args record { env = env; store = s.store }))
         (λ f. execute_body as_names f.env (there f.env) t (block_statements (edited_block edit (j + length (occurrences fs)) m inner))))
         (sym (ap (λ v. if v then read_edited edit (after edit) marks else (b.name, a_procedure record { first_constructor = i; text = edited_procedure edit j (suc k) (declares_procedure x fs inner closing) }) ∷ read_edited edit (after edit) marks) (not-constant edit k outside)))
         ∙ in_frame-kept edit (RightFrame edit w (after_block m inner) (body_scope m inner scope)) s _ _ _ _
-        (activation-kept edit w lit i j k f (le_refl (suc k), right, text, sound.3) text.from_seven x closing fs inner each text.worth args)
+        (activation-kept edit w lit i j k f (le_refl (suc k), right, text, sound.3) text.from_seven x closing fs inner each text.has_value args)
         (λ g right. block-runs edit w lit there here known t (j + length (occurrences fs)) m scope inner each g right)
 
     of_object : (o : Object Place Text) → IsRight {V = Place} {P = Text} edit w record { name = b.name; ordinal = b.ordinal; object = o } → OfProcedure (IsText edit w marks b.name b.ordinal) o
@@ -485,7 +485,7 @@ run-edited edit w (is_module x b closing) h input c t =
     (ap (λ env. in_frame record { store = []; input = input; output = [] } (declare_block as_names 0 (edited_block edit 0 7 b) record { env = env; store = [] }) (λ f. execute_body as_names f.env (call as_names c t f.env) t (block_statements (edited_block edit 0 7 b))))
     (sym (read_edited-below edit w (IsText edit w) (after edit) 7 marked_outermost sound h.literal.ordinal))
     ∙ in_frame-kept edit (RightFrame edit w (after_block 7 b) (body_scope 7 b (predeclared_scope as_names))) record { store = []; input = input; output = [] } _ _ _ _
-    (block-kept edit w h.literal 0 0 7 f sound (le_refl 7) b h.here (λ l m. h.worth))
+    (block-kept edit w h.literal 0 0 7 f sound (le_refl 7) b h.here (λ l m. h.has_value))
     (λ g right. λ i s. block-runs edit w h.literal (call as_names c t) (call as_names c t) (calls-kept edit w h.literal c t) t 0 7 (predeclared_scope as_names) b h.here g right i s))
 
 pub inlining_keeps_modules-holds : InliningKeepsModules

@@ -23,13 +23,13 @@ IsUse meaning w uses k xs = UsesAre uses (Stands meaning w) k xs
 
 pub evaluate-written : (meaning : Meanings Name Place (List Mode)) (uses : Uses) (v : Tree Name factor) (w : Value) → Worth meaning v w → (store : Store) (k : ℕ) (e : Tree Name expression)
     → IsUse meaning w uses k (occurrences e) → evaluate meaning store (inline_in uses v k e) ≡ evaluate meaning store e
-evaluate-written meaning uses v w h store k e u = evaluate-inlined meaning store uses v w record { worth = h.in_store store } k e u
+evaluate-written meaning uses v w h store k e u = evaluate-inlined meaning store uses v w record { has_value = h.in_store store } k e u
 
 pub designate-written : (meaning : Meanings Name Place (List Mode)) (uses : Uses) (v : Tree Name factor) (w : Value) → Worth meaning v w → (store : Store) (k : ℕ) (x : Name) (path : Tree Name (items selector))
     → IsUse meaning w uses k (occurrences path) → designate meaning store x (inline_in uses v k path) ≡ designate meaning store x path
 unfolding designate
 designate-written meaning uses v w h store k x path u = λ i.
-    place_of (meaning.stands_for x) >>= (λ p. or_stuck (read_place store p) >>= (λ z. follow-inlined meaning store uses v w record { worth = h.in_store store } k z path u i >>= (λ steps. gives record { variable = p.variable; path = p.path ++ steps })))
+    place_of (meaning.object_for x) >>= (λ p. or_stuck (read_place store p) >>= (λ z. follow-inlined meaning store uses v w record { has_value = h.in_store store } k z path u i >>= (λ steps. gives record { variable = p.variable; path = p.path ++ steps })))
 
 -- no place: an expression that isn't a designator, and a constant
 
@@ -40,27 +40,27 @@ pub constant-no_place : (o : Option (Object Place (List Mode))) (w : Value) → 
 constant-no_place o w e = ap place_of e
 
 -- a name that evaluates to a value in every store is no variable
-pub worth-no_place : (o : Option (Object Place (List Mode))) (next : Value → Outcome Value) (w : Value) → value_of {P = List Mode} [] o >>= next ≡ gives w → place_of o ≡ ends Stuck
-worth-no_place None next w e = refl
-worth-no_place (Some (a_type s)) next w e = refl
-worth-no_place (Some (a_constant s)) next w e = refl
-worth-no_place (Some (a_variable p)) next w e = absurd (cc)
-worth-no_place (Some (a_procedure s)) next w e = refl
-worth-no_place (Some (a_standard s)) next w e = refl
+pub has_value-no_place : (o : Option (Object Place (List Mode))) (next : Value → Outcome Value) (w : Value) → value_of {P = List Mode} [] o >>= next ≡ gives w → place_of o ≡ ends Stuck
+has_value-no_place None next w e = refl
+has_value-no_place (Some (a_type s)) next w e = refl
+has_value-no_place (Some (a_constant s)) next w e = refl
+has_value-no_place (Some (a_variable p)) next w e = absurd (cc)
+has_value-no_place (Some (a_procedure s)) next w e = refl
+has_value-no_place (Some (a_standard s)) next w e = refl
 
 pub written-no_place : (meaning : Meanings Name Place (List Mode)) (v : Tree Name factor) (w : Value) → Worth meaning v w → (store : Store) → place_at meaning store (designated (alone v)) ≡ ends Stuck
 unfolding designate evaluate
 written-no_place meaning (designator x path) w h store =
     ap (λ o. o >>= (λ p. or_stuck (read_place store p) >>= (λ z. follow meaning store z path >>= (λ steps. gives record { variable = p.variable; path = p.path ++ steps }))))
-    (worth-no_place (meaning.stands_for x) (λ z. follow meaning [] z path >>= (λ steps. or_stuck (at_path steps z))) w (h.in_store []))
+    (has_value-no_place (meaning.object_for x) (λ z. follow meaning [] z path >>= (λ steps. or_stuck (at_path steps z))) w (h.in_store []))
 written-no_place meaning (integer n) w h store = refl
 written-no_place meaning (parenthesised e) w h store = refl
 written-no_place meaning (negation f) w h store = refl
 
-pub use-no_place : (meaning : Meanings Name Place (List Mode)) (x : Name) (w : Value) (store : Store) → meaning.stands_for x ≡ Some (a_constant w) → place_at meaning store (Some (x, end)) ≡ ends Stuck
+pub use-no_place : (meaning : Meanings Name Place (List Mode)) (x : Name) (w : Value) (store : Store) → meaning.object_for x ≡ Some (a_constant w) → place_at meaning store (Some (x, end)) ≡ ends Stuck
 unfolding designate
 use-no_place meaning x w store e =
-    ap (λ o. o >>= (λ p. or_stuck (read_place store p) >>= (λ z. follow meaning store z end >>= (λ steps. gives record { variable = p.variable; path = p.path ++ steps })))) (constant-no_place (meaning.stands_for x) w e)
+    ap (λ o. o >>= (λ p. or_stuck (read_place store p) >>= (λ z. follow meaning store z end >>= (λ steps. gives record { variable = p.variable; path = p.path ++ steps })))) (constant-no_place (meaning.object_for x) w e)
 
 pub place-written : (meaning : Meanings Name Place (List Mode)) (uses : Uses) (v : Tree Name factor) (w : Value) → Worth meaning v w → (store : Store) (k : ℕ) (e : Tree Name expression)
     → IsUse meaning w uses k (occurrences e) → place_at meaning store (designated (inline_in uses v k e)) ≡ place_at meaning store (designated e)
@@ -119,7 +119,7 @@ mutual
       λ i state. use_in state (designate-written meaning uses v w h state.store (suc k) x path s.0 i)
       (λ p. use_in state (evaluate-written meaning uses v w h state.store (suc k + length (occurrences path)) e s.1 i) (store_at state p))
   execute-written meaning enter t uses v w h k (calls x es) u = λ i state.
-      use_in state (modes_of (meaning.stands_for x) >>= (λ modes. arguments-written meaning uses v w h state.store modes (suc k) es u.1 i)) (λ args. perform (meaning.stands_for x) (enter x) args state)
+      use_in state (modes_of (meaning.object_for x) >>= (λ modes. arguments-written meaning uses v w h state.store modes (suc k) es u.1 i)) (λ args. perform (meaning.object_for x) (enter x) args state)
   execute-written meaning enter t uses v w h k (branches e statements rest last) u =
       let s = uses-split uses (Stands meaning w) k (occurrences e) (occurrences statements ++ (occurrences rest ++ occurrences last)) u in
       let s₁ = uses-split uses (Stands meaning w) (k + length (occurrences e)) (occurrences statements) (occurrences rest ++ occurrences last) s.1 in
@@ -165,4 +165,4 @@ mutual
   execute_else-written meaning enter t uses v w h k (one (else_branch statements)) u = λ i state. execute_all-written meaning enter t uses v w h k statements u i state
 
 pub inlining_keeps_execution-holds : InliningKeepsExecution
-inlining_keeps_execution-holds meaning enter t uses v w k a s worth u = λ i. execute-written meaning enter t uses v w record { in_store = worth } k a u i s
+inlining_keeps_execution-holds meaning enter t uses v w k a s has_value u = λ i. execute-written meaning enter t uses v w record { in_store = has_value } k a u i s

@@ -13,7 +13,7 @@ use Rattle.ob0_types_rules.proofs.TypeNaturality.{constant_value-map, denoted-ma
 use Rattle.ob0_values.specs.Values.{Place, Value, initial}
 use Rattle.ob0_run_rules.specs.GivenUp.{call_giving_up, drop_variables, run_giving_up}
 use Rattle.ob0_run_rules.specs.Laws.{GivingUpKeepsRuns}
-use Rattle.ob0_run_rules.specs.Runs.{Activation, Argument, Calls, Code, Frame, Parameter, Progress, State, activate, allocate, bind_parameter, bind_parameters, call, declare_block, declare_procedures, declare_variables, execute_body, finished, formal_modes, in_frame, parameters, passing, place_argument, run_over, running, statement_meanings, stopped, value_argument, with_procedures}
+use Rattle.ob0_run_rules.specs.Runs.{Activation, Argument, Calls, ProcedureText, Frame, Parameter, Progress, State, activate, allocate, bind_parameter, bind_parameters, call, declare_block, declare_procedures, declare_variables, execute_body, finished, formal_modes, in_frame, parameters, passing, place_argument, run_over, running, statement_meanings, stopped, value_argument, with_procedures}
 use Rattle.ob0_run_rules.proofs.OtherPlaces.{Alike, ArgumentIs, ArgumentsAre, EntersAlike, MeaningIs, ObjectIs, PlaceIs, ProgressIs, StateIs, StoreIs, execute_all-alike, variable-added, variable-last, variables-cut}
 use Rattle.ob0_run_rules.proofs.SoundStatements.{slice_get-grows}
 
@@ -85,7 +85,7 @@ newest-is at (b ∷ env) (d ∷ other) h = h.1
 newest-is at [] (d ∷ other) h = absurd h
 newest-is at (b ∷ env) [] h = absurd h
 
-passing-is : {N : Type 0} (at : List ℕ) (o q : Option (Object Place (Code N))) → MeaningIs at o q → MeaningIs at (passing o) (passing q)
+passing-is : {N : Type 0} (at : List ℕ) (o q : Option (Object Place (ProcedureText N))) → MeaningIs at o q → MeaningIs at (passing o) (passing q)
 passing-is at None None h = tt
 passing-is at (Some (a_type s)) (Some (a_type t)) h = h
 passing-is at (Some (a_constant s)) (Some (a_constant t)) h = h
@@ -266,7 +266,7 @@ module _ {N : Type 0} (naming : Naming N) where
   activate-alike enter enter' known t at (b ∷ rest) [] args others s u env are h = absurd env
   activate-alike enter enter' known t at ((x, o) ∷ rest) ((y, q) ∷ other) args others s u env are h = go o q env.1
     where
-      of_code : (code : Code N) → ProgressGrown at (activate naming enter t ((x, a_procedure code) ∷ rest) args s) (activate naming enter' t ((y, a_procedure code) ∷ other) others u)
+      of_code : (code : ProcedureText N) → ProgressGrown at (activate naming enter t ((x, a_procedure code) ∷ rest) args s) (activate naming enter' t ((y, a_procedure code) ∷ other) others u)
       of_code code =
           let f : Frame N = record { env = (x, a_procedure code) ∷ rest; store = s.store } in
           let g : Frame N = record { env = (y, a_procedure code) ∷ other; store = u.store } in
@@ -277,7 +277,7 @@ module _ {N : Type 0} (naming : Naming N) where
           (parameters-are at ps args others f g are record { same_variables = h.same_variables; same_bindings = (env.0, refl, env.2) })
           (λ f₁ g₁ grown. frames-on at grown.0 (declare_block naming k (procedure_block code.text) f₁) (declare_block naming k (procedure_block code.text) g₁) (block-is (at ++ grown.0) k (procedure_block code.text) f₁ g₁ grown.1)))
 
-      go : (o q : Object Place (Code N)) → ObjectIs at o q → ProgressGrown at (activate naming enter t ((x, o) ∷ rest) args s) (activate naming enter' t ((y, q) ∷ other) others u)
+      go : (o q : Object Place (ProcedureText N)) → ObjectIs at o q → ProgressGrown at (activate naming enter t ((x, o) ∷ rest) args s) (activate naming enter' t ((y, q) ∷ other) others u)
       go (a_procedure code) (a_procedure code') is = subst (λ code'. ProgressGrown at (activate naming enter t ((x, a_procedure code) ∷ rest) args s) (activate naming enter' t ((y, a_procedure code') ∷ other) others u)) is (of_code code)
       go (a_type v) (a_type w) is = ([], (refl, h.same_output))
       go (a_constant v) (a_constant w) is = ([], (refl, h.same_output))

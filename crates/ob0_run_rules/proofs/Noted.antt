@@ -6,13 +6,13 @@ use Rattle.ob0_scope_rules.specs.Scopes.{Scope, as_label, ordinal_of, relabel_pr
 use Rattle.ob0_types_rules.specs.Environments.{from_binding}
 use Rattle.ob0_types_rules.specs.Expressions.{Object, a_constant, a_procedure, a_standard, a_type, a_variable}
 use Rattle.ob0_values.specs.Values.{Place}
-use Rattle.ob0_run_rules.specs.Runs.{Activation, Code}
+use Rattle.ob0_run_rules.specs.Runs.{Activation, ProcedureText}
 use Rattle.std.proofs.lemmas.Bool.{eq-eqb, ne_eqb}
 
 pub record Bound (N : Type 0) : Type 0 where
   pub name : N
   pub ordinal : ℕ
-  pub object : Object Place (Code N)
+  pub object : Object Place (ProcedureText N)
 
 abbrev pub Noted : Type 0 → Type 0
 Noted N = List (Bound N)
@@ -25,11 +25,11 @@ abbrev pub scope_of : {N : Type 0} → Noted N → Scope N
 scope_of [] = []
 scope_of (b ∷ noted) = (b.name, b.ordinal) ∷ scope_of noted
 
-abbrev pub numbered_code : {N : Type 0} → Naming N → Scope N → ℕ → Code N → Code Label
+abbrev pub numbered_code : {N : Type 0} → Naming N → Scope N → ℕ → ProcedureText N → ProcedureText Label
 numbered_code naming scope k code =
     record { first_constructor = code.first_constructor; text = relabel_procedure naming (as_label naming) scope k code.text }
 
-abbrev pub numbered_object : {N : Type 0} → Naming N → Scope N → ℕ → Object Place (Code N) → Object Place (Code Label)
+abbrev pub numbered_object : {N : Type 0} → Naming N → Scope N → ℕ → Object Place (ProcedureText N) → Object Place (ProcedureText Label)
 numbered_object naming scope k (a_type s) = a_type s
 numbered_object naming scope k (a_constant v) = a_constant v
 numbered_object naming scope k (a_variable p) = a_variable p
@@ -42,7 +42,7 @@ by_ordinal naming [] = []
 by_ordinal naming (b ∷ noted) = (declared b.ordinal, numbered_object naming (scope_of noted) b.ordinal b.object) ∷ by_ordinal naming noted
 
 -- a procedure is bound under its own name
-abbrev pub OwnName : {N : Type 0} → N → Object Place (Code N) → Type 0
+abbrev pub OwnName : {N : Type 0} → N → Object Place (ProcedureText N) → Type 0
 OwnName x (a_procedure code) = procedure_name code.text ≡ x
 OwnName x _ = Unit {0}
 

@@ -37,8 +37,8 @@ mutual
   execute-map f h meaning enter t (assigns x path e) = λ i s.
       use_in s (designate-map f h meaning s.store x path i) (λ p. use_in s (evaluate-map f h meaning s.store e i) (store_at s p))
   execute-map f h meaning enter t (calls x es) = λ i s.
-      use_in s (modes_of (meaning.stands_for (f x)) >>= (λ modes. (ap (evaluate_arguments meaning s.store modes) (arguments-map f h es) ∙ evaluate_arguments-map f h meaning s.store modes (arguments_listed es)) i))
-      (λ args. perform (meaning.stands_for (f x)) (enter (f x)) args s)
+      use_in s (modes_of (meaning.object_for (f x)) >>= (λ modes. (ap (evaluate_arguments meaning s.store modes) (arguments-map f h es) ∙ evaluate_arguments-map f h meaning s.store modes (arguments_listed es)) i))
+      (λ args. perform (meaning.object_for (f x)) (enter (f x)) args s)
   execute-map f h meaning enter t (branches e statements rest last) = λ i s.
       use_in s (evaluate-map f h meaning s.store e i)
       (λ v. choose s v (execute_all-map f h meaning enter t statements i) (execute_elsifs-map f h meaning enter t rest (execute_else meaning enter t (with_names f h last)) (execute_else (through f h meaning) (λ x. enter (f x)) t last) (execute_else-map f h meaning enter t last) i))

@@ -267,9 +267,9 @@ mutual
   pub evaluate_factor-sound : {N : Type 0} (typing : StoreTyping) (checked : Typed N) (active : Meanings N Place (List Mode)) (store : Store) → Fitting typing checked active store → (a : Tree N factor) (s : Shape)
       → type_of_factor checked a ≡ Some s → OutcomeFits (λ v. HasShape v s) (evaluate_factor active store a)
   evaluate_factor-sound typing checked active store f (designator x path) s h =
-      let (t, et, h₁) = some-gives (object_type (checked.stands_for x)) (λ t. type_at checked t path) s h in
-      fits-then (λ v. HasShape v t) (λ v. HasShape v s) (value_of store (active.stands_for x)) (λ v. follow active store v path >>= (λ steps. or_stuck (at_path steps v)))
-      (object-fits typing store (checked.stands_for x) (active.stands_for x) t f.store_fits (f.names_fit.0 x) et)
+      let (t, et, h₁) = some-gives (object_type (checked.object_for x)) (λ t. type_at checked t path) s h in
+      fits-then (λ v. HasShape v t) (λ v. HasShape v s) (value_of store (active.object_for x)) (λ v. follow active store v path >>= (λ steps. or_stuck (at_path steps v)))
+      (object-fits typing store (checked.object_for x) (active.object_for x) t f.store_fits (f.names_fit.0 x) et)
       (λ v hv. fits-then (λ steps. shape_at_path steps t ≡ Some s) (λ v. HasShape v s) (follow active store v path) (λ steps. or_stuck (at_path steps v)) (follow-sound typing checked active store f v t path s hv h₁)
       (λ steps e. let (w, ew, hw) = path-fits steps v t s hv e in or_stuck-fits (λ v. HasShape v s) (at_path steps v) w ew hw))
   evaluate_factor-sound typing checked active store f (integer n) s h = of_some (λ s. HasShape (number (pos n)) s) h tt

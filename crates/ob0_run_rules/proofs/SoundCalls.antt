@@ -13,7 +13,7 @@ use Rattle.ob0_types_rules.specs.WellTyped.{Formal, Mode, Signature, TypeEnviron
 use Rattle.ob0_types_rules.proofs.TypeNaturality.{constant_value-map, denoted-map}
 use Rattle.ob0_types_rules.proofs.TypesByOrdinal.{typed_parameter}
 use Rattle.ob0_run_rules.specs.Laws.{NeverStuck}
-use Rattle.ob0_run_rules.specs.Runs.{Activation, Argument, Calls, Code, Frame, Parameter, Progress, State, activate, allocate, bind_parameter, bind_parameters, call, declare_block, declare_procedures, declare_variables, execute_all, execute_body, finished, formal_modes, in_frame, parameters, passing, place_argument, run, run_over, running, statement_meanings, stopped, value_argument, with_procedures}
+use Rattle.ob0_run_rules.specs.Runs.{Activation, Argument, Calls, ProcedureText, Frame, Parameter, Progress, State, activate, allocate, bind_parameter, bind_parameters, call, declare_block, declare_procedures, declare_variables, execute_all, execute_body, finished, formal_modes, in_frame, parameters, passing, place_argument, run, run_over, running, statement_meanings, stopped, value_argument, with_procedures}
 use Rattle.ob0_run_rules.proofs.ByOrdinal.{with_mode}
 use Rattle.ob0_run_rules.proofs.Sound.{some-gives}
 use Rattle.ob0_run_rules.proofs.SoundStatements.{ObjectFits-grows, PlaceFits-grows, ProgressFits-grown, both_true, execute_all-keeps, keeps-here, same_store-fits}
@@ -39,7 +39,7 @@ modes-typed naming env k (more (then_section f) fs) ps e =
     ap (λ ms. map (λ x. (section_mode f)) (section_names f) ++ ms) (modes-typed naming (bind_names (section_names f) (a_variable s) env) (k + constructors (section_type f)) fs rest er)
     ∙ (sym (modes-of_parameters record { mode = (section_mode f); shape = s } (section_names f) rest) ∙ ap (λ ps. modes_in (map (λ p. p.formal) ps)) (some-inverse e₂))
 
-pub binding-object : {N : Type 0} (naming : Naming N) (typing : StoreTyping) (checked : TypeEnvironment N) (x : N) (o : Object Shape Signature) (r : Object Place (Code N)) → BindingFits naming typing checked x o r → ObjectFits typing (Some o) (passing (Some r))
+pub binding-object : {N : Type 0} (naming : Naming N) (typing : StoreTyping) (checked : TypeEnvironment N) (x : N) (o : Object Shape Signature) (r : Object Place (ProcedureText N)) → BindingFits naming typing checked x o r → ObjectFits typing (Some o) (passing (Some r))
 binding-object naming typing checked x (a_procedure signature) (a_procedure code) h =
     modes-typed naming checked code.first_constructor (procedure_formals code.text) h.0 h.1 ∙ ap modes_in (sym h.2)
 binding-object naming typing checked x (a_type s) r h = h
@@ -56,7 +56,7 @@ names-fit {N} naming typing (b ∷ checked) (d ∷ active) h z =
     subst (λ y. ObjectFits typing (newest (elim (naming.same z b.0) [ true ↦ b ∷ checked | false ↦ from_binding naming checked z ])) (passing (newest (elim (naming.same z y) [ true ↦ d ∷ active | false ↦ from_binding naming active z ])))) h.0
     (go (names-fit naming typing checked active h.2 z) (naming.same z b.0))
   where
-    go : ObjectFits typing (newest (from_binding naming checked z)) (passing (newest (from_binding naming active z))) → (v : Bool) → ObjectFits typing (newest {N = N} {V = Shape} {P = Signature} (elim v [ true ↦ b ∷ checked | false ↦ from_binding naming checked z ])) (passing (newest {N = N} {V = Place} {P = Code N} (elim v [ true ↦ d ∷ active | false ↦ from_binding naming active z ])))
+    go : ObjectFits typing (newest (from_binding naming checked z)) (passing (newest (from_binding naming active z))) → (v : Bool) → ObjectFits typing (newest {N = N} {V = Shape} {P = Signature} (elim v [ true ↦ b ∷ checked | false ↦ from_binding naming checked z ])) (passing (newest {N = N} {V = Place} {P = ProcedureText N} (elim v [ true ↦ d ∷ active | false ↦ from_binding naming active z ])))
     go older true = binding-object naming typing checked b.0 b.1 d.1 h.1
     go older false = older
 
@@ -69,7 +69,7 @@ from-fit naming typing (b ∷ checked) (d ∷ active) z h =
     (elim (naming.same z b.0) as (λ v. EnvironmentsFit naming typing (elim v [ true ↦ b ∷ checked | false ↦ from_binding naming checked z ]) (elim v [ true ↦ d ∷ active | false ↦ from_binding naming active z ]))
     [ true ↦ h | false ↦ from-fit naming typing checked active z h.2 ])
 
-pub binding-grows : {N : Type 0} (naming : Naming N) (typing others : StoreTyping) (checked : TypeEnvironment N) (x : N) (o : Object Shape Signature) (r : Object Place (Code N)) → BindingFits naming typing checked x o r → BindingFits naming (typing ++ others) checked x o r
+pub binding-grows : {N : Type 0} (naming : Naming N) (typing others : StoreTyping) (checked : TypeEnvironment N) (x : N) (o : Object Shape Signature) (r : Object Place (ProcedureText N)) → BindingFits naming typing checked x o r → BindingFits naming (typing ++ others) checked x o r
 binding-grows naming typing others checked x (a_procedure signature) (a_procedure code) h = h
 binding-grows naming typing others checked x (a_procedure signature) (a_type s) h = h
 binding-grows naming typing others checked x (a_procedure signature) (a_constant s) h = h
@@ -119,7 +119,7 @@ last-shape (t ∷ typing) (w ∷ store) s h = last-shape typing store s h.1
 
 -- declarations
 
-pub passing-constant : {N : Type 0} (o : Option (Object Place (Code N))) → constant_of (passing o) ≡ constant_of o
+pub passing-constant : {N : Type 0} (o : Option (Object Place (ProcedureText N))) → constant_of (passing o) ≡ constant_of o
 passing-constant None = refl
 passing-constant (Some (a_type s)) = refl
 passing-constant (Some (a_constant s)) = refl
@@ -127,7 +127,7 @@ passing-constant (Some (a_variable s)) = refl
 passing-constant (Some (a_procedure s)) = refl
 passing-constant (Some (a_standard s)) = refl
 
-pub passing-type : {N : Type 0} (o : Option (Object Place (Code N))) → type_of_name (passing o) ≡ type_of_name o
+pub passing-type : {N : Type 0} (o : Option (Object Place (ProcedureText N))) → type_of_name (passing o) ≡ type_of_name o
 passing-type None = refl
 passing-type (Some (a_type s)) = refl
 passing-type (Some (a_constant s)) = refl
@@ -153,11 +153,11 @@ fit-type typing (Some (a_procedure s)) (Some (a_procedure t)) h = refl
 fit-type typing (Some (a_standard s)) (Some (a_standard t)) h = refl
 fit-type typing _ _ h = absurd h
 
-pub constants-same : {N : Type 0} (naming : Naming N) (typing : StoreTyping) (checked : TypeEnvironment N) (active : Activation N) → EnvironmentsFit naming typing checked active → (x : N) → constant_of ((meanings naming active).stands_for x) ≡ constant_of ((meanings naming checked).stands_for x)
+pub constants-same : {N : Type 0} (naming : Naming N) (typing : StoreTyping) (checked : TypeEnvironment N) (active : Activation N) → EnvironmentsFit naming typing checked active → (x : N) → constant_of ((meanings naming active).object_for x) ≡ constant_of ((meanings naming checked).object_for x)
 constants-same naming typing checked active h x =
     sym (passing-constant (newest (from_binding naming active x))) ∙ fit-constant typing (newest (from_binding naming checked x)) (passing (newest (from_binding naming active x))) (names-fit naming typing checked active h x)
 
-pub types-same : {N : Type 0} (naming : Naming N) (typing : StoreTyping) (checked : TypeEnvironment N) (active : Activation N) → EnvironmentsFit naming typing checked active → (x : N) → type_of_name ((meanings naming active).stands_for x) ≡ type_of_name ((meanings naming checked).stands_for x)
+pub types-same : {N : Type 0} (naming : Naming N) (typing : StoreTyping) (checked : TypeEnvironment N) (active : Activation N) → EnvironmentsFit naming typing checked active → (x : N) → type_of_name ((meanings naming active).object_for x) ≡ type_of_name ((meanings naming checked).object_for x)
 types-same naming typing checked active h x =
     sym (passing-type (newest (from_binding naming active x))) ∙ fit-type typing (newest (from_binding naming checked x)) (passing (newest (from_binding naming active x))) (names-fit naming typing checked active h x)
 
@@ -325,7 +325,7 @@ activate-run {N} naming enter known t typing ((x, o) ∷ checked) ((y, r) ∷ ac
         (ProgressFits-grown (typing ++ fit₁.0) fit₂.0 (execute_body naming h.env (enter h.env) t (block_statements b) record s { store = h.store })
         (body-run naming ((typing ++ fit₁.0) ++ fit₂.0) after h.env (enter h.env) t (block_statements b) record s { store = h.store } fit₂.2 (known ((typing ++ fit₁.0) ++ fit₂.0) after h.env fit₂.2) fit₂.1 statements)))
 
-    of_objects : (o : Object Shape Signature) (r : Object Place (Code N)) → BindingFits naming typing checked x o r → o ≡ a_procedure signature → ProgressFits typing (activate naming enter t ((y, r) ∷ active) args s)
+    of_objects : (o : Object Shape Signature) (r : Object Place (ProcedureText N)) → BindingFits naming typing checked x o r → o ≡ a_procedure signature → ProgressFits typing (activate naming enter t ((y, r) ∷ active) args s)
     of_objects (a_procedure sig) (a_procedure code) h e = of_text code.first_constructor code.text h.0 h.1 (sym (ap (λ o. unwrap_or (signature_of (Some o)) []) e) ∙ h.2) h.3
     of_objects (a_type q) r h e = absurd (cc)
     of_objects (a_constant q) r h e = absurd (cc)

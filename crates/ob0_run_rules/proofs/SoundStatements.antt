@@ -162,9 +162,9 @@ place_of-fits typing checked active s h e = go active (subst (λ o. ObjectFits t
     go (Some (a_standard t)) h = absurd h
 
 -- a variable's type is that of its name with the selectors
-pub variable-typed : {N : Type 0} (checked : Typed N) (x : N) (path : Tree N (items selector)) (s : Shape) → variable_type checked (Some (x, path)) ≡ Some s → (t : Shape) × (checked.stands_for x ≡ Some (a_variable t)) × (type_at checked t path ≡ Some s)
+pub variable-typed : {N : Type 0} (checked : Typed N) (x : N) (path : Tree N (items selector)) (s : Shape) → variable_type checked (Some (x, path)) ≡ Some s → (t : Shape) × (checked.object_for x ≡ Some (a_variable t)) × (type_at checked t path ≡ Some s)
 unfolding variable_type
-variable-typed checked x path s h = go (checked.stands_for x) h
+variable-typed checked x path s h = go (checked.object_for x) h
   where
     go : (o : Option (Object Shape Signature)) → (elim o [ Some (a_variable t) ↦ type_at checked t path | _ ↦ None ]) ≡ Some s → (t : Shape) × (o ≡ Some (a_variable t)) × (type_at checked t path ≡ Some s)
     go (Some (a_variable t)) e = (t, refl, e)
@@ -179,8 +179,8 @@ pub designate-sound : {N : Type 0} (typing : StoreTyping) (checked : Typed N) (a
 unfolding designate
 designate-sound typing checked active store f x path s h =
     let (t, et, h₁) = variable-typed checked x path s h in
-    fits-then (λ p. PlaceFits typing p t) (λ p. PlaceFits typing p s) (place_of (active.stands_for x)) (λ p. or_stuck (read_place store p) >>= (λ v. follow active store v path >>= (λ steps. gives record { variable = p.variable; path = p.path ++ steps })))
-    (place_of-fits typing (checked.stands_for x) (active.stands_for x) t (f.names_fit.0 x) et)
+    fits-then (λ p. PlaceFits typing p t) (λ p. PlaceFits typing p s) (place_of (active.object_for x)) (λ p. or_stuck (read_place store p) >>= (λ v. follow active store v path >>= (λ steps. gives record { variable = p.variable; path = p.path ++ steps })))
+    (place_of-fits typing (checked.object_for x) (active.object_for x) t (f.names_fit.0 x) et)
     (λ p hp. let (v, ev, hv) = place-fits typing store p t f.store_fits hp in
     fits-then (λ v. HasShape v t) (λ p. PlaceFits typing p s) (or_stuck (read_place store p)) (λ v. follow active store v path >>= (λ steps. gives record { variable = p.variable; path = p.path ++ steps })) (or_stuck-fits (λ v. HasShape v t) (read_place store p) v ev hv)
     (λ v hv. fits-then (λ steps. shape_at_path steps t ≡ Some s) (λ p. PlaceFits typing p s) (follow active store v path) (λ steps. gives record { variable = p.variable; path = p.path ++ steps }) (follow-sound typing checked active store f v t path s hv h₁)
@@ -296,7 +296,7 @@ pub record Sound {N : Type 0} (typing : StoreTyping) (checked : Typed N) (active
 
 pub Sound-grows : {N : Type 0} (typing others : StoreTyping) (checked : Typed N) (active : Meanings N Place (List Mode)) (enter : Calls N) → Sound typing checked active enter → Sound (typing ++ others) checked active enter
 Sound-grows typing others checked active enter h =
-    record { names_fit = (λ x. ObjectFits-grows typing others (checked.stands_for x) (active.stands_for x) (h.names_fit.0 x), h.names_fit.1); calls_fit = CallsFit-grows typing others checked enter h.calls_fit }
+    record { names_fit = (λ x. ObjectFits-grows typing others (checked.object_for x) (active.object_for x) (h.names_fit.0 x), h.names_fit.1); calls_fit = CallsFit-grows typing others checked enter h.calls_fit }
 
 -- a body that keeps the typing however the store grew
 abbrev pub Keeps : StoreTyping → (State → Progress) → Type 0
@@ -364,7 +364,7 @@ call-typed checked None es h = absurd (cc)
 call-typed checked (Some signature) es h = (signature, refl, h)
 
 pub call-here : {N : Type 0} (typing : StoreTyping) (checked : Typed N) (enter : Calls N) → CallsFit typing checked enter → (x : N) (signature : Signature) (args : List Argument) (s : State) → StoreFits typing s.store → ArgumentsFit typing signature args
-    → checked.stands_for x ≡ Some (a_procedure signature) → ProgressFits typing (enter x args s)
+    → checked.object_for x ≡ Some (a_procedure signature) → ProgressFits typing (enter x args s)
 call-here typing checked enter h x signature args s store fit e =
     subst (λ all. ProgressFits all (enter x args s)) (append-nil typing)
     (h x signature e [] args s (subst (λ all. ArgumentsFit all signature args) (sym (append-nil typing)) fit) (subst (λ all. StoreFits all s.store) (sym (append-nil typing)) store))
@@ -384,11 +384,11 @@ mutual
       (λ v hv. store_at-fits (typing ++ others) s p shape v store hp hv))
   execute-keeps typing checked active enter sound t (calls x es) h others s store =
       let grown = Sound-grows typing others checked active enter sound in
-      let (signature, sig, fit) = call-typed checked (signature_of (checked.stands_for x)) (arguments_listed es) h in
-      use_in-fits (typing ++ others) (λ args. ArgumentsFit (typing ++ others) signature args) s (modes_of (active.stands_for x) >>= (λ modes. evaluate_arguments active s.store modes (arguments_listed es))) (λ args. perform (active.stands_for x) (enter x) args s)
-      (subst (λ o. OutcomeFits (λ args. ArgumentsFit (typing ++ others) signature args) (o >>= (λ modes. evaluate_arguments active s.store modes (arguments_listed es)))) (sym (modes-agree (typing ++ others) (checked.stands_for x) (active.stands_for x) signature (grown.names_fit.0 x) sig))
+      let (signature, sig, fit) = call-typed checked (signature_of (checked.object_for x)) (arguments_listed es) h in
+      use_in-fits (typing ++ others) (λ args. ArgumentsFit (typing ++ others) signature args) s (modes_of (active.object_for x) >>= (λ modes. evaluate_arguments active s.store modes (arguments_listed es))) (λ args. perform (active.object_for x) (enter x) args s)
+      (subst (λ o. OutcomeFits (λ args. ArgumentsFit (typing ++ others) signature args) (o >>= (λ modes. evaluate_arguments active s.store modes (arguments_listed es)))) (sym (modes-agree (typing ++ others) (checked.object_for x) (active.object_for x) signature (grown.names_fit.0 x) sig))
       (arguments-sound (typing ++ others) checked active s.store record { store_fits = store; names_fit = grown.names_fit } signature (arguments_listed es) fit))
-      (λ args hargs. perform-fits (typing ++ others) (checked.stands_for x) (active.stands_for x) signature (enter x) args s (grown.names_fit.0 x) sig store hargs
+      (λ args hargs. perform-fits (typing ++ others) (checked.object_for x) (active.object_for x) signature (enter x) args s (grown.names_fit.0 x) sig store hargs
       (λ e. call-here (typing ++ others) checked enter grown.calls_fit x signature args s store hargs e))
   execute-keeps typing checked active enter sound t (branches e statements rest last) h others s store =
       let h₁ = both_true (condition_fits checked e) (sequence_fits checked statements && (elsifs_fit checked rest && else_fits checked last)) h in

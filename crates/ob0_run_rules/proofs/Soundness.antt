@@ -21,7 +21,7 @@ ProgressFits typing (stopped e out) = e ≢ Stuck
 -- calls with arguments of the signature keep the invariant, in every store that grew since
 abbrev pub CallsFit : {N : Type 0} → StoreTyping → Typed N → Calls N → Type 0
 CallsFit {N} typing checked enter =
-    (x : N) (signature : Signature) → checked.stands_for x ≡ Some (a_procedure signature) → (others : StoreTyping) (args : List Argument) (s : State)
+    (x : N) (signature : Signature) → checked.object_for x ≡ Some (a_procedure signature) → (others : StoreTyping) (args : List Argument) (s : State)
     → ArgumentsFit (typing ++ others) signature args → StoreFits (typing ++ others) s.store → ProgressFits (typing ++ others) (enter x args s)
 
 -- an expression of a type evaluates to a value of that type

@@ -7,7 +7,7 @@ use Rattle.ob0_types_rules.specs.Expressions.{Meanings, Object, a_constant, a_pr
 use Rattle.ob0_types_rules.specs.Typing.{shape_of_field}
 use Rattle.ob0_types_rules.specs.WellTyped.{Mode, Signature, TypeEnvironment, Typed, TypedParameter, bind_typed, by_place, by_value, heading, procedure_fits, typed_parameters}
 use Rattle.ob0_values.specs.Values.{FieldShapes, Members, Place, Shape, Step, Store, Value, Values, array_shape, at_field, at_index, boolean_shape, count_values, elements, integer_shape, members, next_field_shape, next_member, next_value, no_field_shape, no_member, no_value, number, record_shape, truth}
-use Rattle.ob0_run_rules.specs.Runs.{Activation, Argument, Code, passing, place_argument, value_argument}
+use Rattle.ob0_run_rules.specs.Runs.{Activation, Argument, ProcedureText, passing, place_argument, value_argument}
 
 -- a value has a type
 abbrev mutual
@@ -78,7 +78,7 @@ abbrev pub MeaningsFit : {N : Type 0}
     → Meanings N Place (List Mode)
     → Type 0
 MeaningsFit {N} typing checked active =
-    ((x : N) → ObjectFits typing (checked.stands_for x) (active.stands_for x))
+    ((x : N) → ObjectFits typing (checked.object_for x) (active.object_for x))
     × ((x : N) → checked.written x ≡ active.written x)
 
 -- the arguments of a call, by the signature of what is called
@@ -97,7 +97,7 @@ abbrev pub BindingFits : {N : Type 0}
     → TypeEnvironment N
     → N
     → Object Shape Signature
-    → Object Place (Code N)
+    → Object Place (ProcedureText N)
     → Type 0
 BindingFits {N} naming typing checked x (a_procedure signature) (a_procedure code) =
     (ps : List (TypedParameter N))

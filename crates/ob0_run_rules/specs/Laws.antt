@@ -51,11 +51,11 @@ NeverStuck =
     → (input : List ℤ) (c t : ℕ)
     → (run m input c t).ending ≢ Stuck
 
--- a factor worth a constant's value in every store, in place of uses of that constant, keeps what a statement does
+-- a factor that has a constant's value in every store, in place of uses of that constant, keeps what a statement does
 abbrev pub InliningKeepsExecution : Type 0
 InliningKeepsExecution =
     (meaning : Meanings Name Place (List Mode)) (enter : Calls Name) (t : ℕ) (uses : Uses)
     (v : Tree Name factor) (w : Value) (k : ℕ) (a : Tree Name statement) (s : State)
     → ((store : Store) → evaluate_factor meaning store v ≡ gives w)
-    → UsesAre uses (λ x. meaning.stands_for x ≡ Some (a_constant w)) k (occurrences a)
+    → UsesAre uses (λ x. meaning.object_for x ≡ Some (a_constant w)) k (occurrences a)
     → execute meaning enter t (inline_in uses v k a) s ≡ execute meaning enter t a s

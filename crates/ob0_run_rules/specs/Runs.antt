@@ -154,9 +154,9 @@ unfoldable mutual
       use_in s (designate meaning s.store x path)
       (λ p. use_in s (evaluate meaning s.store e) (store_at s p))
   execute meaning enter t (calls x es) s =
-      use_in s (modes_of (meaning.stands_for x) >>=
+      use_in s (modes_of (meaning.object_for x) >>=
       (λ modes. evaluate_arguments meaning s.store modes (arguments_listed es)))
-      (λ args. perform (meaning.stands_for x) (enter x) args s)
+      (λ args. perform (meaning.object_for x) (enter x) args s)
   execute meaning enter t (branches e statements rest last) s =
       use_in s (evaluate meaning s.store e) (λ v. choose s v
       (execute_all meaning enter t statements)
@@ -214,13 +214,13 @@ unfoldable mutual
       execute_all meaning enter t statements s
 
 -- a procedure in a run: its text, and the ordinal of the first ARRAY or RECORD in it
-pub record Code (N : Type 0) : Type 0 where
+pub record ProcedureText (N : Type 0) : Type 0 where
   pub first_constructor : ℕ
   pub text : Tree N (item procedure)
 
 -- what names mean in an activation
 abbrev pub Activation : Type 0 → Type 0
-Activation N = Environment N Place (Code N)
+Activation N = Environment N Place (ProcedureText N)
 
 -- what a block's statements run in: its environment and the store
 pub record Frame (N : Type 0) : Type 0 where
@@ -316,7 +316,7 @@ formal_modes (more (then_section f) fs) =
 
 -- of a procedure, statements need to know only how its arguments are passed
 abbrev pub passing : {N : Type 0}
-    → Option (Object Place (Code N))
+    → Option (Object Place (ProcedureText N))
     → Option (Object Place (List Mode))
 passing None = None
 passing (Some (a_type s)) = Some (a_type s)
@@ -332,7 +332,7 @@ abbrev pub statement_meanings : {N : Type 0}
     → Meanings N Place (List Mode)
 statement_meanings naming env =
     record
-    { stands_for = λ x. passing ((meanings naming env).stands_for x); written = naming.written }
+    { object_for = λ x. passing ((meanings naming env).object_for x); written = naming.written }
 
 -- the statements of a body; a body that isn't there does nothing
 unfoldable pub execute_body : {N : Type 0}

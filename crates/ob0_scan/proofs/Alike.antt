@@ -12,14 +12,14 @@ kinds-append : (a b : List Token) → kinds (a ++ b) ≡ kinds a ++ kinds b
 kinds-append [] b = refl
 kinds-append (t ∷ a) b = ap (λ ks. valueless t.kind ∷ ks) (kinds-append a b)
 
-pub kinds_stay : (old between : List Token) (front behind removed added : ℕ) → front ≤ behind → kinds between ≡ kinds (take (behind - front) (drop front old)) → kinds (take front old ++ (between ++ map (moved_token removed added) (drop behind old))) ≡ kinds old
-kinds_stay old between front behind removed added ordered same =
-    let gone : List Token = take (behind - front) (drop front old) in
-    let rest : List Token = drop behind old in
-    let place : front + (behind - front) ≡ behind = omega (arith, ordered) in
+pub kinds_stay : (old between : List Token) (front following removed added : ℕ) → front ≤ following → kinds between ≡ kinds (take (following - front) (drop front old)) → kinds (take front old ++ (between ++ map (moved_token removed added) (drop following old))) ≡ kinds old
+kinds_stay old between front following removed added ordered same =
+    let gone : List Token = take (following - front) (drop front old) in
+    let rest : List Token = drop following old in
+    let place : front + (following - front) ≡ following = omega (arith, ordered) in
     let parts : gone ++ rest ≡ drop front old =
-    ap (λ l. gone ++ l) (ap (λ n. drop n old) (sym place) ∙ sym (drop-drop (behind - front) front old))
-    ∙ take-append-drop (behind - front) (drop front old) in
+    ap (λ l. gone ++ l) (ap (λ n. drop n old) (sym place) ∙ sym (drop-drop (following - front) front old))
+    ∙ take-append-drop (following - front) (drop front old) in
     let middle : kinds (between ++ map (moved_token removed added) rest) ≡ kinds (drop front old) =
     kinds-append between (map (moved_token removed added) rest)
     ∙ ap (λ ks. ks ++ kinds (map (moved_token removed added) rest)) same

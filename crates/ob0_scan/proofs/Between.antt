@@ -12,7 +12,7 @@ use Rattle.ob0_scan.specs.Progress.{ScanProgress}
 use Rattle.ob0_scan.specs.UnderWay.{IsUnderWay}
 use Rattle.ob0_scan.proofs.Spans.{token_with, comment_with}
 use Rattle.ob0_scan.proofs.Standing.{of_tokens, of_comments, full, Ascending, ascending, first_at, none_at, at_first, Border, begin_at_borders}
-use Rattle.ob0_scan.proofs.Reusing.{end_border, none_behind, finished, movable}
+use Rattle.ob0_scan.proofs.Reusing.{end_border, none_following, finished, movable}
 
 either_false : (a b : Bool) → (a || b) ≡ false → (a ≡ false) × (b ≡ false)
 either_false true b e = cc
@@ -74,15 +74,15 @@ module _ (old : Scanned) (o : IsScan old) where
     -- the end of the new text was the end of the old one
     pub end_place : (at : ℕ) → at ≡ length new → at + removed - added ≡ length old.text
     end_place at e =
-        let same : length old.text - (from + removed) ≡ length new - (from + added) = sym (length-drop (from + removed) old.text) ∙ ap length r.behind ∙ length-drop (from + added) new in
+        let same : length old.text - (from + removed) ≡ length new - (from + added) = sym (length-drop (from + removed) old.text) ∙ ap length r.following ∙ length-drop (from + added) new in
         omega (arith, same, r.inside_old, r.inside_new)
 
     pub end_met : (at : ℕ) → at ≡ length new → IsMet old (length new) from removed added at [] []
     end_met at e =
         let place = end_place at e in
-        let none = none_behind old o new from removed added r in
+        let none = none_following old o new from removed added r in
         record {
-          behind = omega (arith, r.inside_new);
+          following = omega (arith, r.inside_new);
           tokens_are = sym (ap (λ p. back_tokens p old.tokens) place ∙ none.0);
           comments_are = sym (ap (λ p. back_comments p old.comments) place ∙ none.1);
           border = inl e;
@@ -108,7 +108,7 @@ reused old new from removed added s t tokens comments end fs gs ft fc st sc r m 
     let read_comments : t.comments.items ≡ r.comments = r.comments_are ∙ ap (λ x. x ++ r.comments) sc in
     record {
       place = t.at + removed - added;
-      behind = omega (arith, m.behind);
+      following = omega (arith, m.following);
       tokens_between = r.tokens;
       comments_between = r.comments;
       tokens = et ∙ ap₂ (λ x y. x ++ map (moved_token removed added) y) (ap₂ (λ x y. x ++ y) ft read_tokens) m.tokens_are;
@@ -137,10 +137,10 @@ settled old o new from removed added r t tokens comments text under none short f
     let p : ScanProgress new t.at ts cs t.faults.items = subst (λ x. ScanProgress x t.at ts cs t.faults.items) text under in
     let place : ℕ = t.at + removed - added in
     let border = met_border old o new from removed added r t.at tokens comments met in
-    let low : removed ≤ place = omega (arith, met.behind) in
-    let same : t.at + removed ≡ place + added = omega (arith, met.behind) in
+    let low : removed ≤ place = omega (arith, met.following) in
+    let same : t.at + removed ≡ place + added = omega (arith, met.following) in
     let move = movable old o new from removed added r place short low border in
-    let whole = finished old o new from removed added r t.at place ts cs p.utf8 short p.place.0 met.behind same (p.cut none) border in
+    let whole = finished old o new from removed added r t.at place ts cs p.utf8 short p.place.0 met.following same (p.cut none) border in
     record {
       met = met;
       tokens_move = All-same (λ (x : Token). IsMovable removed added x.span) tokens (back_tokens place old.tokens) met.tokens_are move.0;

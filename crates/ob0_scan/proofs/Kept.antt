@@ -56,26 +56,26 @@ parts xs fs rs p q n m less ef er en em =
     }
 
 module _ (old : Scanned) (o : IsScan old) (new : List ℕ) (from removed added : ℕ) (s t : Scanner) (fs rs : List Token) (gs qs : List Span) (b : Between) where
-  token_parts : fs ≡ tokens_before_change from old.tokens → Settled old new from removed added t rs qs → b.front.tokens ≡ length fs → b.behind.tokens ≡ length old.tokens - length rs → Parts old.tokens fs rs b.front.tokens b.behind.tokens
+  token_parts : fs ≡ tokens_before_change from old.tokens → Settled old new from removed added t rs qs → b.front.tokens ≡ length fs → b.following.tokens ≡ length old.tokens - length rs → Parts old.tokens fs rs b.front.tokens b.following.tokens
   token_parts ef w en em =
       let place : ℕ = t.at + removed - added in
-      let less = apart of_tokens from place o.lexemes (full o.lexemes [] o.lexed.each) (omega (arith, w.met.behind)) in
-      parts old.tokens fs rs (λ (x : Token). ltb x.span.end from) (λ (x : Token). ltb x.span.start place) b.front.tokens b.behind.tokens
+      let less = apart of_tokens from place o.lexemes (full o.lexemes [] o.lexed.each) (omega (arith, w.met.following)) in
+      parts old.tokens fs rs (λ (x : Token). ltb x.span.end from) (λ (x : Token). ltb x.span.start place) b.front.tokens b.following.tokens
       (subst (λ (xs : List Token). prefix_len (λ (x : Token). ltb x.span.end from) xs ≤ prefix_len (λ (x : Token). ltb x.span.start place) xs) (sym o.tokens) less)
       ef w.met.tokens_are en em
 
-  comment_parts : gs ≡ comments_before_change from old.comments → Settled old new from removed added t rs qs → b.front.comments ≡ length gs → b.behind.comments ≡ length old.comments - length qs → Parts old.comments gs qs b.front.comments b.behind.comments
+  comment_parts : gs ≡ comments_before_change from old.comments → Settled old new from removed added t rs qs → b.front.comments ≡ length gs → b.following.comments ≡ length old.comments - length qs → Parts old.comments gs qs b.front.comments b.following.comments
   comment_parts ef w en em =
       let place : ℕ = t.at + removed - added in
-      let less = apart of_comments from place o.lexemes (full o.lexemes [] o.lexed.each) (omega (arith, w.met.behind)) in
-      parts old.comments gs qs (λ (x : Span). ltb x.end from) (λ (x : Span). ltb x.start place) b.front.comments b.behind.comments
+      let less = apart of_comments from place o.lexemes (full o.lexemes [] o.lexed.each) (omega (arith, w.met.following)) in
+      parts old.comments gs qs (λ (x : Span). ltb x.end from) (λ (x : Span). ltb x.start place) b.front.comments b.following.comments
       (subst (λ (xs : List Span). prefix_len (λ (x : Span). ltb x.end from) xs ≤ prefix_len (λ (x : Span). ltb x.start place) xs) (sym o.comments) less)
       ef w.met.comments_are en em
 
   -- what was read by a scanner that went on after the front lies between
   pub lies_between : fs ≡ tokens_before_change from old.tokens → gs ≡ comments_before_change from old.comments → t.front.tokens.now ≡ fs → t.front.comments.now ≡ gs → s.tokens.items ≡ [] → s.comments.items ≡ []
       → ReadsOn old from removed added s t → Settled old new from removed added t rs qs
-      → b.front.tokens ≡ length fs → b.behind.tokens ≡ length old.tokens - length rs → b.front.comments ≡ length gs → b.behind.comments ≡ length old.comments - length qs
+      → b.front.tokens ≡ length fs → b.following.tokens ≡ length old.tokens - length rs → b.front.comments ≡ length gs → b.following.comments ≡ length old.comments - length qs
       → b.tokens.items ≡ t.tokens.items → b.comments.items ≡ t.comments.items → IsBetween old new from removed added b
   lies_between ef eg tf tg st sc r w n m k l et ec =
       let ts = token_parts ef w n m in
@@ -89,8 +89,8 @@ module _ (old : Scanned) (o : IsScan old) (new : List ℕ) (from removed added :
         tokens_inside = ts.inside;
         comments_ordered = cs.ordered;
         comments_inside = cs.inside;
-        tokens_move = All-same (λ (x : Token). IsMovable removed added x.span) (drop b.behind.tokens old.tokens) rs ts.back w.tokens_move;
-        comments_move = All-same (λ (x : Span). IsMovable removed added x) (drop b.behind.comments old.comments) qs cs.back w.comments_move;
+        tokens_move = All-same (λ (x : Token). IsMovable removed added x.span) (drop b.following.tokens old.tokens) rs ts.back w.tokens_move;
+        comments_move = All-same (λ (x : Span). IsMovable removed added x) (drop b.following.comments old.comments) qs cs.back w.comments_move;
         scan = subst (λ (x : List Token). IsScan (record { text = new; tokens = x; comments = (with_between old new removed added b).comments })) (sym tokens)
             (subst (λ (y : List Span). IsScan (record { text = new; tokens = (fs ++ t.tokens.items) ++ map (moved_token removed added) rs; comments = y })) (sym comments)
             (subst (λ (x : List Token). IsScan (record { text = new; tokens = (x ++ t.tokens.items) ++ map (moved_token removed added) rs; comments = (gs ++ t.comments.items) ++ map (moved removed added) qs })) tf
@@ -112,7 +112,7 @@ unchanged_there f (x ∷ xs) (suc i) d less = unchanged_there f xs i d (omega (a
 
 -- a list of which those from one place on to another are changed
 pub record ChangedTo {X : Type 0} (f : X → X) (xs : List X) (first at : ℕ) (now : List X) : Type 0 where
-  pub behind : first ≤ at
+  pub following : first ≤ at
   pub inside : at ≤ length xs
   pub are : now ≡ take first xs ++ (map f (take (at - first) (drop first xs)) ++ drop (at - first) (drop first xs))
 
@@ -124,28 +124,28 @@ module _ {X : Type 0} (f : X → X) (xs : List X) (first : ℕ) (some : first �
   changed_none =
       let none : first - first ≡ 0 = omega arith in
       record {
-        behind = omega arith;
+        following = omega arith;
         inside = some;
         are = sym (take-append-drop first xs) ∙ ap (λ n. take first xs ++ (map f (take n (drop first xs)) ++ drop n (drop first xs))) (sym none);
       }
 
   module _ (at : ℕ) (now : List X) (d : X) (inside : at < length xs) (c : ChangedTo f xs first at now) where
     further : at - first < length (drop first xs)
-    further = omega (arith, length-drop first xs, c.behind)
+    further = omega (arith, length-drop first xs, c.following)
 
     pub still : get_or now at d ≡ get_or (drop first xs) (at - first) d
     still =
         ap (λ ys. get_or ys at d) c.are
-        ∙ get_or-append_right (take first xs) (map f (take (at - first) (drop first xs)) ++ drop (at - first) (drop first xs)) first at d left c.behind
+        ∙ get_or-append_right (take first xs) (map f (take (at - first) (drop first xs)) ++ drop (at - first) (drop first xs)) first at d left c.following
         ∙ unchanged_there f (drop first xs) (at - first) d further
 
     pub changed_on : (v : X) → v ≡ f (get_or now at d) → ChangedTo f xs first (at + 1) (set now at v)
     changed_on v w = record {
-      behind = omega (arith, c.behind);
+      following = omega (arith, c.following);
       inside = omega (arith, inside);
       are = ap (λ ys. set ys at v) c.are
-          ∙ set-append_right (take first xs) (map f (take (at - first) (drop first xs)) ++ drop (at - first) (drop first xs)) first at v left c.behind
-          ∙ ap (λ ys. take first xs ++ ys) (changed_there f (drop first xs) (at - first) (at + 1 - first) d v further (omega (arith, c.behind)) (w ∙ ap f still));
+          ∙ set-append_right (take first xs) (map f (take (at - first) (drop first xs)) ++ drop (at - first) (drop first xs)) first at v left c.following
+          ∙ ap (λ ys. take first xs ++ ys) (changed_there f (drop first xs) (at - first) (at + 1 - first) d v further (omega (arith, c.following)) (w ∙ ap f still));
     }
 
   pub changed_all : (at : ℕ) (now : List X) → length xs ≤ at → ChangedTo f xs first at now → now ≡ take first xs ++ map f (drop first xs)
@@ -154,13 +154,13 @@ module _ {X : Type 0} (f : X → X) (xs : List X) (first : ℕ) (some : first �
       c.are ∙ ap₂ (λ x y. take first xs ++ (map f x ++ y)) (take_all (at - first) (drop first xs) all) (drop_all (at - first) (drop first xs) all) ∙ ap (λ x. take first xs ++ x) (append-nil (map f (drop first xs)))
 
 -- others are put between a front and what is after
-pub put_between : {X : Type 0} (xs ys zs us vs now : List X) (front behind : ℕ) → front ≤ behind → behind ≤ length xs → ys ≡ take behind xs ++ zs → now ≡ splice ys front behind vs → vs ≡ us → now ≡ take front xs ++ (us ++ zs)
-put_between xs ys zs us vs now front behind less inside e s b =
-    let long : length (take behind xs) ≡ behind = length-take-le behind xs inside in
+pub put_between : {X : Type 0} (xs ys zs us vs now : List X) (front following : ℕ) → front ≤ following → following ≤ length xs → ys ≡ take following xs ++ zs → now ≡ splice ys front following vs → vs ≡ us → now ≡ take front xs ++ (us ++ zs)
+put_between xs ys zs us vs now front following less inside e s b =
+    let long : length (take following xs) ≡ following = length-take-le following xs inside in
     let short : take front ys ≡ take front xs =
     ap (take front) e
-    ∙ take-append-le front (take behind xs) zs (omega (arith, long, less))
-    ∙ sym (take-append-le front (take behind xs) (drop behind xs) (omega (arith, long, less)))
-    ∙ ap (take front) (take-append-drop behind xs) in
-    let back : drop behind ys ≡ zs = ap (drop behind) e ∙ drop_at (take behind xs) zs behind long in
+    ∙ take-append-le front (take following xs) zs (omega (arith, long, less))
+    ∙ sym (take-append-le front (take following xs) (drop following xs) (omega (arith, long, less)))
+    ∙ ap (take front) (take-append-drop following xs) in
+    let back : drop following ys ≡ zs = ap (drop following) e ∙ drop_at (take following xs) zs following long in
     s ∙ ap₂ (λ x y. x ++ (vs ++ y)) short back ∙ ap (λ x. take front xs ++ (x ++ zs)) b

@@ -28,14 +28,14 @@ first_byte [] a b e = e
 first_byte (x ∷ w) a b e = refl
 
 -- lexemes depend on the one byte after them
-same_behind : (ls : List Lexeme) (a b : List ℕ) → get_or a 0 0 ≡ get_or b 0 0 → AreLexemes ls a → AreLexemes ls b
-same_behind [] a b e f = tt
-same_behind (l ∷ ls) a b e f =
-    (first_from_end l (joined ls ++ b) (subst (EndsBefore l) (first_byte (joined ls) a b e) (end_from_first l (joined ls ++ a) f.0)), same_behind ls a b e f.1)
+same_following : (ls : List Lexeme) (a b : List ℕ) → get_or a 0 0 ≡ get_or b 0 0 → AreLexemes ls a → AreLexemes ls b
+same_following [] a b e f = tt
+same_following (l ∷ ls) a b e f =
+    (first_from_end l (joined ls ++ b) (subst (EndsBefore l) (first_byte (joined ls) a b e) (end_from_first l (joined ls ++ a) f.0)), same_following ls a b e f.1)
 
 stay : (ls : List Lexeme) (a b : List ℕ) → (0 < length ls → get_or a 0 0 ≡ get_or b 0 0) → AreLexemes ls a → AreLexemes ls b
 stay [] a b e f = tt
-stay (l ∷ ls) a b e f = same_behind (l ∷ ls) a b (e (omega arith)) f
+stay (l ∷ ls) a b e f = same_following (l ∷ ls) a b (e (omega arith)) f
 
 lexemes_parts : (xs ys : List Lexeme) (after : List ℕ) → AreLexemes (xs ++ ys) after → AreLexemes xs (joined ys ++ after) × AreLexemes ys after
 lexemes_parts [] ys after f = (tt, f)
@@ -59,31 +59,31 @@ shorter_front n m xs ys less hx hy e =
     ∙ ap (take n) (take-append-drop m ys)
 
 -- a text that is cut up to a place is cut there between characters
-boundary_behind : (text : List ℕ) (s : ℕ) (ls : List Lexeme) (after : List ℕ) → StandFrom text s ls after → IsCharBoundary text (s + length (joined ls))
-boundary_behind text s [] after h = subst (IsCharBoundary text) (sym (add-zero s)) h.place
-boundary_behind text s (l ∷ ls) after h =
+boundary_following : (text : List ℕ) (s : ℕ) (ls : List Lexeme) (after : List ℕ) → StandFrom text s ls after → IsCharBoundary text (s + length (joined ls))
+boundary_following text s [] after h = subst (IsCharBoundary text) (sym (add-zero s)) h.place
+boundary_following text s (l ∷ ls) after h =
     let place : s + length l.text + length (joined ls) ≡ s + length (joined (l ∷ ls)) = omega (arith, length-append l.text (joined ls)) in
-    subst (IsCharBoundary text) place (boundary_behind text (s + length l.text) ls after (next_from text s l ls after h))
+    subst (IsCharBoundary text) place (boundary_following text (s + length l.text) ls after (next_from text s l ls after h))
 
-told_behind : {room : ℕ} {faults : List Fault} (s : ℕ) (text : List ℕ) (ls : List Lexeme) (after : List ℕ) → AreLexemes ls after → text ≡ joined ls ++ after → FaultsFrom room (s + length (joined ls)) after faults → FaultsFrom room s text faults
-told_behind {room = room} {faults = faults} s text [] after f e h = subst (λ t. FaultsFrom room s t faults) (sym e) (subst (λ n. FaultsFrom room n after faults) (add-zero s) h)
-told_behind {room = room} {faults = faults} s text (l ∷ ls) after f e h =
+reported_following : {room : ℕ} {faults : List Fault} (s : ℕ) (text : List ℕ) (ls : List Lexeme) (after : List ℕ) → AreLexemes ls after → text ≡ joined ls ++ after → FaultsFrom room (s + length (joined ls)) after faults → FaultsFrom room s text faults
+reported_following {room = room} {faults = faults} s text [] after f e h = subst (λ t. FaultsFrom room s t faults) (sym e) (subst (λ n. FaultsFrom room n after faults) (add-zero s) h)
+reported_following {room = room} {faults = faults} s text (l ∷ ls) after f e h =
     let place : s + length (joined (l ∷ ls)) ≡ s + length l.text + length (joined ls) = omega (arith, length-append l.text (joined ls)) in
     lexeme l (joined ls ++ after) f.0 (e ∙ append_assoc l.text (joined ls) after)
-    (told_behind (s + length l.text) (joined ls ++ after) ls after f.1 refl (subst (λ n. FaultsFrom room n after faults) place h))
+    (reported_following (s + length l.text) (joined ls ++ after) ls after f.1 refl (subst (λ n. FaultsFrom room n after faults) place h))
 
 -- a scanner may begin after what is cut already
-pub progress_behind : (text : List ℕ) (at : ℕ) (tokens : List Token) (comments : List Span) → IsUtf8 text → at ≤ length text → IsCutTo text at tokens comments → ScanProgress text at tokens comments []
-progress_behind text at tokens comments utf8 inside cut =
+pub progress_following : (text : List ℕ) (at : ℕ) (tokens : List Token) (comments : List Span) → IsUtf8 text → at ≤ length text → IsCutTo text at tokens comments → ScanProgress text at tokens comments []
+progress_following text at tokens comments utf8 inside cut =
     let whole : joined cut.lexemes ++ drop at text ≡ text = ap (λ t. t ++ drop at text) cut.front ∙ take-append-drop at text in
     let place : 0 + length (joined cut.lexemes) ≡ at = omega (arith, ap length cut.front, length-take-le at text inside) in
     record {
       utf8 = utf8;
-      place = subst (IsCharBoundary text) place (boundary_behind text 0 cut.lexemes (drop at text) (record { utf8 = utf8; place = IsCharBoundary-start text utf8; each = cut.each; rest = sym whole }));
+      place = subst (IsCharBoundary text) place (boundary_following text 0 cut.lexemes (drop at text) (record { utf8 = utf8; place = IsCharBoundary-start text utf8; each = cut.each; rest = sym whole }));
       few = omega arith;
       room = λ more. omega arith;
       ranges = All-nil (λ (fault : Fault). IsRangeOf text fault.span);
-      told = λ more h. told_behind 0 text cut.lexemes (drop at text) cut.each (sym whole) (subst (λ n. FaultsFrom 100 n (drop at text) more) (sym place) h);
+      reported = λ more h. reported_following 0 text cut.lexemes (drop at text) cut.each (sym whole) (subst (λ n. FaultsFrom 100 n (drop at text) more) (sym place) h);
       cut = λ none. cut;
       uncut = λ some. absurd (omega (arith, some));
     }
@@ -104,9 +104,9 @@ module _ (old : Scanned) (o : IsScan old) (new : List ℕ) (from removed added :
       let tokens : tokens_before_change from old.tokens ≡ tokens_from 0 f.front = ap (tokens_before_change from) (o.tokens ∙ ap (tokens_from 0) f.split) ∙ front_split of_tokens 0 f.at from f.front f.back parts.0 (λ h. subst (λ n. n < from) (sym f.at_is) (f.near h)) f.at_is f.tokens_done in
       let comments : comments_before_change from old.comments ≡ comments_from 0 f.front = ap (comments_before_change from) (o.comments ∙ ap (comments_from 0) f.split) ∙ front_split of_comments 0 f.at from f.front f.back parts.0 (λ h. subst (λ n. n < from) (sym f.at_is) (f.near h)) f.at_is f.comments_done in
       let ends : last_end (tokens_before_change from old.tokens) (comments_before_change from old.comments) ≡ f.at = ap₂ last_end tokens comments ∙ front_end f.front parts.0 f.shape ∙ long in
-      let behind : drop f.at old.text ≡ joined f.back = ap (drop f.at) (sym whole) ∙ drop_at (joined f.front) (joined f.back) f.at long in
+      let following : drop f.at old.text ≡ joined f.back = ap (drop f.at) (sym whole) ∙ drop_at (joined f.front) (joined f.back) f.at long in
       let same : 0 < length f.front → get_or (joined f.back ++ []) 0 0 ≡ get_or (drop f.at new) 0 0 = λ some.
-      ap (λ t. get_or t 0 0) (append-nil (joined f.back) ∙ sym behind)
+      ap (λ t. get_or t 0 0) (append-nil (joined f.back) ∙ sym following)
       ∙ get_or-drop f.at old.text 0 0
       ∙ sym (get_or-take from old.text (f.at + 0) 0 (omega (arith, f.near some)))
       ∙ ap (λ t. get_or t (f.at + 0) 0) r.front
@@ -124,11 +124,11 @@ module _ (old : Scanned) (o : IsScan old) (new : List ℕ) (from removed added :
 
   -- what follows a place after the change is what was after the place that it was
   same_rest : (at p : ℕ) → from + added ≤ at → at + removed ≡ p + added → drop at new ≡ drop p old.text
-  same_rest at p behind e =
+  same_rest at p following e =
       let k : ℕ = at - (from + added) in
       let here : from + added + k ≡ at = omega arith in
       let there : from + removed + k ≡ p = omega arith in
-      ap (λ n. drop n new) (sym here) ∙ sym (drop-drop k (from + added) new) ∙ ap (drop k) (sym r.behind) ∙ drop-drop k (from + removed) old.text ∙ ap (λ n. drop n old.text) there
+      ap (λ n. drop n new) (sym here) ∙ sym (drop-drop k (from + added) new) ∙ ap (drop k) (sym r.following) ∙ drop-drop k (from + removed) old.text ∙ ap (λ n. drop n old.text) there
 
   -- the lexemes after a place of the old text
   border_facts : (p : ℕ) (b : Border 0 o.lexemes p) → (joined b.back ≡ drop p old.text) × AreLexemes b.back [] × (back_tokens p old.tokens ≡ tokens_from p b.back) × (back_comments p old.comments ≡ comments_from p b.back) × Full b.back
@@ -146,9 +146,9 @@ module _ (old : Scanned) (o : IsScan old) (new : List ℕ) (from removed added :
   -- a scan that stopped at a border of the old text goes on with what the old text had there
   pub finished : (at p : ℕ) (tokens : List Token) (comments : List Span) → IsUtf8 new → length new ≤ max_text → at ≤ length new → from + added ≤ at → at + removed ≡ p + added → IsCutTo new at tokens comments → Border 0 o.lexemes p
       → IsScan (record { text = new; tokens = tokens ++ map (moved_token removed added) (back_tokens p old.tokens); comments = comments ++ map (moved removed added) (back_comments p old.comments) })
-  finished at p tokens comments utf8 short inside behind e cut b =
+  finished at p tokens comments utf8 short inside following e cut b =
       let facts = border_facts p b in
-      let rest : joined b.back ≡ drop at new = facts.0 ∙ sym (same_rest at p behind e) in
+      let rest : joined b.back ≡ drop at new = facts.0 ∙ sym (same_rest at p following e) in
       let place : 0 + length (joined cut.lexemes) ≡ at = omega (arith, ap length cut.front, length-take-le at new inside) in
       let low : removed ≤ p = omega arith in
       record {
@@ -164,7 +164,7 @@ module _ (old : Scanned) (o : IsScan old) (new : List ℕ) (from removed added :
       }
 
   movable_lies : (p q : ℕ) (s : Span) → removed ≤ p → q ≤ max_text → length new ≤ max_text → Lies p q s → IsMovable removed added s
-  movable_lies p q s low most short w = record { behind = omega (arith, w.starts); ordered = omega (arith, w.some); small = omega (arith, w.ends, r.inside_new) }
+  movable_lies p q s low most short w = record { following = omega (arith, w.starts); ordered = omega (arith, w.some); small = omega (arith, w.ends, r.inside_new) }
 
   pub movable : (p : ℕ) → length new ≤ max_text → removed ≤ p → Border 0 o.lexemes p → All (λ (t : Token). IsMovable removed added t.span) (back_tokens p old.tokens) × All (λ (c : Span). IsMovable removed added c) (back_comments p old.comments)
   movable p short low b =
@@ -182,6 +182,6 @@ module _ (old : Scanned) (o : IsScan old) (new : List ℕ) (from removed added :
   pub end_border : Border 0 o.lexemes (length old.text)
   end_border = record { front = o.lexemes; back = []; split = sym (append-nil o.lexemes); at = omega (arith, ap length o.lexed.whole) }
 
-  pub none_behind : (back_tokens (length old.text) old.tokens ≡ []) × (back_comments (length old.text) old.comments ≡ [])
+  pub none_following : (back_tokens (length old.text) old.tokens ≡ []) × (back_comments (length old.text) old.comments ≡ [])
   unfolding end_border
-  none_behind = let facts = border_facts (length old.text) end_border in (facts.2, facts.3)
+  none_following = let facts = border_facts (length old.text) end_border in (facts.2, facts.3)

@@ -207,7 +207,7 @@ pub back_again : {X : Type 0} (start : X → ℕ) (near far : ℕ) (xs : List X)
 back_again start near far [] h = refl
 back_again start near far (x ∷ xs) h = ⊎_elim
     (λ before. ap (back_of start far) (back_further start near x xs before) ∙ back_again start near far xs h ∙ sym (back_further start far x xs (omega (arith, before, h))))
-    (λ behind. ap (back_of start far) (back_here start near x xs behind))
+    (λ following. ap (back_of start far) (back_here start near x xs following))
     (cases_lt (start x) near)
 
 -- whether the first begins at a place
@@ -220,9 +220,9 @@ none_at start place [] h e = All-nil (λ x. start x ≢ place)
 none_at {X} start place (x ∷ xs) h e = ⊎_elim
     (λ before. All-cons (λ y. start y ≢ place) x xs (λ same. absurd (omega (arith, before, same)))
     (none_at start place xs h.1 (sym (ap (first_at start place) (back_further start place x xs before)) ∙ e)))
-    (λ behind.
-    let other : start x ≢ place = λ same. let clash : true ≡ false = sym (eq-eqb (start x) place same) ∙ sym (ap (first_at start place) (back_here start place x xs behind)) ∙ e in cc in
-    All-cons (λ y. start y ≢ place) x xs other (All-weaker (λ y. start x < start y) (λ y. start y ≢ place) (λ y later. λ same. absurd (omega (arith, behind, later, same))) xs h.0))
+    (λ following.
+    let other : start x ≢ place = λ same. let clash : true ≡ false = sym (eq-eqb (start x) place same) ∙ sym (ap (first_at start place) (back_here start place x xs following)) ∙ e in cc in
+    All-cons (λ y. start y ≢ place) x xs other (All-weaker (λ y. start x < start y) (λ y. start y ≢ place) (λ y later. λ same. absurd (omega (arith, following, later, same))) xs h.0))
     (cases_lt (start x) place)
 
 pub at_first : {X : Type 0} (start : X → ℕ) (P : ℕ → Type 0) (place : ℕ) (xs : List X) → first_at start place xs ≡ true → All (λ x. P (start x)) xs → P place

@@ -38,7 +38,7 @@ comment_begins place (c ∷ comments) = c.start == place
 
 -- a span after the change that lies in a text
 pub record IsMovable (removed added : ℕ) (span : Span) : Type 0 where
-  pub behind : removed ≤ span.start
+  pub following : removed ≤ span.start
   pub ordered : span.start ≤ span.end
   pub small : span.end + added < 2 ^ 64
 
@@ -61,7 +61,7 @@ pub record ReadsOn (old : Scanned) (from removed added : ℕ) (s t : Scanner) : 
 
 -- after the change, at the end of the text or where an old token or comment begins again; with the old ones from there on
 pub record IsMet (old : Scanned) (end from removed added at : ℕ) (tokens : List Token) (comments : List Span) : Type 0 where
-  pub behind : from + added ≤ at
+  pub following : from + added ≤ at
   pub tokens_are : tokens ≡ back_tokens (at + removed - added) old.tokens
   pub comments_are : comments ≡ back_comments (at + removed - added) old.comments
   pub border : (at ≡ end)
@@ -74,22 +74,22 @@ with_between old new removed added b = record {
   text = new;
   tokens =
       take b.front.tokens old.tokens
-      ++ (b.tokens.items ++ map (moved_token removed added) (drop b.behind.tokens old.tokens));
+      ++ (b.tokens.items ++ map (moved_token removed added) (drop b.following.tokens old.tokens));
   comments =
       take b.front.comments old.comments
-      ++ (b.comments.items ++ map (moved removed added) (drop b.behind.comments old.comments));
+      ++ (b.comments.items ++ map (moved removed added) (drop b.following.comments old.comments));
 }
 
 -- what lies between the old tokens and comments that a new text goes on to have
 pub record IsBetween (old : Scanned) (new : List ℕ) (from removed added : ℕ) (b : Between) : Type 0 where
-  pub tokens_ordered : b.front.tokens ≤ b.behind.tokens
-  pub tokens_inside : b.behind.tokens ≤ length old.tokens
-  pub comments_ordered : b.front.comments ≤ b.behind.comments
-  pub comments_inside : b.behind.comments ≤ length old.comments
+  pub tokens_ordered : b.front.tokens ≤ b.following.tokens
+  pub tokens_inside : b.following.tokens ≤ length old.tokens
+  pub comments_ordered : b.front.comments ≤ b.following.comments
+  pub comments_inside : b.following.comments ≤ length old.comments
   pub tokens_move : All (λ (t : Token). IsMovable removed added t.span)
-      (drop b.behind.tokens old.tokens)
+      (drop b.following.tokens old.tokens)
   pub comments_move : All (λ (c : Span). IsMovable removed added c)
-      (drop b.behind.comments old.comments)
+      (drop b.following.comments old.comments)
   pub scan : IsScan (with_between old new removed added b)
   pub reuses : Reuses old (with_between old new removed added b) from removed added
       (length b.tokens.items + length b.comments.items)

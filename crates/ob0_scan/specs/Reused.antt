@@ -13,7 +13,7 @@ pub record IsReplaced (old new : List ℕ) (from removed added : ℕ) : Type 0 w
   pub inside_old : from + removed ≤ length old
   pub inside_new : from + added ≤ length new
   pub front : take from old ≡ take from new
-  pub behind : drop (from + removed) old ≡ drop (from + added) new
+  pub following : drop (from + removed) old ≡ drop (from + added) new
 
 -- what a token is, whatever the value of an integer
 abbrev pub valueless : TokenKind → TokenKind
@@ -66,7 +66,7 @@ IsNew old from removed added span =
 -- at the first place that the new text's tokens and comments have in common with the old one's.
 pub record Reuses (old new : Scanned) (from removed added read : ℕ) : Type 0 where
   pub place : ℕ
-  pub behind : from + removed ≤ place
+  pub following : from + removed ≤ place
   pub tokens_between : List Token
   pub comments_between : List Span
   pub tokens : new.tokens

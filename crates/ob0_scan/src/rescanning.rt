@@ -30,7 +30,7 @@ pub(crate) struct ReplacedRange {
 impl ReplacedRange {
     /// Where a byte after the change was before it.
     fn old_place(self, place: usize) -> usize
-        requires behind { self.added ≤ place }
+        requires following { self.added ≤ place }
         requires small { place + self.removed < 2 ^ 64 }
         ensures { result + self.added ≡ place + self.removed }
     {
@@ -185,17 +185,17 @@ fn comments_beginning_before(comments: &[Span], place: usize) -> usize
 
 /// How many tokens and comments there are before a place.
 #[derive(Clone, Copy)]
-pub(crate) struct Counts {
+pub(crate) struct LexemeCounts {
     pub(crate) tokens: usize,
     pub(crate) comments: usize,
 }
 
 /// What comes between the old tokens and comments that a changed text goes on to have: those before it, of which there are so many, and
-/// those from `behind` on.
+/// those from `following` on.
 #[derive(Drop)]
 pub(crate) struct Between {
-    pub(crate) front: Counts,
-    pub(crate) behind: Counts,
+    pub(crate) front: LexemeCounts,
+    pub(crate) following: LexemeCounts,
     pub(crate) tokens: Vec<Token>,
     pub(crate) comments: Vec<Span>,
 }
@@ -203,13 +203,13 @@ pub(crate) struct Between {
 impl Between {
     /// Whether the tokens between are of the same kinds as the old ones in whose place they come.
     fn is_alike(&self, old: &[Token]) -> bool
-        requires ordered { self.now.front.tokens ≤ self.now.behind.tokens }
-        requires inside { self.now.behind.tokens ≤ length old.now }
+        requires ordered { self.now.front.tokens ≤ self.now.following.tokens }
+        requires inside { self.now.following.tokens ≤ length old.now }
         ensures { result ≡ true → kinds self.now.tokens.items
-            ≡ kinds (take (self.now.behind.tokens - self.now.front.tokens)
+            ≡ kinds (take (self.now.following.tokens - self.now.front.tokens)
             (drop self.now.front.tokens old.now)) }
     {
-        are_alike(&self.tokens, &old[self.front.tokens..self.behind.tokens])
+        are_alike(&self.tokens, &old[self.front.tokens..self.following.tokens])
     }
 }
 
@@ -351,7 +351,7 @@ fn scan_again(
     }
     let all = old.pieces();
     let front = all.ending_before(change.from);
-    let mut scanner = Scanner::behind(alloc, new_text, front);
+    let mut scanner = Scanner::scanner_after(alloc, new_text, front);
     let rest = scan_on(&mut scanner, old, change)?;
     let Scanner {
         text: _,
@@ -365,11 +365,11 @@ fn scan_again(
         return Err(ScanRefusal::Faults(faults));
     }
     Ok(Between {
-        front: Counts {
+        front: LexemeCounts {
             tokens: front.tokens.len(),
             comments: front.comments.len(),
         },
-        behind: Counts {
+        following: LexemeCounts {
             tokens: all.tokens.len() - rest.tokens.len(),
             comments: all.comments.len() - rest.comments.len(),
         },
@@ -421,21 +421,21 @@ fn scan_on<'o>(
 pub(crate) fn splice_tokens(
     tokens: &mut Vec<Token>,
     front: usize,
-    behind: usize,
+    following: usize,
     between: Vec<Token>,
     change: ReplacedRange,
 ) -> Result<(), AllocError>
-    requires ordered { front ≤ behind }
-    requires inside { behind ≤ length tokens.old.items }
+    requires ordered { front ≤ following }
+    requires inside { following ≤ length tokens.old.items }
     requires movable { All (λ (t : Token). IsMovable change.removed change.added t.span)
-        (drop behind tokens.old.items) }
+        (drop following tokens.old.items) }
     ensures { OnOk result (tokens.new.items
         ≡ take front tokens.old.items
         ++ (between.items
-        ++ map (moved_token change.removed change.added) (drop behind tokens.old.items))) }
+        ++ map (moved_token change.removed change.added) (drop following tokens.old.items))) }
 {
-    move_tokens(tokens, behind, change);
-    tokens.splice(front..behind, between)?;
+    move_tokens(tokens, following, change);
+    tokens.splice(front..following, between)?;
     Ok(())
 }
 
@@ -443,21 +443,21 @@ pub(crate) fn splice_tokens(
 pub(crate) fn splice_comments(
     comments: &mut Vec<Span>,
     front: usize,
-    behind: usize,
+    following: usize,
     between: Vec<Span>,
     change: ReplacedRange,
 ) -> Result<(), AllocError>
-    requires ordered { front ≤ behind }
-    requires inside { behind ≤ length comments.old.items }
+    requires ordered { front ≤ following }
+    requires inside { following ≤ length comments.old.items }
     requires movable { All (λ (c : Span). IsMovable change.removed change.added c)
-        (drop behind comments.old.items) }
+        (drop following comments.old.items) }
     ensures { OnOk result (comments.new.items
         ≡ take front comments.old.items
         ++ (between.items
-        ++ map (moved change.removed change.added) (drop behind comments.old.items))) }
+        ++ map (moved change.removed change.added) (drop following comments.old.items))) }
 {
-    move_comments(comments, behind, change);
-    comments.splice(front..behind, between)?;
+    move_comments(comments, following, change);
+    comments.splice(front..following, between)?;
     Ok(())
 }
 

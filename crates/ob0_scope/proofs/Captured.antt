@@ -3,8 +3,8 @@ use Rattle.std.proofs.Common.{◌≡◌, ◌↔◌, ℕ, Bool, true, false, not,
 use Rattle.std.specs.List.{list_any}
 use Rattle.std.specs.Option.{option_or}
 use Rattle.ob0_tree.specs.Tree.{Tree, module_text}
-use Rattle.ob0_scope.specs.declared.capturing.FirstCapture as told
-use Rattle.ob0_scope.specs.declared.capturing.FirstCapture.TheVariants as tells
+use Rattle.ob0_scope.specs.declared.capturing.FirstCapture as reported
+use Rattle.ob0_scope.specs.declared.capturing.FirstCapture.TheVariants as reports
 use Rattle.ob0_scope_rules.specs.Names.{Name, same_name}
 use Rattle.ob0_scope_rules.specs.Occurrences.{Free, at_declaration, at_occurrence, bindings, blocks_in, declares_ordinal, first_captured, first_difference, is_duplicate, names_another}
 use Rattle.ob0_scope_rules.specs.Parts.{module_block}
@@ -41,23 +41,23 @@ pub captured_there : (m : Tree Name module_text) (d : ℕ) (new : Name) (other :
 captured_there m d new other e =
     sym (ap (λ b. if b then Some at_declaration else option_map at_occurrence (first_difference (bindings (renamed m d new)) (bindings m))) (duplicate_is m d new (Some other) e))
 
-pub captured_later : (m : Tree Name module_text) (d : ℕ) (new : Name) (found : Option told.FirstCapture) → None ≡ namesake m d new
-    → found ≡ option_map tells.Occurrence (first_difference (bindings (renamed m d new)) (bindings m)) → option_map place_of found ≡ first_captured m d new
+pub captured_later : (m : Tree Name module_text) (d : ℕ) (new : Name) (found : Option reported.FirstCapture) → None ≡ namesake m d new
+    → found ≡ option_map reports.Occurrence (first_difference (bindings (renamed m d new)) (bindings m)) → option_map place_of found ≡ first_captured m d new
 captured_later m d new found e f =
     ap (option_map place_of) f
     ∙ (placed (first_difference (bindings (renamed m d new)) (bindings m))
     ∙ sym (ap (λ b. if b then Some at_declaration else option_map at_occurrence (first_difference (bindings (renamed m d new)) (bindings m))) (duplicate_is m d new None e)))
   where
-    placed : (o : Option ℕ) → option_map place_of (option_map tells.Occurrence o) ≡ option_map at_occurrence o
+    placed : (o : Option ℕ) → option_map place_of (option_map reports.Occurrence o) ≡ option_map at_occurrence o
     placed None = refl
     placed (Some k) = refl
 
-pub free_where_none : (m : Tree Name module_text) (d : ℕ) (new : Name) (found : Option told.FirstCapture) → option_map place_of found ≡ first_captured m d new → found ≡ None ↔ Free m d new
+pub free_where_none : (m : Tree Name module_text) (d : ℕ) (new : Name) (found : Option reported.FirstCapture) → option_map place_of found ≡ first_captured m d new → found ≡ None ↔ Free m d new
 free_where_none m d new found e = (
   λ none. (captured_where_not_free-holds m d new).0 (sym e ∙ ap (option_map place_of) none),
   λ free. nothing found (e ∙ (captured_where_not_free-holds m d new).1 free),
 )
   where
-    nothing : (o : Option told.FirstCapture) → option_map place_of o ≡ None → o ≡ None
+    nothing : (o : Option reported.FirstCapture) → option_map place_of o ≡ None → o ≡ None
     nothing None h = refl
     nothing (Some c) h = absurd (cc)

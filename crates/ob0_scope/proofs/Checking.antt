@@ -96,10 +96,10 @@ one_further text (x ∷ xs) (suc done) d less q =
     ap (λ b. same_name q (text x) || b) (one_further text xs done d (omega (arith, less)) q) ∙ swapped (same_name q (text x)) (same_name q (text (get_or xs done d))) (is_among q (map text (take done xs)))
 
 -- a record's fields, whichever group is the first
-pub record_told : (source : Scanned) (start own after : List Fault) (gs : List Fields) (fs : List ℕ) → fs ≡ groups_fields (items_of further_fields_of_group gs) → own ≡ start ++ again source [] fs
+pub record_reported : (source : Scanned) (start own after : List Fault) (gs : List Fields) (fs : List ℕ) → fs ≡ groups_fields (items_of further_fields_of_group gs) → own ≡ start ++ again source [] fs
     → after ≡ own ++ groups_twice source (items_of further_fields_of_group gs) → after ≡ start ++ fields_twice source (record_listed gs)
-record_told source start own after [] fs are e f = f ∙ (append-nil own ∙ (e ∙ ap (λ ns. start ++ again source [] ns) are))
-record_told source start own after (g ∷ gs) fs are e f =
+record_reported source start own after [] fs are e f = f ∙ (append-nil own ∙ (e ∙ ap (λ ns. start ++ again source [] ns) are))
+record_reported source start own after (g ∷ gs) fs are e f =
     let rest = items_of further_fields_of_group gs in
     let inner = group_twice source (fields_of g) ++ groups_twice source rest in
     let names = groups_fields (items_of further_fields_of_group (g ∷ gs)) in
@@ -109,11 +109,11 @@ five_names : (a b c d e : List ℕ) → (((a ++ b) ++ c) ++ d) ++ e ≡ a ++ (b 
 five_names a b c d e = append_assoc ((a ++ b) ++ c) d e ∙ (append_assoc (a ++ b) c (d ++ e) ∙ append_assoc a b (c ++ (d ++ e)))
 
 -- a block, from its names, its types, its variables and its procedures
-pub block_told : (source : Scanned) (start : List Fault) (own : List ℕ) (cs : Tree ℕ (maybe constants)) (ts : Tree ℕ (maybe type_names)) (vs : Tree ℕ (maybe variables)) (ps : Tree ℕ (items procedure)) (statements : Tree ℕ (maybe body))
+pub block_reported : (source : Scanned) (start : List Fault) (own : List ℕ) (cs : Tree ℕ (maybe constants)) (ts : Tree ℕ (maybe type_names)) (vs : Tree ℕ (maybe variables)) (ps : Tree ℕ (items procedure)) (statements : Tree ℕ (maybe body))
     (all : List ℕ) (named typed varied after : List Fault) → all ≡ (((own ++ constant_names (section_constants cs)) ++ named_types (section_types ts)) ++ variable_names (section_variables vs)) ++ procedure_names ps
     → named ≡ start ++ again source [] all → typed ≡ named ++ types_twice source (section_types ts) → varied ≡ typed ++ variables_twice source (section_variables vs)
     → after ≡ varied ++ procedures_twice source ps → after ≡ start ++ block_twice source own (has_body (declares cs ts vs ps) statements)
-block_told source start own cs ts vs ps statements all named typed varied after are d t v p =
+block_reported source start own cs ts vs ps statements all named typed varied after are d t v p =
     let names = are ∙ five_names own (constant_names (section_constants cs)) (named_types (section_types ts)) (variable_names (section_variables vs)) (procedure_names ps) in
     let T = types_twice source (section_types ts) in
     let V = variables_twice source (section_variables vs) in
@@ -124,10 +124,10 @@ block_told source start own cs ts vs ps statements all named typed varied after 
     ∙ (append_assoc ((start ++ D) ++ T) V P ∙ (append_assoc (start ++ D) T (V ++ P) ∙ append_assoc start D (T ++ (V ++ P)))))
 
 -- a procedure, from its closing name, its parameters' types and its block
-pub procedure_told : (source : Scanned) (start closed typed : List Fault) (x : ℕ) (fs : Tree ℕ (maybe formals)) (b : Tree ℕ block) (closing : ℕ) (own : List ℕ) → closed ≡ start ++ closing_other source x closing
+pub procedure_reported : (source : Scanned) (start closed typed : List Fault) (x : ℕ) (fs : Tree ℕ (maybe formals)) (b : Tree ℕ block) (closing : ℕ) (own : List ℕ) → closed ≡ start ++ closing_other source x closing
     → typed ≡ closed ++ formals_twice source (formal_sections fs) → own ≡ formal_names (formal_sections fs)
     → typed ++ block_twice source own b ≡ start ++ procedure_twice source (declares_procedure x fs b closing)
-procedure_told source start closed typed x fs b closing own c t are =
+procedure_reported source start closed typed x fs b closing own c t are =
     let F = formals_twice source (formal_sections fs) in
     let C = closing_other source x closing in
     let B = block_twice source (formal_names (formal_sections fs)) b in

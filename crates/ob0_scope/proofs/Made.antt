@@ -81,8 +81,8 @@ no_more true b e = refl
 no_more false b e = e
 
 -- the faults of declarations, and after them those of occurrences
-faults_told : (m : Parsed) (ordinals : List (Option ℕ)) → IsNumbering m ordinals → AreFaultsOf m (twice_in m ++ undeclared_at m.source ordinals (occurrences (tree_of m)))
-faults_told m ordinals numbering =
+faults_reported : (m : Parsed) (ordinals : List (Option ℕ)) → IsNumbering m ordinals → AreFaultsOf m (twice_in m ++ undeclared_at m.source ordinals (occurrences (tree_of m)))
+faults_reported m ordinals numbering =
     let once = twice_in m in
     let unbound = undeclared_at m.source ordinals (occurrences (tree_of m)) in
     let each : unbound ≡ unbound_in m = unbound_all m.source ordinals (occurrences (tree_of m)) ∙ ap (unbound_at m.source (occurrences (tree_of m))) (sym (bindings_by_table m ordinals numbering)) in
@@ -118,5 +118,5 @@ resolution_made m v ordinals declarations uses once faults parsed gone tabled de
           ∙ (kept_elsewhere w.marks nothing token (ap (list_any (λ i. i == token)) numbered_so.tokens ∙ e) ∙ none_at (length m.source.tokens) token);
       declaring = declares ∙ (ap (λ (v : Visit). v.declarations) gone ∙ numbered_so.declared);
       occurring = occurring;
-      told = subst (AreFaultsOf m) (sym (all ∙ (λ i. twice i ++ undeclared_at m.source ordinals (occurring i)))) (faults_told m ordinals numbering);
+      reported = subst (AreFaultsOf m) (sym (all ∙ (λ i. twice i ++ undeclared_at m.source ordinals (occurring i)))) (faults_reported m ordinals numbering);
     }

@@ -517,12 +517,12 @@ module _ {M : Type 0} (table : ℕ → Option ℕ) (label : Labels Name M) (src 
         let g = block_passed b v₃ inside k₁ h.at in
         let whole = pass_then h g in
         let e = extends_then (extends_then (one_extends (name, k) s) (names_extend (suc k) formal ((name, k) ∷ s))) (block_extends k₁ (spelled_by src b) inside) in
-        let behind = left_passed outside count e whole in
+        let following = left_passed outside count e whole in
         let low : k < after_block k₁ (spelled_by src b) = omega (arith, le-after_names (suc k) formal, le-after_block k₁ (spelled_by src b)) in
         let shown_again : At (leave_block x (7 + own) outside (visit_block b v₃)) src ((name, k) ∷ s) (after_block k₁ (spelled_by src b)) =
-        record { writing = behind.at.writing; scope = (λ i. (name_at (behind.at.writing i) x, at.next i) ∷ behind.at.scope i); next = behind.at.next; before = (low, behind.at.before) } in
+        record { writing = following.at.writing; scope = (λ i. (name_at (following.at.writing i) x, at.next i) ∷ following.at.scope i); next = following.at.next; before = (low, following.at.before) } in
         let visible : Passes v (leave_block x (7 + own) outside (visit_block b v₃)) (((role.Declaring, x) ∷ identifiers role.Declaring fs) ++ identifiers role.Declaring b) ((name, k) ∷ s) (after_block k₁ (spelled_by src b)) _ =
-        record { at = shown_again; declared = behind.declared; used = behind.used; tokens = behind.tokens; agree = behind.agree; in_order = behind.in_order } in
+        record { at = shown_again; declared = following.declared; used = following.used; tokens = following.tokens; agree = following.agree; in_order = following.in_order } in
         let last = mark_passed role.ClosingName closing (Some (7 + own)) (leave_block x (7 + own) outside (visit_block b v₃)) ((name, k) ∷ s) (after_block k₁ (spelled_by src b)) refl refl (omega (arith, low, at.next)) shown_again in
         pass_is (append_assoc ((role.Declaring, x) ∷ identifiers role.Declaring fs) (identifiers role.Declaring b) ((role.ClosingName, closing) ∷ []) ∙ append_assoc ((role.Declaring, x) ∷ []) (identifiers role.Declaring fs) (identifiers role.Declaring b ++ ((role.ClosingName, closing) ∷ []))) refl refl
         (pass_to (pass_then visible last)

@@ -13,7 +13,7 @@ use Rattle.ob0_scope_rules.specs.Parts.{constant_names, formal_names, formal_sec
 use Rattle.ob0_scope.specs.Renames.{namesake, namesake_in, other_named}
 use Rattle.ob0_scope_rules.specs.Resolution.{IsResolution, Resolution, bound_at, ordinal_in, with_ordinal}
 use Rattle.ob0_scope_rules.specs.Scopes.{Scope, after_names, after_procedure, body_scope, declare_names, first_procedure, predeclared_scope, procedures_scope, relabel_block, relabel_formals, relabel_procedure, relabel_procedures, relabelled, same_ordinal}
-use Rattle.ob0_scope.specs.Searching.{Sought, found_in_block, found_in_procedure, found_in_procedures, is_sought, last_other, other_among}
+use Rattle.ob0_scope.specs.Searching.{BlockSearch, found_in_block, found_in_procedure, found_in_procedures, is_sought, last_other, other_among}
 use Rattle.ob0_scope.proofs.Finding.{or_assoc}
 use Rattle.ob0_scope_rules.proofs.DistinctNames.{labels_in, onto, onto-append}
 use Rattle.ob0_scope_rules.proofs.RenamedDeclarations.{labels_in-block, labels_in-names, sections-labels}
@@ -122,7 +122,7 @@ module _ (d : ℕ) (new : Name) where
     abbrev value : ℕ → ℕ
     value i = value_at r.module_read.source i
 
-    abbrev sought : Sought
+    abbrev sought : BlockSearch
     sought = record { source = r.module_read.source; ordinals = r.ordinals; declaration = d; new = new }
 
     any_bound : (is : List ℕ) → list_any (is_sought sought) is ≡ list_any is_d (map bound is)

@@ -342,22 +342,22 @@ other_stands low high i xs table le a empty =
     let here : i < i + 1 = omega arith in
     kept_below (map first_at (looked_up_only xs)) table (i + 1) high i (fewer (i + 1) high xs a) here ∙ empty i le
 
-all_told : (low high : ℕ) (xs : List (Role × ℕ)) (table : List (Option ℕ)) → Ascending low (names_only xs) high → high ≤ length table → ((i : ℕ) → low ≤ i → ordinal_in table i ≡ None)
+all_reported : (low high : ℕ) (xs : List (Role × ℕ)) (table : List (Option ℕ)) → Ascending low (names_only xs) high → high ≤ length table → ((i : ℕ) → low ≤ i → ordinal_in table i ≡ None)
     → AllTold (with_marks table (map first_at (looked_up_only xs))) xs
-all_told low high [] table a within empty = tt
-all_told low high ((role.LookedUp, i) ∷ xs) table a within empty =
+all_reported low high [] table a within empty = tt
+all_reported low high ((role.LookedUp, i) ∷ xs) table a within empty =
     let next : List (Option ℕ) = set table i (Some 0) in
     let here : i < i + 1 = omega arith in
     let last = ends_above (i + 1) (names_only xs) high a.1 in
     let inside : i < length table = omega (arith, last, within) in
     let still : high ≤ length next = subst (λ n. high ≤ n) (sym (length-set table i (Some 0))) within in (
       kept_below (map first_at (looked_up_only xs)) next (i + 1) high i (fewer (i + 1) high xs a.1) here ∙ get_or-set_same table i (Some 0) None inside,
-      all_told (i + 1) high xs next a.1 still (λ j above. let other : j ≢ i = omega (arith, above) in get_or-set_other table i j (Some 0) None other ∙ empty j (omega (arith, a.0, above))),
+      all_reported (i + 1) high xs next a.1 still (λ j above. let other : j ≢ i = omega (arith, above) in get_or-set_other table i j (Some 0) None other ∙ empty j (omega (arith, a.0, above))),
     )
-all_told low high ((role.Declaring, i) ∷ xs) table a within empty = (other_stands low high i xs table a.0 a.1 empty, all_told (i + 1) high xs table a.1 within (emptier low i table a.0 empty))
-all_told low high ((role.ClosingName, i) ∷ xs) table a within empty = (other_stands low high i xs table a.0 a.1 empty, all_told (i + 1) high xs table a.1 within (emptier low i table a.0 empty))
-all_told low high ((role.FieldName, i) ∷ xs) table a within empty = (other_stands low high i xs table a.0 a.1 empty, all_told (i + 1) high xs table a.1 within (emptier low i table a.0 empty))
-all_told low high ((role.ModuleName, i) ∷ xs) table a within empty = (other_stands low high i xs table a.0 a.1 empty, all_told (i + 1) high xs table a.1 within (emptier low i table a.0 empty))
+all_reported low high ((role.Declaring, i) ∷ xs) table a within empty = (other_stands low high i xs table a.0 a.1 empty, all_reported (i + 1) high xs table a.1 within (emptier low i table a.0 empty))
+all_reported low high ((role.ClosingName, i) ∷ xs) table a within empty = (other_stands low high i xs table a.0 a.1 empty, all_reported (i + 1) high xs table a.1 within (emptier low i table a.0 empty))
+all_reported low high ((role.FieldName, i) ∷ xs) table a within empty = (other_stands low high i xs table a.0 a.1 empty, all_reported (i + 1) high xs table a.1 within (emptier low i table a.0 empty))
+all_reported low high ((role.ModuleName, i) ∷ xs) table a within empty = (other_stands low high i xs table a.0 a.1 empty, all_reported (i + 1) high xs table a.1 within (emptier low i table a.0 empty))
 
 nothing_there : (n i : ℕ) → ordinal_in (replicate n None) i ≡ None
 nothing_there n i =
@@ -371,16 +371,16 @@ nothing_there n i =
 abbrev pub occurrence_table : Resolution → List (Option ℕ)
 occurrence_table r = with_marks (replicate (length r.module_read.source.tokens) None) (map first_at r.uses)
 
-pub uses_told : (r : Resolution) → IsResolution r → AllTold (occurrence_table r) (identifiers role.Declaring (tree_of r.module_read))
-uses_told r is =
+pub uses_reported : (r : Resolution) → IsResolution r → AllTold (occurrence_table r) (identifiers role.Declaring (tree_of r.module_read))
+uses_reported r is =
     let m = r.module_read in
     let ids = identifiers role.Declaring (tree_of m) in
     let count = length m.source.tokens in
     let none : Option ℕ = None in
     let long : count ≤ length (replicate count none) = subst (λ n. count ≤ n) (sym (length-replicate count none)) (le_refl count) in
     let found : looked_up_only ids ≡ r.uses = looked_up-occurrences role.Declaring (λ n xs. refl) (tree_of m) ∙ sym is.occurring in
-    let told = all_told 0 count ids (replicate count none) (leaves_ascend m is.parsed) long (λ i le. nothing_there count i) in
-    subst (λ (t : List (Option ℕ)). AllTold t ids) (ap (λ us. with_marks (replicate count none) (map first_at us)) found) told
+    let reported = all_reported 0 count ids (replicate count none) (leaves_ascend m is.parsed) long (λ i le. nothing_there count i) in
+    subst (λ (t : List (Option ℕ)). AllTold t ids) (ap (λ us. with_marks (replicate count none) (map first_at us)) found) reported
 
 -- so the identifiers are written as they are sought
 all_sought : (source : Scanned) (table : List (Option ℕ)) (y : Name) (xs : List (Role × ℕ)) → AllTold table xs
@@ -402,11 +402,11 @@ seen_in_places r y v sought ordinals is table gone tabled =
     let ids = identifiers role.Declaring (tree_of m) in
     let passed = module_passed (ordinal_in ordinals) forget w (tree_of m) (started w) (at_start w) in
     let agree = (passed.agree (marks_in_table m w v ordinals is.parsed gone tabled)).1 in
-    let told_so : AllTold sought ids = subst (λ (t : List (Option ℕ)). AllTold t ids) (sym table) (uses_told r is) in
+    let reported_so : AllTold sought ids = subst (λ (t : List (Option ℕ)). AllTold t ids) (sym table) (uses_reported r is) in
     ap (map (ordinal_in ordinals)) is.occurring
     ∙ (sym (occurrences-mapped (ordinal_in ordinals) (value_at m.source) (tree_of m))
     ∙ (sym (ap occurrences agree)
-    ∙ (module_alike y (name_at w) (text_at m.source) (value_at m.source) (tree_of m) (all_sought m.source sought y ids told_so)
+    ∙ (module_alike y (name_at w) (text_at m.source) (value_at m.source) (tree_of m) (all_sought m.source sought y ids reported_so)
     ∙ forgotten (looking_for y) (named_tree_of m))))
 
 -- each entry of the list is what the name would be bound to there

@@ -4,7 +4,7 @@ use Rattle.std.proofs.lemmas.List.{reverse-append, reverse-reverse, length-rever
 use Rattle.std.proofs.Math.ListN.{get_or-append}
 use Rattle.std.proofs.Math.Seq.{get_or-append_seam}
 use Rattle.std.proofs.lemmas.Slice.Eq.{bytes_eq-Decides}
-use Rattle.ob0_scope.specs.declared.newest.Entry.{Entry}
+use Rattle.ob0_scope.specs.declared.newest.BoundName.{BoundName}
 use Rattle.ob0_scope.specs.declared.visible.Binding.{Binding}
 use Rattle.ob0_scope_rules.specs.Names.{Name, as_names, same_name}
 use Rattle.ob0_scope.specs.NewestNames.{IsRenewed, KeepsNewest, KeepsPlaces, newest_in, place_of}
@@ -65,9 +65,9 @@ chosen true false a b c d e f g = absurd (cc)
 chosen false true a b c d e f g = absurd (cc)
 chosen false false a b c d e f g = g
 
-pub bound_anew : (newest next : List Entry) (items : List Binding) (b : Binding) → IsNewest newest items → b.hidden ≡ latest b.name.now (reverse items)
+pub bound_again : (newest next : List BoundName) (items : List Binding) (b : Binding) → IsNewest newest items → b.hidden ≡ latest b.name.now (reverse items)
     → IsRenewed newest next b.name.now (Some (length items)) → IsNewest next (items ++ (b ∷ []))
-bound_anew newest next items b w hidden renewed =
+bound_again newest next items b w hidden renewed =
     let turned : reverse (items ++ (b ∷ [])) ≡ b ∷ reverse items = reverse-append items (b ∷ []) in
     record {
       found = λ x. renewed x
@@ -82,7 +82,7 @@ left_step true false a b c n e f g = absurd (cc)
 left_step false true a b c n e f g = absurd (cc)
 left_step false false a b c n e f g = g
 
-pub given_up : (newest next : List Entry) (items : List Binding) (b : Binding) → IsNewest newest (items ++ (b ∷ [])) → IsRenewed newest next b.name.now b.hidden → IsNewest next items
+pub given_up : (newest next : List BoundName) (items : List Binding) (b : Binding) → IsNewest newest (items ++ (b ∷ [])) → IsRenewed newest next b.name.now b.hidden → IsNewest next items
 given_up newest next items b w renewed =
     let turned : reverse (items ++ (b ∷ [])) ≡ b ∷ reverse items = reverse-append items (b ∷ []) in
     let trail : AreHidden (b ∷ reverse items) = subst AreHidden turned w.hidden in
@@ -94,32 +94,32 @@ given_up newest next items b w renewed =
     }
 
 -- each binding has its name's place, also after places were kept, with one more and with one less
-pub still_placed : (before after : List Entry) (bs : List Binding) → KeepsPlaces before after → ArePlaced before bs → ArePlaced after bs
+pub still_placed : (before after : List BoundName) (bs : List Binding) → KeepsPlaces before after → ArePlaced before bs → ArePlaced after bs
 still_placed before after [] kept h = tt
 still_placed before after (b ∷ bs) kept h = (kept b.name.now b.place h.0, still_placed before after bs kept h.1)
 
-pub one_more_placed : (newest : List Entry) (items : List Binding) (b : Binding) → ArePlaced newest items → place_of newest b.name.now ≡ Some b.place → ArePlaced newest (items ++ (b ∷ []))
+pub one_more_placed : (newest : List BoundName) (items : List Binding) (b : Binding) → ArePlaced newest items → place_of newest b.name.now ≡ Some b.place → ArePlaced newest (items ++ (b ∷ []))
 one_more_placed newest [] b h at = (at, tt)
 one_more_placed newest (x ∷ items) b h at = (h.0, one_more_placed newest items b h.1 at)
 
-pub one_less_placed : (newest : List Entry) (items : List Binding) (b : Binding) → ArePlaced newest (items ++ (b ∷ [])) → ArePlaced newest items × (place_of newest b.name.now ≡ Some b.place)
+pub one_less_placed : (newest : List BoundName) (items : List Binding) (b : Binding) → ArePlaced newest (items ++ (b ∷ [])) → ArePlaced newest items × (place_of newest b.name.now ≡ Some b.place)
 one_less_placed newest [] b h = (tt, h.0)
 one_less_placed newest (x ∷ items) b h = let rest = one_less_placed newest items b h.1 in ((h.0, rest.0), rest.1)
 
 -- what is kept, after names were given places
-pub still_newest : (before after : List Entry) (items : List Binding) → KeepsNewest before after → IsNewest before items → IsNewest after items
+pub still_newest : (before after : List BoundName) (items : List Binding) → KeepsNewest before after → IsNewest before items → IsNewest after items
 still_newest before after items kept w = record { found = λ x. kept x ∙ w.found x; hidden = w.hidden }
 
 pub scope-popped : (items : List Binding) (b : Binding) → scope_of (items ++ (b ∷ [])) ≡ shown b ∷ scope_of items
 scope-popped items b = ap (map shown) (reverse-append items (b ∷ []))
 
-pub looked_up_below : (newest : List Entry) (items : List Binding) (x : Name) (i : ℕ) → IsNewest newest items → Some i ≡ newest_in newest x → i < length items
+pub looked_up_below : (newest : List BoundName) (items : List Binding) (x : Name) (i : ℕ) → IsNewest newest items → Some i ≡ newest_in newest x → i < length items
 looked_up_below newest items x i w e = subst (λ n. i < n) (length-reverse items) (latest_below x (reverse items) i (sym (w.found x) ∙ sym e))
 
-pub looked_up_some : (newest : List Entry) (items : List Binding) (x : Name) (i : ℕ) (b : Binding) → IsNewest newest items → Some i ≡ newest_in newest x
+pub looked_up_some : (newest : List BoundName) (items : List Binding) (x : Name) (i : ℕ) (b : Binding) → IsNewest newest items → Some i ≡ newest_in newest x
     → b ≡ get_or items i b → Some b.ordinal ≡ ordinal_of as_names (scope_of items) x
 looked_up_some newest items x i b w e here =
     ap (λ (z : Binding). Some z.ordinal) (here ∙ ap (λ l. get_or l i b) (sym (reverse-reverse items))) ∙ sym (latest_ordinal x (reverse items) i b (sym (w.found x) ∙ sym e))
 
-pub looked_up_none : (newest : List Entry) (items : List Binding) (x : Name) → IsNewest newest items → None ≡ newest_in newest x → None ≡ ordinal_of as_names (scope_of items) x
+pub looked_up_none : (newest : List BoundName) (items : List Binding) (x : Name) → IsNewest newest items → None ≡ newest_in newest x → None ≡ ordinal_of as_names (scope_of items) x
 looked_up_none newest items x w e = sym (latest_none x (reverse items) (sym (w.found x) ∙ sym e))

@@ -19,10 +19,10 @@ abbrev pub is_name_on : ℕ → Token → Bool
 is_name_on offset t = is_identifier t.kind && is_on offset t.span
 
 -- each token has a byte, and begins where the one before it ends or after that
-abbrev pub AreApart : ℕ → List Token → Type 0
-AreApart from [] = Unit {0}
-AreApart from (t ∷ ts) =
-    (from ≤ t.span.start) × ((t.span.start < t.span.end) × AreApart t.span.end ts)
+abbrev pub TokensAreApart : ℕ → List Token → Type 0
+TokensAreApart from [] = Unit {0}
+TokensAreApart from (t ∷ ts) =
+    (from ≤ t.span.start) × ((t.span.start < t.span.end) × TokensAreApart t.span.end ts)
 
 -- the indexes of the entries of a table that have an ordinal, but for one; the first entry has this index
 abbrev pub tokens_with : Option ℕ → ℕ → ℕ → List (Option ℕ) → List ℕ
@@ -36,7 +36,7 @@ tokens_with omitted d i (ordinal ∷ ordinals) =
 abbrev pub tokens_from : Option ℕ → ℕ → ℕ → List (Option ℕ) → List ℕ
 tokens_from omitted d first ordinals = tokens_with omitted d first (drop first ordinals)
 
--- the token that is left out: the one that declares, unless it is asked for
+-- the token that is left out: the one that declares, unless it is requested
 abbrev pub omitted : Bool → Option ℕ → Option ℕ
 omitted include declaring = if include then None else declaring
 

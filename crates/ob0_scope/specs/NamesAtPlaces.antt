@@ -44,7 +44,7 @@ is_declaring role.ClosingName = false
 is_declaring role.FieldName = false
 is_declaring role.ModuleName = false
 
--- an identifier is bound to d, and isn't the one that declares it unless that is asked for
+-- an identifier is bound to d, and isn't the one that declares it unless that is requested
 abbrev pub refers : Bool → ℕ → BoundIdentifier → Bool
 refers include d s = same_label s.1 (declared d) && (include || not (is_declaring s.0.0))
 

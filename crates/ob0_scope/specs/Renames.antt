@@ -5,8 +5,8 @@ use Rattle.std.specs.Option.{option_or}
 use Rattle.ob0_tree.specs.Tree.{Tree, mapped, module_text}
 use Rattle.ob0_tree.specs.Parsed.{named_tree_of, tree_of}
 use Rattle.ob0_tree.specs.Places.{value_at}
-use Rattle.ob0_scope.specs.declared.capturing.FirstCapture as told
-use Rattle.ob0_scope.specs.declared.capturing.FirstCapture.TheVariants as tells
+use Rattle.ob0_scope.specs.declared.capturing.FirstCapture as reported
+use Rattle.ob0_scope.specs.declared.capturing.FirstCapture.TheVariants as reports
 use Rattle.ob0_scope_rules.specs.Names.{Name, as_names, same_name}
 use Rattle.ob0_scope_rules.specs.Occurrences.{Capture, at_declaration, at_occurrence, blocks_in, declares_ordinal}
 use Rattle.ob0_scope_rules.specs.Parts.{module_block}
@@ -32,15 +32,15 @@ abbrev pub namesake : Tree Name module_text → ℕ → Name → Option ℕ
 namesake m d new = namesake_in (blocks_in 7 [] (module_block m)) d new
 
 -- the place of a capture
-abbrev pub place_of : told.FirstCapture → Capture
-place_of (tells.Duplicate other) = at_declaration
-place_of (tells.Occurrence k) = at_occurrence k
+abbrev pub place_of : reported.FirstCapture → Capture
+place_of (reports.Duplicate other) = at_declaration
+place_of (reports.Occurrence k) = at_occurrence k
 
 -- the other declaration, where a capture is a second declaration in its block
-abbrev pub other_of : Option told.FirstCapture → Option ℕ
+abbrev pub other_of : Option reported.FirstCapture → Option ℕ
 other_of None = None
-other_of (Some (tells.Duplicate other)) = Some other
-other_of (Some (tells.Occurrence k)) = None
+other_of (Some (reports.Duplicate other)) = Some other
+other_of (Some (reports.Occurrence k)) = None
 
 -- two names are bound to the same declaration, or neither is bound
 abbrev pub is_bound_alike : Option ℕ → Option ℕ → Bool

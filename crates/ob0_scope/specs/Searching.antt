@@ -13,45 +13,45 @@ use Rattle.ob0_scope_rules.specs.Resolution.{ordinal_in}
 use Rattle.ob0_scope_rules.specs.Scopes.{same_ordinal}
 
 -- A text with the ordinals of its identifiers by token, the declaration of which the block is sought, and the name.
-pub record Sought : Type 0 where
+pub record BlockSearch : Type 0 where
   pub source : Scanned
   pub ordinals : List (Option ℕ)
   pub declaration : ℕ
   pub new : Name
 
 -- the ordinal at a token
-abbrev pub ordinal_sought : Sought → ℕ → Option ℕ
+abbrev pub ordinal_sought : BlockSearch → ℕ → Option ℕ
 ordinal_sought s i = ordinal_in s.ordinals i
 
 -- the token declares the declaration
-abbrev pub is_sought : Sought → ℕ → Bool
+abbrev pub is_sought : BlockSearch → ℕ → Bool
 is_sought s i = same_ordinal (ordinal_sought s i) s.declaration
 
 -- the token has the new name, and isn't of the declaration
-abbrev pub is_other : Sought → ℕ → Bool
+abbrev pub is_other : BlockSearch → ℕ → Bool
 is_other s i = same_name (text_at s.source i) s.new && not (is_sought s i)
 
 -- the last of these that has the name and is another declaration
-abbrev pub last_other : Sought → Option ℕ → List ℕ → Option ℕ
+abbrev pub last_other : BlockSearch → Option ℕ → List ℕ → Option ℕ
 last_other s found [] = found
 last_other s found (i ∷ is) = last_other s (if is_other s i then ordinal_sought s i else found) is
 
 -- the same, where the declaration is one of these
-abbrev pub other_among : Sought → List ℕ → Option ℕ
+abbrev pub other_among : BlockSearch → List ℕ → Option ℕ
 other_among s is = if list_any (is_sought s) is then last_other s None is else None
 
 -- the names that are declared with those of a block, and then the blocks in it
 abbrev mutual
-  pub found_in_block : Sought → List ℕ → Tree ℕ block → Option ℕ
+  pub found_in_block : BlockSearch → List ℕ → Tree ℕ block → Option ℕ
   found_in_block s own (has_body (declares cs ts vs ps) statements) =
       option_or (other_among s (own ++ block_names (has_body (declares cs ts vs ps) statements)))
       (found_in_procedures s ps)
 
-  pub found_in_procedures : Sought → Tree ℕ (items procedure) → Option ℕ
+  pub found_in_procedures : BlockSearch → Tree ℕ (items procedure) → Option ℕ
   found_in_procedures s end = None
   found_in_procedures s (more p rest) =
       option_or (found_in_procedure s p) (found_in_procedures s rest)
 
-  pub found_in_procedure : Sought → Tree ℕ (item procedure) → Option ℕ
+  pub found_in_procedure : BlockSearch → Tree ℕ (item procedure) → Option ℕ
   found_in_procedure s (declares_procedure x fs b closing) =
       found_in_block s (formal_names (formal_sections fs)) b

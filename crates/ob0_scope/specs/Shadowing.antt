@@ -2,7 +2,7 @@
 -- Rule: none; for private contracts: a scope as it is stored.
 use Rattle.std.specs.Prelude.{◌≡◌, ℕ, List, [], ◌∷◌, Option, Some, None, if◌then◌else◌, map, length, reverse}
 use Rattle.ob0_scope.specs.declared.visible.Binding.{Binding}
-use Rattle.ob0_scope.specs.declared.newest.Entry.{Entry}
+use Rattle.ob0_scope.specs.declared.newest.BoundName.{BoundName}
 use Rattle.ob0_scope.specs.NewestNames.{newest_in, place_of}
 use Rattle.ob0_scope_rules.specs.Names.{Name, same_name}
 use Rattle.ob0_scope_rules.specs.Scopes.{Scope}
@@ -22,7 +22,7 @@ AreHidden [] = Unit {0}
 AreHidden (b ∷ bs) = (b.hidden ≡ latest b.name.now bs) × AreHidden bs
 
 -- What is kept of each name is the index of its newest binding.
-pub record IsNewest (newest : List Entry) (bindings : List Binding) : Type 0 where
+pub record IsNewest (newest : List BoundName) (bindings : List Binding) : Type 0 where
   pub found : (x : Name) → newest_in newest x ≡ latest x (reverse bindings)
   pub hidden : AreHidden (reverse bindings)
 
@@ -36,13 +36,13 @@ abbrev pub with_scope : VisibleNames → Scope Name → VisibleNames
 with_scope v scope = record { new_name = v.new_name; scope = scope }
 
 -- each binding has the place of its name
-abbrev pub ArePlaced : List Entry → List Binding → Type 0
+abbrev pub ArePlaced : List BoundName → List Binding → Type 0
 ArePlaced newest [] = Unit {0}
 ArePlaced newest (b ∷ bs) =
     (place_of newest b.name.now ≡ Some b.place) × ArePlaced newest bs
 
 -- What is kept of each name is the index of its newest binding, and the new name has the first place.
-pub record IsKept (new : Name) (newest : List Entry) (bindings : List Binding) : Type 0 where
+pub record IsKept (new : Name) (newest : List BoundName) (bindings : List Binding) : Type 0 where
   pub is : IsNewest newest bindings
   pub placed : ArePlaced newest bindings
   pub first : place_of newest new ≡ Some 0

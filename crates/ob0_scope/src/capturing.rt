@@ -126,7 +126,7 @@ struct Sought<'t> {
 impl<'t> Model for Sought<'t> {
     ghost use Rattle.ob0_scope.specs.Searching as searching;
 
-    ghost Value = { searching.Sought };
+    ghost Value = { searching.BlockSearch };
 
     ghost view = { λ s. record { source = s.tokens.now; ordinals = s.ordinals.now; declaration = s.declaration; new = s.new.now } };
 }

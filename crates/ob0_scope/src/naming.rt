@@ -5,7 +5,7 @@ ghost use Rattle.std.specs.List.{position_from};
 ghost use Rattle.std.specs.List.Sorted.{IsNonDecreasingBy, IsPartitionPoint};
 ghost use Rattle.ob0_scan.specs.declared.lexeme.Token as token;
 ghost use Rattle.ob0_tree.specs.Order.{AreIdentifiers, Ascending};
-ghost use Rattle.ob0_scope.specs.Listing.{AreApart, first_token, is_identifier, is_name_on, omitted, tokens_from};
+ghost use Rattle.ob0_scope.specs.Listing.{TokensAreApart, first_token, is_identifier, is_name_on, omitted, tokens_from};
 ghost use Rattle.ob0_scope_rules.specs.Scopes.{same_ordinal};
 ghost use Rattle.ob0_scope.specs.NamesAtPlaces.{IsRenamedAt, name_on, tokens_bound};
 
@@ -59,7 +59,7 @@ pub fn tokens_bound(
     )
 }
 
-/// The token that is left out: the one that declares, unless it is asked for.
+/// The token that is left out: the one that declares, unless it is requested.
 fn omitted(include: bool, declaring: Option<usize>) -> Option<usize>
     ensures { result ≡ omitted include declaring }
 {
@@ -130,7 +130,7 @@ pub fn renamed_tokens(
 /// The index of the first identifier that a place is on. It is found by halving: it is the first token that doesn't end
 /// before the place, or the next one.
 fn first_on(tokens: &[Token], offset: usize) -> Option<usize>
-    ensures { AreApart 0 tokens.now → result ≡ position_from (is_name_on offset) 0 tokens.now }
+    ensures { TokensAreApart 0 tokens.now → result ≡ position_from (is_name_on offset) 0 tokens.now }
 {
     let place = ended_before(tokens, offset);
     if place >= tokens.len() {

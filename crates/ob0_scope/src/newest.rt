@@ -70,26 +70,26 @@ fn slot_of(name: &str) -> usize {
 
 /// A name that was bound, with the index of its newest binding, where it has one.
 #[derive(Clone, Copy)]
-pub(crate) struct Entry<'t> {
+pub(crate) struct BoundName<'t> {
     name: &'t str,
     newest: Option<usize>,
 }
 
 /// The names that were bound so far, in the order in which they were bound first, each once. A name's place is found in
-/// logarithmic time, whatever the names are; that of a name that was asked for before mostly at once.
+/// logarithmic time, whatever the names are; that of a name that was looked up before is mostly found at once.
 #[derive(Drop)]
 pub(crate) struct Newest<'t> {
-    entries: Vec<Entry<'t>>,
+    entries: Vec<BoundName<'t>>,
     places: BTreeMap<Key<'t>, usize>,
     recent: Vec<usize>,
 }
 
 impl<'t> Model for Newest<'t> {
     ghost use Rattle.std.specs.Prelude.{List};
-    ghost use Rattle.ob0_scope.specs.declared.newest.Entry.{Entry};
+    ghost use Rattle.ob0_scope.specs.declared.newest.BoundName.{BoundName};
     ghost use Rattle.ob0_scope.specs.NewestNames.{ArePlaces};
 
-    ghost Value = { List Entry };
+    ghost Value = { List BoundName };
 
     ghost view = { λ t. t.entries.items };
 
@@ -188,7 +188,7 @@ impl<'t> Newest<'t> {
     {
         self.entries.reserve(1)?;
         self.places.insert(key_of(name), self.entries.len())?;
-        self.entries.push_reserved(Entry { name, newest: None });
+        self.entries.push_reserved(BoundName { name, newest: None });
         Ok(())
     }
 
@@ -222,7 +222,7 @@ impl<'t> Newest<'t> {
         ensures renewed { IsRenewed self.old self.new name.now newest }
         ensures places { KeepsPlaces self.old self.new }
     {
-        self.entries[place] = Entry { name, newest };
+        self.entries[place] = BoundName { name, newest };
     }
 
     /// The index of a name's newest binding.

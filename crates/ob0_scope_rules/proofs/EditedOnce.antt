@@ -145,13 +145,13 @@ mutual
       let parts = and_parts (are_distinct (own ++ block_names b)) (types_once (section_types ts) && (variables_once (section_variables vs) && procedures_once ps)) once in
       let parts₁ = and_parts (types_once (section_types ts)) (variables_once (section_variables vs) && procedures_once ps) parts.1 in
       let parts₂ = and_parts (variables_once (section_variables vs)) (procedures_once ps) parts₁.1 in
-      let behind : List Name = named_types (section_types ts) ++ (variable_names (section_variables vs) ++ procedure_names ps) in
+      let following : List Name = named_types (section_types ts) ++ (variable_names (section_variables vs) ++ procedure_names ps) in
       and_from (are_distinct (own ++ block_names (edited_block edit j k b))) _
       (ap (λ zs. are_distinct (own ++ (constant_names (section_constants (edited_section edit j k cs)) ++ zs)))
       (λ i. type_names-leaf edit jt ts i ++ (variable_names-leaf edit jv vs i ++ procedure_names-edited edit jp (first_procedure k b) ps i))
-      ∙ some-distinct (own ++ (constant_names (section_constants (edited_section edit j k cs)) ++ behind)) (own ++ (constant_names (section_constants cs) ++ behind))
-      (some_of-append own own (constant_names (section_constants (edited_section edit j k cs)) ++ behind) (constant_names (section_constants cs) ++ behind) (some_of-all own)
-      (some_of-append (constant_names (section_constants (edited_section edit j k cs))) (constant_names (section_constants cs)) behind behind (section_names-edited edit j k cs) (some_of-all behind))) parts.0)
+      ∙ some-distinct (own ++ (constant_names (section_constants (edited_section edit j k cs)) ++ following)) (own ++ (constant_names (section_constants cs) ++ following))
+      (some_of-append own own (constant_names (section_constants (edited_section edit j k cs)) ++ following) (constant_names (section_constants cs) ++ following) (some_of-all own)
+      (some_of-append (constant_names (section_constants (edited_section edit j k cs))) (constant_names (section_constants cs)) following following (section_names-edited edit j k cs) (some_of-all following))) parts.0)
       (and_from _ _ (types_once-leaf edit jt ts ∙ parts₁.0)
       (and_from _ _ (variables_once-leaf edit jv vs ∙ parts₂.0) (procedures_once-edited edit jp (first_procedure k b) ps parts₂.1)))
 

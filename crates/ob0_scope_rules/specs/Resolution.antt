@@ -136,4 +136,4 @@ pub record IsResolution (r : Resolution) : Type 0 where
   pub declaring : r.declarations
       ≡ declaring_only (identifiers role.Declaring (tree_of r.module_read))
   pub occurring : r.uses ≡ occurrences (tree_of r.module_read)
-  pub told : AreFaultsOf r.module_read r.faults
+  pub reported : AreFaultsOf r.module_read r.faults

@@ -6,5 +6,5 @@ use Rattle.ob0_analysis.specs.Diagnosed.{Complaint, Reports}
 use Rattle.ob0_session_edits.specs.Diagnostics.{diagnostic_of, Diagnoses}
 use Rattle.ob0_analysis.proofs.Scanning.{utf8_of}
 
-pub diagnosed : (unit : Unit) (bytes text : List ℕ) (told : List Complaint) → IsUtf8 bytes → chars bytes ≡ text → Reports bytes told → Diagnoses unit text (map (diagnostic_of unit text) told)
-diagnosed unit bytes text told u is h = (told, subst (λ (t : List ℕ). Reports t told) (utf8_of bytes text u is) h, refl)
+pub diagnosed : (unit : Unit) (bytes text : List ℕ) (reported : List Complaint) → IsUtf8 bytes → chars bytes ≡ text → Reports bytes reported → Diagnoses unit text (map (diagnostic_of unit text) reported)
+diagnosed unit bytes text reported u is h = (reported, subst (λ (t : List ℕ). Reports t reported) (utf8_of bytes text u is) h, refl)

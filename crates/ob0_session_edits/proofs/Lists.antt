@@ -10,11 +10,11 @@ use Rattle.ob0_session_json.specs.Shapes as shapes
 use Rattle.ob0_session_json.specs.declared.publication.Diagnostic.{Diagnostic}
 
 -- the diagnostic of the next one that is reported
-pub diagnostics_next : (shown : Diagnosis → shapes.Diagnostic) (told : List Diagnosis) (i : ℕ) (d : Diagnosis) (vs : List Diagnostic) (v : Diagnostic) → i < length told
-    → DiagnosticsAre (map shown (take i told)) vs → diagnostic_in v ≡ shown (get_or told i d) → DiagnosticsAre (map shown (take (i + 1) told)) (vs ++ v ∷ [])
-diagnostics_next shown told i d vs v h are is =
-    rw (add-one, take-suc told i d h, map-append shown (take i told) (get_or told i d ∷ []), map-append diagnostic_in vs (v ∷ []), are, is) refl
+pub diagnostics_next : (shown : Diagnosis → shapes.Diagnostic) (reported : List Diagnosis) (i : ℕ) (d : Diagnosis) (vs : List Diagnostic) (v : Diagnostic) → i < length reported
+    → DiagnosticsAre (map shown (take i reported)) vs → diagnostic_in v ≡ shown (get_or reported i d) → DiagnosticsAre (map shown (take (i + 1) reported)) (vs ++ v ∷ [])
+diagnostics_next shown reported i d vs v h are is =
+    rw (add-one, take-suc reported i d h, map-append shown (take i reported) (get_or reported i d ∷ []), map-append diagnostic_in vs (v ∷ []), are, is) refl
 
 -- what is shown of a list, one after the other
-pub diagnostics_of_all : (shown : Complaint → shapes.Diagnostic) (told : List Diagnosis) (vs : List Diagnostic) → DiagnosticsAre (map (λ d. shown (complaint_in d)) told) vs → DiagnosticsAre (map shown (map complaint_in told)) vs
-diagnostics_of_all shown told vs are = map-map shown complaint_in told ∙ are
+pub diagnostics_of_all : (shown : Complaint → shapes.Diagnostic) (reported : List Diagnosis) (vs : List Diagnostic) → DiagnosticsAre (map (λ d. shown (complaint_in d)) reported) vs → DiagnosticsAre (map shown (map complaint_in reported)) vs
+diagnostics_of_all shown reported vs are = map-map shown complaint_in reported ∙ are

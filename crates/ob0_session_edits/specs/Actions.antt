@@ -37,8 +37,8 @@ pub record ActionsAsked : Type 0 where
   pub only : Option (List (List ℕ))
 
 -- a request for code actions of the code
-abbrev pub actions_asked : ActionsRequest → ActionsAsked
-actions_asked r =
+abbrev pub actions_requested : ActionsRequest → ActionsAsked
+actions_requested r =
     record {
       id = id_data r.id.now;
       client = r.client;
@@ -60,7 +60,7 @@ allows_inlining None = true
 
 -- the client takes actions that aren't commands, and these among them
 abbrev pub wants_inlining : ActionsAsked → Bool
-wants_inlining asked = asked.client.takes_literal_actions && allows_inlining asked.only
+wants_inlining requested = requested.client.takes_literal_actions && allows_inlining requested.only
 
 -- the place in bytes at which actions work: the start of the range, and the end of one that is swapped
 abbrev pub place_of : Unit → List ℕ → Range → ℕ
@@ -94,30 +94,30 @@ title Everywhere = codes "Inline everywhere"
 
 -- the action, with the edits in the form that the client takes
 abbrev pub action_of : ActionsAsked → Inlining → List Edit → Data
-action_of asked how edits =
-    action_value (workspace_edit asked.client asked.uri asked.version edits) (title how)
+action_of requested how edits =
+    action_value (workspace_edit requested.client requested.uri requested.version edits) (title how)
 
 -- an action, where its edit isn't refused
 abbrev pub action_values : ActionsAsked → Inlining → Option (Vec Edit Global) → List Data
-action_values asked how (Some edits) = action_of asked how edits.items ∷ []
-action_values asked how None = []
+action_values requested how (Some edits) = action_of requested how edits.items ∷ []
+action_values requested how None = []
 
 -- inlining here precedes inlining everywhere
 abbrev pub actions_value : ActionsAsked → Option (Vec Edit Global) → Option (Vec Edit Global) → Data
-actions_value asked here everywhere =
-    array (items_of (action_values asked Here here ++ action_values asked Everywhere everywhere))
+actions_value requested here everywhere =
+    array (items_of (action_values requested Here here ++ action_values requested Everywhere everywhere))
 
 -- These actions are offered, as a list; none to a client that wants none, and none of a text that isn't a well-typed module.
 abbrev pub ListsActions : Unit → ActionsAsked → List ℕ → Data → Type 0
-ListsActions unit asked text value =
-    ((here : Option (Vec Edit Global)) × (everywhere : Option (Vec Edit Global)) × (wants_inlining asked ≡ true)
-    × Offers Here unit text (place_of unit text asked.range) here
-    × Offers Everywhere unit text (place_of unit text asked.range) everywhere
-    × (value ≡ actions_value asked here everywhere))
-    ⊎ (((wants_inlining asked ≡ false) ⊎ ¬ IsWellTypedModule (utf8 text))
+ListsActions unit requested text value =
+    ((here : Option (Vec Edit Global)) × (everywhere : Option (Vec Edit Global)) × (wants_inlining requested ≡ true)
+    × Offers Here unit text (place_of unit text requested.range) here
+    × Offers Everywhere unit text (place_of unit text requested.range) everywhere
+    × (value ≡ actions_value requested here everywhere))
+    ⊎ (((wants_inlining requested ≡ false) ⊎ ¬ IsWellTypedModule (utf8 text))
     × (value ≡ array no_items))
 
 -- this message answers the request, where positions are counted in the unit and the document has the text
 abbrev pub AnswersActions : Unit → ActionsAsked → List ℕ → Data → Type 0
-AnswersActions unit asked text message =
-    (value : Data) × ListsActions unit asked text value × (message ≡ result_message asked.id value)
+AnswersActions unit requested text message =
+    (value : Data) × ListsActions unit requested text value × (message ≡ result_message requested.id value)

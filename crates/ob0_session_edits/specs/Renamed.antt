@@ -25,8 +25,8 @@ pub record RenameAsked : Type 0 where
   pub new : List ℕ
 
 -- a request for a rename of the code
-abbrev pub asked_of : RenameRequest → RenameAsked
-asked_of r =
+abbrev pub requested_of : RenameRequest → RenameAsked
+requested_of r =
     record {
       id = id_data r.id.now;
       client = r.client;
@@ -37,13 +37,13 @@ asked_of r =
 
 -- the edits as they are answered to the client
 abbrev pub edits_for_client : RenameAsked → List Edit → Data
-edits_for_client asked edits = workspace_edit asked.client asked.at.uri asked.version edits
+edits_for_client requested edits = workspace_edit requested.client requested.at.uri requested.version edits
 
 -- this message answers the request, where positions are counted in the unit and the document has the text
 abbrev pub AnswersRenaming : Unit → RenameAsked → List ℕ → Data → Type 0
-AnswersRenaming unit asked text message =
+AnswersRenaming unit requested text message =
     ((edits : List Edit)
-    × RenamesIn unit text asked.at.position asked.new edits
-    × (message ≡ result_message asked.id (edits_for_client asked edits)))
-    ⊎ (((refusal : EditRefusal) × IsRefusedIn unit text asked.at.position asked.new refusal × (message ≡ edit_refused asked.id (refusal_text refusal)))
-    ⊎ (¬ IsWellTypedModule (utf8 text) × (message ≡ edit_refused asked.id (codes "ill-typed"))))
+    × RenamesIn unit text requested.at.position requested.new edits
+    × (message ≡ result_message requested.id (edits_for_client requested edits)))
+    ⊎ (((refusal : EditRefusal) × IsRefusedIn unit text requested.at.position requested.new refusal × (message ≡ edit_refused requested.id (refusal_text refusal)))
+    ⊎ (¬ IsWellTypedModule (utf8 text) × (message ≡ edit_refused requested.id (codes "ill-typed"))))

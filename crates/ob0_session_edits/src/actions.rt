@@ -10,7 +10,7 @@ ghost use Rattle.ob0_rpc.specs.Writing.{Writes};
 ghost use Rattle.ob0_text.specs.Texts.{offset_of};
 ghost use Rattle.ob0_text.specs.Units.{width_of};
 ghost use Rattle.ob0_session_offers.specs.Inlinings.{Inlines};
-ghost use Rattle.ob0_session_edits.specs.Actions.{AnswersActions, FindsInlinings, IsOffered, action_of, actions_asked, actions_value, allows_inlining as allows, is_of_kind as of_kind, place_of as place_in, title, wants_inlining as wants};
+ghost use Rattle.ob0_session_edits.specs.Actions.{AnswersActions, FindsInlinings, IsOffered, action_of, actions_requested, actions_value, allows_inlining as allows, is_of_kind as of_kind, place_of as place_in, title, wants_inlining as wants};
 ghost use Rattle.ob0_session_json.specs.Made.{action_in};
 ghost use Rattle.ob0_session_offers.specs.declared.inlining.Inlining.TheVariants as how;
 
@@ -115,7 +115,7 @@ pub fn code_actions<T: TextStore>(
 ) -> Result<Vec<u8>, AllocError>
     requires { T.content store.now ≡ chars analysis.now }
     ensures { IfOk result (λ bytes. (message : Data)
-        × AnswersActions (T.unit_of store.now) (actions_asked request.now) (T.content store.now)
+        × AnswersActions (T.unit_of store.now) (actions_requested request.now) (T.content store.now)
         message
         × Writes message bytes.items) }
 {
@@ -138,7 +138,7 @@ fn no_actions(alloc: Global, id: &Id) -> Result<Vec<u8>, AllocError>
 
 /// Whether the client takes actions that aren't commands, and these among them.
 fn wants_inlining(request: &ActionsRequest<'_>) -> bool
-    ensures { result ≡ wants (actions_asked request.now) }
+    ensures { result ≡ wants (actions_requested request.now) }
 {
     request.client.takes_literal_actions && allows_inlining(request.only)
 }
@@ -177,7 +177,7 @@ fn list_actions(
     found: &Inlinings,
 ) -> Result<Vec<u8>, AllocError>
     ensures { IfOk result (λ bytes. Writes (result_message (id_data request.now.id.now)
-        (actions_value (actions_asked request.now) found.now.here found.now.everywhere))
+        (actions_value (actions_requested request.now) found.now.here found.now.everywhere))
         bytes.items) }
 {
     match (&found.here, &found.everywhere) {
@@ -206,7 +206,7 @@ fn one_action(
     edits: &[Edit],
 ) -> Result<Vec<u8>, AllocError>
     ensures { IfOk result (λ bytes. Writes (result_message (id_data request.now.id.now)
-        (array (item (action_of (actions_asked request.now) how edits.now) no_items)))
+        (array (item (action_of (actions_requested request.now) how edits.now) no_items)))
         bytes.items) }
 {
     let actions = [action(request, how, edits)];
@@ -215,7 +215,7 @@ fn one_action(
 
 /// The action that makes these edits.
 fn action<'a>(request: &'a ActionsRequest<'a>, how: Inlining, edits: &'a [Edit]) -> CodeAction<'a>
-    ensures { action_in result ≡ action_of (actions_asked request.now) how edits.now }
+    ensures { action_in result ≡ action_of (actions_requested request.now) how edits.now }
 {
     let edit = WorkspaceEdit {
         client: request.client,

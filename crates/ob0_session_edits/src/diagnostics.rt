@@ -25,29 +25,35 @@ pub fn diagnostics<T: TextStore>(
         × Diagnoses (T.unit_of store.now) (T.content store.now) ds
         × DiagnosticsAre ds list.items) }
 {
-    let told = analysis.diagnoses(alloc)?;
-    all_diagnostics(alloc, store, told.as_slice())
+    let reported = analysis.diagnoses(alloc)?;
+    all_diagnostics(alloc, store, reported.as_slice())
 }
 
 /// The diagnostics at their positions, which are found in one pass over the text.
 fn all_diagnostics<T: TextStore>(
     alloc: Global,
     store: &T,
-    told: &[Diagnosis],
+    reported: &[Diagnosis],
 ) -> Result<Vec<Diagnostic>, AllocError>
     ensures { IfOk result (λ list. DiagnosticsAre (map
-        (λ d. diagnostic_of (T.unit_of store.now) (T.content store.now) (complaint_in d)) told.now)
+        (λ d. diagnostic_of (T.unit_of store.now) (T.content store.now) (complaint_in d)) reported.now)
         list.items) }
 {
-    let offsets = offsets_of(alloc, told)?;
+    let offsets = offsets_of(alloc, reported)?;
     let positions = store.positions(alloc, offsets.as_slice())?;
-    list_diagnostics(alloc, store, offsets.as_slice(), positions.as_slice(), told)
+    list_diagnostics(
+        alloc,
+        store,
+        offsets.as_slice(),
+        positions.as_slice(),
+        reported,
+    )
 }
 
 /// Where diagnostics start and end, in text order.
-fn offsets_of(alloc: Global, told: &[Diagnosis]) -> Result<Vec<usize>, AllocError> {
+fn offsets_of(alloc: Global, reported: &[Diagnosis]) -> Result<Vec<usize>, AllocError> {
     let mut offsets = Vec::new(alloc);
-    for diagnosis in told {
+    for diagnosis in reported {
         offsets.push(diagnosis.span.start)?;
         offsets.push(diagnosis.span.end)?;
     }
@@ -61,16 +67,16 @@ fn list_diagnostics<T: TextStore>(
     store: &T,
     offsets: &[usize],
     positions: &[Position],
-    told: &[Diagnosis],
+    reported: &[Diagnosis],
 ) -> Result<Vec<Diagnostic>, AllocError>
     requires { positions.now
         ≡ map (position_of (width_of (T.unit_of store.now)) (T.content store.now)) offsets.now }
     ensures { IfOk result (λ list. DiagnosticsAre (map
-        (λ d. diagnostic_of (T.unit_of store.now) (T.content store.now) (complaint_in d)) told.now)
+        (λ d. diagnostic_of (T.unit_of store.now) (T.content store.now) (complaint_in d)) reported.now)
         list.items) }
 {
     let mut list = Vec::new(alloc);
-    for diagnosis in told {
+    for diagnosis in reported {
         let start = position_at(store, offsets, positions, diagnosis.span.start);
         let end = position_at(store, offsets, positions, diagnosis.span.end);
         list.push(diagnostic(alloc, diagnosis, start, end)?)?;

@@ -2,7 +2,7 @@
 ghost use Rattle.ob0_session_json.specs.Made.{action_in, workspace_edit_of};
 ghost use Rattle.ob0_session_json.specs.Shapes.{document_edit, versioned_document};
 
-use ob0_rpc::{Client, Entry, Written, end_object, first_member, next_member};
+use ob0_rpc::{Client, OneMember, Written, end_object, first_member, next_member};
 use ob0_text::Edit;
 use std::alloc::AllocError;
 
@@ -33,7 +33,7 @@ impl<'a> Written for WorkspaceEdit<'a> {
         } else {
             let key = self.uri;
             let value = self.edits;
-            first_member(out, "changes", &Entry { key, value })?;
+            first_member(out, "changes", &OneMember { key, value })?;
             end_object(out)
         }
     }

@@ -4,7 +4,7 @@ use Rattle.std.specs.List.{flat_map}
 use Rattle.std.proofs.lemmas.Grind.{flat_map-append}
 use Rattle.ob0_frame.specs.Frames.{frame}
 use Rattle.ob0_frame.specs.Framing.{Rest, Open, Broken, Feeds}
-use Rattle.ob0_session.specs.Answers.{State, start, Conversation}
+use Rattle.ob0_session.specs.Answers.{ServerState, start, Conversation}
 use Rattle.ob0_session.specs.Serving.{Served}
 use Rattle.ob0_session.specs.declared.serving.ServeFault.{ServeFault}
 use Rattle.ob0_session.specs.declared.serving.ServeFault.TheVariants.{BadHead, Truncated, Read, Write, Memory, TooManyReads}
@@ -16,14 +16,14 @@ use Rattle.ob0_session_laws.proofs.Streams.{Cut, cut, begins_other, longer, Endi
 record Part (taken put : List ℕ) : Type 0 where
   pub answered : Contents
   pub sent : Contents
-  pub after : State
+  pub after : ServerState
   pub front : (contents : Contents) (rest : Rest) → Feeds (Open []) taken contents rest → (others : Contents) × (contents ≡ answered ++ others)
   pub conversation : Conversation start answered sent after
   pub unwritten : List ℕ
   pub frames : flat_map frame sent ≡ put ++ unwritten
 
 module _ (one : OneConversation) (feeds : OneFeed) (taken : List ℕ) where
-  part_of_served : (waiting : Contents) (rest : Rest) (after : State) (put unwritten : List ℕ) → Served taken waiting rest after (put ++ unwritten) → Part taken put
+  part_of_served : (waiting : Contents) (rest : Rest) (after : ServerState) (put unwritten : List ℕ) → Served taken waiting rest after (put ++ unwritten) → Part taken put
   part_of_served waiting rest after put unwritten h = record {
     answered = h.answered;
     sent = h.sent;
@@ -34,7 +34,7 @@ module _ (one : OneConversation) (feeds : OneFeed) (taken : List ℕ) where
     frames = sym h.frames;
   }
 
-  whole : (waiting : Contents) (rest : Rest) (after : State) (put : List ℕ) → Served taken waiting rest after put → Part taken put
+  whole : (waiting : Contents) (rest : Rest) (after : ServerState) (put : List ℕ) → Served taken waiting rest after put → Part taken put
   whole waiting rest after put h = part_of_served waiting rest after put [] (subst (λ p. Served taken waiting rest after p) (sym (append-nil put)) h)
 
   part_of : (result : Result ℕ ServeFault) (put : List ℕ) → MayServe result taken put → Part taken put
@@ -56,7 +56,7 @@ module _ (one : OneConversation) (feeds : OneFeed) (taken : List ℕ) where
   }
 
   -- the rest of the conversation is answered by more messages
-  further : (put : List ℕ) (p : Part taken put) (contents mid sent : Contents) (after : State) → contents ≡ p.answered ++ mid → Conversation start contents sent after → (later : Contents) × (sent ≡ p.sent ++ later)
+  further : (put : List ℕ) (p : Part taken put) (contents mid sent : Contents) (after : ServerState) → contents ≡ p.answered ++ mid → Conversation start contents sent after → (later : Contents) × (sent ≡ p.sent ++ later)
   further put p contents mid sent after is h =
       let parts : Cut start p.answered mid sent after = cut start p.answered mid sent after (subst (λ cs. Conversation start cs sent after) is h) in
       let same : p.sent ≡ parts.first = (one start p.answered p.sent parts.first p.after parts.between p.conversation parts.begins).0 in

@@ -22,7 +22,7 @@ use Rattle.ob0_refs.specs.Declarations.{object_hover}
 use Rattle.ob0_refs.specs.Hovers.{field_text, predeclared_text, type_text}
 use Rattle.ob0_refs.specs.Questions.{Identified, hover_at_place, declared, definition_at, field_named_at, field_references, named_at, or_else, references_at, name_or_field, identified_at, without}
 use Rattle.ob0_refs.specs.Shown.{HoverText, name_hover_at}
-use Rattle.ob0_refs.specs.declared.answers.Of.TheVariants as tells
+use Rattle.ob0_refs.specs.declared.answers.Of.TheVariants as reports
 use Rattle.ob0_rpc.specs.Requesting.{At}
 use Rattle.ob0_analysis.specs.Analysed.{IsModuleIn}
 use Rattle.ob0_analysis.specs.Diagnosed.{IsWellTypedModule}
@@ -58,7 +58,7 @@ module _ (r q : Resolution) (e : Same r.module_read q.module_read) (fields : fie
       (option_map (row_shown (e.source i))
       (option_and_then (λ x. option_map (λ f. record { token = x.0; of = f })
       (option_and_then (λ s. field_in s (text_at (e.source i) x.0))
-      (get_or (constructed (record { stands_for = λ token. option_and_then (declared_object (named (e.source i) (e.tree i))) (tables token i); written = λ token. text_at (e.source i) token }) None (e.tree i)) x.1 None)))
+      (get_or (constructed (record { object_for = λ token. option_and_then (declared_object (named (e.source i) (e.tree i))) (tables token i); written = λ token. text_at (e.source i) token }) None (e.tree i)) x.1 None)))
       (same_field i)))
 
   -- ---- where it is declared
@@ -92,11 +92,11 @@ module _ (r q : Resolution) (e : Same r.module_read q.module_read) (fields : fie
   -- ---- what it is
 
   stands_by : (o : Option Named) (f : Option Identified) → name_or_field r.module_read o f ≡ name_or_field q.module_read o f
-  stands_by (Some n) f = λ i. Some (record { span = span_at (e.source i) n.token; of = if nat_lt n.ordinal 7 then tells.Predeclared else tells.Declared n.ordinal })
+  stands_by (Some n) f = λ i. Some (record { span = span_at (e.source i) n.token; of = if nat_lt n.ordinal 7 then reports.Predeclared else reports.Declared n.ordinal })
   stands_by None f = λ i.
       option_map (λ x. record {
         span = span_at (e.source i) x.0;
-        of = tells.Field x.1 (unwrap_or (position_from (λ token. same_name (text_at (e.source i) token) (text_at (e.source i) x.0)) 0 (record_tokens x.1 (declared_in 0 (module_block (e.tree i))))) 0);
+        of = reports.Field x.1 (unwrap_or (position_from (λ token. same_name (text_at (e.source i) token) (text_at (e.source i) x.0)) 0 (record_tokens x.1 (declared_in 0 (module_block (e.tree i))))) 0);
       }) f
 
   same_standing : identified_at r offset ≡ identified_at q offset

@@ -59,7 +59,7 @@ workspace_with client uri version vs =
     else object (member (codes "changes") (object (member uri (array (items_of vs)) no_members)) no_members)
 
 abbrev action_with : ActionsAsked → Inlining → List Data → Data
-action_with asked how vs = action_value (workspace_with asked.client asked.uri asked.version vs) (title how)
+action_with requested how vs = action_value (workspace_with requested.client requested.uri requested.version vs) (title how)
 
 -- ---- layouts
 
@@ -77,22 +77,22 @@ formats_one unit id indent text message another (inr (inr (unfit, is))) (inr (in
 
 -- ---- new names
 
-module _ (unit : Unit) (asked : RenameAsked) (text : List ℕ) where
-  fits_refused : (refusal : EditRefusal) → IsRefusedIn unit text asked.at.position asked.new refusal → IsWellTypedModule (utf8 text)
+module _ (unit : Unit) (requested : RenameAsked) (text : List ℕ) where
+  fits_refused : (refusal : EditRefusal) → IsRefusedIn unit text requested.at.position requested.new refusal → IsWellTypedModule (utf8 text)
   fits_refused refusal h =
       record { tree = _; text_of = record { scanned = h.names.module_read.source; scan = h.read.scan; module_of = h.read.well_typed.resolved.parsed.module_of }; well_typed = h.read.well_typed.well_typed }
 
-  for_client : (xs ys : List Edit) → map edit_value xs ≡ map edit_value ys → edits_for_client asked xs ≡ edits_for_client asked ys
-  for_client xs ys same = ap (workspace_with asked.client asked.at.uri asked.version) same
+  for_client : (xs ys : List Edit) → map edit_value xs ≡ map edit_value ys → edits_for_client requested xs ≡ edits_for_client requested ys
+  for_client xs ys same = ap (workspace_with requested.client requested.at.uri requested.version) same
 
-  renaming_one : (message another : Data) → AnswersRenaming unit asked text message → AnswersRenaming unit asked text another → message ≡ another
+  renaming_one : (message another : Data) → AnswersRenaming unit requested text message → AnswersRenaming unit requested text another → message ≡ another
   renaming_one message another (inl (xs, h, is)) (inl (ys, k, too)) =
-      is ∙ ap (result_message asked.id) (for_client xs ys (values_by_parts xs ys (renames_parts unit text asked.at.position asked.new xs ys h k))) ∙ sym too
-  renaming_one message another (inl (xs, h, is)) (inr (inl (why, k, too))) = absurd (renames_or_refused unit text asked.at.position asked.new xs why h k)
+      is ∙ ap (result_message requested.id) (for_client xs ys (values_by_parts xs ys (renames_parts unit text requested.at.position requested.new xs ys h k))) ∙ sym too
+  renaming_one message another (inl (xs, h, is)) (inr (inl (why, k, too))) = absurd (renames_or_refused unit text requested.at.position requested.new xs why h k)
   renaming_one message another (inl (xs, h, is)) (inr (inr (unfit, too))) = absurd (unfit h.runs.old)
-  renaming_one message another (inr (inl (why, h, is))) (inl (ys, k, too)) = absurd (renames_or_refused unit text asked.at.position asked.new ys why k h)
+  renaming_one message another (inr (inl (why, h, is))) (inl (ys, k, too)) = absurd (renames_or_refused unit text requested.at.position requested.new ys why k h)
   renaming_one message another (inr (inl (why, h, is))) (inr (inl (other, k, too))) =
-      is ∙ ap (λ w. edit_refused asked.id (refusal_text w)) (refuses_one unit text asked.at.position asked.new why other h k) ∙ sym too
+      is ∙ ap (λ w. edit_refused requested.id (refusal_text w)) (refuses_one unit text requested.at.position requested.new why other h k) ∙ sym too
   renaming_one message another (inr (inl (why, h, is))) (inr (inr (unfit, too))) = absurd (unfit (fits_refused why h))
   renaming_one message another (inr (inr (unfit, is))) (inl (ys, k, too)) = absurd (unfit k.runs.old)
   renaming_one message another (inr (inr (unfit, is))) (inr (inl (why, k, too))) = absurd (unfit (fits_refused why k))
@@ -100,13 +100,13 @@ module _ (unit : Unit) (asked : RenameAsked) (text : List ℕ) where
 
 -- ---- actions
 
-module _ (unit : Unit) (asked : ActionsAsked) (text : List ℕ) where
+module _ (unit : Unit) (requested : ActionsAsked) (text : List ℕ) where
   abbrev offset : ℕ
-  offset = place_of unit text asked.range
+  offset = place_of unit text requested.range
 
-  offered_one : (how : Inlining) (a b : Option (Vec Edit Global)) → Offers how unit text offset a → Offers how unit text offset b → action_values asked how a ≡ action_values asked how b
+  offered_one : (how : Inlining) (a b : Option (Vec Edit Global)) → Offers how unit text offset a → Offers how unit text offset b → action_values requested how a ≡ action_values requested how b
   offered_one how (Some xs) (Some ys) h k =
-      ap (λ vs. action_with asked how vs ∷ []) (values_by_parts xs.items ys.items (inlines_parts unit text offset xs how ys h k))
+      ap (λ vs. action_with requested how vs ∷ []) (values_by_parts xs.items ys.items (inlines_parts unit text offset xs how ys h k))
   offered_one how (Some xs) None h k = absurd (inlines_or_refused unit text offset xs how h k)
   offered_one how None (Some ys) h k = absurd (inlines_or_refused unit text offset ys how k h)
   offered_one how None None h k = refl
@@ -116,10 +116,10 @@ module _ (unit : Unit) (asked : ActionsAsked) (text : List ℕ) where
   fits_offered how None h =
       record { tree = _; text_of = record { scanned = h.module_read.source; scan = h.read.scan; module_of = h.read.parsed.module_of }; well_typed = h.read.well_typed }
 
-  apart : {A : Type 0} → wants_inlining asked ≡ true → wants_inlining asked ≡ false → A
+  apart : {A : Type 0} → wants_inlining requested ≡ true → wants_inlining requested ≡ false → A
   apart h k = let no : true ≡ false = sym h ∙ k in absurd (cc)
 
-  lists_one : (value other : Data) → ListsActions unit asked text value → ListsActions unit asked text other → value ≡ other
+  lists_one : (value other : Data) → ListsActions unit requested text value → ListsActions unit requested text other → value ≡ other
   lists_one value other (inl (here, everywhere, wanted, one, two, is)) (inl (here_too, everywhere_too, wanted_too, one_too, two_too, too)) =
       is ∙ (λ i. array (items_of (offered_one Here here here_too one one_too i ++ offered_one Everywhere everywhere everywhere_too two two_too i))) ∙ sym too
   lists_one value other (inl (here, everywhere, wanted, one, two, is)) (inr (inl unwanted, too)) = apart wanted unwanted
@@ -133,12 +133,12 @@ module _ (unit : Unit) (asked : ActionsAsked) (text : List ℕ) where
 pub one_reply : OneDiagnosis → OneTable → OneReply
 one_reply reports tables nothing sent other h k = h ∙ sym k
 one_reply reports tables (says message) sent other h k = sends_one message message sent other refl h k
-one_reply reports tables (diagnoses unit uri version text) sent other (ds, (list, tells, is), sends) (es, (more, tells_too, too), sends_too) =
-    let same : ds ≡ es = is ∙ ap (map (diagnostic_of unit text)) (reports (utf8 text) list more tells tells_too) ∙ sym too in
+one_reply reports tables (diagnoses unit uri version text) sent other (ds, (list, reports_list, is), sends) (es, (more, reports_too, too), sends_too) =
+    let same : ds ≡ es = is ∙ ap (map (diagnostic_of unit text)) (reports (utf8 text) list more reports_list reports_too) ∙ sym too in
     sends_one _ _ sent other (ap (publication uri (Some version)) same) sends sends_too
 one_reply reports tables (lays_out unit id indent text) sent other (message, h, sends) (another, k, sends_too) = sends_one message another sent other (formats_one unit id indent text message another h k) sends sends_too
 one_reply reports tables (answers_name unit id at question text) sent other (value, h, sends) (another, k, sends_too) =
     sends_one _ _ sent other (ap (result_message id) (name_one tables unit text at question value another h k)) sends sends_too
-one_reply reports tables (renames unit asked text) sent other (message, h, sends) (another, k, sends_too) = sends_one message another sent other (renaming_one unit asked text message another h k) sends sends_too
-one_reply reports tables (offers_actions unit asked text) sent other (message, (value, h, is), sends) (another, (more, k, too), sends_too) =
-    sends_one message another sent other (is ∙ ap (result_message asked.id) (lists_one unit asked text value more h k) ∙ sym too) sends sends_too
+one_reply reports tables (renames unit requested text) sent other (message, h, sends) (another, k, sends_too) = sends_one message another sent other (renaming_one unit requested text message another h k) sends sends_too
+one_reply reports tables (offers_actions unit requested text) sent other (message, (value, h, is), sends) (another, (more, k, too), sends_too) =
+    sends_one message another sent other (is ∙ ap (result_message requested.id) (lists_one unit requested text value more h k) ∙ sym too) sends sends_too

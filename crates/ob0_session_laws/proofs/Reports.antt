@@ -190,7 +190,7 @@ module _ (r q : Resolution) (h : IsResolution r) (k : IsResolution q) (e : Same 
 
   same_of_names : r.faults ≡ q.faults
   same_of_names =
-      h.told.by_kind ∙ (λ i. module_twice (e.source i) (e.tree i) ++ unbound_at (e.source i) (occurrences (e.tree i)) (bindings (named (e.source i) (e.tree i)))) ∙ sym k.told.by_kind
+      h.reported.by_kind ∙ (λ i. module_twice (e.source i) (e.tree i) ++ unbound_at (e.source i) (occurrences (e.tree i)) (bindings (named (e.source i) (e.tree i)))) ∙ sym k.reported.by_kind
 
   same_reported : reported_module r ≡ reported_module q
   unfolding reported_module
@@ -224,7 +224,7 @@ module _ (scans : OneScan) (reports : OneScanReport) (refusals : OneRefusal) (ta
       absurd (not_refused h.scanned h.refusal h.complaint (named_tree_of k.names.module_read) h.refused h.says (subst (λ s. ModuleOf s (named_tree_of k.names.module_read)) same k.resolved.parsed.module_of))
 
   faults_one : (list other : List Complaint) → ReportsFaults text list → ReportsFaults text other → list ≡ other
-  faults_one list other (inl a) (inl b) = a.all ∙ ap (map complaint_of) (reports text a.faults b.faults a.of_text.told b.of_text.told) ∙ sym b.all
+  faults_one list other (inl a) (inl b) = a.all ∙ ap (map complaint_of) (reports text a.faults b.faults a.of_text.reported b.of_text.reported) ∙ sym b.all
   faults_one list other (inl a) (inr (inl b)) = lexemes_only list b.scanned a b.scan
   faults_one list other (inl a) (inr (inr b)) = lexemes_only list b.names.module_read.source a b.scan
   faults_one list other (inr (inl a)) (inl b) = lexemes_only other a.scanned b a.scan

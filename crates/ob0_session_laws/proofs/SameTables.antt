@@ -16,7 +16,7 @@ use Rattle.ob0_types_check.specs.Operations.{at_token, right, token_before}
 use Rattle.ob0_types_check.specs.SoFar.{PartTypes, Size, SoFar, TypedAfter, define, define_all, facts_at, is_within, made, make, of_elements, of_fields, size_at, too_large, type_with, types_at, with_declared}
 use Rattle.ob0_types_check.specs.StatementFaults.{reported_sequence}
 use Rattle.ob0_types_check.specs.TypeFaults.{length_of, reported_constant, type_named}
-use Rattle.ob0_types_check.specs.WrittenTypeFaults.{Gathered, array_made, array_size, beside, gathered_after, nothing_gathered, ordinal_here, record_made, record_size, record_word, told_fields, told_groups, reported_type, with_name, with_names, word_before}
+use Rattle.ob0_types_check.specs.WrittenTypeFaults.{Gathered, array_made, array_size, beside, gathered_after, nothing_gathered, ordinal_here, record_made, record_size, record_word, reported_fields, reported_groups, reported_type, with_name, with_names, word_before}
 
 -- ---- the same but for tables that have the same ordinals
 
@@ -31,16 +31,16 @@ pub record Like (p q : SoFar) : Type 0 where
 
 record TypedLike (t u : TypedAfter) : Type 0 where
   pub of : t.of ≡ u.of
-  pub behind : Like t.behind u.behind
+  pub following : Like t.following u.following
 
 record GatheredLike (g h : Gathered) : Type 0 where
   pub fields : g.fields ≡ h.fields
   pub size : g.size ≡ h.size
-  pub behind : Like g.behind h.behind
+  pub following : Like g.following h.following
 
 record HeadingLike (g h : KnownHeading) : Type 0 where
   pub formals : g.formals ≡ h.formals
-  pub behind : Like g.behind h.behind
+  pub following : Like g.following h.following
 
 -- what is known is alike, and the faults are the same
 pub record Both {A : Type 0} (R : A → A → Type 0) (x y : Reported A) : Type 0 where
@@ -51,8 +51,8 @@ right_both : {A : Type 0} (R : A → A → Type 0) (x y : A) → R x y → Both 
 right_both R x y h = record { known = h; faults = refl }
 
 -- one after the other
-after : {B : Type 0} {S : B → B → Type 0} {before behind : List Fault} {u v : Reported B} → before ≡ behind → Both S u v
-    → Both S (record { known = u.known; faults = before ++ u.faults }) (record { known = v.known; faults = behind ++ v.faults })
+after : {B : Type 0} {S : B → B → Type 0} {before following : List Fault} {u v : Reported B} → before ≡ following → Both S u v
+    → Both S (record { known = u.known; faults = before ++ u.faults }) (record { known = v.known; faults = following ++ v.faults })
 after first next = record { known = next.known; faults = λ i. first i ++ next.faults i }
 
 -- ---- what is known
@@ -61,7 +61,7 @@ same_facts : (p q : SoFar) (only : Bool) → Like p q → facts_at p only ≡ fa
 same_facts p q only like = λ i. record {
   source = like.source i;
   types = types_at (like.made i);
-  stands_for = λ token. option_and_then (λ k. slice_index_or (like.declared i) k None) (like.ordinals token i);
+  object_for = λ token. option_and_then (λ k. slice_index_or (like.declared i) k None) (like.ordinals token i);
   only_constants = only;
 }
 
@@ -82,7 +82,7 @@ define_all_like p q m (x ∷ xs) like = define_all_like (define p m x) (define q
 made_like : (p q : SoFar) (k l : ℕ) (parts : PartTypes) (size : Size) → k ≡ l → Like p q → TypedLike (made p k parts size) (made q l parts size)
 made_like p q k l parts size same like = record {
   of = ap (λ ms. type_with parts (length ms)) like.made;
-  behind = record { source = like.source; ordinals = like.ordinals; declared = like.declared; made = λ i. like.made i ++ record { ordinal = same i; parts = parts; size = size } ∷ [] };
+  following = record { source = like.source; ordinals = like.ordinals; declared = like.declared; made = λ i. like.made i ++ record { ordinal = same i; parts = parts; size = size } ∷ [] };
 }
 
 make_like : (p q : SoFar) (word k l : ℕ) (parts : PartTypes) (size : Size) → k ≡ l → Like p q → Both TypedLike (make p word k parts size) (make q word l parts size)
@@ -90,16 +90,16 @@ make_like p q word k l parts size same like = go (is_within size)
   where
     go : (b : Bool) → Both TypedLike (cond b (right (made p k parts size)) (too_large p word)) (cond b (right (made q l parts size)) (too_large q word))
     go true = right_both TypedLike (made p k parts size) (made q l parts size) (made_like p q k l parts size same like)
-    go false = record { known = record { of = refl; behind = like }; faults = ap (λ (f : Facts TypeId). at_token f code.TypeTooLarge word) (same_facts p q false like) }
+    go false = record { known = record { of = refl; following = like }; faults = ap (λ (f : Facts TypeId). at_token f code.TypeTooLarge word) (same_facts p q false like) }
 
 array_like : (k l : ℕ) (o : Operand TypeId) (n : Option ℕ) (t u : TypedAfter) → k ≡ l → TypedLike t u → Both TypedLike (array_made k o n t) (array_made l o n u)
-array_like k l o None t u same like = right_both TypedLike _ _ (record { of = refl; behind = like.behind })
+array_like k l o None t u same like = right_both TypedLike _ _ (record { of = refl; following = like.following })
 array_like k l o (Some n) t u same like =
     let parts : of_elements n t.of ≡ of_elements n u.of = ap (of_elements n) like.of in
-    let size : array_size n (size_at t.behind.made t.of) ≡ array_size n (size_at u.behind.made u.of) = λ i. array_size n (size_at (like.behind.made i) (like.of i)) in
-    subst (λ x. Both TypedLike (array_made k o (Some n) t) (make u.behind (token_before o.first) l x (array_size n (size_at u.behind.made u.of)))) parts
-    (subst (λ z. Both TypedLike (array_made k o (Some n) t) (make u.behind (token_before o.first) l (of_elements n t.of) z)) size
-    (make_like t.behind u.behind (token_before o.first) k l (of_elements n t.of) (array_size n (size_at t.behind.made t.of)) same like.behind))
+    let size : array_size n (size_at t.following.made t.of) ≡ array_size n (size_at u.following.made u.of) = λ i. array_size n (size_at (like.following.made i) (like.of i)) in
+    subst (λ x. Both TypedLike (array_made k o (Some n) t) (make u.following (token_before o.first) l x (array_size n (size_at u.following.made u.of)))) parts
+    (subst (λ z. Both TypedLike (array_made k o (Some n) t) (make u.following (token_before o.first) l (of_elements n t.of) z)) size
+    (make_like t.following u.following (token_before o.first) k l (of_elements n t.of) (array_size n (size_at t.following.made t.of)) same like.following))
 
 arrays_like : (k l : ℕ) (o p : Operand TypeId) (n m : Option ℕ) (t u : TypedAfter) → k ≡ l → o ≡ p → n ≡ m → TypedLike t u → Both TypedLike (array_made k o n t) (array_made l p m u)
 arrays_like k l o p n m t u here same sized like =
@@ -107,9 +107,9 @@ arrays_like k l o p n m t u here same sized like =
 
 name_like : (t u : TypeId) (g h : Gathered) (token : ℕ) → t ≡ u → GatheredLike g h → GatheredLike (with_name t g token) (with_name u h token)
 name_like t u g h token same like = record {
-  fields = λ i. like.fields i ++ record { name = text_at (like.behind.source i) token; of = same i } ∷ [];
-  size = λ i. beside (like.size i) (size_at (like.behind.made i) (same i));
-  behind = like.behind;
+  fields = λ i. like.fields i ++ record { name = text_at (like.following.source i) token; of = same i } ∷ [];
+  size = λ i. beside (like.size i) (size_at (like.following.made i) (same i));
+  following = like.following;
 }
 
 names_like : (t u : TypeId) (g h : Gathered) (tokens : List ℕ) → t ≡ u → GatheredLike g h → GatheredLike (with_names t g tokens) (with_names u h tokens)
@@ -117,13 +117,13 @@ names_like t u g h [] same like = like
 names_like t u g h (x ∷ xs) same like = names_like t u (with_name t g x) (with_name u h x) xs same (name_like t u g h x same like)
 
 gathered_like : (g h : Gathered) (tokens : List ℕ) (t u : TypedAfter) → GatheredLike g h → TypedLike t u → GatheredLike (gathered_after g tokens t) (gathered_after h tokens u)
-gathered_like g h tokens t u like typed = names_like t.of u.of _ _ tokens typed.of (record { fields = like.fields; size = like.size; behind = typed.behind })
+gathered_like g h tokens t u like typed = names_like t.of u.of _ _ tokens typed.of (record { fields = like.fields; size = like.size; following = typed.following })
 
 record_like : (word k l : ℕ) (g h : Gathered) → k ≡ l → GatheredLike g h → Both TypedLike (record_made word k g) (record_made word l h)
 record_like word k l g h same like =
-    subst (λ x. Both TypedLike (record_made word k g) (make h.behind word l x (record_size h.size))) (ap of_fields like.fields)
-    (subst (λ z. Both TypedLike (record_made word k g) (make h.behind word l (of_fields g.fields) (record_size z))) like.size
-    (make_like g.behind h.behind word k l (of_fields g.fields) (record_size g.size) same like.behind))
+    subst (λ x. Both TypedLike (record_made word k g) (make h.following word l x (record_size h.size))) (ap of_fields like.fields)
+    (subst (λ z. Both TypedLike (record_made word k g) (make h.following word l (of_fields g.fields) (record_size z))) like.size
+    (make_like g.following h.following word k l (of_fields g.fields) (record_size g.size) same like.following))
 
 here_like : (around : ℕ) (p q : SoFar) → Like p q → ordinal_here around p ≡ ordinal_here around q
 here_like around p q like = λ i. length (like.made i) + around
@@ -134,7 +134,7 @@ mutual
   type_like : (around : ℕ) (p q : SoFar) (t : Tree ℕ written_type) → Like p q → Both TypedLike (reported_type around p t) (reported_type around q t)
   type_like around p q (named_type x) like =
       let same : type_named (facts_at p false) x ≡ type_named (facts_at q false) x = ap (λ (f : Facts TypeId). type_named f x) (same_facts p q false like) in
-      after (ap (λ (r : Reported TypeId). r.faults) same) (right_both TypedLike _ _ (record { of = ap (λ (r : Reported TypeId). r.known) same; behind = like }))
+      after (ap (λ (r : Reported TypeId). r.faults) same) (right_both TypedLike _ _ (record { of = ap (λ (r : Reported TypeId). r.known) same; following = like }))
   type_like around p q (array_type e u) like =
       let same : reported_expression (facts_at p true) e ≡ reported_expression (facts_at q true) e = ap (λ (f : Facts TypeId). reported_expression f e) (same_facts p q true like) in
       let operand : (reported_expression (facts_at p true) e).known ≡ (reported_expression (facts_at q true) e).known = ap (λ (r : Reported (Operand TypeId)). r.known) same in
@@ -145,35 +145,35 @@ mutual
       (after (ap (λ (r : Reported (Option ℕ)). r.faults) sized)
       (after element.faults (arrays_like (ordinal_here around p) (ordinal_here around q) _ _ _ _ _ _ (here_like around p q like) operand (ap (λ (r : Reported (Option ℕ)). r.known) sized) element.known)))
   type_like around p q (record_type g rest) like =
-      let first : Both GatheredLike (told_fields (suc around) (nothing_gathered p) g) (told_fields (suc around) (nothing_gathered q) g) =
-      fields_like (suc around) (nothing_gathered p) (nothing_gathered q) g (record { fields = refl; size = refl; behind = like }) in
-      let all : Both GatheredLike (told_groups (suc around) (told_fields (suc around) (nothing_gathered p) g).known rest) (told_groups (suc around) (told_fields (suc around) (nothing_gathered q) g).known rest) =
-      groups_like (suc around) (told_fields (suc around) (nothing_gathered p) g).known (told_fields (suc around) (nothing_gathered q) g).known rest first.known in
+      let first : Both GatheredLike (reported_fields (suc around) (nothing_gathered p) g) (reported_fields (suc around) (nothing_gathered q) g) =
+      fields_like (suc around) (nothing_gathered p) (nothing_gathered q) g (record { fields = refl; size = refl; following = like }) in
+      let all : Both GatheredLike (reported_groups (suc around) (reported_fields (suc around) (nothing_gathered p) g).known rest) (reported_groups (suc around) (reported_fields (suc around) (nothing_gathered q) g).known rest) =
+      groups_like (suc around) (reported_fields (suc around) (nothing_gathered p) g).known (reported_fields (suc around) (nothing_gathered q) g).known rest first.known in
       after first.faults (after all.faults (record_like (word_before g (record_word rest)) (ordinal_here around p) (ordinal_here around q) _ _ (here_like around p q like) all.known))
 
-  fields_like : (around : ℕ) (g h : Gathered) (t : Tree ℕ fields) → GatheredLike g h → Both GatheredLike (told_fields around g t) (told_fields around h t)
+  fields_like : (around : ℕ) (g h : Gathered) (t : Tree ℕ fields) → GatheredLike g h → Both GatheredLike (reported_fields around g t) (reported_fields around h t)
   fields_like around g h no_fields like = right_both GatheredLike g h like
   fields_like around g h (some_fields ns t) like =
-      let typed : Both TypedLike (reported_type around g.behind t) (reported_type around h.behind t) = type_like around g.behind h.behind t like.behind in
+      let typed : Both TypedLike (reported_type around g.following t) (reported_type around h.following t) = type_like around g.following h.following t like.following in
       after typed.faults (right_both GatheredLike _ _ (gathered_like g h (names_listed ns) _ _ like typed.known))
 
-  groups_like : (around : ℕ) (g h : Gathered) (t : Tree ℕ (items further_fields)) → GatheredLike g h → Both GatheredLike (told_groups around g t) (told_groups around h t)
+  groups_like : (around : ℕ) (g h : Gathered) (t : Tree ℕ (items further_fields)) → GatheredLike g h → Both GatheredLike (reported_groups around g t) (reported_groups around h t)
   groups_like around g h end like = right_both GatheredLike g h like
   groups_like around g h (more (then_fields t) rest) like =
-      let next : Both GatheredLike (told_fields around g t) (told_fields around h t) = fields_like around g h t like in
-      after next.faults (groups_like around (told_fields around g t).known (told_fields around h t).known rest next.known)
+      let next : Both GatheredLike (reported_fields around g t) (reported_fields around h t) = fields_like around g h t like in
+      after next.faults (groups_like around (reported_fields around g t).known (reported_fields around h t).known rest next.known)
 
 -- ---- declarations
 
 constant_defined : (p q : SoFar) (x : ℕ) (v w : Option Value) → v ≡ w → Like p q → Like (define p (a_constant v) x) (define q (a_constant w) x)
 constant_defined p q x v w same like = subst (λ z. Like (define p (a_constant v) x) (define q (a_constant z) x)) same (define_like p q (a_constant v) x like)
 
-type_defined : (x : ℕ) (t u : TypedAfter) → TypedLike t u → Like (define t.behind (a_type t.of) x) (define u.behind (a_type u.of) x)
-type_defined x t u typed = subst (λ z. Like (define t.behind (a_type t.of) x) (define u.behind (a_type z) x)) typed.of (define_like t.behind u.behind (a_type t.of) x typed.behind)
+type_defined : (x : ℕ) (t u : TypedAfter) → TypedLike t u → Like (define t.following (a_type t.of) x) (define u.following (a_type u.of) x)
+type_defined x t u typed = subst (λ z. Like (define t.following (a_type t.of) x) (define u.following (a_type z) x)) typed.of (define_like t.following u.following (a_type t.of) x typed.following)
 
-variables_defined : (xs : List ℕ) (t u : TypedAfter) → TypedLike t u → Like (define_all t.behind (a_variable t.of) xs) (define_all u.behind (a_variable u.of) xs)
+variables_defined : (xs : List ℕ) (t u : TypedAfter) → TypedLike t u → Like (define_all t.following (a_variable t.of) xs) (define_all u.following (a_variable u.of) xs)
 variables_defined xs t u typed =
-    subst (λ z. Like (define_all t.behind (a_variable t.of) xs) (define_all u.behind (a_variable z) xs)) typed.of (define_all_like t.behind u.behind (a_variable t.of) xs typed.behind)
+    subst (λ z. Like (define_all t.following (a_variable t.of) xs) (define_all u.following (a_variable z) xs)) typed.of (define_all_like t.following u.following (a_variable t.of) xs typed.following)
 
 constant_like : (p q : SoFar) (d : Tree ℕ (item constant)) → Like p q → Both Like (constant_declared p d) (constant_declared q d)
 unfolding constant_declared
@@ -217,13 +217,13 @@ variables_like p q (more d rest) like =
 parameters_with : (g h : KnownHeading) (by_place : Bool) (xs : List ℕ) (t u : TypedAfter) → HeadingLike g h → TypedLike t u → HeadingLike (with_parameters g by_place xs t) (with_parameters h by_place xs u)
 parameters_with g h by_place xs t u like typed = record {
   formals = λ i. like.formals i ++ map (λ x. record { by_place = by_place; of = typed.of i }) xs;
-  behind = variables_defined xs t u typed;
+  following = variables_defined xs t u typed;
 }
 
 parameters_like : (g h : KnownHeading) (by_place : Bool) (ns : Tree ℕ names) (t : Tree ℕ written_type) → HeadingLike g h → Both HeadingLike (reported_parameters g by_place ns t) (reported_parameters h by_place ns t)
 unfolding reported_parameters
 parameters_like g h by_place ns t like =
-    let typed : Both TypedLike (reported_type 0 g.behind t) (reported_type 0 h.behind t) = type_like 0 g.behind h.behind t like.behind in
+    let typed : Both TypedLike (reported_type 0 g.following t) (reported_type 0 h.following t) = type_like 0 g.following h.following t like.following in
     after typed.faults (right_both HeadingLike _ _ (parameters_with g h by_place (names_listed ns) _ _ like typed.known))
 
 section_like : (g h : KnownHeading) (s : Tree ℕ (item further_section)) → HeadingLike g h → Both HeadingLike (reported_section g s) (reported_section h s)
@@ -239,7 +239,7 @@ sections_like g h (more s rest) like =
     after next.faults (sections_like (reported_section g s).known (reported_section h s).known rest next.known)
 
 heading_like : (x : ℕ) (g h : KnownHeading) → HeadingLike g h → Like (after_heading x g) (after_heading x h)
-heading_like x g h like = subst (λ fs. Like (after_heading x g) (define h.behind (a_procedure fs) x)) like.formals (define_like g.behind h.behind (a_procedure g.formals) x like.behind)
+heading_like x g h like = subst (λ fs. Like (after_heading x g) (define h.following (a_procedure fs) x)) like.formals (define_like g.following h.following (a_procedure g.formals) x like.following)
 
 body_like : (p q : SoFar) (b : Tree ℕ (maybe body)) → Like p q → Both Like (reported_body p b) (reported_body q b)
 unfolding reported_body
@@ -265,5 +265,5 @@ mutual
 
   procedure_like : (p q : SoFar) (d : Tree ℕ (item procedure)) → Like p q → Both Like (reported_procedure p d) (reported_procedure q d)
   procedure_like p q (declares_procedure x fs b closing) like =
-      let sections = sections_like (record { formals = []; behind = p }) (record { formals = []; behind = q }) (formal_sections fs) (record { formals = refl; behind = like }) in
+      let sections = sections_like (record { formals = []; following = p }) (record { formals = []; following = q }) (formal_sections fs) (record { formals = refl; following = like }) in
       after sections.faults (block_like _ _ b (heading_like x _ _ sections.known))

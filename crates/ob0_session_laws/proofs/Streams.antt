@@ -3,7 +3,7 @@ use Rattle.std.proofs.Common.{◌≡◌, ◌≢◌, ◌∙◌, ℕ, ◌⊎◌, L
 use Rattle.std.specs.List.{flat_map}
 use Rattle.ob0_frame.specs.Frames.{frame}
 use Rattle.ob0_frame.specs.Framing.{Rest, Open, Broken, Feeds}
-use Rattle.ob0_session.specs.Answers.{State, start, Answers, AnswersInState, Conversation}
+use Rattle.ob0_session.specs.Answers.{ServerState, start, Answers, AnswersInState, Conversation}
 use Rattle.ob0_session.specs.Serving.{AllServed, EndsWith}
 use Rattle.ob0_session.specs.Steps.{IsGoingOn}
 use Rattle.ob0_session.specs.declared.server.Phase.TheVariants.{Ended}
@@ -14,15 +14,15 @@ use Rattle.ob0_session_laws.proofs.Conversations.{Contents}
 
 -- ---- a conversation that is cut in two
 
-pub record Cut (before : State) (contents more : Contents) (sent : Contents) (after : State) : Type 0 where
-  pub between : State
+pub record Cut (before : ServerState) (contents more : Contents) (sent : Contents) (after : ServerState) : Type 0 where
+  pub between : ServerState
   pub first : Contents
   pub later : Contents
   pub begins : Conversation before contents first between
   pub goes_on : Conversation between more later after
   pub is : sent ≡ first ++ later
 
-pub cut : (before : State) (contents more : Contents) (sent : Contents) (after : State) → Conversation before (contents ++ more) sent after → Cut before contents more sent after
+pub cut : (before : ServerState) (contents more : Contents) (sent : Contents) (after : ServerState) → Conversation before (contents ++ more) sent after → Cut before contents more sent after
 cut before [] more sent after h = record { between = before; first = []; later = sent; begins = (refl, refl); goes_on = h; is = refl }
 cut before (content ∷ contents) more sent after (between, first, later, answers, rest, is) =
     let next : Cut between contents more later after = cut between contents more later after rest in
@@ -36,14 +36,14 @@ cut before (content ∷ contents) more sent after (between, first, later, answer
     }
 
 -- after its end a server sends nothing
-ended_answer : (status : ℕ) (before : State) (content : List ℕ) (sent : Contents) (after : State) → before.phase ≡ Ended status → Answers before content sent after → (sent ≡ []) × (after ≡ before)
+ended_answer : (status : ℕ) (before : ServerState) (content : List ℕ) (sent : Contents) (after : ServerState) → before.phase ≡ Ended status → Answers before content sent after → (sent ≡ []) × (after ≡ before)
 ended_answer status before content sent after over h = subst (λ phase. AnswersInState phase before content sent after) over h
 
-silent : (status : ℕ) (before : State) (contents : Contents) (sent : Contents) (after : State) → before.phase ≡ Ended status → Conversation before contents sent after → (sent ≡ []) × (after ≡ before)
+silent : (status : ℕ) (before : ServerState) (contents : Contents) (sent : Contents) (after : ServerState) → before.phase ≡ Ended status → Conversation before contents sent after → (sent ≡ []) × (after ≡ before)
 silent status before [] sent after over h = h
 silent status before (content ∷ contents) sent after over (between, first, later, answers, rest, is) =
     let here = ended_answer status before content first between over answers in
-    let there = silent status between contents later after (ap (λ (s : State). s.phase) here.1 ∙ over) rest in
+    let there = silent status between contents later after (ap (λ (s : ServerState). s.phase) here.1 ∙ over) rest in
     (is ∙ (λ i. here.0 i ++ there.0 i), there.1 ∙ here.1)
 
 -- ---- one list begins another
@@ -82,11 +82,11 @@ same_status s t e = cc
 
 module _ (one : OneConversation) (feeds : OneFeed) (taken : List ℕ) where
   -- a conversation that ended, and one that goes on over more contents, or as many
-  pub longer : (status : ℕ) (contents more sent other : Contents) (after end : State) → after.phase ≡ Ended status → Conversation start contents sent after → Conversation start (contents ++ more) other end → (sent ≡ other) × (end ≡ after)
+  pub longer : (status : ℕ) (contents more sent other : Contents) (after end : ServerState) → after.phase ≡ Ended status → Conversation start contents sent after → Conversation start (contents ++ more) other end → (sent ≡ other) × (end ≡ after)
   longer status contents more sent other after end over h k =
       let parts : Cut start contents more other end = cut start contents more other end k in
       let same = one start contents sent parts.first after parts.between h parts.begins in
-      let quiet = silent status parts.between more parts.later end (ap (λ (s : State). s.phase) (sym same.1) ∙ over) parts.goes_on in
+      let quiet = silent status parts.between more parts.later end (ap (λ (s : ServerState). s.phase) (sym same.1) ∙ over) parts.goes_on in
       (sym (parts.is ∙ (λ i. sym same.0 i ++ quiet.0 i) ∙ append-nil sent), quiet.1 ∙ sym same.1)
 
   all_one : (r q : Rest) (put other : List ℕ) → AllServed taken r put → AllServed taken q other → (put ≡ other) × (with_rest r ≡ with_rest q)
@@ -104,10 +104,10 @@ module _ (one : OneConversation) (feeds : OneFeed) (taken : List ℕ) where
         | inl (mid, is) ↦ longer status h.served.answered mid h.served.sent k.served.sent h.after k.after h.ended h.served.conversation (subst (λ cs. Conversation start cs k.served.sent k.after) is k.served.conversation)
         | inr (mid, is) ↦ (let back = longer another k.served.answered mid k.served.sent h.served.sent k.after h.after k.ended k.served.conversation (subst (λ cs. Conversation start cs h.served.sent h.after) is h.served.conversation) in (sym back.0, sym back.1))
       ] in
-      let statuses : status ≡ another = same_status status another (sym h.ended ∙ ap (λ (s : State). s.phase) (sym same.1) ∙ k.ended) in
+      let statuses : status ≡ another = same_status status another (sym h.ended ∙ ap (λ (s : ServerState). s.phase) (sym same.1) ∙ k.ended) in
       (h.served.frames ∙ ap (flat_map frame) same.0 ∙ sym k.served.frames, ap at_exit statuses)
 
-  ended_goes_on : (status : ℕ) (s : State) → s.phase ≡ Ended status → IsGoingOn s.phase → ⊥
+  ended_goes_on : (status : ℕ) (s : ServerState) → s.phase ≡ Ended status → IsGoingOn s.phase → ⊥
   ended_goes_on status s over going = let no : IsGoingOn (Ended status) = subst IsGoingOn over going in cc
 
   -- where the one came to its end, the other would have too
@@ -116,7 +116,7 @@ module _ (one : OneConversation) (feeds : OneFeed) (taken : List ℕ) where
       let fed : h.served.answered ++ h.waiting ≡ k.served.answered =
       (feeds (Open []) h.rest q taken (h.served.answered ++ h.waiting) (k.served.answered ++ []) h.served.feeds k.served.feeds).0 ∙ append-nil k.served.answered in
       let end : k.after ≡ h.after = (longer status h.served.answered h.waiting h.served.sent k.served.sent h.after k.after h.ended h.served.conversation (subst (λ cs. Conversation start cs k.served.sent k.after) (sym fed) k.served.conversation)).1 in
-      ended_goes_on status k.after (ap (λ (s : State). s.phase) end ∙ h.ended) k.going
+      ended_goes_on status k.after (ap (λ (s : ServerState). s.phase) end ∙ h.ended) k.going
 
   one_ending : (e f : Ending) (put other : List ℕ) → EndsIn e taken put → EndsIn f taken other → (put ≡ other) × (e ≡ f)
   one_ending (at_exit s) (at_exit t) put other h k = end_one s t put other h k

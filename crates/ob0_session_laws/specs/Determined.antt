@@ -5,7 +5,7 @@ use Rattle.std.specs.Prelude.{◌≡◌, ◌++◌, ℕ, List, Bool, Result, Ok, 
 use Rattle.ob0_scope_rules.specs.Resolution.{Resolution, IsResolution, ordinal_in}
 use Rattle.ob0_tree.specs.Parsed.{Parsed, tree_of}
 use Rattle.ob0_analysis.specs.Diagnosed.{Complaint, Reports}
-use Rattle.ob0_session.specs.Answers.{State, Reply, Says, Answers, Conversation}
+use Rattle.ob0_session.specs.Answers.{ServerState, Reply, Says, Answers, Conversation}
 use Rattle.ob0_session.specs.Serving.{Serves}
 use Rattle.ob0_session.specs.declared.serving.ServeFault.{ServeFault}
 use Rattle.ob0_session.specs.declared.serving.ServeFault.TheVariants.{BadHead, Truncated, Read, Write, Memory, TooManyReads}
@@ -40,14 +40,14 @@ OneReply =
 -- in one state, one content has one list of replies, and leaves one state
 abbrev pub OneAnswer : Type 0
 OneAnswer =
-    (before : State) (content : List ℕ) (sent other : List (List ℕ)) (after end : State)
+    (before : ServerState) (content : List ℕ) (sent other : List (List ℕ)) (after end : ServerState)
     → Answers before content sent after → Answers before content other end
     → (sent ≡ other) × (after ≡ end)
 
 -- the same of contents in turn
 abbrev pub OneConversation : Type 0
 OneConversation =
-    (before : State) (contents sent other : List (List ℕ)) (after end : State)
+    (before : ServerState) (contents sent other : List (List ℕ)) (after end : ServerState)
     → Conversation before contents sent after → Conversation before contents other end
     → (sent ≡ other) × (after ≡ end)
 

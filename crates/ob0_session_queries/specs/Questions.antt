@@ -11,9 +11,9 @@ use Rattle.ob0_edits.specs.Ranges.{range_of}
 use Rattle.ob0_scope_rules.specs.Resolution.{Resolution}
 use Rattle.ob0_refs.specs.Shown.{HoverText}
 use Rattle.ob0_refs.specs.Questions.{AreReferencesAt, hover_at_place, definition_at, identified_at}
-use Rattle.ob0_refs.specs.declared.answers.At as told
+use Rattle.ob0_refs.specs.declared.answers.At as reported
 use Rattle.ob0_refs.specs.declared.answers.Of as of
-use Rattle.ob0_refs.specs.declared.answers.Of.TheVariants as tells
+use Rattle.ob0_refs.specs.declared.answers.Of.TheVariants as reports
 use Rattle.ob0_rpc.specs.Requesting.{At}
 use Rattle.ob0_rpc.specs.Shapes.{range_value}
 use Rattle.ob0_analysis.specs.Analysed.{IsModuleIn}
@@ -27,14 +27,14 @@ use Rattle.ob0_session_queries.specs.declared.questions.NameQuestion.TheVariants
 
 -- predeclared names keep their names
 abbrev pub can_be_renamed : of.Of → Span → Option Span
-can_be_renamed (tells.Declared ordinal) span = Some span
-can_be_renamed tells.Predeclared span = None
-can_be_renamed (tells.Field ordinal index) span = Some span
+can_be_renamed (reports.Declared ordinal) span = Some span
+can_be_renamed reports.Predeclared span = None
+can_be_renamed (reports.Field ordinal index) span = Some span
 
 -- the name or field itself that is there, where it can be renamed
 abbrev pub renamable_in : Resolution → ℕ → Option Span
 renamable_in names offset =
-    option_and_then (λ (a : told.At). can_be_renamed a.of a.span) (identified_at names offset)
+    option_and_then (λ (a : reported.At). can_be_renamed a.of a.span) (identified_at names offset)
 
 -- ---- as values, at positions of a unit: the unit, the uri and the characters of the text
 

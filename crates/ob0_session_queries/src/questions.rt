@@ -19,11 +19,11 @@ use ob0_edits::ranges;
 use ob0_refs::{Of, at, definition, hover, references};
 use ob0_rpc::{DocumentPosition, Id, result_of};
 use ob0_scan::Span;
-use ob0_session_json::places::{Hover, Location, Locations, MarkupContent};
+use ob0_session_json::places::{HoverText, Location, Locations, MarkupContent};
 use ob0_text::{Range, TextStore};
 use std::alloc::{AllocError, Global};
 
-/// What is asked about a name or a field.
+/// A question about a name or a field.
 #[derive(Clone, Copy, Debug, Drop, PartialEq, Eq)]
 pub enum NameQuestion {
     Hover,
@@ -230,7 +230,7 @@ fn hover_or_null<T: TextStore>(
                 value: shown.text.as_str(),
             };
             let range = range_of_span(store, shown.span);
-            result_of(alloc, id, &Hover { contents, range })
+            result_of(alloc, id, &HoverText { contents, range })
         }
         None => result_of(alloc, id, &()),
     }

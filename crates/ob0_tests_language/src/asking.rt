@@ -14,12 +14,12 @@ pub fn said<Q: Question<Answer = String>>(
     let analysis = Analysis::of(alloc, text)?;
     match ask(alloc, &analysis, question)? {
         Some(answer) => Ok(answer),
-        None => told(alloc, analysis.diagnoses(alloc)?.as_slice()),
+        None => reported_faults(alloc, analysis.diagnoses(alloc)?.as_slice()),
     }
 }
 
 /// What is wrong with a text: each fault's code and bytes, and what a syntax fault expects.
-pub fn told(alloc: Global, faults: &[Diagnosis]) -> Result<String, AllocError> {
+pub fn reported_faults(alloc: Global, faults: &[Diagnosis]) -> Result<String, AllocError> {
     let mut out = String::new(alloc);
     for fault in faults {
         let (code, start, end) = (fault.code, fault.span.start, fault.span.end);

@@ -2,7 +2,7 @@
 
 ghost use Rattle.std.specs.Prelude.{⊤};
 
-use crate::asking::{said, told};
+use crate::asking::{reported_faults, said};
 use ob0_analysis::{Analysis, Question};
 use ob0_inline::{inline_all, inline_here};
 use ob0_layout::format;
@@ -141,7 +141,7 @@ fn rename_text(
     let analysis = Analysis::of(alloc, text)?;
     match rename_in(alloc, &store, &analysis, place, new)? {
         Some(edits) => made(alloc, &store, edits),
-        None => told(alloc, analysis.diagnoses(alloc)?.as_slice()),
+        None => reported_faults(alloc, analysis.diagnoses(alloc)?.as_slice()),
     }
 }
 

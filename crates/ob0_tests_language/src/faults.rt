@@ -1,7 +1,7 @@
 //! Faults of worked texts: code, start and end of each, in the order of their places. Which faults a module has, and where,
 //! no contract says.
 
-use crate::asking::told;
+use crate::asking::reported_faults;
 use ob0_analysis::diagnose;
 use std::process::Abort;
 use std::test::Fail;
@@ -145,11 +145,11 @@ static ROWS: &[(&str, &str)] = &[
 ];
 
 #[test]
-fn the_faults_of_worked_texts_are_told(rt: HostRuntime) -> Result<(), Fail> {
+fn the_faults_of_worked_texts_are_reported(rt: HostRuntime) -> Result<(), Fail> {
     for row in ROWS {
         let (text, wanted) = *row;
         let faults = diagnose(rt.alloc(), text)?;
-        let found = told(rt.alloc(), faults.as_slice())?;
+        let found = reported_faults(rt.alloc(), faults.as_slice())?;
         assert!(rt; found.as_str() == wanted, "{found} in {text}");
     }
     Ok(())

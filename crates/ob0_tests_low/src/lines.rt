@@ -63,8 +63,8 @@ fn agree(
     let mut whole = Whole::from_str_in(alloc, text, unit)?;
     lines.replace(range, new)?;
     whole.replace(range, new)?;
-    let anew = Lines::from_str_in(alloc, lines.as_str(), unit)?;
-    Ok(have_same_lines(&lines, &anew) && have_same_places(&lines, &whole))
+    let again = Lines::from_str_in(alloc, lines.as_str(), unit)?;
+    Ok(have_same_lines(&lines, &again) && have_same_places(&lines, &whole))
 }
 
 /// Whether they agree after each change that begins in one of the first lines and ends there or in one of the next two.

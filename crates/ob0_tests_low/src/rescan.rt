@@ -12,7 +12,7 @@ use std::test::Fail;
 
 /// What comes of scanning a changed text again, beside a scan of it from nothing.
 #[derive(Clone, Copy, Debug, Drop, PartialEq, Eq)]
-enum Outcome {
+enum RescanOutcome {
     /// Both give the same, and so many tokens and comments are read again.
     Read(usize),
     /// Both refuse it for the same faults.
@@ -22,12 +22,12 @@ enum Outcome {
     Different,
 }
 
-fn joined(alloc: Global, front: &str, middle: &str, behind: &str) -> Result<String, AllocError>
-    ensures { IfOk result (λ text. string_bytes text ≡ front.now ++ (middle.now ++ behind.now)) }
+fn joined(alloc: Global, front: &str, middle: &str, following: &str) -> Result<String, AllocError>
+    ensures { IfOk result (λ text. string_bytes text ≡ front.now ++ (middle.now ++ following.now)) }
 {
     let mut text = String::from_str(alloc, front)?;
     text.push_str(middle)?;
-    text.push_str(behind)?;
+    text.push_str(following)?;
     Ok(text)
 }
 
@@ -37,29 +37,32 @@ fn are_same(a: &Tokens, b: &Tokens) -> bool {
 }
 
 /// What is found again, and what from nothing.
-fn compare(again: Result<Rescan, ScanRefusal>, scanned: Result<Tokens, ScanRefusal>) -> Outcome {
+fn compare(
+    again: Result<Rescan, ScanRefusal>,
+    scanned: Result<Tokens, ScanRefusal>,
+) -> RescanOutcome {
     match again {
         Ok(found) => match scanned {
             Ok(tokens) => {
                 if are_same(&found.tokens, &tokens) {
-                    Outcome::Read(found.read)
+                    RescanOutcome::Read(found.read)
                 } else {
-                    Outcome::Different
+                    RescanOutcome::Different
                 }
             }
-            Err(_refusal) => Outcome::Different,
+            Err(_refusal) => RescanOutcome::Different,
         },
         Err(ScanRefusal::Faults(found)) => match scanned {
             Err(ScanRefusal::Faults(faults)) => {
                 if found.as_slice() == faults.as_slice() {
-                    Outcome::Refused
+                    RescanOutcome::Refused
                 } else {
-                    Outcome::Different
+                    RescanOutcome::Different
                 }
             }
-            _ => Outcome::Different,
+            _ => RescanOutcome::Different,
         },
-        Err(ScanRefusal::Memory) => Outcome::Different,
+        Err(ScanRefusal::Memory) => RescanOutcome::Different,
     }
 }
 
@@ -87,14 +90,14 @@ fn change(
     front: &str,
     middle: &str,
     other: &str,
-    behind: &str,
-) -> Result<Outcome, AllocError> {
+    following: &str,
+) -> Result<RescanOutcome, AllocError> {
     middle_is_replaced();
-    let old_text = joined(alloc, front, middle, behind)?;
-    let new_text = joined(alloc, front, other, behind)?;
+    let old_text = joined(alloc, front, middle, following)?;
+    let new_text = joined(alloc, front, other, following)?;
     let text = new_text.as_str();
     let Ok(old) = scan(alloc, old_text.as_str()) else {
-        return Ok(Outcome::Unscanned);
+        return Ok(RescanOutcome::Unscanned);
     };
     let (from, removed, added) = (front.len(), middle.len(), other.len());
     let beside = rescan(alloc, &old, text, from, removed, added);
@@ -104,7 +107,7 @@ fn change(
     Ok(if placed == outcome {
         outcome
     } else {
-        Outcome::Different
+        RescanOutcome::Different
     })
 }
 
@@ -118,7 +121,7 @@ fn statements(alloc: Global) -> Result<String, AllocError> {
 }
 
 /// What comes of another text in place of the digit between 5,000 statements and 5,000 more.
-fn change_in_the_middle(alloc: Global, other: &str) -> Result<Outcome, AllocError> {
+fn change_in_the_middle(alloc: Global, other: &str) -> Result<RescanOutcome, AllocError> {
     let some = statements(alloc)?;
     let front = joined(
         alloc,
@@ -126,19 +129,19 @@ fn change_in_the_middle(alloc: Global, other: &str) -> Result<Outcome, AllocErro
         some.as_str(),
         "x := ",
     )?;
-    let behind = joined(alloc, "; ", some.as_str(), "END M.")?;
-    change(alloc, front.as_str(), "1", other, behind.as_str())
+    let following = joined(alloc, "; ", some.as_str(), "END M.")?;
+    change(alloc, front.as_str(), "1", other, following.as_str())
 }
 
 /// What comes in place of the digit, and how many tokens and comments are read again at most.
 static IN_THE_MIDDLE: &[(&str, usize)] = &[("2", 8), ("(* one *) 1", 8), ("1 + 1", 8), ("", 8)];
 
 #[test]
-fn little_is_read_anew_in_a_long_text(rt: HostRuntime) -> Result<(), Fail> {
+fn little_is_read_again_in_a_long_text(rt: HostRuntime) -> Result<(), Fail> {
     for row in IN_THE_MIDDLE {
         let (other, most) = *row;
         match change_in_the_middle(rt.alloc(), other)? {
-            Outcome::Read(read) => assert!(rt; read <= most, "{other} {read}"),
+            RescanOutcome::Read(read) => assert!(rt; read <= most, "{other} {read}"),
             _ => assert!(rt; false, "{other}"),
         }
     }
@@ -146,10 +149,10 @@ fn little_is_read_anew_in_a_long_text(rt: HostRuntime) -> Result<(), Fail> {
 }
 
 /// Texts before which `(*` is put, and what comes of it.
-static OPENED: &[(&str, Outcome)] = &[
-    ("MODULE M; END M.", Outcome::Refused),
-    ("x *)", Outcome::Read(1)),
-    ("$", Outcome::Unscanned),
+static OPENED: &[(&str, RescanOutcome)] = &[
+    ("MODULE M; END M.", RescanOutcome::Refused),
+    ("x *)", RescanOutcome::Read(1)),
+    ("$", RescanOutcome::Unscanned),
 ];
 
 #[test]
@@ -167,11 +170,11 @@ fn kinds_stay(
     front: &str,
     middle: &str,
     other: &str,
-    behind: &str,
+    following: &str,
 ) -> Result<Option<bool>, AllocError> {
     middle_is_replaced();
-    let old_text = joined(alloc, front, middle, behind)?;
-    let new_text = joined(alloc, front, other, behind)?;
+    let old_text = joined(alloc, front, middle, following)?;
+    let new_text = joined(alloc, front, other, following)?;
     let text = new_text.as_str();
     let Ok(old) = scan(alloc, old_text.as_str()) else {
         return Ok(None);
@@ -234,17 +237,17 @@ fn random_text(alloc: Global, numbers: &mut Numbers, most: usize) -> Result<Stri
     Ok(text)
 }
 
-fn random_change(alloc: Global, numbers: &mut Numbers) -> Result<Outcome, AllocError> {
+fn random_change(alloc: Global, numbers: &mut Numbers) -> Result<RescanOutcome, AllocError> {
     let front = random_text(alloc, numbers, 6)?;
     let middle = random_text(alloc, numbers, 3)?;
     let other = random_text(alloc, numbers, 3)?;
-    let behind = random_text(alloc, numbers, 6)?;
+    let following = random_text(alloc, numbers, 6)?;
     change(
         alloc,
         front.as_str(),
         middle.as_str(),
         other.as_str(),
-        behind.as_str(),
+        following.as_str(),
     )
 }
 
@@ -255,10 +258,10 @@ fn random_changes(alloc: Global, count: usize) -> Result<Option<(usize, usize)>,
     let mut refused: usize = 0;
     for _i in 0..count {
         match random_change(alloc, &mut numbers)? {
-            Outcome::Read(_count) => read = read.saturating_add(1),
-            Outcome::Refused => refused = refused.saturating_add(1),
-            Outcome::Unscanned => {}
-            Outcome::Different => return Ok(None),
+            RescanOutcome::Read(_count) => read = read.saturating_add(1),
+            RescanOutcome::Refused => refused = refused.saturating_add(1),
+            RescanOutcome::Unscanned => {}
+            RescanOutcome::Different => return Ok(None),
         }
     }
     Ok(Some((read, refused)))

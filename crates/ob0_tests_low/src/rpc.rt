@@ -1,7 +1,7 @@
 //! Messages from outside: what they mean, and which are none; and the bytes of answers.
 
 use ob0_rpc::{
-    Call, Client, Entry, Id, Incoming, RpcFault, error, notify, read, request, result_of,
+    Call, Client, Id, Incoming, OneMember, RpcFault, error, notify, read, request, result_of,
 };
 use ob0_text::{Indent, Position, Range};
 use serde_json::Value;
@@ -43,7 +43,7 @@ static CONTENTS: &[(&str, &str)] = &[
 ];
 
 #[test]
-fn contents_are_told_apart(rt: HostRuntime) {
+fn contents_are_reported_apart(rt: HostRuntime) {
     for row in CONTENTS {
         let (content, kind) = *row;
         assert!(rt; kind_of(rt.alloc(), content) == kind, "{content}");
@@ -125,7 +125,7 @@ fn word_of(call: &Call) -> &'static str {
 }
 
 /// In a word what a request asks for.
-fn asked(alloc: Global, method: &str, params: &str) -> &'static str {
+fn method_word(alloc: Global, method: &str, params: &str) -> &'static str {
     match Value::from_str(alloc, params) {
         Ok(params) => match request(alloc, method, &params) {
             Ok(call) => word_of(&call),
@@ -241,11 +241,11 @@ static REQUESTS: &[(&str, &str, &str)] = &[
 ];
 
 #[test]
-fn requests_are_told_apart(rt: HostRuntime) {
+fn requests_are_reported_apart(rt: HostRuntime) {
     for row in REQUESTS {
         let (method, params, word) = *row;
         assert!(rt;
-            asked(rt.alloc(), method, params) == word,
+            method_word(rt.alloc(), method, params) == word,
             "{method} {params}"
         );
     }
@@ -317,7 +317,7 @@ fn values_are_written_as_text(rt: HostRuntime) {
     let answer = result_of(rt.alloc(), &Id::Signed(0), &[true, false].as_slice());
     let wanted = "{\"id\":0,\"jsonrpc\":\"2.0\",\"result\":[true,false]}";
     assert!(rt; is_written(answer, wanted));
-    let entry = Entry {
+    let entry = OneMember {
         key: "a b",
         value: Some(position(1, 2)),
     };

@@ -9,11 +9,13 @@ use std::process::Abort;
 
 /// How an empty file is checked where so many flushes succeed, and how many bytes are handed on.
 fn checked(alloc: Global, flushes: u32) -> (u8, usize) {
-    let (mut printed, mut told) = (Count::new(512, flushes), Count::new(512, 1));
+    let (mut printed, mut reported) = (Count::new(512, flushes), Count::new(512, 1));
     let mut out = Flushed::new(Counter {
         count: &mut printed,
     });
-    let mut err = Flushed::new(Counter { count: &mut told });
+    let mut err = Flushed::new(Counter {
+        count: &mut reported,
+    });
     let status = check_text(alloc, b"", &mut out, &mut err);
     (status, printed.handed_on)
 }

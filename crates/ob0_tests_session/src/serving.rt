@@ -15,7 +15,7 @@ const BAD_HEAD: &[u8] =
 
 /// A conversation that ends somehow: its bytes up to a length, by pieces of a size, read so often, with room for so many bytes
 /// and with so many flushes.
-struct End {
+struct Ending {
     bytes: &'static [u8],
     len: usize,
     given: usize,
@@ -25,8 +25,8 @@ struct End {
     result: Result<u8, ServeFault>,
 }
 
-static ENDS: &[End] = &[
-    End {
+static ENDS: &[Ending] = &[
+    Ending {
         bytes: INPUT,
         len: 412,
         given: 8192,
@@ -35,7 +35,7 @@ static ENDS: &[End] = &[
         flushes: 1,
         result: Ok(0),
     },
-    End {
+    Ending {
         bytes: INPUT,
         len: 412,
         given: 40,
@@ -44,7 +44,7 @@ static ENDS: &[End] = &[
         flushes: 11,
         result: Ok(0),
     },
-    End {
+    Ending {
         bytes: INPUT,
         len: 291,
         given: 40,
@@ -53,7 +53,7 @@ static ENDS: &[End] = &[
         flushes: 8,
         result: Ok(1),
     },
-    End {
+    Ending {
         bytes: INPUT,
         len: 300,
         given: 8192,
@@ -62,7 +62,7 @@ static ENDS: &[End] = &[
         flushes: 1,
         result: Err(ServeFault::Truncated),
     },
-    End {
+    Ending {
         bytes: INPUT,
         len: 412,
         given: 40,
@@ -71,7 +71,7 @@ static ENDS: &[End] = &[
         flushes: 5,
         result: Err(ServeFault::Read),
     },
-    End {
+    Ending {
         bytes: INPUT,
         len: 412,
         given: 8192,
@@ -80,7 +80,7 @@ static ENDS: &[End] = &[
         flushes: 1,
         result: Err(ServeFault::Write),
     },
-    End {
+    Ending {
         bytes: BAD_HEAD,
         len: 118,
         given: 8192,
@@ -89,7 +89,7 @@ static ENDS: &[End] = &[
         flushes: 1,
         result: Err(ServeFault::BadHead),
     },
-    End {
+    Ending {
         bytes: BAD_HEAD,
         len: 118,
         given: 40,
@@ -102,7 +102,7 @@ static ENDS: &[End] = &[
 
 /// How a conversation ends over this writer, and whether the devices know afterwards that all was flushed and which of them
 /// failed.
-fn conversed(alloc: Global, end: &End, count: &mut Count) -> (Result<u8, ServeFault>, bool) {
+fn conversed(alloc: Global, end: &Ending, count: &mut Count) -> (Result<u8, ServeFault>, bool) {
     let mut reader = Noted::new(Source {
         bytes: &end.bytes[..end.len.min(end.bytes.len())],
         most: end.given,
@@ -110,26 +110,26 @@ fn conversed(alloc: Global, end: &End, count: &mut Count) -> (Result<u8, ServeFa
     });
     let mut writer = Noted::new(Counter { count });
     let result = serve(alloc, &mut reader, &mut writer);
-    let is_told = reader.failed() == (result == Err(ServeFault::Read))
+    let is_reported = reader.failed() == (result == Err(ServeFault::Read))
         && writer.failed() == (result == Err(ServeFault::Write));
-    (result, is_told && writer.flushed())
+    (result, is_reported && writer.flushed())
 }
 
 /// Whether a conversation ends by a write that failed, where only so many flushes succeed.
-fn breaks_off(alloc: Global, end: &End, flushes: u32) -> bool {
+fn breaks_off(alloc: Global, end: &Ending, flushes: u32) -> bool {
     let mut count = Count::new(end.room, flushes);
     let (result, _flushed) = conversed(alloc, end, &mut count);
     result == Err(ServeFault::Write)
 }
 
 /// Whether a conversation ends as it is to end, with all that was written handed on, where just so many flushes succeed.
-fn ends_flushed(alloc: Global, end: &End) -> bool {
+fn ends_flushed(alloc: Global, end: &Ending) -> bool {
     let mut count = Count::new(end.room, end.flushes);
     conversed(alloc, end, &mut count) == (end.result, true) && count.handed_on == count.written
 }
 
 /// Whether a conversation needs each of its flushes.
-fn needs_each_flush(alloc: Global, end: &End) -> bool {
+fn needs_each_flush(alloc: Global, end: &Ending) -> bool {
     for flushes in 0..end.flushes {
         if !breaks_off(alloc, end, flushes) {
             return false;

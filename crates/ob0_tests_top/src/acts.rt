@@ -126,7 +126,7 @@ fn written(
     Ok(Event::ChangeDoc { uri, changes })
 }
 
-fn asked(alloc: Global, uri: String, act: Act) -> Result<Event, AllocError> {
+fn request_event(alloc: Global, uri: String, act: Act) -> Result<Event, AllocError> {
     let ask = ask_of(alloc, act)?;
     Ok(Event::Ask { uri, ask })
 }
@@ -141,7 +141,7 @@ fn event_about(alloc: Global, uri: String, act: Act) -> Result<Event, AllocError
         }),
         Act::Write(line, start, end, text) => written(alloc, uri, line, start, end, text),
         Act::Close => Ok(Event::CloseDoc { uri }),
-        act => asked(alloc, uri, act),
+        act => request_event(alloc, uri, act),
     }
 }
 
@@ -367,21 +367,21 @@ fn are_first_publications(found: &[Made], wanted: &[Published]) -> bool {
 
 /// How many events were made, and how many edits and publications came of them.
 #[derive(Clone, Copy, PartialEq, Eq)]
-pub struct Counts {
+pub struct EventCounts {
     pub steps: u64,
     pub applied: usize,
     pub made: usize,
 }
 
 /// These counts, where the edits and publications are the first that a story is to leave.
-fn counted(story: &Story, extent: &Extent) -> Option<Counts> {
+fn counted(story: &Story, extent: &Extent) -> Option<EventCounts> {
     if !are_first_edits(extent.played.applied.as_slice(), story.applied) {
         return None;
     }
     if !are_first_publications(extent.played.made.as_slice(), story.made) {
         return None;
     }
-    Some(Counts {
+    Some(EventCounts {
         steps: extent.steps,
         applied: extent.played.applied.len(),
         made: extent.played.made.len(),
@@ -389,7 +389,12 @@ fn counted(story: &Story, extent: &Extent) -> Option<Counts> {
 }
 
 /// What comes of so many events, made one by one; it is made for a second time where an allocation fails in the first.
-fn counted_again(alloc: Global, story: &Story, events: &[Event], steps: u64) -> Option<Counts> {
+fn counted_again(
+    alloc: Global,
+    story: &Story,
+    events: &[Event],
+    steps: u64,
+) -> Option<EventCounts> {
     if let Some(extent) = stepped_through(alloc, story.unit, events, steps) {
         if extent.steps == steps {
             return counted(story, &extent);
@@ -401,7 +406,7 @@ fn counted_again(alloc: Global, story: &Story, events: &[Event], steps: u64) -> 
 
 /// What comes of a story that is played up to an event whose allocation fails, or to its end. None where it isn't what comes
 /// of as many events made one by one, or not the first that the story is to leave.
-pub fn left(alloc: Global, story: &Story) -> Option<Counts> {
+pub fn left(alloc: Global, story: &Story) -> Option<EventCounts> {
     let Ok(events) = events_again(alloc, story) else {
         return None;
     };
@@ -412,13 +417,13 @@ pub fn left(alloc: Global, story: &Story) -> Option<Counts> {
 }
 
 /// The same, where the events are made one by one from the beginning on; nothing where no world can be made.
-pub fn left_by_steps(alloc: Global, story: &Story) -> Option<Counts> {
+pub fn left_by_steps(alloc: Global, story: &Story) -> Option<EventCounts> {
     let Ok(events) = events_again(alloc, story) else {
         return None;
     };
     match stepped_through(alloc, story.unit, events.as_slice(), events.len() as u64) {
         Some(extent) => counted(story, &extent),
-        None => Some(Counts {
+        None => Some(EventCounts {
             steps: 0,
             applied: 0,
             made: 0,

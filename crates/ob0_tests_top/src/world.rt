@@ -1,6 +1,6 @@
 //! Whole lists of events at both ends, step by step and played, in both units of positions, over both stores.
 
-use crate::acts::{Counts, Story, Way, left, left_by_steps, way_of};
+use crate::acts::{EventCounts, Story, Way, left, left_by_steps, way_of};
 use crate::stories::stories;
 use ob0_text::{Lines, Whole};
 use std::alloc::Global;
@@ -14,7 +14,7 @@ fn leaves_all(alloc: Global, story: &Story) -> bool {
     }
 }
 
-fn goes_as_told(alloc: Global, story: &Story) -> bool {
+fn goes_as_reported(alloc: Global, story: &Story) -> bool {
     way_of::<Lines>(alloc, story) == Way::AsTold
         && way_of::<Whole>(alloc, story) == Way::AsTold
         && leaves_all(alloc, story)
@@ -23,7 +23,7 @@ fn goes_as_told(alloc: Global, story: &Story) -> bool {
 /// The name of the first story that doesn't go as it is reported; of none the empty one.
 fn first_untold(alloc: Global) -> &'static str {
     for story in stories() {
-        if !goes_as_told(alloc, story) {
+        if !goes_as_reported(alloc, story) {
             return story.name;
         }
     }
@@ -31,7 +31,7 @@ fn first_untold(alloc: Global) -> &'static str {
 }
 
 #[test]
-fn worlds_go_as_they_are_told(rt: HostRuntime) {
+fn worlds_go_as_they_are_reported(rt: HostRuntime) {
     let name = first_untold(rt.alloc());
     assert!(rt; name.is_empty(), "{name}");
 }
@@ -52,15 +52,15 @@ fn a_refused_event_ends_a_world(rt: HostRuntime) {
     assert!(rt; name.is_empty(), "{name}");
 }
 
-fn first_left(alloc: Global) -> Option<Counts> {
+fn first_left(alloc: Global) -> Option<EventCounts> {
     left(alloc, stories().first()?)
 }
 
-fn first_left_by_steps(alloc: Global) -> Option<Counts> {
+fn first_left_by_steps(alloc: Global) -> Option<EventCounts> {
     left_by_steps(alloc, stories().first()?)
 }
 
-const NOTHING: Counts = Counts {
+const NOTHING: EventCounts = EventCounts {
     steps: 0,
     applied: 0,
     made: 0,

@@ -16,7 +16,7 @@ use Rattle.ob0_text.specs.LineStarts.{line_starts, starts_after, AllUnder, AllFr
 use Rattle.ob0_text.proofs.Prefixes.{halves}
 use Rattle.ob0_text.proofs.PositionSteps.{counted_at_start, counted_here_dropped, counted_past_end, counted_past_cr, counted_past_char}
 use Rattle.ob0_text.proofs.PlaceSteps.{sought_at_start, sought_dropped, sought_past_end, sought_on}
-use Rattle.ob0_text.proofs.StartLaws.{behind_ends, ends-here, ends-on, starts-lines, table, table-split, table-mended, start_before}
+use Rattle.ob0_text.proofs.StartLaws.{following_ends, ends-here, ends-on, starts-lines, table, table-split, table-mended, start_before}
 use Rattle.ob0_text.proofs.Halving.{before}
 
 -- what holds at each of some starts, of which the first is that of a line
@@ -31,8 +31,8 @@ module _ (width : ℕ → ℕ) (narrow : (c : ℕ) → width c ≤ len_utf8 c) (
   abbrev pub StartsLine : ℕ → ℕ → Type 0
   StartsLine s line = IsCounted width text (drop s text) s line 0
 
-  counted_from_here : (cs : List ℕ) → scalars cs ≡ true → (offset line character : ℕ) → IsCounted width text (encode_utf8_all cs) offset line character → AtEach StartsLine (line + 1) (behind_ends offset cs)
-  unfolding behind_ends
+  counted_from_here : (cs : List ℕ) → scalars cs ≡ true → (offset line character : ℕ) → IsCounted width text (encode_utf8_all cs) offset line character → AtEach StartsLine (line + 1) (following_ends offset cs)
+  unfolding following_ends
   counted_from_here [] good offset line character h = λ k l. absurd (omega arith)
   counted_from_here (c ∷ cs) good offset line character h =
       by_end (counted_from_here cs more (offset + len_utf8 c)) (ends_line c cs) refl (c == CR) refl
@@ -43,11 +43,11 @@ module _ (width : ℕ → ℕ) (narrow : (c : ℕ) → width c ≤ len_utf8 c) (
       test : ends_line c (chars (encode_utf8_all cs)) ≡ ends_line c cs
       test = ap (ends_line c) (chars-encodes cs more)
 
-      by_end : ((line' character' : ℕ) → IsCounted width text (encode_utf8_all cs) (offset + len_utf8 c) line' character' → AtEach StartsLine (line' + 1) (behind_ends (offset + len_utf8 c) cs)) → (b : Bool) → ends_line c cs ≡ b → (r : Bool) → (c == CR) ≡ r → AtEach StartsLine (line + 1) (behind_ends offset (c ∷ cs))
+      by_end : ((line' character' : ℕ) → IsCounted width text (encode_utf8_all cs) (offset + len_utf8 c) line' character' → AtEach StartsLine (line' + 1) (following_ends (offset + len_utf8 c) cs)) → (b : Bool) → ends_line c cs ≡ b → (r : Bool) → (c == CR) ≡ r → AtEach StartsLine (line + 1) (following_ends offset (c ∷ cs))
       by_end later true e r p =
           let there = counted_past_end width text _ offset line character h c (encode_utf8_all cs) refl (test ∙ e) in
           subst (AtEach StartsLine (line + 1)) (sym (ends-here offset c cs e))
-          (at_next StartsLine (line + 1) (offset + len_utf8 c) (behind_ends (offset + len_utf8 c) cs) (counted_here_dropped width text _ _ _ _ there) (later (line + 1) 0 there))
+          (at_next StartsLine (line + 1) (offset + len_utf8 c) (following_ends (offset + len_utf8 c) cs) (counted_here_dropped width text _ _ _ _ there) (later (line + 1) 0 there))
       by_end later false e true p =
           let there = counted_past_cr width text _ offset line character h c (encode_utf8_all cs) refl (test ∙ e) (eqb-true c CR p) in
           subst (AtEach StartsLine (line + 1)) (sym (ends-on offset c cs e)) (later line character there)
@@ -59,8 +59,8 @@ module _ (width : ℕ → ℕ) (narrow : (c : ℕ) → width c ≤ len_utf8 c) (
   pub line_counted : IsUtf8 text → (k : ℕ) → k < length (line_starts (chars text)) → StartsLine (get_or (line_starts (chars text)) k 0) k
   line_counted u k l =
       let start = counted_at_start width text u in
-      let more : AtEach StartsLine 1 (behind_ends 0 (chars text)) = counted_from_here (chars text) (scalars-chars text u) 0 0 0 (subst (λ r. IsCounted width text r 0 0 0) (sym (encodes-chars text u)) start) in
-      let all : AtEach StartsLine 0 (line_starts (chars text)) = subst (AtEach StartsLine 0) (sym (starts-lines 0 (chars text))) (at_next StartsLine 0 0 (behind_ends 0 (chars text)) start more) in
+      let more : AtEach StartsLine 1 (following_ends 0 (chars text)) = counted_from_here (chars text) (scalars-chars text u) 0 0 0 (subst (λ r. IsCounted width text r 0 0 0) (sym (encodes-chars text u)) start) in
+      let all : AtEach StartsLine 0 (line_starts (chars text)) = subst (AtEach StartsLine 0) (sym (starts-lines 0 (chars text))) (at_next StartsLine 0 0 (following_ends 0 (chars text)) start more) in
       subst (StartsLine (get_or (line_starts (chars text)) k 0)) (omega arith) (all k l)
 
 module _ (width : ℕ → ℕ) (text : List ℕ) (p : Position) where
@@ -68,8 +68,8 @@ module _ (width : ℕ → ℕ) (text : List ℕ) (p : Position) where
   abbrev pub SeeksFrom : ℕ → ℕ → Type 0
   SeeksFrom s line = line ≤ p.line → IsSought width text p (drop s text) s line 0
 
-  sought_from_here : (cs : List ℕ) → scalars cs ≡ true → (offset line character : ℕ) → (line < p.line → IsSought width text p (encode_utf8_all cs) offset line character) → AtEach SeeksFrom (line + 1) (behind_ends offset cs)
-  unfolding behind_ends
+  sought_from_here : (cs : List ℕ) → scalars cs ≡ true → (offset line character : ℕ) → (line < p.line → IsSought width text p (encode_utf8_all cs) offset line character) → AtEach SeeksFrom (line + 1) (following_ends offset cs)
+  unfolding following_ends
   sought_from_here [] good offset line character h = λ k l. absurd (omega arith)
   sought_from_here (c ∷ cs) good offset line character h =
       by_end (sought_from_here cs more (offset + len_utf8 c)) (ends_line c cs) refl
@@ -80,11 +80,11 @@ module _ (width : ℕ → ℕ) (text : List ℕ) (p : Position) where
       test : ends_line c (chars (encode_utf8_all cs)) ≡ ends_line c cs
       test = ap (ends_line c) (chars-encodes cs more)
 
-      by_end : ((line' character' : ℕ) → (line' < p.line → IsSought width text p (encode_utf8_all cs) (offset + len_utf8 c) line' character') → AtEach SeeksFrom (line' + 1) (behind_ends (offset + len_utf8 c) cs)) → (b : Bool) → ends_line c cs ≡ b → AtEach SeeksFrom (line + 1) (behind_ends offset (c ∷ cs))
+      by_end : ((line' character' : ℕ) → (line' < p.line → IsSought width text p (encode_utf8_all cs) (offset + len_utf8 c) line' character') → AtEach SeeksFrom (line' + 1) (following_ends (offset + len_utf8 c) cs)) → (b : Bool) → ends_line c cs ≡ b → AtEach SeeksFrom (line + 1) (following_ends offset (c ∷ cs))
       by_end later true e =
           let there : line < p.line → IsSought width text p (encode_utf8_all cs) (offset + len_utf8 c) (line + 1) 0 = λ low. sought_past_end width text p _ offset line character (h low) c (encode_utf8_all cs) refl low (test ∙ e) in
           subst (AtEach SeeksFrom (line + 1)) (sym (ends-here offset c cs e))
-          (at_next SeeksFrom (line + 1) (offset + len_utf8 c) (behind_ends (offset + len_utf8 c) cs) (λ low. sought_dropped width text p _ _ _ _ (there (omega arith))) (later (line + 1) 0 (λ low. there (omega arith))))
+          (at_next SeeksFrom (line + 1) (offset + len_utf8 c) (following_ends (offset + len_utf8 c) cs) (λ low. sought_dropped width text p _ _ _ _ (there (omega arith))) (later (line + 1) 0 (λ low. there (omega arith))))
       by_end later false e =
           let there : line < p.line → IsSought width text p (encode_utf8_all cs) (offset + len_utf8 c) line character = λ low. sought_on width text p _ offset line character (h low) c (encode_utf8_all cs) refl low (test ∙ e) in
           subst (AtEach SeeksFrom (line + 1)) (sym (ends-on offset c cs e)) (later line character there)
@@ -92,8 +92,8 @@ module _ (width : ℕ → ℕ) (text : List ℕ) (p : Position) where
   pub line_sought : IsUtf8 text → (k : ℕ) → k < length (line_starts (chars text)) → SeeksFrom (get_or (line_starts (chars text)) k 0) k
   line_sought u k l =
       let start = sought_at_start width text p u in
-      let more : AtEach SeeksFrom 1 (behind_ends 0 (chars text)) = sought_from_here (chars text) (scalars-chars text u) 0 0 0 (λ low. subst (λ r. IsSought width text p r 0 0 0) (sym (encodes-chars text u)) start) in
-      let all : AtEach SeeksFrom 0 (line_starts (chars text)) = subst (AtEach SeeksFrom 0) (sym (starts-lines 0 (chars text))) (at_next SeeksFrom 0 0 (behind_ends 0 (chars text)) (λ low. start) more) in
+      let more : AtEach SeeksFrom 1 (following_ends 0 (chars text)) = sought_from_here (chars text) (scalars-chars text u) 0 0 0 (λ low. subst (λ r. IsSought width text p r 0 0 0) (sym (encodes-chars text u)) start) in
+      let all : AtEach SeeksFrom 0 (line_starts (chars text)) = subst (AtEach SeeksFrom 0) (sym (starts-lines 0 (chars text))) (at_next SeeksFrom 0 0 (following_ends 0 (chars text)) (λ low. start) more) in
       subst (SeeksFrom (get_or (line_starts (chars text)) k 0)) (omega arith) (all k l)
 
 -- there is a line

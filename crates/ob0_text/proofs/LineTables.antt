@@ -5,7 +5,7 @@ use Rattle.std.specs.Str.{IsUtf8, chars}
 use Rattle.std.proofs.lemmas.List.{drop-drop, drop-map, length-map, length-reverse, length-take-le, reverse-append, take-append-drop}
 use Rattle.ob0_text.specs.Texts.{LF}
 use Rattle.ob0_text.specs.LineStarts.{AllFrom, AllUnder, IsCountBefore, line_starts, starts_after, starts_in}
-use Rattle.ob0_text.proofs.StartLaws.{behind-from, behind-under, table, table-split}
+use Rattle.ob0_text.proofs.StartLaws.{following-from, following-under, table, table-split}
 use Rattle.ob0_text.proofs.LinePlaces.{mended_starts, moved_starts}
 use Rattle.ob0_text.proofs.Halving.{more_later}
 
@@ -46,7 +46,7 @@ last_within len bound starts front back s under is =
 -- no start of a text is past its end
 pub all_within : (bs : List ℕ) → IsUtf8 bs → AllUnder (length bs + 1) (line_starts (chars bs))
 all_within bs u =
-    subst (AllUnder (length bs + 1)) (sym (table bs u)) (behind-under 0 (length bs + 1) (LF ∷ bs) [] (omega arith))
+    subst (AllUnder (length bs + 1)) (sym (table bs u)) (following-under 0 (length bs + 1) (LF ∷ bs) [] (omega arith))
 
 -- the starts that are left of the back where the first of them are dropped
 dropped_back : (back : List ℕ) (gone : ℕ) → gone ≤ length back → drop gone (reverse back) ≡ reverse (take (length back - gone) back)
@@ -99,7 +99,7 @@ module _ (bs new starts front back added : List ℕ) (len from to kept moved : �
   table_replaced few added_is after after_is v =
       let stays : take kept starts ≡ front = (λ i. take (sym here i) (sym parts i)) ∙ take-append_seam front (map (from_end len) (reverse back)) in
       let later = later_starts few in
-      let beyond : AllFrom (suc to) (drop moved starts) = subst (AllFrom (suc to)) (sym (moved_starts bs starts to moved u is within moved_is)) (behind-from (suc to) (drop to bs) []) in
+      let beyond : AllFrom (suc to) (drop moved starts) = subst (AllFrom (suc to)) (sym (moved_starts bs starts to moved u is within moved_is)) (following-from (suc to) (drop to bs) []) in
       let total : after ≡ (len - to) + (from + length new) = after_is ∙ length-append (take from bs ++ new) (drop to bs) ∙ (λ i. length-append (take from bs) new i + length-drop to bs i) ∙ omega (arith, length-take-le from bs (omega (arith, order, within)), long, within) in
       let same : map (from_end after) (reverse rest) ≡ map (λ s. s - to + (from + length new)) (drop moved starts) =
       with_the_end len after to (from + length new) (reverse rest) total (subst (AllFrom (suc to)) later beyond) ∙ ap (map (λ s. s - to + (from + length new))) (sym later) in

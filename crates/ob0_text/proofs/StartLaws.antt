@@ -19,19 +19,19 @@ append_nil [] = refl
 append_nil (x ∷ xs) = ap (λ t. x ∷ t) (append_nil xs)
 
 -- the equations of `starts_after`
-pub behind-starts : (at b : ℕ) (bs next : List ℕ) → ends_line b (bs ++ next) ≡ true → starts_after at (b ∷ bs) next ≡ at ∷ starts_after (suc at) bs next
+pub following-starts : (at b : ℕ) (bs next : List ℕ) → ends_line b (bs ++ next) ≡ true → starts_after at (b ∷ bs) next ≡ at ∷ starts_after (suc at) bs next
 unfolding starts_after
-behind-starts at b bs next e = rw e refl
+following-starts at b bs next e = rw e refl
 
-pub behind-none : (at b : ℕ) (bs next : List ℕ) → ends_line b (bs ++ next) ≡ false → starts_after at (b ∷ bs) next ≡ starts_after (suc at) bs next
+pub following-none : (at b : ℕ) (bs next : List ℕ) → ends_line b (bs ++ next) ≡ false → starts_after at (b ∷ bs) next ≡ starts_after (suc at) bs next
 unfolding starts_after
-behind-none at b bs next e = rw e refl
+following-none at b bs next e = rw e refl
 
 -- bytes in two parts
-pub behind-append : (at : ℕ) (xs ys next : List ℕ) → starts_after at (xs ++ ys) next ≡ starts_after at xs (ys ++ next) ++ starts_after (at + length xs) ys next
+pub following-append : (at : ℕ) (xs ys next : List ℕ) → starts_after at (xs ++ ys) next ≡ starts_after at xs (ys ++ next) ++ starts_after (at + length xs) ys next
 unfolding starts_after
-behind-append at [] ys next = ap (λ k. starts_after k ys next) (omega arith)
-behind-append at (x ∷ xs) ys next = by_end (behind-append (suc at) xs ys next) (ends_line x (xs ++ (ys ++ next))) refl
+following-append at [] ys next = ap (λ k. starts_after k ys next) (omega arith)
+following-append at (x ∷ xs) ys next = by_end (following-append (suc at) xs ys next) (ends_line x (xs ++ (ys ++ next))) refl
   where
     same : ends_line x ((xs ++ ys) ++ next) ≡ ends_line x (xs ++ (ys ++ next))
     same = ap (ends_line x) (append_assoc xs ys next)
@@ -41,11 +41,11 @@ behind-append at (x ∷ xs) ys next = by_end (behind-append (suc at) xs ys next)
 
     by_end : starts_after (suc at) (xs ++ ys) next ≡ starts_after (suc at) xs (ys ++ next) ++ starts_after (suc at + length xs) ys next → (b : Bool) → ends_line x (xs ++ (ys ++ next)) ≡ b → starts_after at ((x ∷ xs) ++ ys) next ≡ starts_after at (x ∷ xs) (ys ++ next) ++ starts_after (at + length (x ∷ xs)) ys next
     by_end more true e =
-        behind-starts at x (xs ++ ys) next (same ∙ e) ∙ ap (λ t. at ∷ t) (more ∙ ap (λ k. starts_after (suc at) xs (ys ++ next) ++ starts_after k ys next) there)
-        ∙ sym (ap (λ t. t ++ starts_after (at + length (x ∷ xs)) ys next) (behind-starts at x xs (ys ++ next) e))
+        following-starts at x (xs ++ ys) next (same ∙ e) ∙ ap (λ t. at ∷ t) (more ∙ ap (λ k. starts_after (suc at) xs (ys ++ next) ++ starts_after k ys next) there)
+        ∙ sym (ap (λ t. t ++ starts_after (at + length (x ∷ xs)) ys next) (following-starts at x xs (ys ++ next) e))
     by_end more false e =
-        behind-none at x (xs ++ ys) next (same ∙ e) ∙ more ∙ ap (λ k. starts_after (suc at) xs (ys ++ next) ++ starts_after k ys next) there
-        ∙ sym (ap (λ t. t ++ starts_after (at + length (x ∷ xs)) ys next) (behind-none at x xs (ys ++ next) e))
+        following-none at x (xs ++ ys) next (same ∙ e) ∙ more ∙ ap (λ k. starts_after (suc at) xs (ys ++ next) ++ starts_after k ys next) there
+        ∙ sym (ap (λ t. t ++ starts_after (at + length (x ∷ xs)) ys next) (following-none at x xs (ys ++ next) e))
 
 -- of what follows the first byte alone counts
 same_end : (x : ℕ) (xs next other : List ℕ) → starts_with_lf next ≡ starts_with_lf other → ends_line x (xs ++ next) ≡ ends_line x (xs ++ other)
@@ -53,20 +53,20 @@ unfolding ends_line starts_with_lf
 same_end x [] next other h = ap (λ b. x == LF || (x == CR && not b)) h
 same_end x (y ∷ ys) next other h = refl
 
-pub behind-next : (at : ℕ) (xs next other : List ℕ) → starts_with_lf next ≡ starts_with_lf other → starts_after at xs next ≡ starts_after at xs other
+pub following-next : (at : ℕ) (xs next other : List ℕ) → starts_with_lf next ≡ starts_with_lf other → starts_after at xs next ≡ starts_after at xs other
 unfolding starts_after
-behind-next at [] next other h = refl
-behind-next at (x ∷ xs) next other h =
-    (λ i. if same_end x xs next other h i then at ∷ behind-next (suc at) xs next other h i else behind-next (suc at) xs next other h i)
+following-next at [] next other h = refl
+following-next at (x ∷ xs) next other h =
+    (λ i. if same_end x xs next other h i then at ∷ following-next (suc at) xs next other h i else following-next (suc at) xs next other h i)
 
 -- bytes that are elsewhere
-pub behind-moved : (at there to by : ℕ) (xs next : List ℕ) → to ≤ at → at - to + by ≡ there → map (λ s. s - to + by) (starts_after at xs next) ≡ starts_after there xs next
+pub following-moved : (at there to by : ℕ) (xs next : List ℕ) → to ≤ at → at - to + by ≡ there → map (λ s. s - to + by) (starts_after at xs next) ≡ starts_after there xs next
 unfolding starts_after
-behind-moved at there to by [] next up e = refl
-behind-moved at there to by (x ∷ xs) next up e =
+following-moved at there to by [] next up e = refl
+following-moved at there to by (x ∷ xs) next up e =
     elim (ends_line x (xs ++ next)) as (λ b. map (λ s. s - to + by) (if b then at ∷ starts_after (suc at) xs next else starts_after (suc at) xs next) ≡ (if b then there ∷ starts_after (suc there) xs next else starts_after (suc there) xs next)) [
-      | true ↦ (λ i. e i ∷ behind-moved (suc at) (suc there) to by xs next (omega arith) (omega (arith, e)) i)
-      | false ↦ behind-moved (suc at) (suc there) to by xs next (omega arith) (omega (arith, e))
+      | true ↦ (λ i. e i ∷ following-moved (suc at) (suc there) to by xs next (omega arith) (omega (arith, e)) i)
+      | false ↦ following-moved (suc at) (suc there) to by xs next (omega arith) (omega (arith, e))
     ]
 
 -- where the starts lie
@@ -74,26 +74,26 @@ from_next : (at : ℕ) (ns : List ℕ) → AllFrom (suc at) ns → AllFrom at (a
 from_next at ns more zero h = omega arith
 from_next at ns more (suc k) h = let here : suc at ≤ get_or ns k 0 = more k (omega arith) in omega (arith, here)
 
-pub behind-from : (at : ℕ) (xs next : List ℕ) → AllFrom at (starts_after at xs next)
+pub following-from : (at : ℕ) (xs next : List ℕ) → AllFrom at (starts_after at xs next)
 unfolding starts_after
-behind-from at [] next = λ k h. absurd (omega arith)
-behind-from at (x ∷ xs) next =
+following-from at [] next = λ k h. absurd (omega arith)
+following-from at (x ∷ xs) next =
     elim (ends_line x (xs ++ next)) as (λ b. AllFrom at (if b then at ∷ starts_after (suc at) xs next else starts_after (suc at) xs next)) [
-      | true ↦ from_next at (starts_after (suc at) xs next) (behind-from (suc at) xs next)
-      | false ↦ λ k h. let more : suc at ≤ get_or (starts_after (suc at) xs next) k 0 = behind-from (suc at) xs next k h in omega (arith, more)
+      | true ↦ from_next at (starts_after (suc at) xs next) (following-from (suc at) xs next)
+      | false ↦ λ k h. let more : suc at ≤ get_or (starts_after (suc at) xs next) k 0 = following-from (suc at) xs next k h in omega (arith, more)
     ]
 
 under_next : (at bound : ℕ) (ns : List ℕ) → at < bound → AllUnder bound ns → AllUnder bound (at ∷ ns)
 under_next at bound ns low more zero h = low
 under_next at bound ns low more (suc k) h = more k (omega arith)
 
-pub behind-under : (at bound : ℕ) (xs next : List ℕ) → at + length xs ≡ bound → AllUnder bound (starts_after at xs next)
+pub following-under : (at bound : ℕ) (xs next : List ℕ) → at + length xs ≡ bound → AllUnder bound (starts_after at xs next)
 unfolding starts_after
-behind-under at bound [] next e = λ k h. absurd (omega arith)
-behind-under at bound (x ∷ xs) next e =
+following-under at bound [] next e = λ k h. absurd (omega arith)
+following-under at bound (x ∷ xs) next e =
     elim (ends_line x (xs ++ next)) as (λ b. AllUnder bound (if b then at ∷ starts_after (suc at) xs next else starts_after (suc at) xs next)) [
-      | true ↦ under_next at bound (starts_after (suc at) xs next) (omega (arith, e)) (behind-under (suc at) bound xs next (omega (arith, e)))
-      | false ↦ behind-under (suc at) bound xs next (omega (arith, e))
+      | true ↦ under_next at bound (starts_after (suc at) xs next) (omega (arith, e)) (following-under (suc at) bound xs next (omega (arith, e)))
+      | false ↦ following-under (suc at) bound xs next (omega (arith, e))
     ]
 
 -- bytes that no line ends at
@@ -102,7 +102,7 @@ skipped at [] bs next high = ap (λ k. starts_after k bs next) (omega arith)
 skipped at (h ∷ hs) bs next high =
     let up : 128 ≤ h = high 0 (omega arith) in
     let plain : (h == LF || h == CR) ≡ false = grind (arith, nat_tests) in
-    behind-none at h (hs ++ bs) next (no_line_end h ((hs ++ bs) ++ next) plain)
+    following-none at h (hs ++ bs) next (no_line_end h ((hs ++ bs) ++ next) plain)
     ∙ skipped (suc at) hs bs next (λ k l. high (suc k) (omega arith))
     ∙ ap (λ k. starts_after k bs next) (omega arith)
 
@@ -118,17 +118,17 @@ ends_line-encoded c cs =
     ap (λ b. c == LF || (c == CR && not b)) same
 
 -- the starts after a text's endings, character by character
-unfoldable pub behind_ends : ℕ → List ℕ → List ℕ
-behind_ends at [] = []
-behind_ends at (c ∷ cs) =
-    if ends_line c cs then (at + len_utf8 c) ∷ behind_ends (at + len_utf8 c) cs else behind_ends (at + len_utf8 c) cs
+unfoldable pub following_ends : ℕ → List ℕ → List ℕ
+following_ends at [] = []
+following_ends at (c ∷ cs) =
+    if ends_line c cs then (at + len_utf8 c) ∷ following_ends (at + len_utf8 c) cs else following_ends (at + len_utf8 c) cs
 
-pub ends-here : (at c : ℕ) (cs : List ℕ) → ends_line c cs ≡ true → behind_ends at (c ∷ cs) ≡ (at + len_utf8 c) ∷ behind_ends (at + len_utf8 c) cs
-unfolding behind_ends
+pub ends-here : (at c : ℕ) (cs : List ℕ) → ends_line c cs ≡ true → following_ends at (c ∷ cs) ≡ (at + len_utf8 c) ∷ following_ends (at + len_utf8 c) cs
+unfolding following_ends
 ends-here at c cs e = rw e refl
 
-pub ends-on : (at c : ℕ) (cs : List ℕ) → ends_line c cs ≡ false → behind_ends at (c ∷ cs) ≡ behind_ends (at + len_utf8 c) cs
-unfolding behind_ends
+pub ends-on : (at c : ℕ) (cs : List ℕ) → ends_line c cs ≡ false → following_ends at (c ∷ cs) ≡ following_ends (at + len_utf8 c) cs
+unfolding following_ends
 ends-on at c cs e = rw e refl
 
 -- the same in bytes
@@ -142,7 +142,7 @@ high_bytes c k up l = by_low (nat_lt (get_or (encode_utf8 c) k 0) 128) refl
         absurd (omega arith)
     by_low false e = ltb-false (get_or (encode_utf8 c) k 0) 128 e
 
-one_byte : (at c : ℕ) (cs : List ℕ) → c < 128 → starts_after (suc (at + len_utf8 c)) (encode_utf8_all cs) [] ≡ behind_ends (at + len_utf8 c) cs → starts_after (suc at) (encode_utf8_all (c ∷ cs)) [] ≡ behind_ends at (c ∷ cs)
+one_byte : (at c : ℕ) (cs : List ℕ) → c < 128 → starts_after (suc (at + len_utf8 c)) (encode_utf8_all cs) [] ≡ following_ends (at + len_utf8 c) cs → starts_after (suc at) (encode_utf8_all (c ∷ cs)) [] ≡ following_ends at (c ∷ cs)
 one_byte at c cs low more = by_end (ends_line c cs) refl
   where
     bytes : encode_utf8_all (c ∷ cs) ≡ c ∷ encode_utf8_all cs
@@ -151,30 +151,30 @@ one_byte at c cs low more = by_end (ends_line c cs) refl
     next : at + len_utf8 c ≡ suc at
     next = ap (λ n. at + n) (len_utf8_ascii c low) ∙ omega arith
 
-    rest : starts_after (suc (suc at)) (encode_utf8_all cs) [] ≡ behind_ends (at + len_utf8 c) cs
+    rest : starts_after (suc (suc at)) (encode_utf8_all cs) [] ≡ following_ends (at + len_utf8 c) cs
     rest = ap (λ k. starts_after (suc k) (encode_utf8_all cs) []) (sym next) ∙ more
 
-    by_end : (b : Bool) → ends_line c cs ≡ b → starts_after (suc at) (encode_utf8_all (c ∷ cs)) [] ≡ behind_ends at (c ∷ cs)
+    by_end : (b : Bool) → ends_line c cs ≡ b → starts_after (suc at) (encode_utf8_all (c ∷ cs)) [] ≡ following_ends at (c ∷ cs)
     by_end true e =
-        ap (λ t. starts_after (suc at) t []) bytes ∙ behind-starts (suc at) c (encode_utf8_all cs) [] (ends_line-encoded c cs ∙ e)
+        ap (λ t. starts_after (suc at) t []) bytes ∙ following-starts (suc at) c (encode_utf8_all cs) [] (ends_line-encoded c cs ∙ e)
         ∙ (λ i. sym next i ∷ rest i) ∙ sym (ends-here at c cs e)
     by_end false e =
-        ap (λ t. starts_after (suc at) t []) bytes ∙ behind-none (suc at) c (encode_utf8_all cs) [] (ends_line-encoded c cs ∙ e)
+        ap (λ t. starts_after (suc at) t []) bytes ∙ following-none (suc at) c (encode_utf8_all cs) [] (ends_line-encoded c cs ∙ e)
         ∙ rest ∙ sym (ends-on at c cs e)
 
-more_bytes : (at c : ℕ) (cs : List ℕ) → 128 ≤ c → starts_after (suc (at + len_utf8 c)) (encode_utf8_all cs) [] ≡ behind_ends (at + len_utf8 c) cs → starts_after (suc at) (encode_utf8_all (c ∷ cs)) [] ≡ behind_ends at (c ∷ cs)
+more_bytes : (at c : ℕ) (cs : List ℕ) → 128 ≤ c → starts_after (suc (at + len_utf8 c)) (encode_utf8_all cs) [] ≡ following_ends (at + len_utf8 c) cs → starts_after (suc at) (encode_utf8_all (c ∷ cs)) [] ≡ following_ends at (c ∷ cs)
 more_bytes at c cs up more =
     let plain : (c == LF || c == CR) ≡ false = grind (arith, nat_tests) in
     let long : suc at + length (encode_utf8 c) ≡ suc (at + len_utf8 c) = omega (arith, length-encode c) in
     skipped (suc at) (encode_utf8 c) (encode_utf8_all cs) [] (λ k l. high_bytes c k up l)
     ∙ ap (λ k. starts_after k (encode_utf8_all cs) []) long ∙ more ∙ sym (ends-on at c cs (no_line_end c cs plain))
 
-pub ends-bytes : (at : ℕ) (cs : List ℕ) → starts_after (suc at) (encode_utf8_all cs) [] ≡ behind_ends at cs
-unfolding starts_after behind_ends
+pub ends-bytes : (at : ℕ) (cs : List ℕ) → starts_after (suc at) (encode_utf8_all cs) [] ≡ following_ends at cs
+unfolding starts_after following_ends
 ends-bytes at [] = refl
 ends-bytes at (c ∷ cs) = by_low (ends-bytes (at + len_utf8 c) cs) (nat_lt c 128) refl
   where
-    by_low : starts_after (suc (at + len_utf8 c)) (encode_utf8_all cs) [] ≡ behind_ends (at + len_utf8 c) cs → (b : Bool) → nat_lt c 128 ≡ b → starts_after (suc at) (encode_utf8_all (c ∷ cs)) [] ≡ behind_ends at (c ∷ cs)
+    by_low : starts_after (suc (at + len_utf8 c)) (encode_utf8_all cs) [] ≡ following_ends (at + len_utf8 c) cs → (b : Bool) → nat_lt c 128 ≡ b → starts_after (suc at) (encode_utf8_all (c ∷ cs)) [] ≡ following_ends at (c ∷ cs)
     by_low more true e = one_byte at c cs (ltb-true c 128 e) more
     by_low more false e = more_bytes at c cs (ltb-false c 128 e) more
 
@@ -182,20 +182,20 @@ ends-bytes at (c ∷ cs) = by_low (ends-bytes (at + len_utf8 c) cs) (nat_lt c 12
 pub byte_len-append : (xs ys : List ℕ) → byte_len (xs ++ ys) ≡ byte_len xs + byte_len ys
 byte_len-append xs ys = ap length (encodes-append xs ys) ∙ length-append (encode_utf8_all xs) (encode_utf8_all ys)
 
-longer_first : (at c : ℕ) (cs : List ℕ) (l l' : Line) (ls : List Line) → lines cs ≡ l ∷ ls → byte_len (with_ending l') ≡ len_utf8 c + byte_len (with_ending l) → starts_from (at + len_utf8 c) (lines cs) ≡ (at + len_utf8 c) ∷ behind_ends (at + len_utf8 c) cs → starts_from at (l' ∷ ls) ≡ at ∷ behind_ends (at + len_utf8 c) cs
+longer_first : (at c : ℕ) (cs : List ℕ) (l l' : Line) (ls : List Line) → lines cs ≡ l ∷ ls → byte_len (with_ending l') ≡ len_utf8 c + byte_len (with_ending l) → starts_from (at + len_utf8 c) (lines cs) ≡ (at + len_utf8 c) ∷ following_ends (at + len_utf8 c) cs → starts_from at (l' ∷ ls) ≡ at ∷ following_ends (at + len_utf8 c) cs
 unfolding starts_from
 longer_first at c cs l l' ls is long more =
-    let both : starts_from (at + len_utf8 c) (l ∷ ls) ≡ (at + len_utf8 c) ∷ behind_ends (at + len_utf8 c) cs = ap (starts_from (at + len_utf8 c)) (sym is) ∙ more in
-    let rest : starts_from (at + len_utf8 c + byte_len (with_ending l)) ls ≡ behind_ends (at + len_utf8 c) cs = ap (drop 1) both in
+    let both : starts_from (at + len_utf8 c) (l ∷ ls) ≡ (at + len_utf8 c) ∷ following_ends (at + len_utf8 c) cs = ap (starts_from (at + len_utf8 c)) (sym is) ∙ more in
+    let rest : starts_from (at + len_utf8 c + byte_len (with_ending l)) ls ≡ following_ends (at + len_utf8 c) cs = ap (drop 1) both in
     let there : at + byte_len (with_ending l') ≡ at + len_utf8 c + byte_len (with_ending l) = omega (arith, long) in
     ap (λ k. at ∷ starts_from k ls) there ∙ ap (λ t. at ∷ t) rest
 
-pub starts-lines : (at : ℕ) (cs : List ℕ) → starts_from at (lines cs) ≡ at ∷ behind_ends at cs
-unfolding starts_from lines behind_ends
+pub starts-lines : (at : ℕ) (cs : List ℕ) → starts_from at (lines cs) ≡ at ∷ following_ends at cs
+unfolding starts_from lines following_ends
 starts-lines at [] = refl
 starts-lines at (c ∷ cs) = by_end (starts-lines (at + len_utf8 c) cs) (ends_line c cs) refl (c == CR) refl
   where
-    by_end : starts_from (at + len_utf8 c) (lines cs) ≡ (at + len_utf8 c) ∷ behind_ends (at + len_utf8 c) cs → (b : Bool) → ends_line c cs ≡ b → (r : Bool) → (c == CR) ≡ r → starts_from at (lines (c ∷ cs)) ≡ at ∷ behind_ends at (c ∷ cs)
+    by_end : starts_from (at + len_utf8 c) (lines cs) ≡ (at + len_utf8 c) ∷ following_ends (at + len_utf8 c) cs → (b : Bool) → ends_line c cs ≡ b → (r : Bool) → (c == CR) ≡ r → starts_from at (lines (c ∷ cs)) ≡ at ∷ following_ends at (c ∷ cs)
     by_end more true e r p =
         let one : at + byte_len (c ∷ []) ≡ at + len_utf8 c = omega (arith, byte_len-cons c []) in
         ap (starts_from at) (lines-ends c cs e) ∙ ap (λ k. at ∷ starts_from k (lines cs)) one
@@ -217,7 +217,7 @@ starts-lines at (c ∷ cs) = by_end (starts-lines (at + len_utf8 c) cs) (ends_li
 pub table : (bs : List ℕ) → IsUtf8 bs → line_starts (chars bs) ≡ starts_after 0 (LF ∷ bs) []
 table bs u =
     starts-lines 0 (chars bs) ∙ ap (λ t. 0 ∷ t) (sym (ends-bytes 0 (chars bs)) ∙ ap (λ b. starts_after 1 b []) (encodes-chars bs u))
-    ∙ sym (behind-starts 0 LF bs [] (lf_ends LF (bs ++ []) refl))
+    ∙ sym (following-starts 0 LF bs [] (lf_ends LF (bs ++ []) refl))
 
 -- the starts before some place and those from it on
 pub record IsSplit (starts : List ℕ) (m : ℕ) (front back : List ℕ) : Type 0 where
@@ -229,15 +229,15 @@ pub table-split : (xs : List ℕ) (m : ℕ) → m ≤ length xs → IsSplit (sta
 table-split xs m within =
     let here : 0 + length (take m xs) ≡ m = omega (arith, length-take-le m xs within) in
     record {
-      whole = ap (λ t. starts_after 0 t []) (sym (take-append-drop m xs)) ∙ behind-append 0 (take m xs) (drop m xs) []
+      whole = ap (λ t. starts_after 0 t []) (sym (take-append-drop m xs)) ∙ following-append 0 (take m xs) (drop m xs) []
           ∙ (λ i. starts_after 0 (take m xs) (append_nil (drop m xs) i) ++ starts_after (here i) (drop m xs) []);
-      under = behind-under 0 m (take m xs) (drop m xs) here;
-      from = behind-from m (drop m xs) [];
+      under = following-under 0 m (take m xs) (drop m xs) here;
+      from = following-from m (drop m xs) [];
     }
 
 -- a text's first line starts before each place but 0
 pub start_before : (bs next : List ℕ) (m : ℕ) → 0 < length (starts_after 0 (take (suc m) (LF ∷ bs)) next)
-start_before bs next m = subst (λ t. 0 < length t) (sym (behind-starts 0 LF (take m bs) next (lf_ends LF (take m bs ++ next) refl))) (omega arith)
+start_before bs next m = subst (λ t. 0 < length t) (sym (following-starts 0 LF (take m bs) next (lf_ends LF (take m bs ++ next) refl))) (omega arith)
 
 -- a text of which some bytes were replaced
 module _ (bs new : List ℕ) (from to : ℕ) (inside : from < length (LF ∷ bs)) where
@@ -249,7 +249,7 @@ module _ (bs new : List ℕ) (from to : ℕ) (inside : from < length (LF ∷ bs)
   mended_front : starts_after 0 (take from (LF ∷ bs)) (((get_or (LF ∷ bs) from 0 ∷ new) ++ drop to bs) ++ []) ≡ starts_after 0 (take from (LF ∷ bs)) (drop from (LF ∷ bs))
   unfolding starts_with_lf
   mended_front =
-      behind-next 0 (take from (LF ∷ bs)) (((get_or (LF ∷ bs) from 0 ∷ new) ++ drop to bs) ++ []) (drop from (LF ∷ bs))
+      following-next 0 (take from (LF ∷ bs)) (((get_or (LF ∷ bs) from 0 ∷ new) ++ drop to bs) ++ []) (drop from (LF ∷ bs))
       (sym (ap starts_with_lf (drop-cons (LF ∷ bs) from 0 inside)))
 
   mended_back : starts_after (0 + length (take from (LF ∷ bs))) ((get_or (LF ∷ bs) from 0 ∷ new) ++ drop to bs) [] ≡ starts_after from (get_or (LF ∷ bs) from 0 ∷ new) (drop to bs) ++ map (λ s. s - to + (from + length new)) (starts_after (suc to) (drop to bs) [])
@@ -257,15 +257,15 @@ module _ (bs new : List ℕ) (from to : ℕ) (inside : from < length (LF ∷ bs)
       let here : 0 + length (take from (LF ∷ bs)) ≡ from = omega (arith, length-take-le from (LF ∷ bs)) in
       let there : suc to - to + (from + length new) ≡ from + suc (length new) = omega arith in
       ap (λ k. starts_after k ((get_or (LF ∷ bs) from 0 ∷ new) ++ drop to bs) []) here
-      ∙ behind-append from (get_or (LF ∷ bs) from 0 ∷ new) (drop to bs) []
-      ∙ (λ i. starts_after from (get_or (LF ∷ bs) from 0 ∷ new) (append_nil (drop to bs) i) ++ sym (behind-moved (suc to) (from + suc (length new)) to (from + length new) (drop to bs) [] (omega arith) there) i)
+      ∙ following-append from (get_or (LF ∷ bs) from 0 ∷ new) (drop to bs) []
+      ∙ (λ i. starts_after from (get_or (LF ∷ bs) from 0 ∷ new) (append_nil (drop to bs) i) ++ sym (following-moved (suc to) (from + suc (length new)) to (from + length new) (drop to bs) [] (omega arith) there) i)
 
 -- the table of a text of which some bytes were replaced
 pub table-mended : (bs new : List ℕ) (from to : ℕ) → from ≤ length bs → starts_after 0 (LF ∷ ((take from bs ++ new) ++ drop to bs)) [] ≡ starts_after 0 (take from (LF ∷ bs)) (drop from (LF ∷ bs)) ++ (starts_after from (get_or (LF ∷ bs) from 0 ∷ new) (drop to bs) ++ map (λ s. s - to + (from + length new)) (starts_after (suc to) (drop to bs) []))
 table-mended bs new from to within =
     let inside : from < length (LF ∷ bs) = omega arith in
     mended_bytes bs new from to inside
-    ∙ behind-append 0 (take from (LF ∷ bs)) ((get_or (LF ∷ bs) from 0 ∷ new) ++ drop to bs) []
+    ∙ following-append 0 (take from (LF ∷ bs)) ((get_or (LF ∷ bs) from 0 ∷ new) ++ drop to bs) []
     ∙ (λ i. mended_front bs new from to inside i ++ mended_back bs new from to inside i)
 
 -- the steps of the search for starts
@@ -278,12 +278,12 @@ module _ (found bytes next : List ℕ) (at last i : ℕ) (h : i < length bytes) 
   start_pushed e =
       append_assoc found (at ∷ []) _
       ∙ ap (λ t. found ++ at ∷ t) (ap (λ k. starts_after k (get_or bytes i 0 ∷ drop (i + 1) bytes) next) (add-one at) ∙ ap (λ t. starts_after (suc at) t next) (sym (drop_more bytes i 0 h)))
-      ∙ ap (λ t. found ++ t) (sym (behind-starts at last (drop i bytes) next (sym same_test ∙ e)))
+      ∙ ap (λ t. found ++ t) (sym (following-starts at last (drop i bytes) next (sym same_test ∙ e)))
 
   pub start_passed : ends_line last (get_or bytes i 0 ∷ []) ≡ false → found ++ starts_after (at + 1) (get_or bytes i 0 ∷ drop (i + 1) bytes) next ≡ found ++ starts_after at (last ∷ drop i bytes) next
   start_passed e =
       ap (λ t. found ++ t) (ap (λ k. starts_after k (get_or bytes i 0 ∷ drop (i + 1) bytes) next) (add-one at) ∙ ap (λ t. starts_after (suc at) t next) (sym (drop_more bytes i 0 h))
-      ∙ sym (behind-none at last (drop i bytes) next (sym same_test ∙ e)))
+      ∙ sym (following-none at last (drop i bytes) next (sym same_test ∙ e)))
 
 -- its end
 pub last_test : (last : ℕ) (next : List ℕ) → ends_line last (option_to_list (slice_get next 0)) ≡ ends_line last next

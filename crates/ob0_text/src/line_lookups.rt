@@ -131,7 +131,7 @@ fn nearest_before(text: &str, table: &LineTable, place: PassState, offset: usize
     requires { HasLines text.now table.now }
     ensures place { (unit : Unit) → IsPlace (width_of unit) text.now place
         → IsPlace (width_of unit) text.now result }
-    ensures behind { result.offset ≤ offset }
+    ensures following { result.offset ≤ offset }
 {
     if place.offset <= offset && offset - place.offset < NEAR {
         return place;
@@ -147,7 +147,7 @@ fn nearest_before(text: &str, table: &LineTable, place: PassState, offset: usize
 fn line_before(text: &str, table: &LineTable, offset: usize) -> PassState
     requires { HasLines text.now table.now }
     ensures place { (unit : Unit) → IsPlace (width_of unit) text.now result }
-    ensures behind { result.offset ≤ offset }
+    ensures following { result.offset ≤ offset }
 {
     let started = table.starts_before(offset.min(text.len()) + 1);
     line_place(table, started as u64 - 1)

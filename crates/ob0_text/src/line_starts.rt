@@ -55,17 +55,17 @@ fn byte_before(bytes: &[u8], offset: usize) -> u8
 }
 
 /// Adds the offsets where a line starts before, in or right after `bytes`, which begin at `from`, and follow
-/// the byte `before` and before `behind`.
+/// the byte `before` and before `following`.
 fn add_starts(
     starts: &mut Vec<usize>,
     from: usize,
     before: u8,
     bytes: &[u8],
-    behind: &[u8],
+    following: &[u8],
 ) -> Result<(), AllocError>
     requires { from + length bytes.now < 2 ^ 64 }
     ensures { OnOk result
-        (starts.new.items ≡ starts.old.items ++ starts_after from (before ∷ bytes.now) behind.now) }
+        (starts.new.items ≡ starts.old.items ++ starts_after from (before ∷ bytes.now) following.now) }
 {
     let mut last = before;
     let mut at = from;
@@ -76,7 +76,7 @@ fn add_starts(
         last = *byte;
         at += 1;
     }
-    if parts_lines(last, behind.first().copied()) {
+    if parts_lines(last, following.first().copied()) {
         starts.push(at)?;
     }
     Ok(())

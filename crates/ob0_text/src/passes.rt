@@ -129,7 +129,7 @@ fn width(c: char, unit: Unit) -> u64
 /// The last place at or before an offset that isn't inside a character.
 pub fn onward_to_offset(text: &str, unit: Unit, from: PassState, offset: usize) -> PassState
     requires place { IsPlace (width_of unit) text.now from }
-    requires behind { from.offset ≤ offset }
+    requires following { from.offset ≤ offset }
     ensures place { IsPlace (width_of unit) text.now result }
     ensures within { result.offset ≤ offset }
     ensures position { at result.line result.character
@@ -146,7 +146,7 @@ pub fn onward_to_offset(text: &str, unit: Unit, from: PassState, offset: usize) 
 /// A place nearer to an offset, past stretches of a line.
 fn past_stretches_to(text: &str, unit: Unit, from: PassState, offset: usize) -> PassState
     requires place { IsPlace (width_of unit) text.now from }
-    requires behind { from.offset ≤ offset }
+    requires following { from.offset ≤ offset }
     ensures place { IsPlace (width_of unit) text.now result }
     ensures within { result.offset ≤ offset }
 {
@@ -169,7 +169,7 @@ fn past_stretches_to(text: &str, unit: Unit, from: PassState, offset: usize) -> 
 /// A place nearer to an offset, past characters of ASCII other than CR, which are recognized by their bytes.
 fn past_ascii(text: &str, unit: Unit, from: PassState, offset: usize) -> PassState
     requires place { IsPlace (width_of unit) text.now from }
-    requires behind { from.offset ≤ offset }
+    requires following { from.offset ≤ offset }
     ensures place { IsPlace (width_of unit) text.now result }
     ensures within { result.offset ≤ offset }
     ensures onward { from.offset ≤ result.offset }
@@ -200,7 +200,7 @@ fn past_ascii(text: &str, unit: Unit, from: PassState, offset: usize) -> PassSta
 /// The place after the next character, where that ends at or before an offset.
 fn past_char(text: &str, unit: Unit, place: PassState, offset: usize) -> Option<PassState>
     requires place { IsPlace (width_of unit) text.now place }
-    requires behind { place.offset ≤ offset }
+    requires following { place.offset ≤ offset }
     ensures next { IfSome result (λ p. IsPlace (width_of unit) text.now p) }
     ensures onward { IfSome result (λ p. (place.offset < p.offset) × (p.offset ≤ offset)) }
     ensures last { result ≡ None

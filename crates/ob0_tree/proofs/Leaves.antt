@@ -156,13 +156,13 @@ pub are_identifiers_joined : (ts : List Token) (xs ys : List ℕ) → AreIdentif
 are_identifiers_joined ts [] ys p q = q
 are_identifiers_joined ts (x ∷ xs) ys p q = (p.0, are_identifiers_joined ts xs ys p.1 q)
 
-stands_behind : (front back : List Token) (t d : Token) → slice_index_or (front ++ (t ∷ back)) (length front) d ≡ t
-stands_behind [] back t d = refl
-stands_behind (x ∷ front) back t d = stands_behind front back t d
+stands_following : (front back : List Token) (t d : Token) → slice_index_or (front ++ (t ∷ back)) (length front) d ≡ t
+stands_following [] back t d = refl
+stands_following (x ∷ front) back t d = stands_following front back t d
 
-length_behind : (front back : List Token) (t : Token) → length front < length (front ++ (t ∷ back))
-length_behind [] back t = omega arith
-length_behind (x ∷ front) back t = let h = length_behind front back t in omega arith
+length_following : (front back : List Token) (t : Token) → length front < length (front ++ (t ∷ back))
+length_following [] back t = omega arith
+length_following (x ∷ front) back t = let h = length_following front back t in omega arith
 
 length_snoc : (xs : List Token) (x : Token) → length xs + 1 ≡ length (xs ++ (x ∷ []))
 length_snoc [] x = refl
@@ -172,8 +172,8 @@ are_identifiers_from : (all front back : List Token) → all ≡ front ++ back �
 are_identifiers_from all front [] e i at = tt
 are_identifiers_from all front (t ∷ back) e i at =
     let others = are_identifiers_from all (front ++ (t ∷ [])) back (e ∙ sym (append_assoc front (t ∷ []) back)) (i + 1) (ap (λ n. n + 1) at ∙ length_snoc front t) in
-    let within : i < length all = subst (λ n. n < length all) (sym at) (subst (λ l. length front < length l) (sym e) (length_behind front back t)) in
-    let stands : (d : Token) → slice_index_or all i d ≡ t = λ d. ap (λ l. slice_index_or l i d) e ∙ (ap (λ n. slice_index_or (front ++ (t ∷ back)) n d) at ∙ stands_behind front back t d) in
+    let within : i < length all = subst (λ n. n < length all) (sym at) (subst (λ l. length front < length l) (sym e) (length_following front back t)) in
+    let stands : (d : Token) → slice_index_or all i d ≡ t = λ d. ap (λ l. slice_index_or l i d) e ∙ (ap (λ n. slice_index_or (front ++ (t ∷ back)) n d) at ∙ stands_following front back t d) in
     first all i t t.kind refl within stands (identifiers_from (i + 1) back) others
   where
     first : (all : List Token) (i : ℕ) (t : Token) (k : TokenKind) → t.kind ≡ k → i < length all → ((d : Token) → slice_index_or all i d ≡ t) → (xs : List ℕ) → AreIdentifiers all xs → AreIdentifiers all (identifier_at i k ++ xs)

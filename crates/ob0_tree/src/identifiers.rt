@@ -14,7 +14,7 @@ use crate::tree::{
 use std::alloc::{AllocError, Global};
 
 /// Identifiers in text order: what each is where it is, and the index of its token.
-pub type Found = Vec<(Role, usize)>;
+pub type IdentifierRoles = Vec<(Role, usize)>;
 
 impl<'t> Module<'t> {
     /// Every identifier of the module in text order: what it is where it is, and the index of its token.
@@ -31,7 +31,7 @@ impl<'t> Module<'t> {
 
 /// The identifiers of an expression.
 #[cycle(expressions)]
-pub fn expression(found: &mut Found, e: &Expression) -> Result<(), AllocError>
+pub fn expression(found: &mut IdentifierRoles, e: &Expression) -> Result<(), AllocError>
     ensures { IfOk result (λ _. found.new.items
         ≡ found.old.items ++ identifiers roles.Declaring (expression_of e.now)) }
 {
@@ -43,7 +43,7 @@ pub fn expression(found: &mut Found, e: &Expression) -> Result<(), AllocError>
 }
 
 #[cycle(expressions)]
-fn simple(found: &mut Found, s: &Simple) -> Result<(), AllocError>
+fn simple(found: &mut IdentifierRoles, s: &Simple) -> Result<(), AllocError>
     ensures { IfOk result
         (λ _. found.new.items ≡ found.old.items ++ identifiers roles.Declaring (simple_of s.now)) }
 {
@@ -55,7 +55,7 @@ fn simple(found: &mut Found, s: &Simple) -> Result<(), AllocError>
 }
 
 #[cycle(expressions)]
-fn term(found: &mut Found, t: &Term) -> Result<(), AllocError>
+fn term(found: &mut IdentifierRoles, t: &Term) -> Result<(), AllocError>
     ensures { IfOk result
         (λ _. found.new.items ≡ found.old.items ++ identifiers roles.Declaring (term_of t.now)) }
 {
@@ -67,7 +67,7 @@ fn term(found: &mut Found, t: &Term) -> Result<(), AllocError>
 }
 
 #[cycle(expressions)]
-fn factor(found: &mut Found, f: &Factor) -> Result<(), AllocError>
+fn factor(found: &mut IdentifierRoles, f: &Factor) -> Result<(), AllocError>
     ensures { IfOk result
         (λ _. found.new.items ≡ found.old.items ++ identifiers roles.Declaring (factor_of f.now)) }
 {
@@ -80,7 +80,7 @@ fn factor(found: &mut Found, f: &Factor) -> Result<(), AllocError>
 }
 
 #[cycle(expressions)]
-fn designator(found: &mut Found, d: &Designator) -> Result<(), AllocError>
+fn designator(found: &mut IdentifierRoles, d: &Designator) -> Result<(), AllocError>
     ensures { IfOk result (λ _. found.new.items
         ≡ found.old.items ++ identifiers roles.Declaring (designator_of d.now)) }
 {
@@ -92,7 +92,7 @@ fn designator(found: &mut Found, d: &Designator) -> Result<(), AllocError>
 }
 
 #[cycle(expressions)]
-fn selector(found: &mut Found, s: &Selector) -> Result<(), AllocError>
+fn selector(found: &mut IdentifierRoles, s: &Selector) -> Result<(), AllocError>
     ensures { IfOk result (λ _. found.new.items
         ≡ found.old.items ++ identifiers roles.Declaring (selector_of s.now)) }
 {
@@ -105,7 +105,7 @@ fn selector(found: &mut Found, s: &Selector) -> Result<(), AllocError>
     }
 }
 
-fn assignment(found: &mut Found, a: &Assignment) -> Result<(), AllocError>
+fn assignment(found: &mut IdentifierRoles, a: &Assignment) -> Result<(), AllocError>
     ensures { IfOk result (λ _. found.new.items
         ≡ found.old.items ++ identifiers roles.Declaring (assignment_of a.now)) }
 {
@@ -113,7 +113,7 @@ fn assignment(found: &mut Found, a: &Assignment) -> Result<(), AllocError>
     expression(found, &a.value)
 }
 
-fn call(found: &mut Found, c: &Call) -> Result<(), AllocError>
+fn call(found: &mut IdentifierRoles, c: &Call) -> Result<(), AllocError>
     ensures { IfOk result
         (λ _. found.new.items ≡ found.old.items ++ identifiers roles.Declaring (call_of c.now)) }
 {
@@ -124,7 +124,7 @@ fn call(found: &mut Found, c: &Call) -> Result<(), AllocError>
     Ok(())
 }
 
-fn arguments(found: &mut Found, given: &Vec<Expression>) -> Result<(), AllocError>
+fn arguments(found: &mut IdentifierRoles, given: &Vec<Expression>) -> Result<(), AllocError>
     ensures { IfOk result (λ _. found.new.items
         ≡ found.old.items ++ identifiers roles.Declaring (arguments_in given.now)) }
 {
@@ -135,7 +135,7 @@ fn arguments(found: &mut Found, given: &Vec<Expression>) -> Result<(), AllocErro
 }
 
 #[cycle(statements)]
-fn sequence(found: &mut Found, statements: &Vec<Statement>) -> Result<(), AllocError>
+fn sequence(found: &mut IdentifierRoles, statements: &Vec<Statement>) -> Result<(), AllocError>
     ensures { IfOk result (λ _. found.new.items
         ≡ found.old.items ++ identifiers roles.Declaring (sequence_in statements.now)) }
 {
@@ -146,7 +146,7 @@ fn sequence(found: &mut Found, statements: &Vec<Statement>) -> Result<(), AllocE
 }
 
 #[cycle(statements)]
-fn statement(found: &mut Found, s: &Statement) -> Result<(), AllocError>
+fn statement(found: &mut IdentifierRoles, s: &Statement) -> Result<(), AllocError>
     ensures { IfOk result (λ _. found.new.items
         ≡ found.old.items ++ identifiers roles.Declaring (statement_of s.now)) }
 {
@@ -167,7 +167,7 @@ fn statement(found: &mut Found, s: &Statement) -> Result<(), AllocError>
 }
 
 #[cycle(statements)]
-fn branches(found: &mut Found, i: &If) -> Result<(), AllocError>
+fn branches(found: &mut IdentifierRoles, i: &If) -> Result<(), AllocError>
     ensures { IfOk result
         (λ _. found.new.items ≡ found.old.items ++ identifiers roles.Declaring (if_of i.now)) }
 {
@@ -181,7 +181,7 @@ fn branches(found: &mut Found, i: &If) -> Result<(), AllocError>
 }
 
 #[cycle(statements)]
-fn elsifs(found: &mut Found, parts: &Vec<Elsif>) -> Result<(), AllocError>
+fn elsifs(found: &mut IdentifierRoles, parts: &Vec<Elsif>) -> Result<(), AllocError>
     ensures { IfOk result (λ _. found.new.items
         ≡ found.old.items ++ identifiers roles.Declaring (elsifs_in parts.now)) }
 {
@@ -193,7 +193,7 @@ fn elsifs(found: &mut Found, parts: &Vec<Elsif>) -> Result<(), AllocError>
 }
 
 /// Names of this role.
-fn names(found: &mut Found, role: Role, ns: &Names) -> Result<(), AllocError>
+fn names(found: &mut IdentifierRoles, role: Role, ns: &Names) -> Result<(), AllocError>
     ensures { IfOk result
         (λ _. found.new.items ≡ found.old.items ++ identifiers role (names_of ns.now)) }
 {
@@ -206,7 +206,7 @@ fn names(found: &mut Found, role: Role, ns: &Names) -> Result<(), AllocError>
 
 /// The identifiers of a type as it is written.
 #[cycle(types)]
-pub fn written_type(found: &mut Found, t: &WrittenType) -> Result<(), AllocError>
+pub fn written_type(found: &mut IdentifierRoles, t: &WrittenType) -> Result<(), AllocError>
     ensures { IfOk result
         (λ _. found.new.items ≡ found.old.items ++ identifiers roles.Declaring (type_of t.now)) }
 {
@@ -224,7 +224,7 @@ pub fn written_type(found: &mut Found, t: &WrittenType) -> Result<(), AllocError
 }
 
 #[cycle(types)]
-fn record(found: &mut Found, r: &RecordType) -> Result<(), AllocError>
+fn record(found: &mut IdentifierRoles, r: &RecordType) -> Result<(), AllocError>
     ensures { IfOk result
         (λ _. found.new.items ≡ found.old.items ++ identifiers roles.Declaring (record_in r.now)) }
 {
@@ -235,7 +235,7 @@ fn record(found: &mut Found, r: &RecordType) -> Result<(), AllocError>
 }
 
 #[cycle(types)]
-fn fields(found: &mut Found, f: &Fields) -> Result<(), AllocError>
+fn fields(found: &mut IdentifierRoles, f: &Fields) -> Result<(), AllocError>
     ensures { IfOk result
         (λ _. found.new.items ≡ found.old.items ++ identifiers roles.Declaring (fields_of f.now)) }
 {
@@ -248,7 +248,7 @@ fn fields(found: &mut Found, f: &Fields) -> Result<(), AllocError>
     }
 }
 
-fn section(found: &mut Found, s: &Section) -> Result<(), AllocError>
+fn section(found: &mut IdentifierRoles, s: &Section) -> Result<(), AllocError>
     ensures { IfOk result
         (λ _. found.new.items ≡ found.old.items ++ identifiers roles.Declaring (section_of s.now)) }
 {
@@ -256,7 +256,7 @@ fn section(found: &mut Found, s: &Section) -> Result<(), AllocError>
     written_type(found, &s.written)
 }
 
-fn formals(found: &mut Found, sections: &Option<Vec<Section>>) -> Result<(), AllocError>
+fn formals(found: &mut IdentifierRoles, sections: &Option<Vec<Section>>) -> Result<(), AllocError>
     ensures { IfOk result (λ _. found.new.items
         ≡ found.old.items ++ identifiers roles.Declaring (formals_of sections.now)) }
 {
@@ -269,7 +269,10 @@ fn formals(found: &mut Found, sections: &Option<Vec<Section>>) -> Result<(), All
     Ok(())
 }
 
-fn constants(found: &mut Found, declared: &Option<Vec<Constant>>) -> Result<(), AllocError>
+fn constants(
+    found: &mut IdentifierRoles,
+    declared: &Option<Vec<Constant>>,
+) -> Result<(), AllocError>
     ensures { IfOk result (λ _. found.new.items
         ≡ found.old.items ++ identifiers roles.Declaring (constants_of declared.now)) }
 {
@@ -283,7 +286,10 @@ fn constants(found: &mut Found, declared: &Option<Vec<Constant>>) -> Result<(), 
     Ok(())
 }
 
-fn types(found: &mut Found, declared: &Option<Vec<TypeDeclaration>>) -> Result<(), AllocError>
+fn types(
+    found: &mut IdentifierRoles,
+    declared: &Option<Vec<TypeDeclaration>>,
+) -> Result<(), AllocError>
     ensures { IfOk result (λ _. found.new.items
         ≡ found.old.items ++ identifiers roles.Declaring (types_of declared.now)) }
 {
@@ -297,7 +303,10 @@ fn types(found: &mut Found, declared: &Option<Vec<TypeDeclaration>>) -> Result<(
     Ok(())
 }
 
-fn variables(found: &mut Found, declared: &Option<Vec<Variables>>) -> Result<(), AllocError>
+fn variables(
+    found: &mut IdentifierRoles,
+    declared: &Option<Vec<Variables>>,
+) -> Result<(), AllocError>
     ensures { IfOk result (λ _. found.new.items
         ≡ found.old.items ++ identifiers roles.Declaring (variables_of declared.now)) }
 {
@@ -312,7 +321,10 @@ fn variables(found: &mut Found, declared: &Option<Vec<Variables>>) -> Result<(),
 }
 
 /// The identifiers of a block's statements.
-pub fn body(found: &mut Found, statements: &Option<Vec<Statement>>) -> Result<(), AllocError>
+pub fn body(
+    found: &mut IdentifierRoles,
+    statements: &Option<Vec<Statement>>,
+) -> Result<(), AllocError>
     ensures { IfOk result (λ _. found.new.items
         ≡ found.old.items ++ identifiers roles.Declaring (body_of statements.now)) }
 {
@@ -323,7 +335,7 @@ pub fn body(found: &mut Found, statements: &Option<Vec<Statement>>) -> Result<()
 }
 
 #[cycle(blocks)]
-fn block(found: &mut Found, b: &Block) -> Result<(), AllocError>
+fn block(found: &mut IdentifierRoles, b: &Block) -> Result<(), AllocError>
     ensures { IfOk result
         (λ _. found.new.items ≡ found.old.items ++ identifiers roles.Declaring (block_of b.now)) }
 {
@@ -337,7 +349,7 @@ fn block(found: &mut Found, b: &Block) -> Result<(), AllocError>
 }
 
 #[cycle(blocks)]
-fn procedure(found: &mut Found, p: &Procedure) -> Result<(), AllocError>
+fn procedure(found: &mut IdentifierRoles, p: &Procedure) -> Result<(), AllocError>
     ensures { IfOk result (λ _. found.new.items
         ≡ found.old.items ++ identifiers roles.Declaring (procedure_of p.now)) }
 {

@@ -47,15 +47,15 @@ second_right true false e = refl
 second_right false b e = absurd (true≢false (sym e))
 
 -- the faults of declarations are reported too
-told_with : (right : Bool) (first scopes : List Fault) → IsReported right first → IsReported (right && not (list_any is_of_declarations scopes)) (first ++ filter is_of_declarations scopes)
-told_with right first scopes told = (
+reported_with : (right : Bool) (first scopes : List Fault) → IsReported right first → IsReported (right && not (list_any is_of_declarations scopes)) (first ++ filter is_of_declarations scopes)
+reported_with right first scopes reported = (
   (λ e.
       let all : length first + length (filter is_of_declarations scopes) ≡ 0 = sym (length-append first (filter is_of_declarations scopes)) ∙ length-nil (first ++ filter is_of_declarations scopes) e in
       let none : length first ≡ 0 = omega (arith, all) in
       let others : length (filter is_of_declarations scopes) ≡ 0 = omega (arith, all) in
-      both_right right (list_any is_of_declarations scopes) (told.0 (nil_from_length first none)) (kept_none scopes others)),
+      both_right right (list_any is_of_declarations scopes) (reported.0 (nil_from_length first none)) (kept_none scopes others)),
   (λ r.
-      let none : length first ≡ 0 = length-nil first (told.1 (first_right right (list_any is_of_declarations scopes) r)) in
+      let none : length first ≡ 0 = length-nil first (reported.1 (first_right right (list_any is_of_declarations scopes) r)) in
       let others : length (filter is_of_declarations scopes) ≡ 0 = none_kept scopes (second_right right (list_any is_of_declarations scopes) r) in
       nil_from_length (first ++ filter is_of_declarations scopes) (length-append first (filter is_of_declarations scopes) ∙ omega (arith, none, others))),
 )
@@ -77,27 +77,27 @@ known_there none None P h n = absurd (h n)
 known_there none (Some t) P h n = refl
 
 -- where nothing is reported exactly of a module that fits and declares each name once, it is reported exactly of a well-typed one
-pub checked_told : (r : Resolution) (faults : List Fault) → ModulesFit → NoFaultInModules → IsResolution r → ((faults ≡ []) ↔ (faults_in r ≡ []))
+pub checked_reported : (r : Resolution) (faults : List Fault) → ModulesFit → NoFaultInModules → IsResolution r → ((faults ≡ []) ↔ (faults_in r ≡ []))
     → (known : Option Tables) → MatchOption known (reported_module r ≡ [] → ⊥) (λ t. (reported_module r ≡ []) × HasDeclarations (named_tree_of r.module_read) t) → length faults ≤ 100 → AreFirstOf (faults_in r) faults
     → IsChecked (record { names = r; faults = faults; known = known })
 unfolding WellTyped
-checked_told r faults told_law none_law h alike known knows few first =
+checked_reported r faults reported_law none_law h alike known knows few first =
     let m = named_tree_of r.module_read in
     let fits : Bool = fits_over as_names m in
     let any = list_any is_of_declarations r.faults in
-    let of_types : IsReported fits (reported_module r) = (told_law r h, none_law r h) in
-    let whole : IsReported (fits && not any) (faults_in r) = told_with fits (reported_module r) r.faults of_types in
-    let told : IsReported (fits && not any) faults = ((λ none. whole.0 (alike.0 none)), (λ right. alike.1 (whole.1 right))) in
+    let of_types : IsReported fits (reported_module r) = (reported_law r h, none_law r h) in
+    let whole : IsReported (fits && not any) (faults_in r) = reported_with fits (reported_module r) r.faults of_types in
+    let reported : IsReported (fits && not any) faults = ((λ none. whole.0 (alike.0 none)), (λ right. alike.1 (whole.1 right))) in
     record {
       resolved = h;
-      told = (
+      reported = (
         (λ none.
-            let right = told.0 none in
-            (once_from (declared_once m) any h.told.declared_twice (second_right fits any right), first_right fits any right)),
-        (λ w. told.1 (both_right fits any w.1 (from_once (declared_once m) any h.told.declared_twice w.0))),
+            let right = reported.0 none in
+            (once_from (declared_once m) any h.reported.declared_twice (second_right fits any right), first_right fits any right)),
+        (λ w. reported.1 (both_right fits any w.1 (from_once (declared_once m) any h.reported.declared_twice w.0))),
       );
       holds = known_declares (reported_module r ≡ []) known (HasDeclarations m) knows;
-      kept = λ none. known_there (reported_module r ≡ []) known (HasDeclarations m) knows (none_law r h (first_right fits any (told.0 none)));
+      kept = λ none. known_there (reported_module r ≡ []) known (HasDeclarations m) knows (none_law r h (first_right fits any (reported.0 none)));
       few = few;
       first = first;
     }

@@ -12,4 +12,4 @@ fields_kept c is fields listed none = go c.known (is.kept none) is.holds listed
   where
     go : (known : Option Tables) → is_some known ≡ true → IfSome known (HasDeclarations (named_tree_of c.names.module_read)) → IfSome known (λ t. fields ≡ listed_by t c.names) → AreFields c.names fields
     go None some holds same = absurd (true≢false (sym some))
-    go (Some t) some holds same = subst (AreFields c.names) (sym same) (listed_fields c.names is.resolved (is.told.0 none) t holds)
+    go (Some t) some holds same = subst (AreFields c.names) (sym same) (listed_fields c.names is.resolved (is.reported.0 none) t holds)

@@ -28,7 +28,7 @@ IsReported right faults = (faults ≡ []) ↔ (right ≡ true)
 -- the first 100.
 pub record IsChecked (c : CheckedModule) : Type 0 where
   pub resolved : IsResolution c.names
-  pub told : (c.faults ≡ []) ↔ WellTyped (named_tree_of c.names.module_read)
+  pub reported : (c.faults ≡ []) ↔ WellTyped (named_tree_of c.names.module_read)
   pub holds : IfSome c.known (HasDeclarations (named_tree_of c.names.module_read))
   pub kept : c.faults ≡ [] → is_some c.known ≡ true
   pub few : length c.faults ≤ max_faults

@@ -20,7 +20,7 @@ use Rattle.ob0_types_check.specs.TypeFaults.{reported_constant}
 use Rattle.ob0_types_check.specs.WrittenTypeFaults.{reported_type}
 use Rattle.ob0_types_check.proofs.MadeOnce.{Apart, apart_same, apart_then}
 use Rattle.ob0_types_check.proofs.PartsFitting.{PartsFit}
-use Rattle.ob0_types_check.proofs.DeclaredNames.{ConstantsPlaced, Numbering, TypesPlaced, VariablesPlaced, after_names-map, names_listed-mapped, scope_behind}
+use Rattle.ob0_types_check.proofs.DeclaredNames.{ConstantsPlaced, Numbering, TypesPlaced, VariablesPlaced, after_names-map, names_listed-mapped, scope_following}
 use Rattle.ob0_types_check.proofs.DeclaredStanding.{Later, Stands, agrees_where_seen, all_defined, defined, later_same, later_then, stands_defined, stands_later}
 use Rattle.ob0_types_check.proofs.DeclaredTypes.{none_both, type_denotes}
 
@@ -56,7 +56,7 @@ next_le n = le_of_lt (le_refl (suc n))
 
 module _ (w : Numbering) (fit : PartsFit) where
   pub constants_declare : (cs : Tree ℕ (items constant)) (k n : ℕ) (p : SoFar) (before : List Shape) (scope : Scope Name) (env : TypeEnvironment Name) → Stands w p before n scope env → ConstantsPlaced w scope n cs → (reported_constants p cs).faults ≡ []
-      → Declared w n (after_names n (constant_names cs)) k k p (reported_constants p cs).known before (scope_behind w n (constant_names cs) scope) (declare_constants as_names env (named w.source cs))
+      → Declared w n (after_names n (constant_names cs)) k k p (reported_constants p cs).known before (scope_following w n (constant_names cs) scope) (declare_constants as_names env (named w.source cs))
   unfolding reported_constants constant_declared declare_constants
   constants_declare end k n p before scope env st placed h = nothing_declared w n k k refl p before scope env st
   constants_declare (more (declares_constant x e) cs) k n p before scope env st placed h =
@@ -67,55 +67,55 @@ module _ (w : Numbering) (fit : PartsFit) where
       let given : constant_value (meanings as_names env) (named w.source e) ≡ Some c.value = ap (λ s. constant_value (meanings as_names env) (mapped (text_at w.source) (value_at s) e)) (sym st.source) ∙ c.given in
       let d = defined w p before n (a_constant v.known) x st.ordinals st.room st.table placed.0 in
       let next = stands_defined w p q before n scope env (a_constant v.known) (text_at w.source x) (meant.a_constant c.value) st d refl (c.value, c.known, refl, c.scalar) in
-      declared_then w n (suc n) (after_names (suc n) (constant_names cs)) k k k p q (reported_constants q cs).known before before (scope_behind w (suc n) (constant_names cs) ((text_at w.source x, n) ∷ scope))
+      declared_then w n (suc n) (after_names (suc n) (constant_names cs)) k k k p q (reported_constants q cs).known before before (scope_following w (suc n) (constant_names cs) ((text_at w.source x, n) ∷ scope))
       (constant_value (meanings as_names env) (named w.source e)) c.value (λ v. declare_constants as_names ((text_at w.source x, meant.a_constant v) ∷ env) (named w.source cs)) (next_le n) given (apart_same k k before refl) d.later
       (constants_declare cs k (suc n) q before ((text_at w.source x, n) ∷ scope) ((text_at w.source x, meant.a_constant c.value) ∷ env) next placed.2 a.1)
 
   pub types_declare : (ds : Tree ℕ (items type_name)) (k n : ℕ) (p : SoFar) (before : List Shape) (scope : Scope Name) (env : TypeEnvironment Name) → length before ≡ k → Stands w p before n scope env → TypesPlaced w scope n ds → (reported_types p ds).faults ≡ []
-      → Declared w n (after_names n (named_types ds)) k (k + types_constructors (named w.source ds)) p (reported_types p ds).known before (scope_behind w n (named_types ds) scope) (declare_types as_names env k (named w.source ds))
+      → Declared w n (after_names n (named_types ds)) k (k + types_constructors (named w.source ds)) p (reported_types p ds).known before (scope_following w n (named_types ds) scope) (declare_types as_names env k (named w.source ds))
   unfolding reported_types type_declared declare_types
   types_declare end k n p before scope env at st placed h = nothing_declared w n k (k + 0) (omega arith) p before scope env st
   types_declare (more (declares_type x t) ds) k n p before scope env at st placed h =
       let u : Reported TypedAfter = reported_type 0 p t in
-      let q : SoFar = define u.known.behind (a_type u.known.of) x in
+      let q : SoFar = define u.known.following (a_type u.known.of) x in
       let a = none_both (u.faults ++ []) (reported_types q ds).faults h in
       let s = type_denotes w fit n scope env 0 k t p before (omega (arith, at)) st placed.1 (none_both u.faults [] a.0).0 in
-      let behind = stands_later w n n n p u.known.behind before s.after scope env (le_refl n) (le_refl n) st s.later in
-      let d = defined w u.known.behind s.after n (a_type u.known.of) x behind.ordinals behind.room behind.table placed.0 in
-      let next = stands_defined w u.known.behind q s.after n scope env (a_type u.known.of) (text_at w.source x) (meant.a_type s.shape) behind d refl (s.shape, s.known, refl) in
+      let following = stands_later w n n n p u.known.following before s.after scope env (le_refl n) (le_refl n) st s.later in
+      let d = defined w u.known.following s.after n (a_type u.known.of) x following.ordinals following.room following.table placed.0 in
+      let next = stands_defined w u.known.following q s.after n scope env (a_type u.known.of) (text_at w.source x) (meant.a_type s.shape) following d refl (s.shape, s.known, refl) in
       let own : ℕ = constructors (named w.source t) in
       let others : ℕ = types_constructors (named w.source ds) in
-      subst (λ l. Declared w n (after_names (suc n) (named_types ds)) k l p (reported_types q ds).known before (scope_behind w (suc n) (named_types ds) ((text_at w.source x, n) ∷ scope)) (declare_types as_names env k (named w.source (more (declares_type x t) ds)))) (more_constructors k own others)
-      (declared_then w n (suc n) (after_names (suc n) (named_types ds)) k (k + own) (k + own + others) p q (reported_types q ds).known before s.after (scope_behind w (suc n) (named_types ds) ((text_at w.source x, n) ∷ scope))
+      subst (λ l. Declared w n (after_names (suc n) (named_types ds)) k l p (reported_types q ds).known before (scope_following w (suc n) (named_types ds) ((text_at w.source x, n) ∷ scope)) (declare_types as_names env k (named w.source (more (declares_type x t) ds)))) (more_constructors k own others)
+      (declared_then w n (suc n) (after_names (suc n) (named_types ds)) k (k + own) (k + own + others) p q (reported_types q ds).known before s.after (scope_following w (suc n) (named_types ds) ((text_at w.source x, n) ∷ scope))
       (denoted (meanings as_names env) k (named w.source t)) s.shape (λ s. declare_types as_names ((text_at w.source x, meant.a_type s) ∷ env) (k + constructors (named w.source t)) (named w.source ds)) (next_le n) s.given_is s.apart
-      (later_then n n p u.known.behind q before s.after s.after (le_refl n) s.later d.later)
+      (later_then n n p u.known.following q before s.after s.after (le_refl n) s.later d.later)
       (types_declare ds (k + constructors (named w.source t)) (suc n) q s.after ((text_at w.source x, n) ∷ scope) ((text_at w.source x, meant.a_type s.shape) ∷ env) (omega (arith, at, s.apart.counted)) next placed.2 a.1))
 
-  behind-append : (n : ℕ) (xs ys : List ℕ) (scope : Scope Name) → scope_behind w (after_names n xs) ys (scope_behind w n xs scope) ≡ scope_behind w n (xs ++ ys) scope
-  behind-append n xs ys scope =
+  following-append : (n : ℕ) (xs ys : List ℕ) (scope : Scope Name) → scope_following w (after_names n xs) ys (scope_following w n xs scope) ≡ scope_following w n (xs ++ ys) scope
+  following-append n xs ys scope =
       sym (ap (λ zs. declare_names n zs scope) (map-append (text_at w.source) xs ys) ∙ (declare_names-append n (map (text_at w.source) xs) (map (text_at w.source) ys) scope
       ∙ (λ i. declare_names (after_names-map (text_at w.source) n xs i) (map (text_at w.source) ys) (declare_names n (map (text_at w.source) xs) scope))))
 
   pub variables_declare : (gs : Tree ℕ (items variable)) (k n : ℕ) (p : SoFar) (before : List Shape) (scope : Scope Name) (env : TypeEnvironment Name) → length before ≡ k → Stands w p before n scope env → VariablesPlaced w scope n gs → (reported_variables p gs).faults ≡ []
-      → Declared w n (after_names n (variable_names gs)) k (k + variables_constructors (named w.source gs)) p (reported_variables p gs).known before (scope_behind w n (variable_names gs) scope) (declare_typed as_names k (named w.source gs) env)
+      → Declared w n (after_names n (variable_names gs)) k (k + variables_constructors (named w.source gs)) p (reported_variables p gs).known before (scope_following w n (variable_names gs) scope) (declare_typed as_names k (named w.source gs) env)
   unfolding reported_variables variables_declared declare_typed
   variables_declare end k n p before scope env at st placed h = nothing_declared w n k (k + 0) (omega arith) p before scope env st
   variables_declare (more (declares_variable ns t) gs) k n p before scope env at st placed h =
       let xs : List ℕ = names_listed ns in
       let u : Reported TypedAfter = reported_type 0 p t in
-      let q : SoFar = define_all u.known.behind (a_variable u.known.of) xs in
+      let q : SoFar = define_all u.known.following (a_variable u.known.of) xs in
       let a = none_both (u.faults ++ []) (reported_variables q gs).faults h in
       let s = type_denotes w fit n scope env 0 k t p before (omega (arith, at)) st placed.1 (none_both u.faults [] a.0).0 in
-      let behind = stands_later w n n n p u.known.behind before s.after scope env (le_refl n) (le_refl n) st s.later in
-      let all = all_defined w u.known.behind s.after n scope env (a_variable u.known.of) xs (meant.a_variable s.shape) behind placed.0 refl (s.shape, s.known, refl) in
+      let following = stands_later w n n n p u.known.following before s.after scope env (le_refl n) (le_refl n) st s.later in
+      let all = all_defined w u.known.following s.after n scope env (a_variable u.known.of) xs (meant.a_variable s.shape) following placed.0 refl (s.shape, s.known, refl) in
       let own : names_listed (named w.source ns) ≡ map (text_at w.source) xs = names_listed-mapped (text_at w.source) (value_at w.source) ns in
-      let rest = variables_declare gs (k + constructors (named w.source t)) (after_names n xs) q s.after (scope_behind w n xs scope) (bind_names (map (text_at w.source) xs) (meant.a_variable s.shape) env) (omega (arith, at, s.apart.counted)) all.stands placed.2 a.1 in
+      let rest = variables_declare gs (k + constructors (named w.source t)) (after_names n xs) q s.after (scope_following w n xs scope) (bind_names (map (text_at w.source) xs) (meant.a_variable s.shape) env) (omega (arith, at, s.apart.counted)) all.stands placed.2 a.1 in
       let one : ℕ = constructors (named w.source t) in
       let others : ℕ = variables_constructors (named w.source gs) in
-      let whole = declared_then w n (after_names n xs) (after_names (after_names n xs) (variable_names gs)) k (k + one) (k + one + others) p q (reported_variables q gs).known before s.after (scope_behind w (after_names n xs) (variable_names gs) (scope_behind w n xs scope))
+      let whole = declared_then w n (after_names n xs) (after_names (after_names n xs) (variable_names gs)) k (k + one) (k + one + others) p q (reported_variables q gs).known before s.after (scope_following w (after_names n xs) (variable_names gs) (scope_following w n xs scope))
       (denoted (meanings as_names env) k (named w.source t)) s.shape (λ s. declare_typed as_names (k + constructors (named w.source t)) (named w.source gs) (bind_names (names_listed (named w.source ns)) (meant.a_variable s) env)) (le-after_names n xs) s.given_is s.apart
-      (later_then n n p u.known.behind q before s.after s.after (le_refl n) s.later all.later)
-      (subst (λ ys. Declared w (after_names n xs) (after_names (after_names n xs) (variable_names gs)) (k + one) (k + one + others) q (reported_variables q gs).known s.after (scope_behind w (after_names n xs) (variable_names gs) (scope_behind w n xs scope)) (declare_typed as_names (k + constructors (named w.source t)) (named w.source gs) (bind_names ys (meant.a_variable s.shape) env))) (sym own) rest) in
-      subst (λ l. Declared w n (after_names n (xs ++ variable_names gs)) k l p (reported_variables q gs).known before (scope_behind w n (xs ++ variable_names gs) scope) (option_and_then (λ s. declare_typed as_names (k + constructors (named w.source t)) (named w.source gs) (bind_names (names_listed (named w.source ns)) (meant.a_variable s) env)) (denoted (meanings as_names env) k (named w.source t)))) (more_constructors k one others)
+      (later_then n n p u.known.following q before s.after s.after (le_refl n) s.later all.later)
+      (subst (λ ys. Declared w (after_names n xs) (after_names (after_names n xs) (variable_names gs)) (k + one) (k + one + others) q (reported_variables q gs).known s.after (scope_following w (after_names n xs) (variable_names gs) (scope_following w n xs scope)) (declare_typed as_names (k + constructors (named w.source t)) (named w.source gs) (bind_names ys (meant.a_variable s.shape) env))) (sym own) rest) in
+      subst (λ l. Declared w n (after_names n (xs ++ variable_names gs)) k l p (reported_variables q gs).known before (scope_following w n (xs ++ variable_names gs) scope) (option_and_then (λ s. declare_typed as_names (k + constructors (named w.source t)) (named w.source gs) (bind_names (names_listed (named w.source ns)) (meant.a_variable s) env)) (denoted (meanings as_names env) k (named w.source t)))) (more_constructors k one others)
       (subst₂ (λ m z. Declared w n m k (k + one + others) p (reported_variables q gs).known before z (option_and_then (λ s. declare_typed as_names (k + constructors (named w.source t)) (named w.source gs) (bind_names (names_listed (named w.source ns)) (meant.a_variable s) env)) (denoted (meanings as_names env) k (named w.source t))))
-      (sym (after_names-append n xs (variable_names gs))) (behind-append n xs (variable_names gs) scope) whole)
+      (sym (after_names-append n xs (variable_names gs))) (following-append n xs (variable_names gs) scope) whole)

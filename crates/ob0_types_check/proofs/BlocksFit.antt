@@ -23,7 +23,7 @@ use Rattle.ob0_types_check.specs.SoFar.{SoFar, at_first, predeclared_meanings}
 use Rattle.ob0_types_check.proofs.PartsFitting.{PartsFit, parts_fit}
 use Rattle.ob0_types_check.specs.ModuleLaws.{ModulesFit}
 use Rattle.ob0_types_check.proofs.DeclaredModules.{module_placed, numbering_of}
-use Rattle.ob0_types_check.proofs.DeclaredNames.{AreSeen, BlockPlaced, ConstantsPlaced, IsPlaced, Numbering, ProcedurePlaced, ProceduresPlaced, SectionsPlaced, TypesPlaced, VariablesPlaced, after_names-map, behind_constants, behind_procedure, behind_types, behind_variables, constants-mapped, formals-mapped, scope_behind, types-mapped, variables-mapped}
+use Rattle.ob0_types_check.proofs.DeclaredNames.{AreSeen, BlockPlaced, ConstantsPlaced, IsPlaced, Numbering, ProcedurePlaced, ProceduresPlaced, SectionsPlaced, TypesPlaced, VariablesPlaced, after_names-map, following_constants, following_procedure, following_types, following_variables, constants-mapped, formals-mapped, scope_following, types-mapped, variables-mapped}
 use Rattle.ob0_types_check.proofs.DeclaredStanding.{Later, NamesStand, Stands, agrees_where_seen, defined, later_of, later_same, later_then, stands_defined, stands_later}
 use Rattle.ob0_types_check.proofs.DeclaredTypes.{none_both}
 use Rattle.ob0_types_check.proofs.BlocksDeclared.{Declared, constants_declare, declared_then, more_constructors, next_le, types_declare, variables_declare}
@@ -49,12 +49,12 @@ pub record ProcedureFits (w : Numbering) (n : ℕ) (p q : SoFar) (before : List 
   pub after : List Shape
   pub apart : Apart k (k + procedure_constructors (named w.source d)) before after
   pub later : Later n p q before after
-  pub stands : Stands w q after (after_procedure (suc n) d) (behind_procedure w scope n d) (heading (procedure_name (named w.source d)) parameters env)
+  pub stands : Stands w q after (after_procedure (suc n) d) (following_procedure w scope n d) (heading (procedure_name (named w.source d)) parameters env)
   pub bound : BindingsStand after q.declared n (after_procedure (suc n) d) (procedure_bindings as_names env k (named w.source d))
 
 -- what is known after a procedure's heading, where its parameters and it are known
 abbrev pub heading_known : SoFar → ℕ → Tree ℕ (maybe formals) → SoFar
-heading_known p x fs = after_heading x (reported_sections (record { formals = []; behind = p }) (formal_sections fs)).known
+heading_known p x fs = after_heading x (reported_sections (record { formals = []; following = p }) (formal_sections fs)).known
 
 pub record HeadingKnown (w : Numbering) (n : ℕ) (p : SoFar) (before : List Shape) (scope : Scope Name) (env : TypeEnvironment Name) (k x : ℕ) (fs : Tree ℕ (maybe formals)) : Type 0 where
   pub parameters : List (TypedParameter Name)
@@ -63,7 +63,7 @@ pub record HeadingKnown (w : Numbering) (n : ℕ) (p : SoFar) (before : List Sha
   pub apart : Apart k (k + formals_constructors (formal_sections (named w.source fs))) before after
   pub later : Later n p (heading_known p x fs) before after
   pub stands : Stands w (heading_known p x fs) after (suc n) ((text_at w.source x, n) ∷ scope) (heading (text_at w.source x) parameters env)
-  pub inside : Stands w (heading_known p x fs) after (after_names (suc n) (formal_names (formal_sections fs))) (scope_behind w (suc n) (formal_names (formal_sections fs)) ((text_at w.source x, n) ∷ scope)) (bind_typed parameters (heading (text_at w.source x) parameters env))
+  pub inside : Stands w (heading_known p x fs) after (after_names (suc n) (formal_names (formal_sections fs))) (scope_following w (suc n) (formal_names (formal_sections fs)) ((text_at w.source x, n) ∷ scope)) (bind_typed parameters (heading (text_at w.source x) parameters env))
 
 -- the ordinal after a block's constructors
 block_end : (k t v p : ℕ) → k + t + v + p ≡ k + (t + (v + p))
@@ -78,25 +78,25 @@ above : (j n : ℕ) → n < j → j ≢ n
 above j n less e = absurd (omega (arith, e, less))
 
 module _ (w : Numbering) (fit : PartsFit) where
-  pub body_told : (statements : Tree ℕ (maybe body)) (n : ℕ) (p : SoFar) (before : List Shape) (scope : Scope Name) (env : TypeEnvironment Name) → Stands w p before n scope env → AreSeen w scope statements → (reported_body p statements).faults ≡ [] → body_fits as_names env (named w.source statements) ≡ true
+  pub body_reported : (statements : Tree ℕ (maybe body)) (n : ℕ) (p : SoFar) (before : List Shape) (scope : Scope Name) (env : TypeEnvironment Name) → Stands w p before n scope env → AreSeen w scope statements → (reported_body p statements).faults ≡ [] → body_fits as_names env (named w.source statements) ≡ true
   unfolding reported_body body_fits
-  body_told none n p before scope env st seen h = refl
-  body_told (one (begins s)) n p before scope env st seen h =
+  body_reported none n p before scope env st seen h = refl
+  body_reported (one (begins s)) n p before scope env st seen h =
       ap (λ z. sequence_fits (meanings as_names env) (mapped (text_at w.source) (value_at z) s)) (sym st.source)
       ∙ fit.statements p before (text_at w.source) (meanings as_names env) s (agrees_where_seen w p false before n scope env st fit s seen) h
 
   -- a block's constants, types and variables
-  pub declarations_told : (cs : Tree ℕ (maybe constants)) (ts : Tree ℕ (maybe type_names)) (vs : Tree ℕ (maybe variables)) (ps : Tree ℕ (items procedure)) (statements : Tree ℕ (maybe body)) (k n : ℕ) (p : SoFar) (before : List Shape) (scope : Scope Name) (env : TypeEnvironment Name) → length before ≡ k → Stands w p before n scope env
+  pub declarations_reported : (cs : Tree ℕ (maybe constants)) (ts : Tree ℕ (maybe type_names)) (vs : Tree ℕ (maybe variables)) (ps : Tree ℕ (items procedure)) (statements : Tree ℕ (maybe body)) (k n : ℕ) (p : SoFar) (before : List Shape) (scope : Scope Name) (env : TypeEnvironment Name) → length before ≡ k → Stands w p before n scope env
       → ConstantsPlaced w scope n (section_constants cs)
-      → TypesPlaced w (behind_constants w scope n (has_body (declares cs ts vs ps) statements)) (first_type n (has_body (declares cs ts vs ps) statements)) (section_types ts)
-      → VariablesPlaced w (behind_types w scope n (has_body (declares cs ts vs ps) statements)) (first_variable n (has_body (declares cs ts vs ps) statements)) (section_variables vs)
+      → TypesPlaced w (following_constants w scope n (has_body (declares cs ts vs ps) statements)) (first_type n (has_body (declares cs ts vs ps) statements)) (section_types ts)
+      → VariablesPlaced w (following_types w scope n (has_body (declares cs ts vs ps) statements)) (first_variable n (has_body (declares cs ts vs ps) statements)) (section_variables vs)
       → (reported_constants p (section_constants cs)).faults ≡ []
       → (reported_types (reported_constants p (section_constants cs)).known (section_types ts)).faults ≡ []
       → (reported_variables (reported_types (reported_constants p (section_constants cs)).known (section_types ts)).known (section_variables vs)).faults ≡ []
-      → Declared w n (first_procedure n (has_body (declares cs ts vs ps) statements)) k (after_variables k (named w.source (has_body (declares cs ts vs ps) statements))) p (reported_variables (reported_types (reported_constants p (section_constants cs)).known (section_types ts)).known (section_variables vs)).known before (behind_variables w scope n (has_body (declares cs ts vs ps) statements))
+      → Declared w n (first_procedure n (has_body (declares cs ts vs ps) statements)) k (after_variables k (named w.source (has_body (declares cs ts vs ps) statements))) p (reported_variables (reported_types (reported_constants p (section_constants cs)).known (section_types ts)).known (section_variables vs)).known before (following_variables w scope n (has_body (declares cs ts vs ps) statements))
       (option_and_then (declare_typed as_names (after_types k (named w.source (has_body (declares cs ts vs ps) statements))) (section_variables (named w.source vs))) (declare_first as_names env k (named w.source (has_body (declares cs ts vs ps) statements))))
   unfolding declare_first
-  declarations_told cs ts vs ps statements k n p before scope env at st placed₀ placed₁ placed₂ none₀ none₁ none₂ =
+  declarations_reported cs ts vs ps statements k n p before scope env at st placed₀ placed₁ placed₂ none₀ none₁ none₂ =
       let text : ℕ → Name = text_at w.source in
       let value : ℕ → ℕ = value_at w.source in
       let b : Tree ℕ block = has_body (declares cs ts vs ps) statements in
@@ -105,16 +105,16 @@ module _ (w : Numbering) (fit : PartsFit) where
       let p₂ : SoFar = (reported_types p₁ (section_types ts)).known in
       let p₃ : SoFar = (reported_variables p₂ (section_variables vs)).known in
       let dc = constants_declare w fit (section_constants cs) k n p before scope env st placed₀ none₀ in
-      let dt = types_declare w fit (section_types ts) k (first_type n b) p₁ dc.after (behind_constants w scope n b) dc.env (omega (arith, at, dc.apart.counted)) dc.stands placed₁ none₁ in
+      let dt = types_declare w fit (section_types ts) k (first_type n b) p₁ dc.after (following_constants w scope n b) dc.env (omega (arith, at, dc.apart.counted)) dc.stands placed₁ none₁ in
       let le₁ : n ≤ first_type n b = le-after_names n (constant_names (section_constants cs)) in
       let le₂ : n ≤ first_variable n b = le_trans le₁ (le-after_names (first_type n b) (named_types (section_types ts))) in
-      let first : Declared w n (first_variable n b) k (after_types k nb) p p₂ before (behind_types w scope n b) (declare_first as_names env k nb) =
-      declared_then w n (first_type n b) (first_variable n b) k k (after_types k nb) p p₁ p₂ before dc.after (behind_types w scope n b) (declare_constants as_names env (section_constants (named w.source cs))) dc.env (λ e. declare_types as_names e k (section_types (named w.source ts))) le₁
+      let first : Declared w n (first_variable n b) k (after_types k nb) p p₂ before (following_types w scope n b) (declare_first as_names env k nb) =
+      declared_then w n (first_type n b) (first_variable n b) k k (after_types k nb) p p₁ p₂ before dc.after (following_types w scope n b) (declare_constants as_names env (section_constants (named w.source cs))) dc.env (λ e. declare_types as_names e k (section_types (named w.source ts))) le₁
       (ap (declare_constants as_names env) (constants-mapped text value cs) ∙ dc.given_is) dc.apart dc.later
-      (subst (λ z. Declared w (first_type n b) (first_variable n b) k (k + types_constructors z) p₁ p₂ dc.after (behind_types w scope n b) (declare_types as_names dc.env k z)) (sym (types-mapped text value ts)) dt) in
-      let dv = variables_declare w fit (section_variables vs) (after_types k nb) (first_variable n b) p₂ first.after (behind_types w scope n b) first.env (omega (arith, at, first.apart.counted)) first.stands placed₂ none₂ in
-      declared_then w n (first_variable n b) (first_procedure n b) k (after_types k nb) (after_variables k nb) p p₂ p₃ before first.after (behind_variables w scope n b) (declare_first as_names env k nb) first.env (declare_typed as_names (after_types k nb) (section_variables (named w.source vs))) le₂ first.given_is first.apart first.later
-      (subst (λ z. Declared w (first_variable n b) (first_procedure n b) (after_types k nb) (after_types k nb + variables_constructors z) p₂ p₃ first.after (behind_variables w scope n b) (declare_typed as_names (after_types k nb) z first.env)) (sym (variables-mapped text value vs)) dv)
+      (subst (λ z. Declared w (first_type n b) (first_variable n b) k (k + types_constructors z) p₁ p₂ dc.after (following_types w scope n b) (declare_types as_names dc.env k z)) (sym (types-mapped text value ts)) dt) in
+      let dv = variables_declare w fit (section_variables vs) (after_types k nb) (first_variable n b) p₂ first.after (following_types w scope n b) first.env (omega (arith, at, first.apart.counted)) first.stands placed₂ none₂ in
+      declared_then w n (first_variable n b) (first_procedure n b) k (after_types k nb) (after_variables k nb) p p₂ p₃ before first.after (following_variables w scope n b) (declare_first as_names env k nb) first.env (declare_typed as_names (after_types k nb) (section_variables (named w.source vs))) le₂ first.given_is first.apart first.later
+      (subst (λ z. Declared w (first_variable n b) (first_procedure n b) (after_types k nb) (after_types k nb + variables_constructors z) p₂ p₃ first.after (following_variables w scope n b) (declare_typed as_names (after_types k nb) z first.env)) (sym (variables-mapped text value vs)) dv)
 
   -- a block after its declarations
   block_then : (p v q : SoFar) (before : List Shape) (n m i k j l : ℕ) (scope : Scope Name) (env : TypeEnvironment Name) (given : Option (TypeEnvironment Name)) (statements : Tree ℕ (maybe body)) (test : TypeEnvironment Name → Bool) (bindings : TypeEnvironment Name → TypeEnvironment Name) → n ≤ m → (d : Declared w n m k j p v before scope given)
@@ -131,36 +131,36 @@ module _ (w : Numbering) (fit : PartsFit) where
       })
 
   -- a procedure's heading, and what is known after it
-  pub heading_told : (x : ℕ) (fs : Tree ℕ (maybe formals)) (k n : ℕ) (p : SoFar) (before : List Shape) (scope : Scope Name) (env : TypeEnvironment Name) → length before ≡ k → Stands w p before n scope env → IsPlaced w n x → SectionsPlaced w scope (suc n) (formal_sections fs)
-      → (reported_sections (record { formals = []; behind = p }) (formal_sections fs)).faults ≡ [] → HeadingKnown w n p before scope env k x fs
-  heading_told x fs k n p before scope env at st placed sections untold =
+  pub heading_reported : (x : ℕ) (fs : Tree ℕ (maybe formals)) (k n : ℕ) (p : SoFar) (before : List Shape) (scope : Scope Name) (env : TypeEnvironment Name) → length before ≡ k → Stands w p before n scope env → IsPlaced w n x → SectionsPlaced w scope (suc n) (formal_sections fs)
+      → (reported_sections (record { formals = []; following = p }) (formal_sections fs)).faults ≡ [] → HeadingKnown w n p before scope env k x fs
+  heading_reported x fs k n p before scope env at st placed sections untold =
       let text : ℕ → Name = text_at w.source in
-      let start : KnownHeading = record { formals = []; behind = p } in
+      let start : KnownHeading = record { formals = []; following = p } in
       let g : KnownHeading = (reported_sections start (formal_sections fs)).known in
       let q₁ : SoFar = heading_known p x fs in
       let weak = stands_later w n n (suc n) p p before before scope env (le_refl n) (next_le n) st (later_same n p before st.table) in
       let ps = sections_declare w fit (formal_sections fs) k (suc n) start before scope env at weak sections untold in
       let signature : Signature = formals_of ps.parameters in
-      let outer = stands_later w n (suc n) n p g.behind before ps.after scope env (next_le n) (le_refl n) st ps.later in
-      let made = defined w g.behind ps.after n (a_procedure g.formals) x outer.ordinals outer.room outer.table placed in
-      let own = stands_defined w g.behind q₁ ps.after n scope env (a_procedure g.formals) (text x) (meant.a_procedure signature) outer made refl (signature, refl, ps.formals [] tt) in
+      let outer = stands_later w n (suc n) n p g.following before ps.after scope env (next_le n) (le_refl n) st ps.later in
+      let made = defined w g.following ps.after n (a_procedure g.formals) x outer.ordinals outer.room outer.table placed in
+      let own = stands_defined w g.following q₁ ps.after n scope env (a_procedure g.formals) (text x) (meant.a_procedure signature) outer made refl (signature, refl, ps.formals [] tt) in
       let names : List ℕ = formal_names (formal_sections fs) in
       let xs : List Name = map text names in
-      let kept = parameters_kept ps.after ps.after g.behind.declared q₁.declared (suc n) (after_names (suc n) xs) (λ t s e. e) (λ j from to. made.others j (above j n from)) xs ps.parameters (le_refl (after_names (suc n) xs)) ps.own in
+      let kept = parameters_kept ps.after ps.after g.following.declared q₁.declared (suc n) (after_names (suc n) xs) (λ t s e. e) (λ j from to. made.others j (above j n from)) xs ps.parameters (le_refl (after_names (suc n) xs)) ps.own in
       let inner = parameters_over ps.after q₁.declared (suc n) ((text x, n) ∷ scope) ((text x, meant.a_procedure signature) ∷ env) xs ps.parameters own.names kept in
       record {
         parameters = ps.parameters;
         typed = ap (typed_parameters as_names env k) (formals-mapped text (value_at w.source) fs) ∙ ps.given_is;
         after = ps.after;
         apart = subst (λ z. Apart k (k + formals_constructors z) before ps.after) (sym (formals-mapped text (value_at w.source) fs)) ps.apart;
-        later = later_then n n p g.behind q₁ before ps.after ps.after (le_refl n) (later_of n (suc n) p g.behind before ps.after (next_le n) ps.later) made.later;
+        later = later_then n n p g.following q₁ before ps.after ps.after (le_refl n) (later_of n (suc n) p g.following before ps.after (next_le n) ps.later) made.later;
         stands = own;
         inside = record {
           source = own.source;
           ordinals = own.ordinals;
           room = own.room;
           table = own.table;
-          names = subst (λ j. NamesStand ps.after q₁.declared j (scope_behind w (suc n) names ((text x, n) ∷ scope)) (bind_typed ps.parameters (heading (text x) ps.parameters env))) (after_names-map text (suc n) names) inner;
+          names = subst (λ j. NamesStand ps.after q₁.declared j (scope_following w (suc n) names ((text x, n) ∷ scope)) (bind_typed ps.parameters (heading (text x) ps.parameters env))) (after_names-map text (suc n) names) inner;
         };
       }
 
@@ -185,9 +185,9 @@ module _ (w : Numbering) (fit : PartsFit) where
   mutual
     unfolding reported_block block_fits block_bindings
 
-    pub block_told : (b : Tree ℕ block) (k n : ℕ) (p : SoFar) (before : List Shape) (scope : Scope Name) (env : TypeEnvironment Name) → length before ≡ k → Stands w p before n scope env → BlockPlaced w scope n b → (reported_block p b).faults ≡ []
+    pub block_reported : (b : Tree ℕ block) (k n : ℕ) (p : SoFar) (before : List Shape) (scope : Scope Name) (env : TypeEnvironment Name) → length before ≡ k → Stands w p before n scope env → BlockPlaced w scope n b → (reported_block p b).faults ≡ []
         → FitsLater n (after_block n b) k (k + block_constructors (named w.source b)) p (reported_block p b).known before (block_fits as_names env k (named w.source b)) (block_bindings as_names env k (named w.source b))
-    block_told (has_body (declares cs ts vs ps) statements) k n p before scope env at st placed h =
+    block_reported (has_body (declares cs ts vs ps) statements) k n p before scope env at st placed h =
         let b : Tree ℕ block = has_body (declares cs ts vs ps) statements in
         let nb : Tree Name block = named w.source b in
         let text : ℕ → Name = text_at w.source in
@@ -200,27 +200,27 @@ module _ (w : Numbering) (fit : PartsFit) where
         let a₂ = none_both t₂.faults (t₃.faults ++ (t₄.faults ++ t₅.faults)) a₁.1 in
         let a₃ = none_both t₃.faults (t₄.faults ++ t₅.faults) a₂.1 in
         let a₄ = none_both t₄.faults t₅.faults a₃.1 in
-        let d = declarations_told cs ts vs ps statements k n p before scope env at st placed.0 placed.1 placed.2 a₁.0 a₂.0 a₃.0 in
+        let d = declarations_reported cs ts vs ps statements k n p before scope env at st placed.0 placed.1 placed.2 a₁.0 a₂.0 a₃.0 in
         let le : n ≤ first_procedure n b = le_trans (le-after_names n (constant_names (section_constants cs))) (le_trans (le-after_names (first_type n b) (named_types (section_types ts))) (le-after_names (first_variable n b) (variable_names (section_variables vs)))) in
-        let rest = procedures_told ps statements (after_variables k nb) (first_procedure n b) t₃.known d.after (behind_variables w scope n b) d.env (omega (arith, at, d.apart.counted)) d.stands placed.3 a₄.0 a₄.1 in
+        let rest = procedures_reported ps statements (after_variables k nb) (first_procedure n b) t₃.known d.after (following_variables w scope n b) d.env (omega (arith, at, d.apart.counted)) d.stands placed.3 a₄.0 a₄.1 in
         let l : ℕ = after_variables k nb + procedures_constructors (named w.source ps) in
         let own = sections_bind d.after t₃.known.declared (first_procedure n b) n (first_type n b) (first_variable n b) (first_procedure n b) (map text (constant_names (section_constants cs))) (map text (named_types (section_types ts))) (map text (variable_names (section_variables vs))) scope env d.env
         (after_names-map text n (constant_names (section_constants cs))) (after_names-map text (first_type n b) (named_types (section_types ts))) (after_names-map text (first_variable n b) (variable_names (section_variables vs)))
         (as_long before p.declared n scope env st.names) d.stands.names in
         subst (λ j. FitsLater n (after_block n b) k j p (reported_block p (has_body (declares cs ts vs ps) statements)).known before (block_fits as_names env k (named w.source (has_body (declares cs ts vs ps) statements))) (block_bindings as_names env k (named w.source (has_body (declares cs ts vs ps) statements))))
         (block_end k (types_constructors (section_types (named w.source ts))) (variables_constructors (section_variables (named w.source vs))) (procedures_constructors (named w.source ps)))
-        (block_then p t₃.known t₄.known before n (first_procedure n b) (after_block n b) k (after_variables k nb) l (behind_variables w scope n b) env (option_and_then (declare_typed as_names (after_types k nb) (section_variables (named w.source vs))) (declare_first as_names env k nb)) statements
+        (block_then p t₃.known t₄.known before n (first_procedure n b) (after_block n b) k (after_variables k nb) l (following_variables w scope n b) env (option_and_then (declare_typed as_names (after_types k nb) (section_variables (named w.source vs))) (declare_first as_names env k nb)) statements
         (λ inner. procedures_fit as_names inner (after_variables k nb) (named w.source statements) (named w.source ps)) (λ inner. procedures_bindings as_names inner (after_variables k nb) (named w.source ps)) le d own rest)
 
-    procedures_told : (ps : Tree ℕ (items procedure)) (statements : Tree ℕ (maybe body)) (k n : ℕ) (p : SoFar) (before : List Shape) (scope : Scope Name) (env : TypeEnvironment Name) → length before ≡ k → Stands w p before n scope env → ProceduresPlaced w scope n statements ps → (reported_procedures p ps).faults ≡ []
+    procedures_reported : (ps : Tree ℕ (items procedure)) (statements : Tree ℕ (maybe body)) (k n : ℕ) (p : SoFar) (before : List Shape) (scope : Scope Name) (env : TypeEnvironment Name) → length before ≡ k → Stands w p before n scope env → ProceduresPlaced w scope n statements ps → (reported_procedures p ps).faults ≡ []
         → (reported_body (reported_procedures p ps).known statements).faults ≡ [] → FitsLater n (after_procedures n ps) k (k + procedures_constructors (named w.source ps)) p (reported_procedures p ps).known before (procedures_fit as_names env k (named w.source statements) (named w.source ps)) (procedures_bindings as_names env k (named w.source ps))
-    procedures_told end statements k n p before scope env at st placed h last = record { right = body_told statements n p before scope env st placed last; after = before; apart = apart_same k (k + 0) before (omega arith); later = later_same n p before st.table; bound = refl }
-    procedures_told (more d rest) statements k n p before scope env at st placed h last =
+    procedures_reported end statements k n p before scope env at st placed h last = record { right = body_reported statements n p before scope env st placed last; after = before; apart = apart_same k (k + 0) before (omega arith); later = later_same n p before st.table; bound = refl }
+    procedures_reported (more d rest) statements k n p before scope env at st placed h last =
         let nd : Tree Name (item procedure) = named w.source d in
         let q : SoFar = (reported_procedure p d).known in
         let a = none_both (reported_procedure p d).faults (reported_procedures q rest).faults h in
-        let f = procedure_told d k n p before scope env at st placed.0 a.0 in
-        let others = procedures_told rest statements (k + procedure_constructors nd) (after_procedure (suc n) d) q f.after (behind_procedure w scope n d) (heading (procedure_name nd) f.parameters env) (omega (arith, at, f.apart.counted)) f.stands placed.1 a.1 last in
+        let f = procedure_reported d k n p before scope env at st placed.0 a.0 in
+        let others = procedures_reported rest statements (k + procedure_constructors nd) (after_procedure (suc n) d) q f.after (following_procedure w scope n d) (heading (procedure_name nd) f.parameters env) (omega (arith, at, f.apart.counted)) f.stands placed.1 a.1 last in
         record {
           right = ap (λ o. some_and o (λ ps. procedure_fits as_names (bind_typed ps (heading (procedure_name nd) ps env)) k nd && procedures_fit as_names (heading (procedure_name nd) ps env) (k + procedure_constructors nd) (named w.source statements) (named w.source rest))) f.typed
               ∙ (λ i. f.right i && others.right i);
@@ -233,19 +233,19 @@ module _ (w : Numbering) (fit : PartsFit) where
               (bindings_later f.after others.after q.declared (reported_procedures q rest).known.declared n (after_procedure (suc n) d) (after_procedure (suc n) d) others.later.longer others.later.kept (le_refl (after_procedure (suc n) d)) (procedure_bindings as_names env k nd) f.bound));
         }
 
-    pub procedure_told : (d : Tree ℕ (item procedure)) (k n : ℕ) (p : SoFar) (before : List Shape) (scope : Scope Name) (env : TypeEnvironment Name) → length before ≡ k → Stands w p before n scope env → ProcedurePlaced w scope n d → (reported_procedure p d).faults ≡ []
+    pub procedure_reported : (d : Tree ℕ (item procedure)) (k n : ℕ) (p : SoFar) (before : List Shape) (scope : Scope Name) (env : TypeEnvironment Name) → length before ≡ k → Stands w p before n scope env → ProcedurePlaced w scope n d → (reported_procedure p d).faults ≡ []
         → ProcedureFits w n p (reported_procedure p d).known before scope env k d
-    procedure_told (declares_procedure x fs b closing) k n p before scope env at st placed h =
+    procedure_reported (declares_procedure x fs b closing) k n p before scope env at st placed h =
         let d : Tree ℕ (item procedure) = declares_procedure x fs b closing in
         let text : ℕ → Name = text_at w.source in
         let q₁ : SoFar = heading_known p x fs in
         let q : SoFar = (reported_block q₁ b).known in
-        let a = none_both (reported_sections (record { formals = []; behind = p }) (formal_sections fs)).faults (reported_block q₁ b).faults h in
-        let e = heading_told x fs k n p before scope env at st placed.0 placed.1 a.0 in
+        let a = none_both (reported_sections (record { formals = []; following = p }) (formal_sections fs)).faults (reported_block q₁ b).faults h in
+        let e = heading_reported x fs k n p before scope env at st placed.0 placed.1 a.0 in
         let first : ℕ = k + formals_constructors (formal_sections (named w.source fs)) in
         let own : ℕ = block_constructors (named w.source b) in
         let m : ℕ = after_names (suc n) (formal_names (formal_sections fs)) in
-        let f = block_told b first m q₁ e.after (scope_behind w (suc n) (formal_names (formal_sections fs)) ((text x, n) ∷ scope)) (bind_typed e.parameters (heading (text x) e.parameters env)) (omega (arith, at, e.apart.counted)) e.inside placed.2 a.1 in
+        let f = block_reported b first m q₁ e.after (scope_following w (suc n) (formal_names (formal_sections fs)) ((text x, n) ∷ scope)) (bind_typed e.parameters (heading (text x) e.parameters env)) (omega (arith, at, e.apart.counted)) e.inside placed.2 a.1 in
         let le : suc n ≤ m = le-after_names (suc n) (formal_names (formal_sections fs)) in
         record {
           parameters = e.parameters;
@@ -318,4 +318,4 @@ unfolding reported_module fits_over
 modules_fit-holds r is h =
     let m = r.module_read in
     let a = none_both (filter is_of_occurrences r.faults) (reported_block (at_first r) (module_block (tree_of m))).faults h in
-    (block_told (numbering_of r) parts_fit (module_block (tree_of m)) 0 7 (at_first r) [] (predeclared_scope as_names) (outermost as_names) refl (first_stands r) (module_placed r is a.0) a.1).right
+    (block_reported (numbering_of r) parts_fit (module_block (tree_of m)) 0 7 (at_first r) [] (predeclared_scope as_names) (outermost as_names) refl (first_stands r) (module_placed r is a.0) a.1).right

@@ -25,7 +25,7 @@ use Rattle.ob0_types_check.specs.ModuleLaws.{DeclarationsKnown}
 use Rattle.ob0_types_check.specs.SoFar.{SoFar, at_first}
 use Rattle.ob0_types_check.proofs.BindingsByOrdinal.{InOrder, Ordered, module-block, module-ordered}
 use Rattle.ob0_types_check.proofs.BlocksBound.{BindingsStand, bindings_both, bindings_later, names_bind}
-use Rattle.ob0_types_check.proofs.BlocksFit.{block_told, first_stands, room_first}
+use Rattle.ob0_types_check.proofs.BlocksFit.{block_reported, first_stands, room_first}
 use Rattle.ob0_types_check.proofs.DeclaredModules.{module_counted, module_placed, numbering_of}
 use Rattle.ob0_types_check.proofs.DeclaredNames.{after_block-mapped}
 use Rattle.ob0_types_check.proofs.DeclaredTypes.{none_both}
@@ -109,7 +109,7 @@ declarations_known-holds r is h =
     let q : SoFar = (reported_block (at_first r) b).known in
     let a = none_both (filter is_of_occurrences r.faults) (reported_block (at_first r) b).faults h in
     let st = first_stands r in
-    let f = block_told (numbering_of r) parts_fit b 0 7 (at_first r) [] (predeclared_scope as_names) (outermost as_names) refl st (module_placed r is a.0) a.1 in
+    let f = block_reported (numbering_of r) parts_fit b 0 7 (at_first r) [] (predeclared_scope as_names) (outermost as_names) refl st (module_placed r is a.0) a.1 in
     let first : BindingsStand f.after q.declared 0 7 (outermost as_names) =
     bindings_later [] f.after (at_first r).declared q.declared 0 7 7 f.later.longer f.later.kept (le_refl 7) (outermost as_names) (names_bind [] (at_first r).declared 7 0 7 (map as_names.predeclared (0 ∷ 1 ∷ 2 ∷ 3 ∷ 4 ∷ 5 ∷ 6 ∷ [])) [] [] (outermost as_names) refl refl st.names) in
     let bound : BindingsStand f.after q.declared 0 last (module_bindings as_names (named_tree_of m)) =

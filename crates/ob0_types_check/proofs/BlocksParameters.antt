@@ -16,14 +16,14 @@ use Rattle.ob0_types_rules.specs.Typing.{constructors, denoted}
 use Rattle.ob0_types_rules.specs.WellTyped.{Mode, Signature, TypeEnvironment, TypedParameter, bind_names, bind_typed, by_place, by_value, typed_parameters}
 use Rattle.ob0_values.specs.Values.{Shape}
 use Rattle.ob0_types_check.specs.DeclarationFaults.{KnownHeading, reported_parameters, reported_section, reported_sections, with_parameters}
-use Rattle.ob0_types_check.specs.Known.{Formal, Meaning, Reported, a_variable}
+use Rattle.ob0_types_check.specs.Known.{KnownFormal, Meaning, Reported, a_variable}
 use Rattle.ob0_types_check.specs.SoFar.{SoFar, TypedAfter, define, define_all}
 use Rattle.ob0_types_check.specs.WrittenTypeFaults.{reported_type}
 use Rattle.ob0_types_check.specs.Agreement.{FormalsAgree, MeansAlike, shape_in}
 use Rattle.ob0_types_check.proofs.BlocksDeclared.{more_constructors}
 use Rattle.ob0_types_check.proofs.MadeOnce.{Apart, apart_same, apart_then}
 use Rattle.ob0_types_check.proofs.PartsFitting.{PartsFit}
-use Rattle.ob0_types_check.proofs.DeclaredNames.{AreSeen, NamesPlaced, Numbering, SectionsPlaced, after_names-map, names_listed-mapped, scope_behind}
+use Rattle.ob0_types_check.proofs.DeclaredNames.{AreSeen, NamesPlaced, Numbering, SectionsPlaced, after_names-map, names_listed-mapped, scope_following}
 use Rattle.ob0_types_check.proofs.DeclaredShapes.{Longer}
 use Rattle.ob0_types_check.proofs.DeclaredStanding.{Later, NamesStand, Stands, all_defined, defined, formals_kept, later_same, later_then, names_later, stands_defined, stands_kept, stands_later}
 use Rattle.ob0_types_check.proofs.DeclaredTypes.{none_both, type_denotes}
@@ -63,7 +63,7 @@ parameters_both shapes declared k [] ys (p ∷ ps) qs h next = absurd h
 parameters_both shapes declared k (x ∷ xs) ys [] qs h next = absurd h
 parameters_both shapes declared k (x ∷ xs) ys (p ∷ ps) qs h next = (h.0, h.1, parameters_both shapes declared (suc k) xs ys ps qs h.2 next)
 
-formals_both : (shape : TypeId → Option Shape) (fs gs : List (Formal TypeId)) (s t : Signature) → FormalsAgree shape fs s → FormalsAgree shape gs t → FormalsAgree shape (fs ++ gs) (s ++ t)
+formals_both : (shape : TypeId → Option Shape) (fs gs : List (KnownFormal TypeId)) (s t : Signature) → FormalsAgree shape fs s → FormalsAgree shape gs t → FormalsAgree shape (fs ++ gs) (s ++ t)
 formals_both shape [] gs [] t h next = next
 formals_both shape [] gs (a ∷ s) t h next = absurd h
 formals_both shape (f ∷ fs) gs [] t h next = absurd h
@@ -105,8 +105,8 @@ pub record Parameters (n k l : ℕ) (h g : KnownHeading) (before : List Shape) (
   pub given_is : given ≡ Some parameters
   pub after : List Shape
   pub apart : Apart k l before after
-  pub later : Later n h.behind g.behind before after
-  pub own : ParametersStand after g.behind.declared n xs parameters
+  pub later : Later n h.following g.following before after
+  pub own : ParametersStand after g.following.declared n xs parameters
   pub formals : (signature : Signature) → FormalsAgree (shape_in before) h.formals signature → FormalsAgree (shape_in after) g.formals (signature ++ formals_of parameters)
 
 -- those of one type, and what is known after them
@@ -115,34 +115,34 @@ pub record OneType (w : Numbering) (n m k l : ℕ) (h g : KnownHeading) (before 
   pub given_is : given ≡ Some shape
   pub after : List Shape
   pub apart : Apart k l before after
-  pub later : Later n h.behind g.behind before after
-  pub stands : Stands w g.behind after m scope (bind_names xs (meant.a_variable shape) env)
-  pub own : ParametersStand after g.behind.declared n xs (map (typed_as mode shape) xs)
+  pub later : Later n h.following g.following before after
+  pub stands : Stands w g.following after m scope (bind_names xs (meant.a_variable shape) env)
+  pub own : ParametersStand after g.following.declared n xs (map (typed_as mode shape) xs)
   pub formals : (signature : Signature) → FormalsAgree (shape_in before) h.formals signature → FormalsAgree (shape_in after) g.formals (signature ++ formals_of (map (typed_as mode shape) xs))
 
 module _ (w : Numbering) (fit : PartsFit) where
-  pub one_type : (by : Bool) (xs : List ℕ) (t : Tree ℕ written_type) (k n : ℕ) (h : KnownHeading) (before : List Shape) (scope : Scope Name) (env : TypeEnvironment Name) → length before ≡ k → Stands w h.behind before n scope env → NamesPlaced w n xs → AreSeen w scope t → (reported_type 0 h.behind t).faults ≡ []
-      → OneType w n (after_names n xs) k (k + constructors (named w.source t)) h (with_parameters h by xs (reported_type 0 h.behind t).known) before (scope_behind w n xs scope) env (mode_of by) (map (text_at w.source) xs) (denoted (meanings as_names env) k (named w.source t))
+  pub one_type : (by : Bool) (xs : List ℕ) (t : Tree ℕ written_type) (k n : ℕ) (h : KnownHeading) (before : List Shape) (scope : Scope Name) (env : TypeEnvironment Name) → length before ≡ k → Stands w h.following before n scope env → NamesPlaced w n xs → AreSeen w scope t → (reported_type 0 h.following t).faults ≡ []
+      → OneType w n (after_names n xs) k (k + constructors (named w.source t)) h (with_parameters h by xs (reported_type 0 h.following t).known) before (scope_following w n xs scope) env (mode_of by) (map (text_at w.source) xs) (denoted (meanings as_names env) k (named w.source t))
   one_type by xs t k n h before scope env at st placed seen none =
-      let u : TypedAfter = (reported_type 0 h.behind t).known in
-      let s = type_denotes w fit n scope env 0 k t h.behind before (omega (arith, at)) st seen none in
-      let behind = stands_later w n n n h.behind u.behind before s.after scope env (le_refl n) (le_refl n) st s.later in
-      let all = all_defined w u.behind s.after n scope env (a_variable u.of) xs (meant.a_variable s.shape) behind placed refl (s.shape, s.known, refl) in
+      let u : TypedAfter = (reported_type 0 h.following t).known in
+      let s = type_denotes w fit n scope env 0 k t h.following before (omega (arith, at)) st seen none in
+      let following = stands_later w n n n h.following u.following before s.after scope env (le_refl n) (le_refl n) st s.later in
+      let all = all_defined w u.following s.after n scope env (a_variable u.of) xs (meant.a_variable s.shape) following placed refl (s.shape, s.known, refl) in
       record {
         shape = s.shape;
         given_is = s.given_is;
         after = s.after;
         apart = s.apart;
-        later = later_then n n h.behind u.behind (define_all u.behind (a_variable u.of) xs) before s.after s.after (le_refl n) s.later all.later;
+        later = later_then n n h.following u.following (define_all u.following (a_variable u.of) xs) before s.after s.after (le_refl n) s.later all.later;
         stands = all.stands;
-        own = own_stand w u.behind s.after n scope env (mode_of by) u.of s.shape xs s.known behind placed;
+        own = own_stand w u.following s.after n scope env (mode_of by) u.of s.shape xs s.known following placed;
         formals = λ signature agree. formals_both (shape_in s.after) h.formals (map (λ x. record { by_place = by; of = u.of }) xs) signature (formals_of (map (typed_as (mode_of by) s.shape) (map (text_at w.source) xs)))
             (formals_kept before s.after s.later.longer h.formals signature agree) (formals_same (shape_in s.after) (text_at w.source) by u.of s.shape s.known xs);
       }
 
   -- one type, and then the others
   parameters_then : (mode : Mode) (xs : List ℕ) (ns ys : List Name) (n k j m : ℕ) (h g l : KnownHeading) (before : List Shape) (scope : Scope Name) (env : TypeEnvironment Name) (given : Option Shape) (next : TypeEnvironment Name → Option (List (TypedParameter Name))) → ns ≡ map (text_at w.source) xs
-      → (one : OneType w n (after_names n xs) k j h g before (scope_behind w n xs scope) env mode (map (text_at w.source) xs) given) → Parameters (after_names n xs) j m g l one.after ys (next (bind_names (map (text_at w.source) xs) (meant.a_variable one.shape) env))
+      → (one : OneType w n (after_names n xs) k j h g before (scope_following w n xs scope) env mode (map (text_at w.source) xs) given) → Parameters (after_names n xs) j m g l one.after ys (next (bind_names (map (text_at w.source) xs) (meant.a_variable one.shape) env))
       → Parameters n k m h l before (map (text_at w.source) xs ++ ys) (option_and_then (λ s. option_and_then (λ rest. Some (map (typed_as mode s) ns ++ rest)) (next (bind_names ns (meant.a_variable s) env))) given)
   parameters_then mode xs ns ys n k j m h g l before scope env given next e one rest =
       let own : List (TypedParameter Name) = map (typed_as mode one.shape) (map (text_at w.source) xs) in
@@ -155,15 +155,15 @@ module _ (w : Numbering) (fit : PartsFit) where
             ∙ ap (option_and_then (λ rest. Some (own ++ rest))) rest.given_is;
         after = rest.after;
         apart = apart_then k j m before one.after rest.after one.apart rest.apart;
-        later = later_then n (after_names n xs) h.behind g.behind l.behind before one.after rest.after (le-after_names n xs) one.later rest.later;
-        own = parameters_both rest.after l.behind.declared n (map (text_at w.source) xs) ys own rest.parameters
-            (parameters_kept one.after rest.after g.behind.declared l.behind.declared n last rest.later.longer (λ j from to. rest.later.kept j (subst (λ m. j < m) same to)) (map (text_at w.source) xs) own (le_refl last) one.own)
-            (subst (λ m. ParametersStand rest.after l.behind.declared m ys rest.parameters) (sym same) rest.own);
+        later = later_then n (after_names n xs) h.following g.following l.following before one.after rest.after (le-after_names n xs) one.later rest.later;
+        own = parameters_both rest.after l.following.declared n (map (text_at w.source) xs) ys own rest.parameters
+            (parameters_kept one.after rest.after g.following.declared l.following.declared n last rest.later.longer (λ j from to. rest.later.kept j (subst (λ m. j < m) same to)) (map (text_at w.source) xs) own (le_refl last) one.own)
+            (subst (λ m. ParametersStand rest.after l.following.declared m ys rest.parameters) (sym same) rest.own);
         formals = λ signature agree. subst (FormalsAgree (shape_in rest.after) l.formals) (append_assoc signature (formals_of own) (formals_of rest.parameters) ∙ ap (λ z. signature ++ z) (sym (map-append (λ p. p.formal) own rest.parameters)))
             (rest.formals (signature ++ formals_of own) (one.formals signature agree));
       }
 
-  pub sections_declare : (fs : Tree ℕ (items further_section)) (k n : ℕ) (h : KnownHeading) (before : List Shape) (scope : Scope Name) (env : TypeEnvironment Name) → length before ≡ k → Stands w h.behind before n scope env → SectionsPlaced w scope n fs → (reported_sections h fs).faults ≡ []
+  pub sections_declare : (fs : Tree ℕ (items further_section)) (k n : ℕ) (h : KnownHeading) (before : List Shape) (scope : Scope Name) (env : TypeEnvironment Name) → length before ≡ k → Stands w h.following before n scope env → SectionsPlaced w scope n fs → (reported_sections h fs).faults ≡ []
       → Parameters n k (k + formals_constructors (named w.source fs)) h (reported_sections h fs).known before (map (text_at w.source) (formal_names fs)) (typed_parameters as_names env k (named w.source fs))
   unfolding reported_sections reported_section reported_parameters typed_parameters
   sections_declare end k n h before scope env at st placed none = record {
@@ -171,17 +171,17 @@ module _ (w : Numbering) (fit : PartsFit) where
     given_is = refl;
     after = before;
     apart = apart_same k (k + 0) before (omega arith);
-    later = later_same n h.behind before st.table;
+    later = later_same n h.following before st.table;
     own = tt;
     formals = λ signature agree. subst (FormalsAgree (shape_in before) h.formals) (sym (append-nil signature)) agree;
   }
   sections_declare (more (then_section (value_section ns t)) fs) k n h before scope env at st placed none =
       let xs : List ℕ = names_listed ns in
-      let u : Reported TypedAfter = reported_type 0 h.behind t in
+      let u : Reported TypedAfter = reported_type 0 h.following t in
       let g : KnownHeading = with_parameters h false xs u.known in
       let a = none_both (u.faults ++ []) (reported_sections g fs).faults none in
       let one = one_type false xs t k n h before scope env at st placed.0 placed.1 (none_both u.faults [] a.0).0 in
-      let rest = sections_declare fs (k + constructors (named w.source t)) (after_names n xs) g one.after (scope_behind w n xs scope) (bind_names (map (text_at w.source) xs) (meant.a_variable one.shape) env) (omega (arith, at, one.apart.counted)) one.stands placed.2 a.1 in
+      let rest = sections_declare fs (k + constructors (named w.source t)) (after_names n xs) g one.after (scope_following w n xs scope) (bind_names (map (text_at w.source) xs) (meant.a_variable one.shape) env) (omega (arith, at, one.apart.counted)) one.stands placed.2 a.1 in
       let own : ℕ = constructors (named w.source t) in
       let others : ℕ = formals_constructors (named w.source fs) in
       subst₂ (λ l ys. Parameters n k l h (reported_sections g fs).known before ys (typed_parameters as_names env k (named w.source (more (then_section (value_section ns t)) fs)))) (more_constructors k own others) (sym (map-append (text_at w.source) xs (formal_names fs)))
@@ -189,11 +189,11 @@ module _ (w : Numbering) (fit : PartsFit) where
       (λ e. typed_parameters as_names e (k + constructors (named w.source t)) (named w.source fs)) (names_listed-mapped (text_at w.source) (value_at w.source) ns) one rest)
   sections_declare (more (then_section (variable_section ns t)) fs) k n h before scope env at st placed none =
       let xs : List ℕ = names_listed ns in
-      let u : Reported TypedAfter = reported_type 0 h.behind t in
+      let u : Reported TypedAfter = reported_type 0 h.following t in
       let g : KnownHeading = with_parameters h true xs u.known in
       let a = none_both (u.faults ++ []) (reported_sections g fs).faults none in
       let one = one_type true xs t k n h before scope env at st placed.0 placed.1 (none_both u.faults [] a.0).0 in
-      let rest = sections_declare fs (k + constructors (named w.source t)) (after_names n xs) g one.after (scope_behind w n xs scope) (bind_names (map (text_at w.source) xs) (meant.a_variable one.shape) env) (omega (arith, at, one.apart.counted)) one.stands placed.2 a.1 in
+      let rest = sections_declare fs (k + constructors (named w.source t)) (after_names n xs) g one.after (scope_following w n xs scope) (bind_names (map (text_at w.source) xs) (meant.a_variable one.shape) env) (omega (arith, at, one.apart.counted)) one.stands placed.2 a.1 in
       let own : ℕ = constructors (named w.source t) in
       let others : ℕ = formals_constructors (named w.source fs) in
       subst₂ (λ l ys. Parameters n k l h (reported_sections g fs).known before ys (typed_parameters as_names env k (named w.source (more (then_section (variable_section ns t)) fs)))) (more_constructors k own others) (sym (map-append (text_at w.source) xs (formal_names fs)))

@@ -137,5 +137,5 @@ none-unbound source (token ∷ tokens) (label ∷ labels) h =
 pub names_bound-holds : NamesBound
 names_bound-holds r is h =
     let m = r.module_read in
-    is.told.undeclared
+    is.reported.undeclared
     ∙ none-unbound m.source (occurrences (tree_of m)) (bindings (named_tree_of m)) (labels-bound (numbered (named_tree_of m)) (sym (fits_by_ordinal-holds (named_tree_of m)) ∙ h))

@@ -21,7 +21,7 @@ name-of : {V Q B : Type 0} (f : Option (Object V Q) → Option B) → f None ≡
 name-of f nothing None b h = absurd (some-none b (sym h ∙ nothing))
 name-of f nothing (Some x) b h = (x, refl)
 
-module _ {N Q : Type 0} (P : N → Type 0) (meaning : Meanings N Shape Q) (bound : (x : N) (o : Object Shape Q) → meaning.stands_for x ≡ Some o → P x) where
+module _ {N Q : Type 0} (P : N → Type 0) (meaning : Meanings N Shape Q) (bound : (x : N) (o : Object Shape Q) → meaning.object_for x ≡ Some o → P x) where
   mutual
     unfolding type_of
 
@@ -59,8 +59,8 @@ module _ {N Q : Type 0} (P : N → Type 0) (meaning : Meanings N Shape Q) (bound
 
     factor-bound : (f : Tree N factor) (s : Shape) → type_of_factor meaning f ≡ Some s → Each P (occurrences f)
     factor-bound (designator x path) s h =
-        let (u, hu, last) = and-then (λ s. type_at meaning s path) (object_type (meaning.stands_for x)) s h in
-        let (o, ho) = name-of object_type refl (meaning.stands_for x) u hu in
+        let (u, hu, last) = and-then (λ s. type_at meaning s path) (object_type (meaning.object_for x)) s h in
+        let (o, ho) = name-of object_type refl (meaning.object_for x) u hu in
         (bound x o ho, selectors-bound u path s last)
     factor-bound (integer n) s h = tt
     factor-bound (parenthesised e) s h = expression-bound e s h
@@ -76,10 +76,10 @@ module _ {N Q : Type 0} (P : N → Type 0) (meaning : Meanings N Shape Q) (bound
         let (v, hv, last) = and-then (λ t. type_at meaning t rest) (element_type s u) r later in
         each-of-both P (occurrences e) (occurrences rest) (expression-bound e u hu) (selectors-bound v rest r last)
 
-module _ {N V Q : Type 0} (P : N → Type 0) (meaning : Meanings N V Q) (bound : (x : N) (o : Object V Q) → meaning.stands_for x ≡ Some o → P x) where
-  constant-bound : (R : Type 0) (x : N) (o : Object Shape R) → (constants_only {W = Shape} {Q = R} meaning).stands_for x ≡ Some o → P x
+module _ {N V Q : Type 0} (P : N → Type 0) (meaning : Meanings N V Q) (bound : (x : N) (o : Object V Q) → meaning.object_for x ≡ Some o → P x) where
+  constant-bound : (R : Type 0) (x : N) (o : Object Shape R) → (constants_only {W = Shape} {Q = R} meaning).object_for x ≡ Some o → P x
   constant-bound R x o h =
-      let (p, hp) = name-of (λ m. option_map {U = Object Shape R} a_constant (constant_of m)) refl (meaning.stands_for x) o h in bound x p hp
+      let (p, hp) = name-of (λ m. option_map {U = Object Shape R} a_constant (constant_of m)) refl (meaning.object_for x) o h in bound x p hp
 
   pub value-bound : (e : Tree N expression) (v : Value) → constant_value meaning e ≡ Some v → Each P (occurrences e)
   unfolding constant_value
@@ -91,7 +91,7 @@ module _ {N V Q : Type 0} (P : N → Type 0) (meaning : Meanings N V Q) (bound :
     unfolding denoted
 
     pub type-bound : (k : ℕ) (t : Tree N written_type) (s : Shape) → denoted meaning k t ≡ Some s → Each P (occurrences t)
-    type-bound k (named_type x) s h = let (o, ho) = name-of type_of_name refl (meaning.stands_for x) s h in (bound x o ho, tt)
+    type-bound k (named_type x) s h = let (o, ho) = name-of type_of_name refl (meaning.object_for x) s h in (bound x o ho, tt)
     type-bound k (array_type e t) s h =
         let (v, hv, later) = and-then (λ v. option_and_then (λ n. option_and_then (λ s. within_limits (array_shape k n s)) (denoted meaning (suc k) t)) (array_length v)) (constant_value meaning e) s h in
         let (n, hn, last) = and-then (λ n. option_and_then (λ s. within_limits (array_shape k n s)) (denoted meaning (suc k) t)) (array_length v) s later in
@@ -113,16 +113,16 @@ module _ {N V Q : Type 0} (P : N → Type 0) (meaning : Meanings N V Q) (bound :
         let (later, hl, last) = and-then (λ later. denoted_group meaning k later g) (denoted_groups meaning (k + group_constructors g) rest) fs h in
         each-of-both P (occurrences g) (occurrences rest) (group-bound k later g fs last) (groups-bound (k + group_constructors g) rest later hl)
 
-module _ {N : Type 0} (P : N → Type 0) (meaning : Typed N) (bound : (x : N) (o : Object Shape Signature) → meaning.stands_for x ≡ Some o → P x) where
+module _ {N : Type 0} (P : N → Type 0) (meaning : Typed N) (bound : (x : N) (o : Object Shape Signature) → meaning.object_for x ≡ Some o → P x) where
   condition-bound : (e : Tree N expression) → condition_fits meaning e ≡ true → Each P (occurrences e)
   unfolding condition_fits
   condition-bound e h = let (s, truth, typed) = agree-equal (Some boolean_shape) (type_of meaning e) h in expression-bound P meaning bound e s typed
 
   variable-bound : (x : N) (path : Tree N (items selector)) (s : Shape) → variable_type meaning (Some (x, path)) ≡ Some s → P x × Each P (occurrences path)
   unfolding variable_type
-  variable-bound x path s h = by-object (meaning.stands_for x) refl h
+  variable-bound x path s h = by-object (meaning.object_for x) refl h
     where
-      by-object : (o : Option (Object Shape Signature)) → meaning.stands_for x ≡ o → (elim o [ Some (a_variable v) ↦ type_at meaning v path | _ ↦ None ]) ≡ Some s → P x × Each P (occurrences path)
+      by-object : (o : Option (Object Shape Signature)) → meaning.object_for x ≡ o → (elim o [ Some (a_variable v) ↦ type_at meaning v path | _ ↦ None ]) ≡ Some s → P x × Each P (occurrences path)
       by-object None e h = absurd (some-none s (sym h))
       by-object (Some (a_type t)) e h = absurd (some-none s (sym h))
       by-object (Some (a_constant c)) e h = absurd (some-none s (sym h))
@@ -173,14 +173,14 @@ module _ {N : Type 0} (P : N → Type 0) (meaning : Typed N) (bound : (x : N) (o
   all-listed (one no_arguments) h = tt
   all-listed (one (some_arguments e es)) h = each-of-both P (occurrences e) (occurrences es) h.0 (further-listed es h.1)
 
-  call-bound : (x : N) (es : Tree N (maybe arguments)) → call_fits meaning (signature_of (meaning.stands_for x)) (arguments_listed es) ≡ true → Each P (occurrences (calls x es))
+  call-bound : (x : N) (es : Tree N (maybe arguments)) → call_fits meaning (signature_of (meaning.object_for x)) (arguments_listed es) ≡ true → Each P (occurrences (calls x es))
   unfolding call_fits
-  call-bound x es h = by-signature (signature_of (meaning.stands_for x)) refl h
+  call-bound x es h = by-signature (signature_of (meaning.object_for x)) refl h
     where
-      by-signature : (s : Option Signature) → signature_of (meaning.stands_for x) ≡ s → call_fits meaning s (arguments_listed es) ≡ true → Each P (occurrences (calls x es))
+      by-signature : (s : Option Signature) → signature_of (meaning.object_for x) ≡ s → call_fits meaning s (arguments_listed es) ≡ true → Each P (occurrences (calls x es))
       by-signature None e h = absurd (true≢false (sym h))
       by-signature (Some signature) e h =
-          let (o, ho) = name-of signature_of refl (meaning.stands_for x) signature e in
+          let (o, ho) = name-of signature_of refl (meaning.object_for x) signature e in
           (bound x o ho, all-listed es (arguments-bound signature (arguments_listed es) h))
 
   mutual

@@ -7,27 +7,27 @@ use Rattle.ob0_tree.specs.View.{items_of}
 use Rattle.ob0_types_check.specs.Known.{Reported}
 use Rattle.ob0_types_check.specs.Operations.{ReportsAfter, preceded_by, right, ◌>>=◌}
 
-told_equal : {A : Type 0} {a b : Reported A} → a.known ≡ b.known → a.faults ≡ b.faults → a ≡ b
-told_equal p q = λ i. record { known = p i; faults = q i }
+reported_equal : {A : Type 0} {a b : Reported A} → a.known ≡ b.known → a.faults ≡ b.faults → a ≡ b
+reported_equal p q = λ i. record { known = p i; faults = q i }
 
-pub tells_nothing : {A : Type 0} (faults : List Fault) (x : A) → ReportsAfter faults faults x (right x)
-tells_nothing faults x = record { known = refl; told = sym (append-nil faults) }
+pub reports_nothing : {A : Type 0} (faults : List Fault) (x : A) → ReportsAfter faults faults x (right x)
+reports_nothing faults x = record { known = refl; reported = sym (append-nil faults) }
 
 pub steps : {A B : Type 0} {f0 f1 f2 : List Fault} {x : A} {y : B} {a : Reported A} (next : A → Reported B) → ReportsAfter f0 f1 x a → ReportsAfter f1 f2 y (next x) → ReportsAfter f0 f2 y (a >>= next)
 steps {f0 = f0} {x = x} {a = a} next s1 s2 = record {
   known = s2.known ∙ ap (λ z. (next z).known) s1.known;
-  told = s2.told ∙ ap (λ f. f ++ (next x).faults) s1.told ∙ append_assoc f0 a.faults (next x).faults ∙ ap (λ z. f0 ++ (a.faults ++ (next z).faults)) s1.known;
+  reported = s2.reported ∙ ap (λ f. f ++ (next x).faults) s1.reported ∙ append_assoc f0 a.faults (next x).faults ∙ ap (λ z. f0 ++ (a.faults ++ (next z).faults)) s1.known;
 }
 
-pub tells_known : {A : Type 0} (faults : List Fault) {x y : A} → x ≡ y → ReportsAfter faults faults x (right y)
-tells_known faults e = record { known = e; told = sym (append-nil faults) }
+pub reports_known : {A : Type 0} (faults : List Fault) {x y : A} → x ≡ y → ReportsAfter faults faults x (right y)
+reports_known faults e = record { known = e; reported = sym (append-nil faults) }
 
 -- the same told, known by another name
-pub tells_same : {A : Type 0} {f0 f1 : List Fault} {x : A} {a b : Reported A} → ReportsAfter f0 f1 x a → a ≡ b → ReportsAfter f0 f1 x b
-tells_same {f0 = f0} s e = record { known = s.known ∙ ap (λ t. t.known) e; told = s.told ∙ ap (λ t. f0 ++ t.faults) e }
+pub reports_same : {A : Type 0} {f0 f1 : List Fault} {x : A} {a b : Reported A} → ReportsAfter f0 f1 x a → a ≡ b → ReportsAfter f0 f1 x b
+reports_same {f0 = f0} s e = record { known = s.known ∙ ap (λ t. t.known) e; reported = s.reported ∙ ap (λ t. f0 ++ t.faults) e }
 
 pub then_assoc : {A B C : Type 0} (a : Reported A) (f : A → Reported B) (g : B → Reported C) → (a >>= (λ x. f x >>= g)) ≡ ((a >>= f) >>= g)
-then_assoc a f g = told_equal refl (sym (append_assoc a.faults (f a.known).faults (g (f a.known).known).faults))
+then_assoc a f g = reported_equal refl (sym (append_assoc a.faults (f a.known).faults (g (f a.known).known).faults))
 
 -- a chain is reported item by item
 pub record IsChain {O : Type 0} {i : Item} (chain : O → Tree ℕ (items i) → Reported O) (step : O → Tree ℕ (item i) → Reported O) : Type 0 where
@@ -38,9 +38,9 @@ pub record IsChain {O : Type 0} {i : Item} (chain : O → Tree ℕ (items i) →
 pub record Chained {O A : Type 0} {i : Item} (chain : O → Tree ℕ (items i) → Reported O) (f : A → Tree ℕ (item i)) (before : List Fault) (start : O) (xs : List A) (done : ℕ) (now : List Fault) (out : O) : Type 0 where
   pub so_far : preceded_by now (chain out (items_of f (drop done xs))) ≡ preceded_by before (chain start (items_of f xs))
 
-then_behind : {A B : Type 0} {f0 f1 : List Fault} {x : A} {a : Reported A} (next : A → Reported B) → ReportsAfter f0 f1 x a → preceded_by f1 (next x) ≡ preceded_by f0 (a >>= next)
-then_behind {f0 = f0} {x = x} {a = a} next s = told_equal (ap (λ z. (next z).known) s.known)
-    (ap (λ f. f ++ (next x).faults) s.told ∙ append_assoc f0 a.faults (next x).faults ∙ ap (λ z. f0 ++ (a.faults ++ (next z).faults)) s.known)
+then_following : {A B : Type 0} {f0 f1 : List Fault} {x : A} {a : Reported A} (next : A → Reported B) → ReportsAfter f0 f1 x a → preceded_by f1 (next x) ≡ preceded_by f0 (a >>= next)
+then_following {f0 = f0} {x = x} {a = a} next s = reported_equal (ap (λ z. (next z).known) s.known)
+    (ap (λ f. f ++ (next x).faults) s.reported ∙ append_assoc f0 a.faults (next x).faults ∙ ap (λ z. f0 ++ (a.faults ++ (next z).faults)) s.known)
 
 pub chain_goes_on : {O A : Type 0} {i : Item} {chain : O → Tree ℕ (items i) → Reported O} {step : O → Tree ℕ (item i) → Reported O} {f : A → Tree ℕ (item i)} {before : List Fault} {start : O} {xs : List A} {done : ℕ} {now : List Fault} {out : O} (x : A) {next : List Fault} {y : O}
     → IsChain chain step → Chained chain f before start xs done now out → done < length xs → x ≡ get_or xs done x → ReportsAfter now next y (step out (f x)) → Chained chain f before start xs (done + 1) next y
@@ -48,7 +48,7 @@ chain_goes_on {chain = chain} {f = f} {xs = xs} {done = done} {now = now} {out =
     let split : drop done xs ≡ x ∷ drop (done + 1) xs = drop_more xs done x less ∙ ap (λ y. y ∷ drop (done + 1) xs) (sym here) in
     let rest = items_of f (drop (done + 1) xs) in
     record {
-      so_far = then_behind (λ z. chain z rest) s
+      so_far = then_following (λ z. chain z rest) s
           ∙ sym (ap (preceded_by now) (h.stepped out (f x) rest))
           ∙ sym (ap (λ ys. preceded_by now (chain out (items_of f ys))) split)
           ∙ c.so_far;
@@ -58,4 +58,4 @@ pub chain_ends : {O A : Type 0} {i : Item} {chain : O → Tree ℕ (items i) →
     → IsChain chain step → Chained chain f before start xs done now out → length xs ≤ done → ReportsAfter before now out (chain start (items_of f xs))
 chain_ends {chain = chain} {f = f} {xs = xs} {done = done} {now = now} {out = out} h c all =
     let whole = sym (ap (preceded_by now) (h.ended out)) ∙ sym (ap (λ ys. preceded_by now (chain out (items_of f ys))) (drop_all done xs all)) ∙ c.so_far in
-    record { known = ap (λ t. t.known) whole; told = sym (append-nil now) ∙ ap (λ t. t.faults) whole }
+    record { known = ap (λ t. t.known) whole; reported = sym (append-nil now) ∙ ap (λ t. t.faults) whole }

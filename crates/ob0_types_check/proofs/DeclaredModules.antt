@@ -130,5 +130,5 @@ module_placed r is nothing =
     let n : Numbering = numbering_of r in
     let b : Tree ℕ block = module_block (tree_of m) in
     let bound : unbound_at m.source (occurrences (tree_of m)) (map (label_at m.source r.ordinals) (occurrences (tree_of m))) ≡ [] =
-    ap (unbound_at m.source (occurrences (tree_of m))) (sym (bindings_by_table m r.ordinals is.numbering)) ∙ (sym is.told.undeclared ∙ nothing) in
+    ap (unbound_at m.source (occurrences (tree_of m))) (sym (bindings_by_table m r.ordinals is.numbering)) ∙ (sym is.reported.undeclared ∙ nothing) in
     block_placed n (predeclared_scope as_names) 7 b (ap module_block is.binding) (all_bound n (occurrences b) bound) (omega (arith, module_counted r is))

@@ -183,8 +183,8 @@ abbrev pub AreSeen : {s : Sort} → Numbering → Scope Name → Tree ℕ s → 
 AreSeen n scope t = Each (IsSeen n scope) (occurrences t)
 
 -- the scope after names
-abbrev pub scope_behind : Numbering → ℕ → List ℕ → Scope Name → Scope Name
-scope_behind n k xs scope = declare_names k (map (text_at n.source) xs) scope
+abbrev pub scope_following : Numbering → ℕ → List ℕ → Scope Name → Scope Name
+scope_following n k xs scope = declare_names k (map (text_at n.source) xs) scope
 
 -- declarations from an ordinal on, in a scope
 abbrev pub ConstantsPlaced : Numbering → Scope Name → ℕ → Tree ℕ (items constant) → Type 0
@@ -198,41 +198,41 @@ TypesPlaced n scope k (more (declares_type x t) ds) = IsPlaced n k x × AreSeen 
 abbrev pub VariablesPlaced : Numbering → Scope Name → ℕ → Tree ℕ (items variable) → Type 0
 VariablesPlaced n scope k end = Unit {0}
 VariablesPlaced n scope k (more (declares_variable ns t) gs) =
-    NamesPlaced n k (names_listed ns) × AreSeen n scope t × VariablesPlaced n (scope_behind n k (names_listed ns) scope) (after_names k (names_listed ns)) gs
+    NamesPlaced n k (names_listed ns) × AreSeen n scope t × VariablesPlaced n (scope_following n k (names_listed ns) scope) (after_names k (names_listed ns)) gs
 
 abbrev pub SectionsPlaced : Numbering → Scope Name → ℕ → Tree ℕ (items further_section) → Type 0
 SectionsPlaced n scope k end = Unit {0}
 SectionsPlaced n scope k (more (then_section f) fs) =
-    NamesPlaced n k (section_names f) × AreSeen n scope (section_type f) × SectionsPlaced n (scope_behind n k (section_names f) scope) (after_names k (section_names f)) fs
+    NamesPlaced n k (section_names f) × AreSeen n scope (section_type f) × SectionsPlaced n (scope_following n k (section_names f) scope) (after_names k (section_names f)) fs
 
 -- the scopes of a block and their first ordinals, by the tokens
-abbrev pub behind_constants : Numbering → Scope Name → ℕ → Tree ℕ block → Scope Name
-behind_constants n scope k b = scope_behind n k (constant_names (block_constants b)) scope
+abbrev pub following_constants : Numbering → Scope Name → ℕ → Tree ℕ block → Scope Name
+following_constants n scope k b = scope_following n k (constant_names (block_constants b)) scope
 
-abbrev pub behind_types : Numbering → Scope Name → ℕ → Tree ℕ block → Scope Name
-behind_types n scope k b = scope_behind n (first_type k b) (named_types (block_types b)) (behind_constants n scope k b)
+abbrev pub following_types : Numbering → Scope Name → ℕ → Tree ℕ block → Scope Name
+following_types n scope k b = scope_following n (first_type k b) (named_types (block_types b)) (following_constants n scope k b)
 
-abbrev pub behind_variables : Numbering → Scope Name → ℕ → Tree ℕ block → Scope Name
-behind_variables n scope k b = scope_behind n (first_variable k b) (variable_names (block_variables b)) (behind_types n scope k b)
+abbrev pub following_variables : Numbering → Scope Name → ℕ → Tree ℕ block → Scope Name
+following_variables n scope k b = scope_following n (first_variable k b) (variable_names (block_variables b)) (following_types n scope k b)
 
-abbrev pub behind_procedure : Numbering → Scope Name → ℕ → Tree ℕ (item procedure) → Scope Name
-behind_procedure n scope k p = (text_at n.source (procedure_name p), k) ∷ scope
+abbrev pub following_procedure : Numbering → Scope Name → ℕ → Tree ℕ (item procedure) → Scope Name
+following_procedure n scope k p = (text_at n.source (procedure_name p), k) ∷ scope
 
 abbrev pub inside_procedure : Numbering → Scope Name → ℕ → Tree ℕ (item procedure) → Scope Name
-inside_procedure n scope k p = scope_behind n (suc k) (formal_names (procedure_formals p)) (behind_procedure n scope k p)
+inside_procedure n scope k p = scope_following n (suc k) (formal_names (procedure_formals p)) (following_procedure n scope k p)
 
 abbrev mutual
   pub BlockPlaced : Numbering → Scope Name → ℕ → Tree ℕ block → Type 0
   BlockPlaced n scope k (has_body (declares cs ts vs ps) statements) =
       ConstantsPlaced n scope k (section_constants cs)
-      × TypesPlaced n (behind_constants n scope k (has_body (declares cs ts vs ps) statements)) (first_type k (has_body (declares cs ts vs ps) statements)) (section_types ts)
-      × VariablesPlaced n (behind_types n scope k (has_body (declares cs ts vs ps) statements)) (first_variable k (has_body (declares cs ts vs ps) statements)) (section_variables vs)
-      × ProceduresPlaced n (behind_variables n scope k (has_body (declares cs ts vs ps) statements)) (first_procedure k (has_body (declares cs ts vs ps) statements)) statements ps
+      × TypesPlaced n (following_constants n scope k (has_body (declares cs ts vs ps) statements)) (first_type k (has_body (declares cs ts vs ps) statements)) (section_types ts)
+      × VariablesPlaced n (following_types n scope k (has_body (declares cs ts vs ps) statements)) (first_variable k (has_body (declares cs ts vs ps) statements)) (section_variables vs)
+      × ProceduresPlaced n (following_variables n scope k (has_body (declares cs ts vs ps) statements)) (first_procedure k (has_body (declares cs ts vs ps) statements)) statements ps
 
   -- procedures, and the statements after them
   pub ProceduresPlaced : Numbering → Scope Name → ℕ → Tree ℕ (maybe body) → Tree ℕ (items procedure) → Type 0
   ProceduresPlaced n scope k statements end = AreSeen n scope statements
-  ProceduresPlaced n scope k statements (more p rest) = ProcedurePlaced n scope k p × ProceduresPlaced n (behind_procedure n scope k p) (after_procedure (suc k) p) statements rest
+  ProceduresPlaced n scope k statements (more p rest) = ProcedurePlaced n scope k p × ProceduresPlaced n (following_procedure n scope k p) (after_procedure (suc k) p) statements rest
 
   pub ProcedurePlaced : Numbering → Scope Name → ℕ → Tree ℕ (item procedure) → Type 0
   ProcedurePlaced n scope k (declares_procedure x fs b closing) =
@@ -287,14 +287,14 @@ module _ (n : Numbering) where
       let first = ap (first_of (bound_by (declares_variable ns t))) e in
       let parts = each_part (IsBound n) (occurrences t) (occurrences gs) all in
       let own : names_listed (named n.source ns) ≡ map text (names_listed ns) = names_listed-mapped text (value_at n.source) ns in
-      let behind : after_names (after_names k (names_listed ns)) (variable_names gs) ≤ n.room = subst (λ j. j ≤ n.room) (after_names-append k (names_listed ns) (variable_names gs)) room in
+      let following : after_names (after_names k (names_listed ns)) (variable_names gs) ≤ n.room = subst (λ j. j ≤ n.room) (after_names-append k (names_listed ns) (variable_names gs)) room in
       let labels : label_names with_ordinal k (map text (names_listed ns)) ≡ map (bound_at n.source n.ordinals) (names_listed ns) =
       sym (names-relabel with_ordinal k (named n.source ns) ∙ ap (label_names with_ordinal k) own) ∙ (ap variables_left first ∙ names_listed-mapped (bound_at n.source n.ordinals) (value_at n.source) ns) in
-      let rest : relabel_variables as_names with_ordinal (scope_behind n k (names_listed ns) scope) (after_names k (names_listed ns)) (named n.source gs) ≡ bound_by gs =
+      let rest : relabel_variables as_names with_ordinal (scope_following n k (names_listed ns) scope) (after_names k (names_listed ns)) (named n.source gs) ≡ bound_by gs =
       sym (λ i. relabel_variables as_names with_ordinal (declare_names k (own i) scope) (after-mapped text k k (names_listed ns) (names_listed (named n.source ns)) own refl i) (named n.source gs)) ∙ ap rest_of e in (
-        names_placed k (names_listed ns) labels (le_trans (le-after_names (after_names k (names_listed ns)) (variable_names gs)) behind),
+        names_placed k (names_listed ns) labels (le_trans (le-after_names (after_names k (names_listed ns)) (variable_names gs)) following),
         uses_seen scope t (ap variables_side first) parts.0,
-        variables_placed (scope_behind n k (names_listed ns) scope) (after_names k (names_listed ns)) gs rest parts.1 behind,
+        variables_placed (scope_following n k (names_listed ns) scope) (after_names k (names_listed ns)) gs rest parts.1 following,
       )
 
   section_occurrences : (f : Tree ℕ section) → occurrences f ≡ occurrences (section_type f)
@@ -308,16 +308,16 @@ module _ (n : Numbering) where
       let first = ap (λ t. section_in (first_of (bound_by (then_section f)) t)) e in
       let parts = each_part (IsBound n) (occurrences f) (occurrences fs) all in
       let own : section_names (named n.source f) ≡ map text (section_names f) = section_names-mapped text (value_at n.source) f in
-      let behind : after_names (after_names k (section_names f)) (formal_names fs) ≤ n.room = subst (λ j. j ≤ n.room) (after_names-append k (section_names f) (formal_names fs)) room in
+      let following : after_names (after_names k (section_names f)) (formal_names fs) ≤ n.room = subst (λ j. j ≤ n.room) (after_names-append k (section_names f) (formal_names fs)) room in
       let labels : label_names with_ordinal k (map text (section_names f)) ≡ map (bound_at n.source n.ordinals) (section_names f) =
       sym (section_names-relabel as_names with_ordinal scope k (named n.source f) ∙ ap (label_names with_ordinal k) own) ∙ (ap section_names first ∙ section_names-mapped (bound_at n.source n.ordinals) (value_at n.source) f) in
       let sided : relabel_uses as_names with_ordinal scope (named n.source (section_type f)) ≡ bound_by (section_type f) =
       sym (section_type-relabel as_names with_ordinal scope k (named n.source f) ∙ ap (relabel_uses as_names with_ordinal scope) (section_type-mapped text (value_at n.source) f)) ∙ (ap section_type first ∙ section_type-mapped (bound_at n.source n.ordinals) (value_at n.source) f) in
-      let rest : relabel_sections as_names with_ordinal (scope_behind n k (section_names f) scope) (after_names k (section_names f)) (named n.source fs) ≡ bound_by fs =
+      let rest : relabel_sections as_names with_ordinal (scope_following n k (section_names f) scope) (after_names k (section_names f)) (named n.source fs) ≡ bound_by fs =
       sym (λ i. relabel_sections as_names with_ordinal (declare_names k (own i) scope) (after-mapped text k k (section_names f) (section_names (named n.source f)) own refl i) (named n.source fs)) ∙ ap rest_of e in (
-        names_placed k (section_names f) labels (le_trans (le-after_names (after_names k (section_names f)) (formal_names fs)) behind),
+        names_placed k (section_names f) labels (le_trans (le-after_names (after_names k (section_names f)) (formal_names fs)) following),
         uses_seen scope (section_type f) sided (subst (Each (IsBound n)) (section_occurrences f) parts.0),
-        sections_placed (scope_behind n k (section_names f) scope) (after_names k (section_names f)) fs rest parts.1 behind,
+        sections_placed (scope_following n k (section_names f) scope) (after_names k (section_names f)) fs rest parts.1 following,
       )
 
   constants_occurrences : (cs : Tree ℕ (maybe constants)) → occurrences cs ≡ occurrences (section_constants cs)
@@ -351,41 +351,41 @@ module _ (n : Numbering) where
         let k₁ : first_type k (named n.source b) ≡ first_type k b = after-mapped text k k (constant_names (section_constants cs)) (constant_names (section_constants (named n.source cs))) (constants-names text value cs) refl in
         let k₂ : first_variable k (named n.source b) ≡ first_variable k b = after-mapped text (first_type k (named n.source b)) (first_type k b) (named_types (section_types ts)) (named_types (section_types (named n.source ts))) (types-names text value ts) k₁ in
         let k₃ : first_procedure k (named n.source b) ≡ first_procedure k b = after-mapped text (first_variable k (named n.source b)) (first_variable k b) (variable_names (section_variables vs)) (variable_names (section_variables (named n.source vs))) (variables-names text value vs) k₂ in
-        let s₁ : types_scope k (named n.source b) scope ≡ behind_constants n scope k b = λ i. declare_names k (constants-names text value cs i) scope in
-        let s₂ : variables_scope k (named n.source b) scope ≡ behind_types n scope k b = λ i. declare_names (k₁ i) (types-names text value ts i) (s₁ i) in
-        let s₃ : procedures_scope k (named n.source b) scope ≡ behind_variables n scope k b = λ i. declare_names (k₂ i) (variables-names text value vs i) (s₂ i) in
+        let s₁ : types_scope k (named n.source b) scope ≡ following_constants n scope k b = λ i. declare_names k (constants-names text value cs i) scope in
+        let s₂ : variables_scope k (named n.source b) scope ≡ following_types n scope k b = λ i. declare_names (k₁ i) (types-names text value ts i) (s₁ i) in
+        let s₃ : procedures_scope k (named n.source b) scope ≡ following_variables n scope k b = λ i. declare_names (k₂ i) (variables-names text value vs i) (s₂ i) in
         let room₃ : first_procedure k b ≤ n.room = le_trans (le-after_procedures (first_procedure k b) ps) room in
         let room₂ : first_variable k b ≤ n.room = le_trans (le-after_names (first_variable k b) (variable_names (section_variables vs))) room₃ in
         let room₁ : first_type k b ≤ n.room = le_trans (le-after_names (first_type k b) (named_types (section_types ts))) room₂ in
         let of_constants : relabel_constants as_names with_ordinal scope k (named n.source (section_constants cs)) ≡ bound_by (section_constants cs) =
         sym (constants-section as_names with_ordinal scope k (named n.source cs) ∙ ap (relabel_constants as_names with_ordinal scope k) (constants-mapped text value cs)) ∙ (ap block_constants e ∙ constants-mapped bound value cs) in
-        let of_types : relabel_types as_names with_ordinal (behind_constants n scope k b) (first_type k b) (named n.source (section_types ts)) ≡ bound_by (section_types ts) =
+        let of_types : relabel_types as_names with_ordinal (following_constants n scope k b) (first_type k b) (named n.source (section_types ts)) ≡ bound_by (section_types ts) =
         sym (types-section as_names with_ordinal (types_scope k (named n.source b) scope) (first_type k (named n.source b)) (named n.source ts) ∙ (λ i. relabel_types as_names with_ordinal (s₁ i) (k₁ i) (types-mapped text value ts i))) ∙ (ap block_types e ∙ types-mapped bound value ts) in
-        let of_variables : relabel_variables as_names with_ordinal (behind_types n scope k b) (first_variable k b) (named n.source (section_variables vs)) ≡ bound_by (section_variables vs) =
+        let of_variables : relabel_variables as_names with_ordinal (following_types n scope k b) (first_variable k b) (named n.source (section_variables vs)) ≡ bound_by (section_variables vs) =
         sym (variables-section as_names with_ordinal (variables_scope k (named n.source b) scope) (first_variable k (named n.source b)) (named n.source vs) ∙ (λ i. relabel_variables as_names with_ordinal (s₂ i) (k₂ i) (variables-mapped text value vs i))) ∙ (ap block_variables e ∙ variables-mapped bound value vs) in
-        let of_procedures : relabel_procedures as_names with_ordinal (behind_variables n scope k b) (first_procedure k b) (named n.source ps) ≡ bound_by ps =
+        let of_procedures : relabel_procedures as_names with_ordinal (following_variables n scope k b) (first_procedure k b) (named n.source ps) ≡ bound_by ps =
         sym (λ i. relabel_procedures as_names with_ordinal (s₃ i) (k₃ i) (named n.source ps)) ∙ ap block_procedures e in
-        let of_statements : relabel_uses as_names with_ordinal (declare_procedure_names (first_procedure k b) (named n.source ps) (behind_variables n scope k b)) (named n.source statements) ≡ bound_by statements =
+        let of_statements : relabel_uses as_names with_ordinal (declare_procedure_names (first_procedure k b) (named n.source ps) (following_variables n scope k b)) (named n.source statements) ≡ bound_by statements =
         sym (λ i. relabel_uses as_names with_ordinal (declare_procedure_names (k₃ i) (named n.source ps) (s₃ i)) (named n.source statements)) ∙ ap block_statements e in (
           constants_placed scope k (section_constants cs) of_constants (subst (Each (IsBound n)) (constants_occurrences cs) first.0) room₁,
-          types_placed (behind_constants n scope k b) (first_type k b) (section_types ts) of_types (subst (Each (IsBound n)) (types_occurrences ts) second.0) room₂,
-          variables_placed (behind_types n scope k b) (first_variable k b) (section_variables vs) of_variables (subst (Each (IsBound n)) (variables_occurrences vs) third.0) room₃,
-          procedures_placed (behind_variables n scope k b) (first_procedure k b) statements ps of_procedures of_statements third.1 both.1 room,
+          types_placed (following_constants n scope k b) (first_type k b) (section_types ts) of_types (subst (Each (IsBound n)) (types_occurrences ts) second.0) room₂,
+          variables_placed (following_types n scope k b) (first_variable k b) (section_variables vs) of_variables (subst (Each (IsBound n)) (variables_occurrences vs) third.0) room₃,
+          procedures_placed (following_variables n scope k b) (first_procedure k b) statements ps of_procedures of_statements third.1 both.1 room,
         )
 
     procedures_placed : (scope : Scope Name) (k : ℕ) (statements : Tree ℕ (maybe body)) (ps : Tree ℕ (items procedure)) → relabel_procedures as_names with_ordinal scope k (named n.source ps) ≡ bound_by ps
         → relabel_uses as_names with_ordinal (declare_procedure_names k (named n.source ps) scope) (named n.source statements) ≡ bound_by statements → Each (IsBound n) (occurrences ps) → Each (IsBound n) (occurrences statements) → after_procedures k ps ≤ n.room → ProceduresPlaced n scope k statements ps
-    procedures_placed scope k statements end e last all behind room = uses_seen scope statements last behind
-    procedures_placed scope k statements (more p rest) e last all behind room =
+    procedures_placed scope k statements end e last all following room = uses_seen scope statements last following
+    procedures_placed scope k statements (more p rest) e last all following room =
         let parts = each_part (IsBound n) (occurrences p) (occurrences rest) all in
         let next : after_procedure (suc k) (named n.source p) ≡ after_procedure (suc k) p = after_procedure-mapped (text_at n.source) (value_at n.source) (suc k) (suc k) refl p in
         let own : procedure_name (named n.source p) ≡ text_at n.source (procedure_name p) = procedure_name-mapped (text_at n.source) (value_at n.source) p in
-        let others : relabel_procedures as_names with_ordinal (behind_procedure n scope k p) (after_procedure (suc k) p) (named n.source rest) ≡ bound_by rest =
+        let others : relabel_procedures as_names with_ordinal (following_procedure n scope k p) (after_procedure (suc k) p) (named n.source rest) ≡ bound_by rest =
         sym (λ i. relabel_procedures as_names with_ordinal ((own i, k) ∷ scope) (next i) (named n.source rest)) ∙ ap rest_of e in
-        let final : relabel_uses as_names with_ordinal (declare_procedure_names (after_procedure (suc k) p) (named n.source rest) (behind_procedure n scope k p)) (named n.source statements) ≡ bound_by statements =
+        let final : relabel_uses as_names with_ordinal (declare_procedure_names (after_procedure (suc k) p) (named n.source rest) (following_procedure n scope k p)) (named n.source statements) ≡ bound_by statements =
         sym (λ i. relabel_uses as_names with_ordinal (declare_procedure_names (next i) (named n.source rest) ((own i, k) ∷ scope)) (named n.source statements)) ∙ last in (
           procedure_placed scope k p (ap (first_of (bound_by p)) e) parts.0 (le_trans (le-after_procedures (after_procedure (suc k) p) rest) room),
-          procedures_placed (behind_procedure n scope k p) (after_procedure (suc k) p) statements rest others final parts.1 behind room,
+          procedures_placed (following_procedure n scope k p) (after_procedure (suc k) p) statements rest others final parts.1 following room,
         )
 
     procedure_placed : (scope : Scope Name) (k : ℕ) (p : Tree ℕ (item procedure)) → relabel_procedure as_names with_ordinal scope k (named n.source p) ≡ bound_by p → Each (IsBound n) (occurrences p) → after_procedure (suc k) p ≤ n.room → ProcedurePlaced n scope k p
@@ -400,7 +400,7 @@ module _ (n : Numbering) where
         let of_formals : relabel_sections as_names with_ordinal scope (suc k) (named n.source (formal_sections fs)) ≡ bound_by (formal_sections fs) =
         sym (formals-section as_names with_ordinal scope (suc k) (named n.source fs) ∙ ap (relabel_sections as_names with_ordinal scope (suc k)) (formals-mapped text value fs)) ∙ (ap procedure_formals e ∙ formals-mapped (bound_at n.source n.ordinals) value fs) in
         let of_block : relabel_block as_names with_ordinal (inside_procedure n scope k p) (after_names (suc k) (formal_names (formal_sections fs))) (named n.source b) ≡ bound_by b =
-        sym (λ i. relabel_block as_names with_ordinal (declare_names (suc k) (own i) (behind_procedure n scope k p)) (next i) (named n.source b)) ∙ ap procedure_block e in (
+        sym (λ i. relabel_block as_names with_ordinal (declare_names (suc k) (own i) (following_procedure n scope k p)) (next i) (named n.source b)) ∙ ap procedure_block e in (
           (ap (λ (q : Tree (Option ℕ × Name) (item procedure)). (procedure_name q).0) (sym e), le_trans (le-after_names (suc k) (formal_names (formal_sections fs))) inner),
           sections_placed scope (suc k) (formal_sections fs) of_formals (subst (Each (IsBound n)) (formals_occurrences fs) parts.0) inner,
           block_placed (inside_procedure n scope k p) (after_names (suc k) (formal_names (formal_sections fs))) b of_block parts.1 room,

@@ -7,7 +7,7 @@ use Rattle.ob0_types_table.specs.declared.types.TypeId.{TypeId}
 use Rattle.ob0_types_table.specs.declared.types.TypeId.TheVariants as type
 use Rattle.ob0_types_rules.specs.Typing.{depth, field_depth, field_scalars, scalars, with_fields, within_limits}
 use Rattle.ob0_values.specs.Values.{FieldShapes, Shape, array_shape, boolean_shape, integer_shape, next_field_shape, no_field_shape, record_shape}
-use Rattle.ob0_types_check.specs.SoFar.{MadeType, PartTypes, Size, TypedField, is_within, of_elements, of_fields, one_scalar, size_at, size_made}
+use Rattle.ob0_types_check.specs.SoFar.{MadeType, PartTypes, Size, FieldSoFar, is_within, of_elements, of_fields, one_scalar, size_at, size_made}
 use Rattle.ob0_types_check.specs.WrittenTypeFaults.{Gathered, array_size, record_size, with_name, with_names}
 use Rattle.ob0_types_check.specs.Agreement.{EachMade, FieldsAgree, MadeAgrees, PartsAgree, TableAgrees, as_array, as_record, shape_in}
 
@@ -33,7 +33,7 @@ longer_more shapes later (type.Array i) s e = got_before shapes later i as_array
 longer_more shapes later (type.Record i) s e = got_before shapes later i as_record s e
 longer_more shapes later type.Unknown s e = absurd (cc)
 
-pub fields_kept : (before after : List Shape) → Longer before after → (fields : List TypedField) (fs : FieldShapes) → FieldsAgree (shape_in before) fields fs → FieldsAgree (shape_in after) fields fs
+pub fields_kept : (before after : List Shape) → Longer before after → (fields : List FieldSoFar) (fs : FieldShapes) → FieldsAgree (shape_in before) fields fs → FieldsAgree (shape_in after) fields fs
 fields_kept before after longer [] no_field_shape h = tt
 fields_kept before after longer [] (next_field_shape x s fs) h = absurd h
 fields_kept before after longer (f ∷ fields) no_field_shape h = absurd h
@@ -152,7 +152,7 @@ depth-followed : (fs gs : FieldShapes) → field_depth (followed fs gs) ≡ max 
 depth-followed no_field_shape gs = omega arith
 depth-followed (next_field_shape x s fs) gs = omega (arith, depth-followed fs gs)
 
-pub field_put : (shapes : List Shape) (fields : List TypedField) (fs : FieldShapes) (x : Name) (t : TypeId) (s : Shape) → FieldsAgree (shape_in shapes) fields fs → shape_in shapes t ≡ Some s
+pub field_put : (shapes : List Shape) (fields : List FieldSoFar) (fs : FieldShapes) (x : Name) (t : TypeId) (s : Shape) → FieldsAgree (shape_in shapes) fields fs → shape_in shapes t ≡ Some s
     → FieldsAgree (shape_in shapes) (fields ++ record { name = x; of = t } ∷ []) (followed fs (next_field_shape x s no_field_shape))
 field_put shapes [] no_field_shape x t s h is = (refl, is, tt)
 field_put shapes [] (next_field_shape y u fs) x t s h is = absurd h
@@ -165,23 +165,23 @@ pub record GatheredAgrees (shapes : List Shape) (g : Gathered) (fs : FieldShapes
   pub scalars_are : g.size.scalars ≡ field_scalars fs
   pub depth_is : g.size.depth ≡ field_depth fs
 
-name_put : (shapes : List Shape) (g : Gathered) (fs : FieldShapes) (x : ℕ) (t : TypeId) (s : Shape) → GatheredAgrees shapes g fs → TableAgrees g.behind.made shapes → shape_in shapes t ≡ Some s
-    → GatheredAgrees shapes (with_name t g x) (followed fs (next_field_shape (text_at g.behind.source x) s no_field_shape))
+name_put : (shapes : List Shape) (g : Gathered) (fs : FieldShapes) (x : ℕ) (t : TypeId) (s : Shape) → GatheredAgrees shapes g fs → TableAgrees g.following.made shapes → shape_in shapes t ≡ Some s
+    → GatheredAgrees shapes (with_name t g x) (followed fs (next_field_shape (text_at g.following.source x) s no_field_shape))
 name_put shapes g fs x t s h table is =
-    let z = size_agrees g.behind.made shapes t s table is in
-    let one : FieldShapes = next_field_shape (text_at g.behind.source x) s no_field_shape in
+    let z = size_agrees g.following.made shapes t s table is in
+    let one : FieldShapes = next_field_shape (text_at g.following.source x) s no_field_shape in
     record {
-      fields = field_put shapes g.fields fs (text_at g.behind.source x) t s h.fields is;
+      fields = field_put shapes g.fields fs (text_at g.following.source x) t s h.fields is;
       scalars_are = omega (arith, h.scalars_are, z.scalars_are, scalars-followed fs one);
       depth_is = omega (arith, h.depth_is, z.depth_is, depth-followed fs one);
     }
 
-pub names_put : (shapes : List Shape) (g : Gathered) (fs : FieldShapes) (xs : List ℕ) (t : TypeId) (s : Shape) → GatheredAgrees shapes g fs → TableAgrees g.behind.made shapes → shape_in shapes t ≡ Some s
-    → GatheredAgrees shapes (with_names t g xs) (followed fs (with_fields (map (text_at g.behind.source) xs) s no_field_shape))
+pub names_put : (shapes : List Shape) (g : Gathered) (fs : FieldShapes) (xs : List ℕ) (t : TypeId) (s : Shape) → GatheredAgrees shapes g fs → TableAgrees g.following.made shapes → shape_in shapes t ≡ Some s
+    → GatheredAgrees shapes (with_names t g xs) (followed fs (with_fields (map (text_at g.following.source) xs) s no_field_shape))
 names_put shapes g fs [] t s h table is = subst (GatheredAgrees shapes g) (sym (followed-nothing fs)) h
 names_put shapes g fs (x ∷ xs) t s h table is =
-    let one : FieldShapes = next_field_shape (text_at g.behind.source x) s no_field_shape in
-    subst (GatheredAgrees shapes (with_names t (with_name t g x) xs)) (followed-assoc fs one (with_fields (map (text_at g.behind.source) xs) s no_field_shape))
+    let one : FieldShapes = next_field_shape (text_at g.following.source x) s no_field_shape in
+    subst (GatheredAgrees shapes (with_names t (with_name t g x) xs)) (followed-assoc fs one (with_fields (map (text_at g.following.source) xs) s no_field_shape))
     (names_put shapes (with_name t g x) (followed fs one) xs t s (name_put shapes g fs x t s h table is) table is)
 
 pub record_sized : (shapes : List Shape) (g : Gathered) (k : ℕ) (fs : FieldShapes) → GatheredAgrees shapes g fs → SizeAgrees (record_size g.size) (record_shape k fs)

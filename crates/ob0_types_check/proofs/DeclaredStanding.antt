@@ -14,14 +14,14 @@ use Rattle.ob0_types_rules.specs.Environments.{from_binding, meanings, newest}
 use Rattle.ob0_types_rules.specs.Expressions as meant
 use Rattle.ob0_types_rules.specs.WellTyped.{Signature, TypeEnvironment, bind_names}
 use Rattle.ob0_values.specs.Values.{Shape}
-use Rattle.ob0_types_check.specs.Known.{Formal, Meaning, a_constant, a_procedure, a_type, a_variable}
+use Rattle.ob0_types_check.specs.Known.{KnownFormal, Meaning, a_constant, a_procedure, a_type, a_variable}
 use Rattle.ob0_types_check.specs.SoFar.{SoFar, define, define_all, facts_at, with_declared}
 use Rattle.ob0_types_check.specs.Agreement.{Agrees, FormalsAgree, MeaningAgrees, MeansAlike, TableAgrees, TokensAgree, is_standard, shape_in}
 use Rattle.ob0_types_check.proofs.PartsFitting.{PartsFit}
-use Rattle.ob0_types_check.proofs.DeclaredNames.{AreSeen, Each, IsPlaced, IsSeen, NamesPlaced, Numbering, scope_behind}
+use Rattle.ob0_types_check.proofs.DeclaredNames.{AreSeen, Each, IsPlaced, IsSeen, NamesPlaced, Numbering, scope_following}
 use Rattle.ob0_types_check.proofs.DeclaredShapes.{Longer, longer_same, longer_then}
 
-pub formals_kept : (before after : List Shape) → Longer before after → (fs : List (Formal TypeId)) (gs : Signature) → FormalsAgree (shape_in before) fs gs → FormalsAgree (shape_in after) fs gs
+pub formals_kept : (before after : List Shape) → Longer before after → (fs : List (KnownFormal TypeId)) (gs : Signature) → FormalsAgree (shape_in before) fs gs → FormalsAgree (shape_in after) fs gs
 formals_kept before after longer [] [] h = tt
 formals_kept before after longer [] (g ∷ gs) h = absurd h
 formals_kept before after longer (f ∷ fs) [] h = absurd h
@@ -166,7 +166,7 @@ stands_defined w p q shapes n scope env m x o h d own agrees =
 
 -- an expression or statements where all names are seen
 module _ (w : Numbering) (p : SoFar) (only_constants : Bool) (shapes : List Shape) (n : ℕ) (scope : Scope Name) (env : TypeEnvironment Name) (h : Stands w p shapes n scope env) where
-  pub seen_stands : (x : ℕ) → IsSeen w scope x → MeansAlike (shape_in shapes) ((facts_at p only_constants).stands_for x) ((meanings as_names env).stands_for (text_at w.source x))
+  pub seen_stands : (x : ℕ) → IsSeen w scope x → MeansAlike (shape_in shapes) ((facts_at p only_constants).object_for x) ((meanings as_names env).object_for (text_at w.source x))
   seen_stands x (k, at, there) =
       subst (λ o. MeansAlike (shape_in shapes) (option_and_then (λ j. slice_index_or p.declared j None) o) (newest (from_binding as_names env (text_at w.source x)))) (sym (ap (λ os. ordinal_in os x) h.ordinals ∙ at))
       (name_found shapes p.declared n scope env h.names (text_at w.source x) k there)
@@ -191,7 +191,7 @@ pub record AllDefined (w : Numbering) (p q : SoFar) (shapes : List Shape) (n m :
   pub stands : Stands w q shapes m scope env
 
 pub all_defined : (w : Numbering) (p : SoFar) (shapes : List Shape) (n : ℕ) (scope : Scope Name) (env : TypeEnvironment Name) (m : Meaning TypeId) (xs : List ℕ) (o : meant.Object Shape Signature) → Stands w p shapes n scope env → NamesPlaced w n xs → is_standard (Some o) ≡ false → MeaningAgrees (shape_in shapes) m (Some o)
-    → AllDefined w p (define_all p m xs) shapes n (after_names n xs) (scope_behind w n xs scope) (bind_names (map (text_at w.source) xs) o env)
+    → AllDefined w p (define_all p m xs) shapes n (after_names n xs) (scope_following w n xs scope) (bind_names (map (text_at w.source) xs) o env)
 all_defined w p shapes n scope env m [] o h placed own agrees = record { later = later_same n p shapes h.table; stands = h }
 all_defined w p shapes n scope env m (x ∷ xs) o h placed own agrees =
     let one = defined w p shapes n m x h.ordinals h.room h.table placed.0 in

@@ -17,7 +17,7 @@ use Rattle.ob0_types_check.specs.Known.{Meaning, Operand, Reported, a_constant, 
 use Rattle.ob0_types_check.specs.Operations.{right}
 use Rattle.ob0_types_check.specs.SoFar.{PartTypes, Size, SoFar, TypedAfter, facts_at, is_within, made, make, of_elements, of_fields, size_at, too_large, type_with}
 use Rattle.ob0_types_check.specs.TypeFaults.{length_of, type_meant}
-use Rattle.ob0_types_check.specs.WrittenTypeFaults.{Gathered, array_made, array_size, gathered_after, nothing_gathered, record_made, record_size, record_word, told_fields, told_groups, ordinal_here, reported_type, with_name, with_names, word_before}
+use Rattle.ob0_types_check.specs.WrittenTypeFaults.{Gathered, array_made, array_size, gathered_after, nothing_gathered, record_made, record_size, record_word, reported_fields, reported_groups, ordinal_here, reported_type, with_name, with_names, word_before}
 use Rattle.ob0_types_check.specs.Agreement.{PartsAgree, MeansAlike, TableAgrees, shape_in}
 use Rattle.ob0_types_check.specs.WellTypedLaws.{constructor_of}
 use Rattle.ob0_types_check.proofs.MadeOnce.{Apart, apart_made, apart_same, apart_then}
@@ -37,12 +37,12 @@ pub record Denotes (n : ℕ) (p : SoFar) (before : List Shape) (k l : ℕ) (give
   pub given_is : given ≡ Some shape
   pub after : List Shape
   pub apart : Apart k l before after
-  pub later : Later n p u.behind before after
+  pub later : Later n p u.following before after
   pub known : shape_in after u.of ≡ Some shape
 
 -- a name of a type
 named_denotes : (n : ℕ) (w : SoFar) (p : SoFar) (before : List Shape) (k l : ℕ) → l ≡ k → (token : ℕ) (m : Option (Meaning TypeId)) (o : Option (meant.Object Shape Signature)) → TableAgrees p.made before → MeansAlike (shape_in before) m o → (type_meant (facts_at w false) token m).faults ≡ []
-    → Denotes n p before k l (type_of_name o) (record { of = (type_meant (facts_at w false) token m).known; behind = p })
+    → Denotes n p before k l (type_of_name o) (record { of = (type_meant (facts_at w false) token m).known; following = p })
 named_denotes n w p before k l last token None o table alike e = absurd alike
 named_denotes n w p before k l last token (Some (a_type t)) o table (s, known, is) e = record { shape = s; given_is = ap type_of_name is; after = before; apart = apart_same k l before last; later = later_same n p before table; known = known }
 named_denotes n w p before k l last token (Some (a_constant v)) o table alike e = absurd (cc)
@@ -85,8 +85,8 @@ array_denotes : (n : ℕ) (p : SoFar) (before : List Shape) (k l ordinal count :
     → Denotes n p before k l (option_and_then (λ s. within_limits (array_shape k count s)) given) (array_made ordinal o (Some count) u).known
 array_denotes n p before k l ordinal count o given u here d none =
     let s : Shape = array_shape k count d.shape in
-    let size = array_sized (size_at u.behind.made u.of) k count d.shape (size_agrees u.behind.made d.after u.of d.shape d.later.table d.known) in
-    let m = made_denotes n p u.behind before d.after k l _ ordinal (of_elements count u.of) (array_size count (size_at u.behind.made u.of)) s here refl d.apart d.later (d.shape, refl, d.known) size (last_array u.behind.made d.after k count d.shape d.later.table) none in
+    let size = array_sized (size_at u.following.made u.of) k count d.shape (size_agrees u.following.made d.after u.of d.shape d.later.table d.known) in
+    let m = made_denotes n p u.following before d.after k l _ ordinal (of_elements count u.of) (array_size count (size_at u.following.made u.of)) s here refl d.apart d.later (d.shape, refl, d.known) size (last_array u.following.made d.after k count d.shape d.later.table) none in
     record {
       shape = m.denotes.shape;
       given_is = ap (option_and_then (λ s. within_limits (array_shape k count s))) d.given_is ∙ (m.limited ∙ m.denotes.given_is);
@@ -96,16 +96,16 @@ array_denotes n p before k l ordinal count o given u here d none =
       known = m.denotes.known;
     }
 
-sized_array : (n : ℕ) (p : SoFar) (before : List Shape) (k l ordinal : ℕ) (o : Operand TypeId) (told : Option ℕ) (count : ℕ) (given : Option Shape) (u : TypedAfter) → told ≡ Some count → ordinal ≡ k → Denotes n p before (suc k) l given u → (array_made ordinal o told u).faults ≡ []
-    → Denotes n p before k l (option_and_then (λ s. within_limits (array_shape k count s)) given) (array_made ordinal o told u).known
-sized_array n p before k l ordinal o told count given u e here d none =
+sized_array : (n : ℕ) (p : SoFar) (before : List Shape) (k l ordinal : ℕ) (o : Operand TypeId) (reported : Option ℕ) (count : ℕ) (given : Option Shape) (u : TypedAfter) → reported ≡ Some count → ordinal ≡ k → Denotes n p before (suc k) l given u → (array_made ordinal o reported u).faults ≡ []
+    → Denotes n p before k l (option_and_then (λ s. within_limits (array_shape k count s)) given) (array_made ordinal o reported u).known
+sized_array n p before k l ordinal o reported count given u e here d none =
     subst (λ z. (array_made ordinal o z u).faults ≡ [] → Denotes n p before k l (option_and_then (λ s. within_limits (array_shape k count s)) given) (array_made ordinal o z u).known) (sym e) (array_denotes n p before k l ordinal count o given u here d) none
 
 -- fields that are gathered, after those before
 pub record Gathers (n : ℕ) (p : SoFar) (before : List Shape) (k l : ℕ) (first : FieldShapes) (own : FieldShapes) (g : Gathered) : Type 0 where
   pub after : List Shape
   pub apart : Apart k l before after
-  pub later : Later n p g.behind before after
+  pub later : Later n p g.following before after
   pub agrees : GatheredAgrees after g (followed first own)
 
 pub record GroupGathers (n : ℕ) (p : SoFar) (before : List Shape) (k l : ℕ) (first : FieldShapes) (given : FieldShapes → Option FieldShapes) (g : Gathered) : Type 0 where
@@ -118,18 +118,18 @@ pub record GroupsGather (n : ℕ) (p : SoFar) (before : List Shape) (k l : ℕ) 
   pub given_is : given ≡ Some own
   pub gathers : Gathers n p before k l first own g
 
-names_behind : (t : TypeId) (g : Gathered) (xs : List ℕ) → (with_names t g xs).behind ≡ g.behind
-names_behind t g [] = refl
-names_behind t g (x ∷ xs) = names_behind t (with_name t g x) xs
+names_following : (t : TypeId) (g : Gathered) (xs : List ℕ) → (with_names t g xs).following ≡ g.following
+names_following t g [] = refl
+names_following t g (x ∷ xs) = names_following t (with_name t g x) xs
 
 -- names of one type
-names_gather : (n : ℕ) (w : Numbering) (g : Gathered) (before : List Shape) (k l : ℕ) (first : FieldShapes) (xs : List ℕ) (ys : List Name) (given : Option Shape) (u : TypedAfter) → g.behind.source ≡ w.source → ys ≡ map (text_at w.source) xs → GatheredAgrees before g first → Denotes n g.behind before k l given u
-    → GroupGathers n g.behind before k l first (λ later. option_and_then (λ s. Some (with_fields ys s later)) given) (gathered_after g xs u)
+names_gather : (n : ℕ) (w : Numbering) (g : Gathered) (before : List Shape) (k l : ℕ) (first : FieldShapes) (xs : List ℕ) (ys : List Name) (given : Option Shape) (u : TypedAfter) → g.following.source ≡ w.source → ys ≡ map (text_at w.source) xs → GatheredAgrees before g first → Denotes n g.following before k l given u
+    → GroupGathers n g.following before k l first (λ later. option_and_then (λ s. Some (with_fields ys s later)) given) (gathered_after g xs u)
 names_gather n w g before k l first xs ys given u source texts h d =
     let own : FieldShapes = with_fields ys d.shape no_field_shape in
-    let start : Gathered = record { fields = g.fields; size = g.size; behind = u.behind } in
+    let start : Gathered = record { fields = g.fields; size = g.size; following = u.following } in
     let kept = gathered_kept before d.after d.later.longer g first h in
-    let text : u.behind.source ≡ w.source = d.later.source ∙ source in
+    let text : u.following.source ≡ w.source = d.later.source ∙ source in
     let put = names_put d.after start first xs u.of d.shape (record { fields = kept.fields; scalars_are = kept.scalars_are; depth_is = kept.depth_is }) d.later.table d.known in
     record {
       own = own;
@@ -137,7 +137,7 @@ names_gather n w g before k l first xs ys given u source texts h d =
       gathers = record {
         after = d.after;
         apart = d.apart;
-        later = subst (λ z. Later n g.behind z before d.after) (sym (names_behind u.of start xs)) d.later;
+        later = subst (λ z. Later n g.following z before d.after) (sym (names_following u.of start xs)) d.later;
         agrees = subst (λ zs. GatheredAgrees d.after (with_names u.of start xs) (followed first (with_fields zs d.shape no_field_shape))) ((λ i. map (text_at (text i)) xs) ∙ sym texts) put;
       };
     }
@@ -149,19 +149,19 @@ map-same (x ∷ xs) = λ i. x ∷ map-same xs i
 pub nothing_agrees : (shapes : List Shape) (p : SoFar) → GatheredAgrees shapes (nothing_gathered p) no_field_shape
 nothing_agrees shapes p = record { fields = tt; scalars_are = refl; depth_is = refl }
 
-nothing_more : (n : ℕ) (g : Gathered) (before : List Shape) (k l : ℕ) → l ≡ k → (first : FieldShapes) → TableAgrees g.behind.made before → GatheredAgrees before g first → Gathers n g.behind before k l first no_field_shape g
-nothing_more n g before k l last first table h = record { after = before; apart = apart_same k l before last; later = later_same n g.behind before table; agrees = subst (GatheredAgrees before g) (sym (followed-nothing first)) h }
+nothing_more : (n : ℕ) (g : Gathered) (before : List Shape) (k l : ℕ) → l ≡ k → (first : FieldShapes) → TableAgrees g.following.made before → GatheredAgrees before g first → Gathers n g.following before k l first no_field_shape g
+nothing_more n g before k l last first table h = record { after = before; apart = apart_same k l before last; later = later_same n g.following before table; agrees = subst (GatheredAgrees before g) (sym (followed-nothing first)) h }
 
 -- one group and those after it
 pub both_gather : (n : ℕ) (p : SoFar) (before : List Shape) (k m l : ℕ) (first : FieldShapes) (given : FieldShapes → Option FieldShapes) (g h : Gathered) (others : Option FieldShapes) (one : GroupGathers n p before k m first given g)
-    → GroupsGather n g.behind one.gathers.after m l (followed first one.own) others h → GroupsGather n p before k l first (option_and_then given others) h
+    → GroupsGather n g.following one.gathers.after m l (followed first one.own) others h → GroupsGather n p before k l first (option_and_then given others) h
 both_gather n p before k m l first given g h others one other = record {
   own = followed one.own other.own;
   given_is = ap (option_and_then given) other.given_is ∙ one.given_is other.own;
   gathers = record {
     after = other.gathers.after;
     apart = apart_then k m l before one.gathers.after other.gathers.after one.gathers.apart other.gathers.apart;
-    later = later_then n n p g.behind h.behind before one.gathers.after other.gathers.after (le_refl n) one.gathers.later other.gathers.later;
+    later = later_then n n p g.following h.following before one.gathers.after other.gathers.after (le_refl n) one.gathers.later other.gathers.later;
     agrees = subst (GatheredAgrees other.gathers.after h) (followed-assoc first one.own other.own) other.gathers.agrees;
   };
 }
@@ -172,7 +172,7 @@ record_denotes : (n : ℕ) (p : SoFar) (before : List Shape) (k l word ordinal :
 record_denotes n p before k l word ordinal given g here h none =
     let after = h.gathers.after in
     let s : Shape = record_shape k h.own in
-    let m = made_denotes n p g.behind before after k l word ordinal (of_fields g.fields) (record_size g.size) s here refl h.gathers.apart h.gathers.later (h.own, refl, h.gathers.agrees.fields) (record_sized after g k h.own h.gathers.agrees) (last_record g.behind.made after k h.own h.gathers.later.table) none in
+    let m = made_denotes n p g.following before after k l word ordinal (of_fields g.fields) (record_size g.size) s here refl h.gathers.apart h.gathers.later (h.own, refl, h.gathers.agrees.fields) (record_sized after g k h.own h.gathers.agrees) (last_record g.following.made after k h.own h.gathers.later.table) none in
     record {
       shape = m.denotes.shape;
       given_is = ap (option_and_then (λ fs. within_limits (record_shape k fs))) h.given_is ∙ (m.limited ∙ m.denotes.given_is);
@@ -209,7 +209,7 @@ module _ (w : Numbering) (fit : PartsFit) (n : ℕ) (scope : Scope Name) (env : 
     pub type_denotes : (around k : ℕ) (t : Tree ℕ written_type) (p : SoFar) (before : List Shape) → length before + around ≡ k → Stands w p before n scope env → AreSeen w scope t → (reported_type around p t).faults ≡ []
         → Denotes n p before k (k + constructors (named w.source t)) (denoted (meanings as_names env) k (named w.source t)) (reported_type around p t).known
     type_denotes around k (named_type x) p before at st seen e =
-        named_denotes n p p before k (k + 0) (omega arith) x ((facts_at p false).stands_for x) ((meanings as_names env).stands_for (text_at w.source x)) st.table (seen_stands w p false before n scope env st x seen.0) (none_both (type_meant (facts_at p false) x ((facts_at p false).stands_for x)).faults [] e).0
+        named_denotes n p p before k (k + 0) (omega arith) x ((facts_at p false).object_for x) ((meanings as_names env).object_for (text_at w.source x)) st.table (seen_stands w p false before n scope env st x seen.0) (none_both (type_meant (facts_at p false) x ((facts_at p false).object_for x)).faults [] e).0
     type_denotes around k (array_type e u) p before at st seen h =
         let parts = each_part (IsSeen w scope) (occurrences e) (occurrences u) seen in
         let o : Operand TypeId = (reported_expression (facts_at p true) e).known in
@@ -231,12 +231,12 @@ module _ (w : Numbering) (fit : PartsFit) (n : ℕ) (scope : Scope Name) (env : 
         let word : ℕ = word_before g (record_word rest) in
         let ordinal : ℕ = ordinal_here around p in
         let here : ordinal ≡ k = omega (arith, table_long p.made before st.table, at) in
-        let first : Reported Gathered = told_fields (suc around) (nothing_gathered p) g in
-        let all : Reported Gathered = told_groups (suc around) first.known rest in
+        let first : Reported Gathered = reported_fields (suc around) (nothing_gathered p) g in
+        let all : Reported Gathered = reported_groups (suc around) first.known rest in
         let a = none_both first.faults (all.faults ++ (record_made word ordinal all.known).faults) h in
         let b = none_both all.faults (record_made word ordinal all.known).faults a.1 in
         let one = group_gathers (suc around) (suc k) g (nothing_gathered p) before no_field_shape (omega (arith, at)) st parts.0 (nothing_agrees before p) a.0 in
-        let later = stands_later w n n n p first.known.behind before one.gathers.after scope env (le_refl n) (le_refl n) st one.gathers.later in
+        let later = stands_later w n n n p first.known.following before one.gathers.after scope env (le_refl n) (le_refl n) st one.gathers.later in
         let other = groups_gather (suc around) (suc k + group_constructors (named w.source g)) rest first.known one.gathers.after one.own (omega (arith, at, one.gathers.apart.counted)) later parts.1 one.gathers.agrees b.0 in
         let c : ℕ = group_constructors (named w.source g) in
         let d : ℕ = groups_constructors (named w.source rest) in
@@ -244,27 +244,27 @@ module _ (w : Numbering) (fit : PartsFit) (n : ℕ) (scope : Scope Name) (env : 
         (record_denotes n p before k (suc k + c + d) word ordinal (option_and_then (λ ys. denoted_group (meanings as_names env) (suc k) ys (named w.source g)) (denoted_groups (meanings as_names env) (suc k + group_constructors (named w.source g)) (named w.source rest))) all.known here
         (both_gather n p before (suc k) (suc k + c) (suc k + c + d) no_field_shape (λ ys. denoted_group (meanings as_names env) (suc k) ys (named w.source g)) first.known all.known (denoted_groups (meanings as_names env) (suc k + group_constructors (named w.source g)) (named w.source rest)) one other) b.1)
 
-    pub group_gathers : (around k : ℕ) (t : Tree ℕ fields) (g : Gathered) (before : List Shape) (first : FieldShapes) → length before + around ≡ k → Stands w g.behind before n scope env → AreSeen w scope t → GatheredAgrees before g first → (told_fields around g t).faults ≡ []
-        → GroupGathers n g.behind before k (k + group_constructors (named w.source t)) first (λ ys. denoted_group (meanings as_names env) k ys (named w.source t)) (told_fields around g t).known
+    pub group_gathers : (around k : ℕ) (t : Tree ℕ fields) (g : Gathered) (before : List Shape) (first : FieldShapes) → length before + around ≡ k → Stands w g.following before n scope env → AreSeen w scope t → GatheredAgrees before g first → (reported_fields around g t).faults ≡ []
+        → GroupGathers n g.following before k (k + group_constructors (named w.source t)) first (λ ys. denoted_group (meanings as_names env) k ys (named w.source t)) (reported_fields around g t).known
     group_gathers around k no_fields g before first at st seen agrees h = record { own = no_field_shape; given_is = λ ys. refl; gathers = nothing_more n g before k (k + 0) (omega arith) first st.table agrees }
     group_gathers around k (some_fields ns t) g before first at st seen agrees h =
-        let u : Reported TypedAfter = reported_type around g.behind t in
-        let d = type_denotes around k t g.behind before at st seen (none_both u.faults [] h).0 in
+        let u : Reported TypedAfter = reported_type around g.following t in
+        let d = type_denotes around k t g.following before at st seen (none_both u.faults [] h).0 in
         names_gather n w g before k (k + constructors (named w.source t)) first (names_listed ns) (map (λ x. x) (names_listed (named w.source ns))) (denoted (meanings as_names env) k (named w.source t)) u.known st.source
         (map-same (names_listed (named w.source ns)) ∙ names_listed-mapped (text_at w.source) (value_at w.source) ns) agrees d
 
-    pub groups_gather : (around k : ℕ) (t : Tree ℕ (items further_fields)) (g : Gathered) (before : List Shape) (first : FieldShapes) → length before + around ≡ k → Stands w g.behind before n scope env → AreSeen w scope t → GatheredAgrees before g first → (told_groups around g t).faults ≡ []
-        → GroupsGather n g.behind before k (k + groups_constructors (named w.source t)) first (denoted_groups (meanings as_names env) k (named w.source t)) (told_groups around g t).known
+    pub groups_gather : (around k : ℕ) (t : Tree ℕ (items further_fields)) (g : Gathered) (before : List Shape) (first : FieldShapes) → length before + around ≡ k → Stands w g.following before n scope env → AreSeen w scope t → GatheredAgrees before g first → (reported_groups around g t).faults ≡ []
+        → GroupsGather n g.following before k (k + groups_constructors (named w.source t)) first (denoted_groups (meanings as_names env) k (named w.source t)) (reported_groups around g t).known
     groups_gather around k end g before first at st seen agrees h = record { own = no_field_shape; given_is = refl; gathers = nothing_more n g before k (k + 0) (omega arith) first st.table agrees }
     groups_gather around k (more (then_fields f) rest) g before first at st seen agrees h =
         let parts = each_part (IsSeen w scope) (occurrences f) (occurrences rest) seen in
-        let next : Reported Gathered = told_fields around g f in
-        let all : Reported Gathered = told_groups around next.known rest in
+        let next : Reported Gathered = reported_fields around g f in
+        let all : Reported Gathered = reported_groups around next.known rest in
         let a = none_both next.faults all.faults h in
         let one = group_gathers around k f g before first at st parts.0 agrees a.0 in
-        let later = stands_later w n n n g.behind next.known.behind before one.gathers.after scope env (le_refl n) (le_refl n) st one.gathers.later in
+        let later = stands_later w n n n g.following next.known.following before one.gathers.after scope env (le_refl n) (le_refl n) st one.gathers.later in
         let other = groups_gather around (k + group_constructors (named w.source f)) rest next.known one.gathers.after (followed first one.own) (omega (arith, at, one.gathers.apart.counted)) later parts.1 one.gathers.agrees a.1 in
         let c : ℕ = group_constructors (named w.source f) in
         let d : ℕ = groups_constructors (named w.source rest) in
-        subst (λ j. GroupsGather n g.behind before k j first (denoted_groups (meanings as_names env) k (named w.source (more (then_fields f) rest))) all.known) (more_groups k c d)
-        (both_gather n g.behind before k (k + c) (k + c + d) first (λ ys. denoted_group (meanings as_names env) k ys (named w.source f)) next.known all.known (denoted_groups (meanings as_names env) (k + group_constructors (named w.source f)) (named w.source rest)) one other)
+        subst (λ j. GroupsGather n g.following before k j first (denoted_groups (meanings as_names env) k (named w.source (more (then_fields f) rest))) all.known) (more_groups k c d)
+        (both_gather n g.following before k (k + c) (k + c + d) first (λ ys. denoted_group (meanings as_names env) k ys (named w.source f)) next.known all.known (denoted_groups (meanings as_names env) (k + group_constructors (named w.source f)) (named w.source rest)) one other)

@@ -19,7 +19,7 @@ use Rattle.ob0_types_check.specs.Known.{Facts, Operand}
 use Rattle.ob0_types_check.specs.Operations.{add_operands, complement_operand, element_selected, field_selected, multiply_operands, named, relate_operands, sign_operand}
 use Rattle.ob0_types_check.specs.Agreement.{TypesAgree}
 use Rattle.ob0_types_check.proofs.Operands.{IsOf, added-fits, complement-of, complemented-fits, element-fits, field-fits, multiplied-fits, none-of, related-fits, relation-of, signed-fits, some-of}
-use Rattle.ob0_types_check.proofs.Untold.{goes-on, none-told, then-assoc, then-itself}
+use Rattle.ob0_types_check.proofs.Untold.{goes-on, none-reported, then-assoc, then-itself}
 use Rattle.ob0_types_check.proofs.Valued.{addend-valued, multiplier-valued, name-valued, negation-valued, parts-valued, related-valued, simple-valued, term-valued}
 
 -- an operand, its type and its value
@@ -32,8 +32,8 @@ pub record Fits {T : Type 0} (shape : T → Option Shape) (o : Operand T) (type 
 
 -- a name, which may be for a place where it is a variable's
 pub record NameFits {T N P : Type 0} (facts : Facts T) (shape : T → Option Shape) (label : ℕ → N) (meaning : Meanings N Shape P) (x : ℕ) : Type 0 where
-  pub fits : Fits shape (named facts x).known (object_type (meaning.stands_for (label x))) (constant_of (meaning.stands_for (label x)))
-  pub placed : (named facts x).known.is_place ≡ true → meaning.stands_for (label x) ≡ Some (a_variable fits.of)
+  pub fits : Fits shape (named facts x).known (object_type (meaning.object_for (label x))) (constant_of (meaning.object_for (label x)))
+  pub placed : (named facts x).known.is_place ≡ true → meaning.object_for (label x) ≡ Some (a_variable fits.of)
 
 abbrev pub TokenFits : {T N P : Type 0} → Facts T → (T → Option Shape) → (ℕ → N) → Meanings N Shape P → Role → ℕ → Type 0
 TokenFits facts shape label meaning role.LookedUp x = (named facts x).faults ≡ [] → NameFits facts shape label meaning x
@@ -192,10 +192,10 @@ module _ {T N P : Type 0} (facts : Facts T) (shape : T → Option Shape) (types 
   designator-valued : (x : ℕ) (path : Tree ℕ (items selector)) → NameFits facts shape label meaning x
       → (reported_factor facts (designator x path)).known.value ≡ given_value (evaluate_factor among [] (tree (designator x path)))
   unfolding reported_expression type_of evaluate
-  designator-valued x end name = name.fits.valued ∙ sym (name-valued among (label x) (constant_of (meaning.stands_for (label x))) refl)
+  designator-valued x end name = name.fits.valued ∙ sym (name-valued among (label x) (constant_of (meaning.object_for (label x))) refl)
   designator-valued x (more s path) name =
       parts-have-none facts (named facts x).known s path
-      ∙ sym (parts-valued among (label x) (constant_of (meaning.stands_for (label x))) (tree s) (tree path) refl (λ v e. ap is_some (name.fits.scalar v (name.fits.valued ∙ e))))
+      ∙ sym (parts-valued among (label x) (constant_of (meaning.object_for (label x))) (tree s) (tree path) refl (λ v e. ap is_some (name.fits.scalar v (name.fits.valued ∙ e))))
 
   designator-scalar : (x : ℕ) (path : Tree ℕ (items selector)) (name : NameFits facts shape label meaning x) (fs : FitsSelectors (named facts x).known name.fits.of path) → IsOf fs.of (reported_factor facts (designator x path)).known.value
   unfolding reported_expression
@@ -207,7 +207,7 @@ module _ {T N P : Type 0} (facts : Facts T) (shape : T → Option Shape) (types 
   designator-whole x path name fs = record {
     of = fs.of;
     known = fs.known;
-    typed = goes-on (λ s. type_at meaning s (tree path)) (object_type (meaning.stands_for (label x))) name.fits.of (Some fs.of) name.fits.typed fs.typed;
+    typed = goes-on (λ s. type_at meaning s (tree path)) (object_type (meaning.object_for (label x))) name.fits.of (Some fs.of) name.fits.typed fs.typed;
     valued = designator-valued x path name;
     scalar = designator-scalar x path name fs;
   }
@@ -276,15 +276,15 @@ module _ {T N P : Type 0} (facts : Facts T) (shape : T → Option Shape) (types 
     expression-fits (compares a none) k h = simple-fits a (split (ids a) [] k).0 h
     expression-fits (compares a (one (relates r b))) k h =
         let parts = split (ids a) (ids b) k in
-        let left = none-told (reported_simple facts a).faults _ h in
-        let right = none-told (reported_simple facts b).faults _ left.1 in
+        let left = none-reported (reported_simple facts a).faults _ h in
+        let right = none-reported (reported_simple facts b).faults _ left.1 in
         related-whole r a b (simple-fits a parts.0 left.0) (simple-fits b parts.1 right.0) right.1
 
     pub simple-fits : (a : Tree ℕ simple) → All a → (reported_simple facts a).faults ≡ [] → FitsSimple a
     simple-fits (sum g t rest) k h =
         let parts = split (ids t) (ids rest) k in
-        let left = none-told (reported_term facts t).faults _ h in
-        let right = none-told (sign_operand facts g (reported_term facts t).known).faults _ left.1 in
+        let left = none-reported (reported_term facts t).faults _ h in
+        let right = none-reported (sign_operand facts g (reported_term facts t).known).faults _ left.1 in
         let ft : FitsTerm t = term-fits t parts.0 left.0 in
         let (w, known, typed, keeps) = signed-fits facts shape types g (reported_term facts t).known ft.of ft.known right.0 in
         simple-whole g t rest ft w typed (addends-fit (sign_operand facts g (reported_term facts t).known).known w rest known (keeps ft.scalar) parts.1 right.1)
@@ -293,8 +293,8 @@ module _ {T N P : Type 0} (facts : Facts T) (shape : T → Option Shape) (types 
     addends-fit x s end hx scalar k h = ended-addends x s hx scalar
     addends-fit x s (more (adds o t) rest) hx scalar k h =
         let parts = split (ids t) (ids rest) k in
-        let left = none-told (reported_term facts t).faults _ h in
-        let right = none-told (add_operands facts o x (reported_term facts t).known).faults _ left.1 in
+        let left = none-reported (reported_term facts t).faults _ h in
+        let right = none-reported (add_operands facts o x (reported_term facts t).known).faults _ left.1 in
         let ft : FitsTerm t = term-fits t parts.0 left.0 in
         let (w, known, typed, keeps) = added-fits facts shape types o x (reported_term facts t).known s ft.of hx ft.known right.0 in
         addend-whole x s o t rest ft w typed
@@ -303,7 +303,7 @@ module _ {T N P : Type 0} (facts : Facts T) (shape : T → Option Shape) (types 
     pub term-fits : (t : Tree ℕ term) → All t → (reported_term facts t).faults ≡ [] → FitsTerm t
     term-fits (product f rest) k h =
         let parts = split (ids f) (ids rest) k in
-        let left = none-told (reported_factor facts f).faults _ h in
+        let left = none-reported (reported_factor facts f).faults _ h in
         let ff : FitsFactor f = factor-fits f parts.0 left.0 in
         term-whole f rest ff (multipliers-fit (reported_factor facts f).known ff.of rest ff.known ff.scalar parts.1 left.1)
 
@@ -311,8 +311,8 @@ module _ {T N P : Type 0} (facts : Facts T) (shape : T → Option Shape) (types 
     multipliers-fit x s end hx scalar k h = ended-multipliers x s hx scalar
     multipliers-fit x s (more (multiplies o f) rest) hx scalar k h =
         let parts = split (ids f) (ids rest) k in
-        let left = none-told (reported_factor facts f).faults _ h in
-        let right = none-told (multiply_operands facts o x (reported_factor facts f).known).faults _ left.1 in
+        let left = none-reported (reported_factor facts f).faults _ h in
+        let right = none-reported (multiply_operands facts o x (reported_factor facts f).known).faults _ left.1 in
         let ff : FitsFactor f = factor-fits f parts.0 left.0 in
         let (w, known, typed, keeps) = multiplied-fits facts shape types o x (reported_factor facts f).known s ff.of hx ff.known right.0 in
         multiplier-whole x s o f rest ff w typed
@@ -320,25 +320,25 @@ module _ {T N P : Type 0} (facts : Facts T) (shape : T → Option Shape) (types 
 
     pub factor-fits : (f : Tree ℕ factor) → All f → (reported_factor facts f).faults ≡ [] → FitsFactor f
     factor-fits (designator x path) k h =
-        let parts = none-told (named facts x).faults _ h in
+        let parts = none-reported (named facts x).faults _ h in
         let name : NameFits facts shape label meaning x = k.0 parts.0 in
         designator-whole x path name (selectors-fit (named facts x).known name.fits.of path name.fits.known k.1 parts.1)
     factor-fits (integer n) k h = integer-whole n
-    factor-fits (parenthesised e) k h = parentheses-whole e (expression-fits e k (none-told (reported_expression facts e).faults _ h).0)
+    factor-fits (parenthesised e) k h = parentheses-whole e (expression-fits e k (none-reported (reported_expression facts e).faults _ h).0)
     factor-fits (negation f) k h =
-        let parts = none-told (reported_factor facts f).faults _ h in
+        let parts = none-reported (reported_factor facts f).faults _ h in
         negation-whole f (factor-fits f k parts.0) parts.1
 
     pub selectors-fit : (x : Operand T) (s : Shape) (path : Tree ℕ (items selector)) → shape x.of ≡ Some s → All path → (reported_selectors facts x path).faults ≡ [] → FitsSelectors x s path
     selectors-fit x s end hx k h = ended-selectors x s hx
     selectors-fit x s (more (field n) rest) hx k h =
-        let parts = none-told (field_selected facts x n).faults _ h in
+        let parts = none-reported (field_selected facts x n).faults _ h in
         let (u, known, typed) = field-fits facts shape types x s hx n parts.0 in
         field-whole x s n rest u typed k.0 (selectors-fit (field_selected facts x n).known u rest known k.1 parts.1)
     selectors-fit x s (more (index e) rest) hx k h =
         let parts = split (ids e) (ids rest) k in
-        let left = none-told (reported_expression facts e).faults _ h in
-        let right = none-told (element_selected facts x (reported_expression facts e).known).faults _ left.1 in
+        let left = none-reported (reported_expression facts e).faults _ h in
+        let right = none-reported (element_selected facts x (reported_expression facts e).known).faults _ left.1 in
         let fe : FitsExpression e = expression-fits e parts.0 left.0 in
         let (u, known, typed) = element-fits facts shape types x (reported_expression facts e).known s fe.of hx fe.known right.0 in
         index-whole x s e rest fe u typed (selectors-fit (element_selected facts x (reported_expression facts e).known).known u rest known parts.1 right.1)

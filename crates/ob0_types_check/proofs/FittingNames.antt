@@ -42,8 +42,8 @@ module _ {T : Type 0} (facts : Facts T) (shape : T → Option Shape) (types : Ty
   stands-fits x None o a h = absurd a
   stands-fits x (Some (a_type t)) o a h = absurd (cc)
   stands-fits x (Some (a_procedure fs)) o a h = absurd (cc)
-  stands-fits x (Some (a_constant c)) o (v, told, stands, scalar) h =
-      subst₂ (λ c o. ObjectFits shape (a_constant_name facts.types c x) o) (sym told) (sym stands) (constant-fits x v scalar)
+  stands-fits x (Some (a_constant c)) o (v, reported, stands, scalar) h =
+      subst₂ (λ c o. ObjectFits shape (a_constant_name facts.types c x) o) (sym reported) (sym stands) (constant-fits x v scalar)
   stands-fits x (Some (a_variable t)) o (s, known, stands) h =
       subst (λ o. ObjectFits shape (named_value facts x (Some (a_variable t))).known o) (sym stands) (variable-fits x t s known facts.only_constants h)
 
@@ -57,13 +57,13 @@ module _ {T : Type 0} (facts : Facts T) (shape : T → Option Shape) (types : Ty
   only-fits x None o only a h = absurd a
   only-fits x (Some (a_type t)) o only a h = absurd (cc)
   only-fits x (Some (a_procedure fs)) o only a h = absurd (cc)
-  only-fits {Q = Q} x (Some (a_constant c)) o only (v, told, stands, scalar) h =
-      subst₂ (λ c o. ObjectFits {P = Q} shape (a_constant_name facts.types c x) (option_map meant.a_constant (constant_of o))) (sym told) (sym stands) (constant-fits x v scalar)
+  only-fits {Q = Q} x (Some (a_constant c)) o only (v, reported, stands, scalar) h =
+      subst₂ (λ c o. ObjectFits {P = Q} shape (a_constant_name facts.types c x) (option_map meant.a_constant (constant_of o))) (sym reported) (sym stands) (constant-fits x v scalar)
   only-fits x (Some (a_variable t)) o only a h = absurd (no-variable x t facts.only_constants only h)
 
 module _ {T N : Type 0} (facts : Facts T) (shape : T → Option Shape) (types : TypesAgree facts.types shape) (label : ℕ → N) (meaning : Typed N) where
   token-fits : (r : Role) (x : ℕ) → TokenAgrees facts shape label meaning r x → TokenFits facts shape label meaning r x
-  token-fits role.LookedUp x a = λ h. let o = stands-fits facts shape types x (facts.stands_for x) (meaning.stands_for (label x)) a h in record { fits = o.fits; placed = o.placed }
+  token-fits role.LookedUp x a = λ h. let o = stands-fits facts shape types x (facts.object_for x) (meaning.object_for (label x)) a h in record { fits = o.fits; placed = o.placed }
   token-fits role.FieldName x a = a
   token-fits role.Declaring x a = tt
   token-fits role.ClosingName x a = tt
@@ -74,7 +74,7 @@ module _ {T N : Type 0} (facts : Facts T) (shape : T → Option Shape) (types : 
   tokens-fit (x ∷ xs) a = (token-fits x.0 x.1 a.0, tokens-fit xs a.1)
 
   only-token : (Q : Type 0) → facts.only_constants ≡ true → (r : Role) (x : ℕ) → TokenAgrees facts shape label meaning r x → TokenFits {P = Q} facts shape label (constants_only meaning) r x
-  only-token Q only role.LookedUp x a = λ h. let o = only-fits facts shape types x (facts.stands_for x) (meaning.stands_for (label x)) only a h in record { fits = o.fits; placed = o.placed }
+  only-token Q only role.LookedUp x a = λ h. let o = only-fits facts shape types x (facts.object_for x) (meaning.object_for (label x)) only a h in record { fits = o.fits; placed = o.placed }
   only-token Q only role.FieldName x a = a
   only-token Q only role.Declaring x a = tt
   only-token Q only role.ClosingName x a = tt

@@ -14,7 +14,7 @@ use Rattle.ob0_types_check.specs.Operations.{add_operands, multiply_operands, na
 use Rattle.ob0_types_check.specs.Agreement.{TypesAgree}
 use Rattle.ob0_types_check.specs.ReportLaws.{OperandFits}
 use Rattle.ob0_types_check.proofs.FittingExpressions.{FitsExpression, FitsSelectors, NameFits, TokensFit, addends-apart, expression-fits, multipliers-apart, parts-placed, selectors-fit, split-tokens}
-use Rattle.ob0_types_check.proofs.Untold.{none-told}
+use Rattle.ob0_types_check.proofs.Untold.{none-reported}
 
 module _ {T N P : Type 0} (facts : Facts T) (shape : T → Option Shape) (types : TypesAgree facts.types shape) (label : ℕ → N) (meaning : Meanings N Shape P) where
   abbrev here : {s : Sort} → Tree ℕ s → Tree N s
@@ -29,7 +29,7 @@ module _ {T N P : Type 0} (facts : Facts T) (shape : T → Option Shape) (types 
   split : (xs ys : List (Role × ℕ)) → TokensFit facts shape label meaning (xs ++ ys) → TokensFit facts shape label meaning xs × TokensFit facts shape label meaning ys
   split = split-tokens facts shape label meaning
 
-  pub variable-typed : (x : ℕ) (path : Tree ℕ (items selector)) (s : Shape) (u : Option Shape) → meaning.stands_for (label x) ≡ Some (a_variable s)
+  pub variable-typed : (x : ℕ) (path : Tree ℕ (items selector)) (s : Shape) (u : Option Shape) → meaning.object_for (label x) ≡ Some (a_variable s)
       → type_at meaning s (mapped label (value_at facts.source) path) ≡ u → variable_type meaning (Some (label x, mapped label (value_at facts.source) path)) ≡ u
   unfolding variable_type
   variable-typed x path s u stands typed = ap (λ o. elim o [ Some (a_variable s) ↦ type_at meaning s (here path) | _ ↦ None ]) stands ∙ typed
@@ -58,7 +58,7 @@ module _ {T N P : Type 0} (facts : Facts T) (shape : T → Option Shape) (types 
       → IsPlaced (reported_factor facts f).known (compares (sum None (product (here f) end) end) none)
   unfolding reported_expression
   placed-factor (designator x path) k h e =
-      let parts = none-told (named facts x).faults _ h in
+      let parts = none-reported (named facts x).faults _ h in
       designator-placed x path (here (designator x path)) (k.0 parts.0) k.1 parts.1 e
   placed-factor (integer n) k h e = no-place (reported_factor facts (integer n)).known refl e
   placed-factor (parenthesised a) k h e = no-place (reported_factor facts (parenthesised a)).known refl e
@@ -76,7 +76,7 @@ module _ {T N P : Type 0} (facts : Facts T) (shape : T → Option Shape) (types 
       (multipliers-apart facts (multiply_operands facts o (reported_factor facts f).known (reported_factor facts u).known).known rest refl) e
   expression-placed (compares (sum None (product f end) end) none) k h e =
       placed-factor f (split (ids f) [] (split (ids (product f end)) [] (split (ids (sum None (product f end) end)) [] k).0).0).0
-      (none-told (reported_factor facts f).faults _ (none-told (reported_term facts (product f end)).faults _ h).0).0 e
+      (none-reported (reported_factor facts f).faults _ (none-reported (reported_term facts (product f end)).faults _ h).0).0 e
 
   -- all that is known of an operand
   pub operand-fits : (e : Tree ℕ expression) → Agreed e → (reported_expression facts e).faults ≡ [] → OperandFits shape meaning (reported_expression facts e).known (here e)

@@ -24,8 +24,8 @@ use Rattle.ob0_types_check.specs.ReportLaws.{OperandFits, StatementsFit}
 use Rattle.ob0_types_check.proofs.FittingExpressions.{FitsSelectors, selectors-fit}
 use Rattle.ob0_types_check.proofs.FittingNames.{tokens-fit}
 use Rattle.ob0_types_check.proofs.FittingPlaces.{operand-fits, variable-typed}
-use Rattle.ob0_types_check.proofs.Operands.{asked-fits}
-use Rattle.ob0_types_check.proofs.Untold.{both-true, none-told, second-told}
+use Rattle.ob0_types_check.proofs.Operands.{requested-fits}
+use Rattle.ob0_types_check.proofs.Untold.{both-true, none-reported, second-reported}
 
 pub agree-same : (s : Shape) (a b : Option Shape) → a ≡ Some s → b ≡ Some s → agree a b ≡ true
 agree-same s a b p q = (λ i. agree (p i) (q i)) ∙ same_shape-refl s
@@ -57,23 +57,23 @@ module _ {T N : Type 0} (facts : Facts T) (shape : T → Option Shape) (types : 
   known-operand e k h = operand-fits facts shape types label meaning e (tokens-fit facts shape types label meaning (ids e) k) h
 
   -- an expression of which a type is required
-  asked-typed : (wanted : T) (w : Shape) (e : Tree ℕ expression) → shape wanted ≡ Some w → Agreed e → reported_required facts wanted e ≡ [] → type_of meaning (here e) ≡ Some w
+  requested-typed : (wanted : T) (w : Shape) (e : Tree ℕ expression) → shape wanted ≡ Some w → Agreed e → reported_required facts wanted e ≡ [] → type_of meaning (here e) ≡ Some w
   unfolding reported_required
-  asked-typed wanted w e hw k h =
-      let parts = none-told (reported_expression facts e).faults _ h in
+  requested-typed wanted w e hw k h =
+      let parts = none-reported (reported_expression facts e).faults _ h in
       let o : OperandFits shape meaning (reported_expression facts e).known (here e) = known-operand e k parts.0 in
-      let (given, same) = asked-fits facts shape types wanted (reported_expression facts e).known o.of w o.known hw parts.1 in
+      let (given, same) = requested-fits facts shape types wanted (reported_expression facts e).known o.of w o.known hw parts.1 in
       o.typed ∙ ap (λ s. Some s) same
 
   condition-fits : (e : Tree ℕ expression) → Agreed e → reported_condition facts e ≡ [] → condition_fits meaning (here e) ≡ true
   unfolding condition_fits
-  condition-fits e k h = ap (agree (Some boolean_shape)) (asked-typed facts.types.boolean boolean_shape e types.boolean k h)
+  condition-fits e k h = ap (agree (Some boolean_shape)) (requested-typed facts.types.boolean boolean_shape e types.boolean k h)
 
   -- assignments
 
-  pub record IsAssigned (told : Reported T) (o : Option (Object Shape Signature)) : Type 0 where
+  pub record IsAssigned (reported : Reported T) (o : Option (Object Shape Signature)) : Type 0 where
     pub of : Shape
-    pub known : shape told.known ≡ Some of
+    pub known : shape reported.known ≡ Some of
     pub stands : o ≡ Some (meant.a_variable of)
 
   assigned-stands : (x : ℕ) (m : Option (Meaning T)) (o : Option (Object Shape Signature)) → MeansAlike shape m o → (target_by_meaning facts x m).faults ≡ [] → IsAssigned (target_by_meaning facts x m) o
@@ -81,20 +81,20 @@ module _ {T N : Type 0} (facts : Facts T) (shape : T → Option Shape) (types : 
   assigned-stands x (Some (a_type t)) o a h = absurd (cc)
   assigned-stands x (Some (a_constant c)) o a h = absurd (cc)
   assigned-stands x (Some (a_procedure fs)) o a h = absurd (cc)
-  assigned-stands x (Some (a_variable t)) o (s, told, stands) h = record { of = s; known = told; stands = stands }
+  assigned-stands x (Some (a_variable t)) o (s, reported, stands) h = record { of = s; known = reported; stands = stands }
 
   assignment-fits : (x : ℕ) (path : Tree ℕ (items selector)) (e : Tree ℕ expression) → Agreed (assigns x path e) → reported_assignment facts (reported_target facts x path) e ≡ [] → statement_fits meaning (here (assigns x path e)) ≡ true
   unfolding reported_target statement_fits
   assignment-fits x path e k h =
-      let parts = none-told (reported_target facts x path).faults _ h in
-      let target = none-told (target_meaning facts x).faults _ parts.0 in
+      let parts = none-reported (reported_target facts x path).faults _ h in
+      let target = none-reported (target_meaning facts x).faults _ parts.0 in
       let rest = split (ids path) (ids e) k.1 in
-      let a : IsAssigned (target_meaning facts x) (meaning.stands_for (label x)) = assigned-stands x (facts.stands_for x) (meaning.stands_for (label x)) k.0 target.0 in
+      let a : IsAssigned (target_meaning facts x) (meaning.object_for (label x)) = assigned-stands x (facts.object_for x) (meaning.object_for (label x)) k.0 target.0 in
       let fs : FitsSelectors facts shape types label meaning (a_name (target_meaning facts x).known x) a.of path
       = selectors-fit facts shape types label meaning (a_name (target_meaning facts x).known x) a.of path a.known (tokens-fit facts shape types label meaning (ids path) rest.0) target.1 in
       agree-same fs.of (variable_type meaning (Some (label x, here path))) (type_of meaning (here e))
       (variable-typed facts shape types label meaning x path a.of (Some fs.of) a.stands fs.typed)
-      (asked-typed (reported_target facts x path).known.of fs.of e fs.known rest.1 parts.1)
+      (requested-typed (reported_target facts x path).known.of fs.of e fs.known rest.1 parts.1)
 
   -- calls
 
@@ -102,26 +102,26 @@ module _ {T N : Type 0} (facts : Facts T) (shape : T → Option Shape) (types : 
       → (if b && not o.is_place then record { known = facts.types.unknown; faults = at_operand facts code.NotVariable o } else required facts of o).faults ≡ [] → argument_fits meaning g (here e) ≡ true
   unfolding argument_fits
   passed-fits true of g e o fe mode wanted h =
-      let parts = second-told (not o.is_place) (record { known = facts.types.unknown; faults = at_operand facts code.NotVariable o }) (required facts of o) _ refl h in
-      let (given, same) = asked-fits facts shape types of o fe.of g.shape fe.known wanted parts.1 in
+      let parts = second-reported (not o.is_place) (record { known = facts.types.unknown; faults = at_operand facts code.NotVariable o }) (required facts of o) _ refl h in
+      let (given, same) = requested-fits facts shape types of o fe.of g.shape fe.known wanted parts.1 in
       (λ i. agree (Some g.shape) (elim (mode i) [ by_value ↦ type_of meaning (here e) | by_place ↦ variable_type meaning (designated (here e)) ]))
       ∙ agree-same g.shape (Some g.shape) (variable_type meaning (designated (here e))) refl (fe.placed (not-false o.is_place parts.0) ∙ ap (λ s. Some s) same)
   passed-fits false of g e o fe mode wanted h =
-      let (given, same) = asked-fits facts shape types of o fe.of g.shape fe.known wanted h in
+      let (given, same) = requested-fits facts shape types of o fe.of g.shape fe.known wanted h in
       (λ i. agree (Some g.shape) (elim (mode i) [ by_value ↦ type_of meaning (here e) | by_place ↦ variable_type meaning (designated (here e)) ]))
       ∙ agree-same g.shape (Some g.shape) (type_of meaning (here e)) refl (fe.typed ∙ ap (λ s. Some s) same)
 
-  argument-fits : (f : known.Formal T) (g : Formal) (e : Tree ℕ expression) → g.mode ≡ mode_of f.by_place → shape f.of ≡ Some g.shape → Agreed e → reported_argument facts f e ≡ [] → argument_fits meaning g (here e) ≡ true
+  argument-fits : (f : known.KnownFormal T) (g : Formal) (e : Tree ℕ expression) → g.mode ≡ mode_of f.by_place → shape f.of ≡ Some g.shape → Agreed e → reported_argument facts f e ≡ [] → argument_fits meaning g (here e) ≡ true
   unfolding reported_argument
   argument-fits f g e mode wanted k h =
-      let parts = none-told (reported_expression facts e).faults _ h in
+      let parts = none-reported (reported_expression facts e).faults _ h in
       passed-fits f.by_place f.of g e (reported_expression facts e).known (known-operand e k parts.0) mode wanted parts.1
 
   abbrev pub EachAgreed : List (Tree ℕ expression) → Type 0
   EachAgreed [] = Unit {0}
   EachAgreed (e ∷ es) = Agreed e × EachAgreed es
 
-  arguments-fit : (fs : List (known.Formal T)) (gs : Signature) (es : List (Tree ℕ expression)) → FormalsAgree shape fs gs → length fs ≡ length es → EachAgreed es → reported_arguments facts fs es ≡ []
+  arguments-fit : (fs : List (known.KnownFormal T)) (gs : Signature) (es : List (Tree ℕ expression)) → FormalsAgree shape fs gs → length fs ≡ length es → EachAgreed es → reported_arguments facts fs es ≡ []
       → arguments_fit meaning gs (map here es) ≡ true
   unfolding arguments_fit
   arguments-fit [] [] [] a n k h = refl
@@ -130,7 +130,7 @@ module _ {T N : Type 0} (facts : Facts T) (shape : T → Option Shape) (types : 
   arguments-fit (f ∷ fs) [] es a n k h = absurd a
   arguments-fit (f ∷ fs) (g ∷ gs) [] a n k h = absurd (omega (arith, n))
   arguments-fit (f ∷ fs) (g ∷ gs) (e ∷ es) a n k h =
-      let parts = none-told (reported_argument facts f e) _ h in
+      let parts = none-reported (reported_argument facts f e) _ h in
       both-true (argument_fits meaning g (here e)) (arguments_fit meaning gs (map here es)) (argument-fits f g e a.0 a.1 k.0 parts.0) (arguments-fit fs gs es a.2 (omega (arith, n)) k.1 parts.1)
 
   further-mapped : (es : Tree ℕ (items further_argument)) → further_arguments (here es) ≡ map here (further_arguments es)
@@ -164,8 +164,8 @@ module _ {T N : Type 0} (facts : Facts T) (shape : T → Option Shape) (types : 
   call-fits : (x : ℕ) (es : Tree ℕ (maybe arguments)) → Agreed (calls x es) → reported_call facts x (arguments_listed es) ≡ [] → statement_fits meaning (here (calls x es)) ≡ true
   unfolding statement_fits
   call-fits x es k h =
-      ap (call_fits meaning (signature_of (meaning.stands_for (label x)))) (arguments-mapped es)
-      ∙ called-fits x (facts.stands_for x) (meaning.stands_for (label x)) (arguments_listed es) k.0 (arguments-agreed es k.1) h
+      ap (call_fits meaning (signature_of (meaning.object_for (label x)))) (arguments-mapped es)
+      ∙ called-fits x (facts.object_for x) (meaning.object_for (label x)) (arguments_listed es) k.0 (arguments-agreed es k.1) h
 
   mutual
     unfolding reported_statement statement_fits
@@ -178,31 +178,31 @@ module _ {T N : Type 0} (facts : Facts T) (shape : T → Option Shape) (types : 
         let tokens = split (ids e) _ k in
         let others = split (ids statements) _ tokens.1 in
         let ends = split (ids rest) (ids last) others.1 in
-        let first = none-told (reported_condition facts e) _ h in
-        let second = none-told (reported_sequence facts statements) _ first.1 in
-        let third = none-told (reported_elsifs facts rest) _ second.1 in
+        let first = none-reported (reported_condition facts e) _ h in
+        let second = none-reported (reported_sequence facts statements) _ first.1 in
+        let third = none-reported (reported_elsifs facts rest) _ second.1 in
         both-true _ _ (condition-fits e tokens.0 first.0)
         (both-true _ _ (sequence-fits statements others.0 second.0) (both-true _ _ (elsifs-fit rest ends.0 third.0) (else-fits last ends.1 third.1)))
     statement-fits (while_loop e statements) k h =
         let tokens = split (ids e) (ids statements) k in
-        let parts = none-told (reported_condition facts e) _ h in
+        let parts = none-reported (reported_condition facts e) _ h in
         both-true _ _ (condition-fits e tokens.0 parts.0) (sequence-fits statements tokens.1 parts.1)
     statement-fits (repeat_loop statements e) k h =
         let tokens = split (ids statements) (ids e) k in
-        let parts = none-told (reported_sequence facts statements) _ h in
+        let parts = none-reported (reported_sequence facts statements) _ h in
         both-true _ _ (sequence-fits statements tokens.0 parts.0) (condition-fits e tokens.1 parts.1)
 
     pub sequence-fits : (a : Tree ℕ sequence) → Agreed a → reported_sequence facts a ≡ [] → sequence_fits meaning (here a) ≡ true
     sequence-fits (runs a rest) k h =
         let tokens = split (ids a) (ids rest) k in
-        let parts = none-told (reported_statement facts a) _ h in
+        let parts = none-reported (reported_statement facts a) _ h in
         both-true _ _ (statement-fits a tokens.0 parts.0) (statements-fit rest tokens.1 parts.1)
 
     statements-fit : (a : Tree ℕ (items further_statement)) → Agreed a → reported_statements facts a ≡ [] → statements_fit meaning (here a) ≡ true
     statements-fit end k h = refl
     statements-fit (more (then_statement a) rest) k h =
         let tokens = split (ids a) (ids rest) k in
-        let parts = none-told (reported_statement facts a) _ h in
+        let parts = none-reported (reported_statement facts a) _ h in
         both-true _ _ (statement-fits a tokens.0 parts.0) (statements-fit rest tokens.1 parts.1)
 
     elsifs-fit : (a : Tree ℕ (items elsif_part)) → Agreed a → reported_elsifs facts a ≡ [] → elsifs_fit meaning (here a) ≡ true
@@ -210,8 +210,8 @@ module _ {T N : Type 0} (facts : Facts T) (shape : T → Option Shape) (types : 
     elsifs-fit (more (elsif_branch e statements) rest) k h =
         let tokens = split (ids (elsif_branch e statements)) (ids rest) k in
         let inner = split (ids e) (ids statements) tokens.0 in
-        let first = none-told (reported_condition facts e) _ h in
-        let second = none-told (reported_sequence facts statements) _ first.1 in
+        let first = none-reported (reported_condition facts e) _ h in
+        let second = none-reported (reported_sequence facts statements) _ first.1 in
         both-true _ _ (condition-fits e inner.0 first.0) (both-true _ _ (sequence-fits statements inner.1 second.0) (elsifs-fit rest tokens.1 second.1))
 
     else-fits : (a : Tree ℕ (maybe else_part)) → Agreed a → reported_else facts a ≡ [] → else_fits meaning (here a) ≡ true

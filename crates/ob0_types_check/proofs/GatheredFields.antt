@@ -13,9 +13,9 @@ use Rattle.ob0_types_check.specs.Known.{Reported}
 use Rattle.ob0_types_check.specs.Operations.{ReportsAfter}
 use Rattle.ob0_types_check.specs.SoFar.{Size, no_scalar, size_at}
 use Rattle.ob0_types_check.specs.SupposedFacts.{Gathers, IsGathered, counted, fields_in, size_of, so_far_in}
-use Rattle.ob0_types_check.specs.WrittenTypeFaults.{Gathered, beside, nothing_gathered, told_fields, told_groups, with_name, with_names}
+use Rattle.ob0_types_check.specs.WrittenTypeFaults.{Gathered, beside, nothing_gathered, reported_fields, reported_groups, with_name, with_names}
 use Rattle.ob0_types_check.proofs.Chains.{Chained, chain_goes_on}
-use Rattle.ob0_types_check.proofs.ToldTypes.{group_told, groups_chain}
+use Rattle.ob0_types_check.proofs.ToldTypes.{group_reported, groups_chain}
 
 -- inside of one more
 pub inside : (xs : List ℕ) (x : ℕ) (ys : List ℕ) → ys ≡ xs ++ x ∷ [] → length ys ≡ suc (length xs)
@@ -37,9 +37,9 @@ pub one_more : (g : Gathered) (s : Supposed) (old new : gathering.Gathered) (tok
     → fields_in new.fields.items ≡ fields_in old.fields.items ++ record { name = text_at s.resolved.now.module_read.source token; of = t } ∷ []
     → size_of new.size ≡ counted (beside (size_of old.size) w) → w ≡ size_at (so_far_in s).made t → IsGathered (with_name t g token) s new
 one_more g s old new token t w h fields size is = record {
-  fields = fields ∙ (λ j. h.fields j ++ record { name = text_at (h.behind j).source token; of = t } ∷ []);
-  size = size ∙ (λ j. counted (beside (h.size j) (is j))) ∙ beside_counted g.size (size_at (so_far_in s).made t) ∙ ap (λ p. counted (beside g.size (size_at p.made t))) h.behind;
-  behind = h.behind;
+  fields = fields ∙ (λ j. h.fields j ++ record { name = text_at (h.following j).source token; of = t } ∷ []);
+  size = size ∙ (λ j. counted (beside (h.size j) (is j))) ∙ beside_counted g.size (size_at (so_far_in s).made t) ∙ ap (λ p. counted (beside g.size (size_at p.made t))) h.following;
+  following = h.following;
 }
 
 -- the names so far, with those left, are all
@@ -65,20 +65,20 @@ names_end {t = t} {s = s} {xs = xs} {done = done} {now = now} n over =
 pub record GroupsGathered (around : ℕ) (start : Gathered) (before : List Fault) (xs : List Fields) (done : ℕ) (now : List Fault) (s : Supposed) (gathered : gathering.Gathered) : Type 0 where
   pub out : Gathered
   pub is : IsGathered out s gathered
-  pub told : Chained (told_groups around) further_fields_of_group before start xs done now out
+  pub reported : Chained (reported_groups around) further_fields_of_group before start xs done now out
 
 pub gathers : {before after : List Fault} {s : Supposed} {gathered : gathering.Gathered} {x : Gathered} {t : Reported Gathered} → ReportsAfter before after x t → IsGathered x s gathered → Gathers before after s gathered t
-gathers {s = s} {gathered = gathered} tells is = record { told = tells.told; now = subst (λ z. IsGathered z s gathered) tells.known is }
+gathers {s = s} {gathered = gathered} reports is = record { reported = reports.reported; now = subst (λ z. IsGathered z s gathered) reports.known is }
 
 pub groups_begin : {around : ℕ} {before : List Fault} {xs : List Fields} (s : Supposed) (gathered : gathering.Gathered) → fields_in gathered.fields.items ≡ [] → size_of gathered.size ≡ no_scalar
     → GroupsGathered around (nothing_gathered (so_far_in s)) before xs 0 before s gathered
-groups_begin s gathered fields size = record { out = nothing_gathered (so_far_in s); is = record { fields = fields; size = size; behind = refl }; told = record { so_far = refl } }
+groups_begin s gathered fields size = record { out = nothing_gathered (so_far_in s); is = record { fields = fields; size = size; following = refl }; reported = record { so_far = refl } }
 
 pub groups_go_on : {around : ℕ} {start : Gathered} {before : List Fault} {xs : List Fields} {done : ℕ} {now next : List Fault} {s s2 : Supposed} {gathered gathered2 : gathering.Gathered} (x : Fields)
     → GroupsGathered around start before xs done now s gathered → done < length xs → x ≡ get_or xs done x
-    → ((g : Gathered) → IsGathered g s gathered → Gathers now next s2 gathered2 (told_fields around g (fields_of x))) → GroupsGathered around start before xs (done + 1) next s2 gathered2
+    → ((g : Gathered) → IsGathered g s gathered → Gathers now next s2 gathered2 (reported_fields around g (fields_of x))) → GroupsGathered around start before xs (done + 1) next s2 gathered2
 groups_go_on {around = around} {now = now} {next = next} x n less here step =
-    let told = told_fields around n.out (fields_of x) in
+    let reported = reported_fields around n.out (fields_of x) in
     let h = step n.out n.is in
-    let tells : ReportsAfter now next told.known told = record { known = refl; told = h.told } in
-    record { out = told.known; is = h.now; told = chain_goes_on x (groups_chain around) n.told less here (subst (ReportsAfter now next told.known) (sym (group_told around n.out (fields_of x))) tells) }
+    let reports : ReportsAfter now next reported.known reported = record { known = refl; reported = h.reported } in
+    record { out = reported.known; is = h.now; reported = chain_goes_on x (groups_chain around) n.reported less here (subst (ReportsAfter now next reported.known) (sym (group_reported around n.out (fields_of x))) reports) }

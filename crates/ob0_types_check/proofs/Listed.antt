@@ -5,12 +5,12 @@ use Rattle.ob0_scan.specs.declared.fault.Fault.{Fault}
 use Rattle.ob0_types_check.specs.Known.{Reported}
 use Rattle.ob0_types_check.specs.Operations.{ReportsAfter}
 
-pub told_both : (before a b : List Fault) {between after : List Fault} → between ≡ before ++ a → after ≡ between ++ b → after ≡ before ++ (a ++ b)
-told_both before a b p q = q ∙ ap (λ f. f ++ b) p ∙ append_assoc before a b
+pub reported_both : (before a b : List Fault) {between after : List Fault} → between ≡ before ++ a → after ≡ between ++ b → after ≡ before ++ (a ++ b)
+reported_both before a b p q = q ∙ ap (λ f. f ++ b) p ∙ append_assoc before a b
 
 -- what is reported after something that is known
-pub told_behind : {A : Type 0} {before between after : List Fault} {x : A} {t : Reported A} (next : A → List Fault) → ReportsAfter before between x t → after ≡ between ++ next x → after ≡ before ++ (t.faults ++ next t.known)
-told_behind {before = before} {x = x} {t = t} next s q = told_both before t.faults (next x) s.told q ∙ ap (λ z. before ++ (t.faults ++ next z)) s.known
+pub reported_following : {A : Type 0} {before between after : List Fault} {x : A} {t : Reported A} (next : A → List Fault) → ReportsAfter before between x t → after ≡ between ++ next x → after ≡ before ++ (t.faults ++ next t.known)
+reported_following {before = before} {x = x} {t = t} next s q = reported_both before t.faults (next x) s.reported q ∙ ap (λ z. before ++ (t.faults ++ next z)) s.known
 
 -- all of a list, from its head on
 pub record IsEach {A : Type 0} (all : List A → List Fault) (each : A → List Fault) : Type 0 where
@@ -23,10 +23,10 @@ pub record EachSoFar {A : Type 0} (all : List A → List Fault) (before : List F
 
 pub each_goes_on : {A : Type 0} {all : List A → List Fault} {each : A → List Fault} {before : List Fault} {xs : List A} {done : ℕ} {now next : List Fault} (x : A)
     → IsEach all each → EachSoFar all before xs done now → done < length xs → x ≡ get_or xs done x → next ≡ now ++ each x → EachSoFar all before xs (done + 1) next
-each_goes_on {all = all} {each = each} {xs = xs} {done = done} {now = now} x h s less here told =
+each_goes_on {all = all} {each = each} {xs = xs} {done = done} {now = now} x h s less here reported =
     let rest = all (drop (done + 1) xs) in
     let split : drop done xs ≡ x ∷ drop (done + 1) xs = drop_more xs done x less ∙ ap (λ y. y ∷ drop (done + 1) xs) (sym here) in
-    record { so_far = ap (λ f. f ++ rest) told ∙ append_assoc now (each x) rest ∙ sym (ap (λ f. now ++ f) (ap all split ∙ h.stepped x (drop (done + 1) xs))) ∙ s.so_far }
+    record { so_far = ap (λ f. f ++ rest) reported ∙ append_assoc now (each x) rest ∙ sym (ap (λ f. now ++ f) (ap all split ∙ h.stepped x (drop (done + 1) xs))) ∙ s.so_far }
 
 pub each_ends : {A : Type 0} {all : List A → List Fault} {each : A → List Fault} {before : List Fault} {xs : List A} {done : ℕ} {now : List Fault}
     → IsEach all each → EachSoFar all before xs done now → length xs ≤ done → now ≡ before ++ all xs
@@ -43,20 +43,20 @@ pub record PairSoFar {A B : Type 0} (all : List A → List B → List Fault) (be
 
 pub pairs_go_on : {A B : Type 0} {all : List A → List B → List Fault} {each : A → B → List Fault} {before : List Fault} {xs : List A} {ys : List B} {done : ℕ} {now next : List Fault} (x : A) (y : B)
     → IsPairwise all each → PairSoFar all before xs ys done now → done < length xs → done < length ys → x ≡ get_or xs done x → y ≡ get_or ys done y → next ≡ now ++ each x y → PairSoFar all before xs ys (done + 1) next
-pairs_go_on {all = all} {each = each} {xs = xs} {ys = ys} {done = done} {now = now} x y h s less below here there told =
+pairs_go_on {all = all} {each = each} {xs = xs} {ys = ys} {done = done} {now = now} x y h s less below here there reported =
     let rest = all (drop (done + 1) xs) (drop (done + 1) ys) in
     let left : drop done xs ≡ x ∷ drop (done + 1) xs = drop_more xs done x less ∙ ap (λ z. z ∷ drop (done + 1) xs) (sym here) in
     let right : drop done ys ≡ y ∷ drop (done + 1) ys = drop_more ys done y below ∙ ap (λ z. z ∷ drop (done + 1) ys) (sym there) in
     let split = ap (λ z. all z (drop done ys)) left ∙ ap (all (x ∷ drop (done + 1) xs)) right ∙ h.stepped x y (drop (done + 1) xs) (drop (done + 1) ys) in
-    record { so_far = ap (λ f. f ++ rest) told ∙ append_assoc now (each x y) rest ∙ sym (ap (λ f. now ++ f) split) ∙ s.so_far }
+    record { so_far = ap (λ f. f ++ rest) reported ∙ append_assoc now (each x y) rest ∙ sym (ap (λ f. now ++ f) split) ∙ s.so_far }
 
 pub pairs_end : {A B : Type 0} {all : List A → List B → List Fault} {each : A → B → List Fault} {before : List Fault} {xs : List A} {ys : List B} {done : ℕ} {now : List Fault}
     → IsPairwise all each → PairSoFar all before xs ys done now → length xs ≤ done → length ys ≤ done → now ≡ before ++ all xs ys
 pairs_end {all = all} {xs = xs} {ys = ys} {done = done} {now = now} h s over past =
     sym (append-nil now) ∙ sym (ap (λ f. now ++ f) (ap (λ z. all z (drop done ys)) (drop_all done xs over) ∙ ap (all []) (drop_all done ys past) ∙ h.ended)) ∙ s.so_far
 
-pub nothing_told : (before : List Fault) {all : List Fault} → all ≡ [] → before ≡ before ++ all
-nothing_told before e = sym (append-nil before) ∙ sym (ap (λ f. before ++ f) e)
+pub nothing_reported : (before : List Fault) {all : List Fault} → all ≡ [] → before ≡ before ++ all
+nothing_reported before e = sym (append-nil before) ∙ sym (ap (λ f. before ++ f) e)
 
 -- the same put after a list once for each element of another
 pub record RepeatedSoFar {A B : Type 0} (y : A) (before : List A) (xs : List B) (done : ℕ) (now : List A) : Type 0 where

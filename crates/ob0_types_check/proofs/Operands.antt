@@ -18,7 +18,7 @@ use Rattle.ob0_values.specs.Values as values
 use Rattle.ob0_types_check.specs.Known.{Facts, Form, Operand, Reported, a_record, a_scalar, an_array, unknown_form}
 use Rattle.ob0_types_check.specs.Operations.{add_operands, required, required_both, at_operand, complement_operand, element_in, element_selected, field_in, field_selected, fits, found_field, multiply_operands, relate_operands, sign_operand, truth_of, required_by_add, required_by_equality, required_by_multiply, required_by_relation}
 use Rattle.ob0_types_check.specs.Agreement.{FormAgrees, TypesAgree}
-use Rattle.ob0_types_check.proofs.Untold.{first-of, first-told, none-if, none-told, not-true, some-none, some-same}
+use Rattle.ob0_types_check.proofs.Untold.{first-of, first-reported, none-if, none-reported, not-true, some-none, some-same}
 
 -- a value that is known is of this type
 abbrev pub IsOf : Shape → Option Value → Type 0
@@ -136,19 +136,19 @@ module _ {T : Type 0} (facts : Facts T) (shape : T → Option Shape) (types : Ty
   same-where-fits t u s w ht hu e =
       first-of (facts.types.same t u) (facts.types.same t facts.types.unknown) (facts.types.same u facts.types.unknown) e (is-known t s ht) (is-known u w hu)
 
-  pub asked-fits : (wanted : T) (o : Operand T) (s w : Shape) → shape o.of ≡ Some s → shape wanted ≡ Some w → (required facts wanted o).faults ≡ [] → ((required facts wanted o).known ≡ wanted) × (s ≡ w)
-  asked-fits wanted o s w hs hw h =
+  pub requested-fits : (wanted : T) (o : Operand T) (s w : Shape) → shape o.of ≡ Some s → shape wanted ≡ Some w → (required facts wanted o).faults ≡ [] → ((required facts wanted o).known ≡ wanted) × (s ≡ w)
+  requested-fits wanted o s w hs hw h =
       let same : facts.types.same o.of wanted ≡ true = same-where-fits o.of wanted s w hs hw (none-if (fits facts.types o.of wanted) _ h) in
       (ap (λ b. if b then wanted else facts.types.unknown) same, same-shape o.of wanted s w hs hw same)
 
-  both-asked : (wanted : T) (a b : Operand T) (s t w : Shape) → shape a.of ≡ Some s → shape b.of ≡ Some t → shape wanted ≡ Some w → (required_both facts wanted a b).faults ≡ []
+  both-requested : (wanted : T) (a b : Operand T) (s t w : Shape) → shape a.of ≡ Some s → shape b.of ≡ Some t → shape wanted ≡ Some w → (required_both facts wanted a b).faults ≡ []
       → ((required_both facts wanted a b).known ≡ wanted) × (s ≡ w) × (t ≡ w)
-  both-asked wanted a b s t w hs ht hw h =
+  both-requested wanted a b s t w hs ht hw h =
       let left : Reported T = record { known = if facts.types.same a.of wanted then (required facts wanted b).known else facts.types.unknown; faults = (required facts wanted b).faults } in
       let wrong : Reported T = record { known = facts.types.unknown; faults = at_operand facts code.TypeMismatch a } in
-      let (fit, none) = first-told (fits facts.types a.of wanted) left wrong _ refl h in
+      let (fit, none) = first-reported (fits facts.types a.of wanted) left wrong _ refl h in
       let same : facts.types.same a.of wanted ≡ true = same-where-fits a.of wanted s w hs hw fit in
-      let (known, right) = asked-fits wanted b t w ht hw none in
+      let (known, right) = requested-fits wanted b t w ht hw none in
       (ap (λ c. (if c then left else wrong).known) fit ∙ (ap (λ c. if c then (required facts wanted b).known else facts.types.unknown) same ∙ known), same-shape a.of wanted s w hs hw same, right)
 
   -- what operators require has a shape
@@ -189,33 +189,33 @@ module _ {T : Type 0} (facts : Facts T) (shape : T → Option Shape) (types : Ty
   pub added-fits : (o : AddOperator) (a b : Operand T) (s t : Shape) → shape a.of ≡ Some s → shape b.of ≡ Some t → (add_operands facts o a b).faults ≡ []
       → (w : Shape) × (shape (add_operands facts o a b).known.of ≡ Some w) × (add_type o s t ≡ Some w) × (IsOf s a.value → IsOf w (add_operands facts o a b).known.value)
   added-fits o a b s t hs ht h =
-      let (known, left, right) = both-asked (required_by_add facts.types o) a b s t (shape_added o) hs ht (add-wanted o) (none-told _ _ h).0 in
+      let (known, left, right) = both-requested (required_by_add facts.types o) a b s t (shape_added o) hs ht (add-wanted o) (none-reported _ _ h).0 in
       (shape_added o, ap shape known ∙ add-wanted o, (λ i. add_type o (left i) (right i)) ∙ add-typed o, sum-of o a.value b.value s left)
 
   pub multiplied-fits : (o : MultiplyOperator) (a b : Operand T) (s t : Shape) → shape a.of ≡ Some s → shape b.of ≡ Some t → (multiply_operands facts o a b).faults ≡ []
       → (w : Shape) × (shape (multiply_operands facts o a b).known.of ≡ Some w) × (multiply_type o s t ≡ Some w) × (IsOf s a.value → IsOf w (multiply_operands facts o a b).known.value)
   multiplied-fits o a b s t hs ht h =
-      let (known, left, right) = both-asked (required_by_multiply facts.types o) a b s t (shape_multiplied o) hs ht (multiply-wanted o) (none-told _ _ h).0 in
+      let (known, left, right) = both-requested (required_by_multiply facts.types o) a b s t (shape_multiplied o) hs ht (multiply-wanted o) (none-reported _ _ h).0 in
       (shape_multiplied o, ap shape known ∙ multiply-wanted o, (λ i. multiply_type o (left i) (right i)) ∙ multiply-typed o, product-of o a.value b.value s left)
 
   pub related-fits : (r : Relation) (a b : Operand T) (s t : Shape) → shape a.of ≡ Some s → shape b.of ≡ Some t → (relate_operands facts r a b).faults ≡ []
       → (shape (relate_operands facts r a b).known.of ≡ Some boolean_shape) × (relation_type r s t ≡ Some boolean_shape)
   related-fits r a b s t hs ht h =
       let (w, hw, typed) = relation-wanted r a.of s hs in
-      let (known, left, right) = both-asked (required_by_relation facts.types r a.of) a b s t w hs ht hw (none-told _ _ h).0 in
+      let (known, left, right) = both-requested (required_by_relation facts.types r a.of) a b s t w hs ht hw (none-reported _ _ h).0 in
       (ap (λ u. shape (truth_of facts.types u)) known ∙ truth-known (required_by_relation facts.types r a.of) w hw, (λ i. relation_type r (left i) (right i)) ∙ typed)
 
   pub signed-fits : (g : Option Sign) (o : Operand T) (s : Shape) → shape o.of ≡ Some s → (sign_operand facts g o).faults ≡ []
       → (w : Shape) × (shape (sign_operand facts g o).known.of ≡ Some w) × (sign_type g s ≡ Some w) × (IsOf s o.value → IsOf w (sign_operand facts g o).known.value)
-  signed-fits None o s hs h = (s, hs, refl, λ worth. worth)
+  signed-fits None o s hs h = (s, hs, refl, λ has_value. has_value)
   signed-fits (Some g) o s hs h =
-      let (known, right) = asked-fits facts.types.integer o s integer_shape hs types.integer (none-told _ _ h).0 in
-      (integer_shape, ap shape known ∙ types.integer, ap (sign_type (Some g)) right ∙ sign-typed g, λ worth. sign-of g o.value)
+      let (known, right) = requested-fits facts.types.integer o s integer_shape hs types.integer (none-reported _ _ h).0 in
+      (integer_shape, ap shape known ∙ types.integer, ap (sign_type (Some g)) right ∙ sign-typed g, λ has_value. sign-of g o.value)
 
   pub complemented-fits : (o : Operand T) (s : Shape) → shape o.of ≡ Some s → (complement_operand facts o).faults ≡ []
       → (shape (complement_operand facts o).known.of ≡ Some boolean_shape) × (complement_type s ≡ Some boolean_shape)
   complemented-fits o s hs h =
-      let (known, right) = asked-fits facts.types.boolean o s boolean_shape hs types.boolean (none-told _ _ h).0 in
+      let (known, right) = requested-fits facts.types.boolean o s boolean_shape hs types.boolean (none-reported _ _ h).0 in
       (ap shape known ∙ types.boolean, ap complement_type right)
 
   -- selectors
@@ -235,7 +235,7 @@ module _ {T : Type 0} (facts : Facts T) (shape : T → Option Shape) (types : Ty
 
   pub field-fits : (o : Operand T) (s : Shape) → shape o.of ≡ Some s → (x : ℕ) → (field_selected facts o x).faults ≡ []
       → (u : Shape) × (shape (field_selected facts o x).known.of ≡ Some u) × (field_type s (text_at facts.source x) ≡ Some u)
-  field-fits o s hs x h = field-found (facts.types.form o.of) s (types.formed o.of s hs) x (none-told _ _ h).0
+  field-fits o s hs x h = field-found (facts.types.form o.of) s (types.formed o.of s hs) x (none-reported _ _ h).0
 
   element-found : (f : Form T) (s : Shape) → FormAgrees shape f s → (o : Operand T) (n : T) → n ≡ facts.types.integer → (element_in facts o n f).faults ≡ []
       → (u : Shape) × (shape (element_in facts o n f).known ≡ Some u) × (element_type s integer_shape ≡ Some u)
@@ -248,7 +248,7 @@ module _ {T : Type 0} (facts : Facts T) (shape : T → Option Shape) (types : Ty
   pub element-fits : (o i : Operand T) (s t : Shape) → shape o.of ≡ Some s → shape i.of ≡ Some t → (element_selected facts o i).faults ≡ []
       → (u : Shape) × (shape (element_selected facts o i).known.of ≡ Some u) × (element_type s t ≡ Some u)
   element-fits o i s t hs ht h =
-      let parts = none-told (required facts facts.types.integer i).faults _ h in
-      let (known, index) = asked-fits facts.types.integer i t integer_shape ht types.integer parts.0 in
-      let (u, found, typed) = element-found (facts.types.form o.of) s (types.formed o.of s hs) i (required facts facts.types.integer i).known known (none-told _ _ parts.1).0 in
+      let parts = none-reported (required facts facts.types.integer i).faults _ h in
+      let (known, index) = requested-fits facts.types.integer i t integer_shape ht types.integer parts.0 in
+      let (u, found, typed) = element-found (facts.types.form o.of) s (types.formed o.of s hs) i (required facts facts.types.integer i).known known (none-reported _ _ parts.1).0 in
       (u, found, ap (element_type s) index ∙ typed)

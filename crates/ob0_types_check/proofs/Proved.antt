@@ -17,14 +17,14 @@ use Rattle.ob0_types_check.specs.ReportLaws.{ConstantsFit, ExpressionsFit, Lengt
 use Rattle.ob0_types_check.proofs.FittingExpressions.{FitsExpression, expression-fits}
 use Rattle.ob0_types_check.proofs.FittingNames.{only-tokens, tokens-fit}
 use Rattle.ob0_types_check.proofs.FittingPlaces.{operand-fits}
-use Rattle.ob0_types_check.proofs.Operands.{IsOf, asked-fits, is-known}
-use Rattle.ob0_types_check.proofs.Untold.{goes-on, none-told, not-true}
+use Rattle.ob0_types_check.proofs.Operands.{IsOf, requested-fits, is-known}
+use Rattle.ob0_types_check.proofs.Untold.{goes-on, none-reported, not-true}
 
 only-once : {V P : Type 0} (o : Option (Object V P)) → option_map {U = Object Place (Unit {0})} a_constant (constant_of {V = Shape} {P = Unit {0}} (option_map a_constant (constant_of o))) ≡ option_map a_constant (constant_of o)
 only-once o = elim (constant_of o) as (λ c. option_map {U = Object Place (Unit {0})} a_constant (constant_of {V = Shape} {P = Unit {0}} (option_map a_constant c)) ≡ option_map a_constant c) [ None ↦ refl | Some v ↦ refl ]
 
 pub constants-again : {N V P : Type 0} (meaning : Meanings N V P) → constants_only {W = Place} {Q = Unit {0}} (constants_only {W = Shape} {Q = Unit {0}} meaning) ≡ constants_only meaning
-constants-again meaning = λ i. record { stands_for = λ x. only-once (meaning.stands_for x) i; written = meaning.written }
+constants-again meaning = λ i. record { object_for = λ x. only-once (meaning.object_for x) i; written = meaning.written }
 
 module _ {T N : Type 0} (facts : Facts T) (shape : T → Option Shape) (label : ℕ → N) (meaning : Typed N) (e : Tree ℕ expression) (agrees : Agrees facts shape label meaning e) where
   pub here-fits : (b : Bool) → facts.only_constants ≡ b → (reported_expression facts e).faults ≡ [] → OperandFits shape (meaning_here b meaning) (reported_expression facts e).known (mapped label (value_at facts.source) e)
@@ -52,9 +52,9 @@ module _ {T N : Type 0} (facts : Facts T) (shape : T → Option Shape) (label : 
       }
 
 -- a value that is reported of nothing is there
-pub record IsWorth {T : Type 0} (o : Operand T) (told : Option Value) : Type 0 where
+pub record IsWorth {T : Type 0} (o : Operand T) (reported : Option Value) : Type 0 where
   pub value : Value
-  pub known : told ≡ Some value
+  pub known : reported ≡ Some value
   pub there : o.value ≡ Some value
 
 value-there : {T : Type 0} (facts : Facts T) (o : Operand T) (c : Option Value) → o.value ≡ c → (valued facts o c).faults ≡ [] → IsWorth o (valued facts o c).known
@@ -70,7 +70,7 @@ pub constants_fit-holds : {N : Type 0} → ConstantsFit N
 unfolding reported_constant
 constants_fit-holds p shapes label meaning e agrees h =
     let facts = facts_at p true in
-    let parts = none-told (reported_expression facts e).faults _ h in
+    let parts = none-reported (reported_expression facts e).faults _ h in
     let c = constant-known facts (shape_in shapes) label meaning e agrees refl parts.0 in
     let o : Operand _ = (reported_expression facts e).known in
     let w = evaluated-there facts o (not-true (facts.types.same o.of facts.types.unknown) (is-known facts (shape_in shapes) agrees.types o.of c.of c.known)) parts.1 in
@@ -80,10 +80,10 @@ pub expressions_fit-holds : {N : Type 0} → ExpressionsFit N
 expressions_fit-holds p only shapes label meaning e agrees h = here-fits (facts_at p only) (shape_in shapes) label meaning e agrees only refl h
 
 -- a length that is reported of nothing is there
-pub record IsLong {T : Type 0} (o : Operand T) (told : Option ℕ) : Type 0 where
+pub record IsLong {T : Type 0} (o : Operand T) (reported : Option ℕ) : Type 0 where
   pub value : Value
   pub length : ℕ
-  pub known : told ≡ Some length
+  pub known : reported ≡ Some length
   pub there : o.value ≡ Some value
   pub counted : array_length value ≡ Some length
 
@@ -97,8 +97,8 @@ length-given facts o (Some v) e h = bounded facts o v (array_length v) e refl h
 
 pub length-there : {T : Type 0} (facts : Facts T) (shape : T → Option Shape) (types : TypesAgree facts.types shape) (o : Operand T) (s : Shape) → shape o.of ≡ Some s → (length_of facts o).faults ≡ [] → IsLong o (length_of facts o).known
 length-there facts shape types o s hs h =
-    let parts = none-told (required facts facts.types.integer o).faults _ h in
-    let (given, same) = asked-fits facts shape types facts.types.integer o s integer_shape hs types.integer parts.0 in
+    let parts = none-reported (required facts facts.types.integer o).faults _ h in
+    let (given, same) = requested-fits facts shape types facts.types.integer o s integer_shape hs types.integer parts.0 in
     let alone : facts.types.same (required facts facts.types.integer o).known facts.types.integer ≡ true = ap (λ t. facts.types.same t facts.types.integer) given ∙ types.alone in
     let long : IsLong o (length_given facts o o.value).known = length-given facts o o.value refl (sym (ap (λ b. (if b then length_given facts o o.value else right None).faults) alone) ∙ parts.1) in
     record {
@@ -111,7 +111,7 @@ length-there facts shape types o s hs h =
 
 pub lengths_fit-holds : {N : Type 0} → LengthsFit N
 lengths_fit-holds p shapes label meaning e agrees h =
-    let parts = none-told (reported_expression (facts_at p true) e).faults _ h in
+    let parts = none-reported (reported_expression (facts_at p true) e).faults _ h in
     let c = constant-known (facts_at p true) (shape_in shapes) label meaning e agrees refl parts.0 in
     let long = length-there (facts_at p false) (shape_in shapes) agrees.types (reported_expression (facts_at p true) e).known c.of c.known parts.1 in
     record { value = long.value; length = long.length; known = long.known; given = c.given long.value long.there; counted = long.counted }

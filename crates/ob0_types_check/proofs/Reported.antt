@@ -6,7 +6,7 @@ use Rattle.ob0_tree.specs.Parsed.{named_tree_of}
 use Rattle.ob0_tree.specs.View.{block_of}
 use Rattle.ob0_tree.specs.declared.tree.Block.{Block}
 use Rattle.ob0_scope_rules.specs.Resolution.{IsResolution, Resolution, is_of_occurrences}
-use Rattle.ob0_types_table.specs.Tables.{AreMadeInOrder}
+use Rattle.ob0_types_table.specs.Tables.{AreEntriesInOrder}
 use Rattle.ob0_types_check.specs.DeclarationFaults.{reported_block, reported_module}
 use Rattle.ob0_types_check.specs.ModuleLaws.{DeclarationsKnown, HasDeclarations, KnowsDeclarations}
 use Rattle.ob0_types_check.specs.Operations.{ReportsAfter}
@@ -15,7 +15,7 @@ use Rattle.ob0_types_check.specs.SupposedFacts.{so_far_in, table_in}
 use Rattle.ob0_types_check.specs.declared.reporting.supposed.Supposed.{Supposed}
 use Rattle.ob0_types_check.proofs.Listed.{nothing_left}
 use Rattle.ob0_types_check.proofs.TableKnown.{table_declares, table_in_order}
-use Rattle.ob0_types_check.proofs.ToldDeclarations.{module_told}
+use Rattle.ob0_types_check.proofs.ToldDeclarations.{module_reported}
 
 -- whether a list is empty, by its length
 pub is_nothing : (xs : List Fault) (n : ℕ) (b : Bool) → n ≡ length xs → b ≡ (n == 0) → b ≡ true → xs ≡ []
@@ -24,15 +24,15 @@ is_nothing xs n b long e h = nothing_left xs (sym long ∙ eqb-true n 0 (sym e �
 pub is_something : (xs : List Fault) (n : ℕ) (b : Bool) → n ≡ length xs → b ≡ (n == 0) → b ≡ false → xs ≡ [] → ⊥
 is_something xs n b long e h none = true≢false (sym (eq-eqb n 0 (long ∙ ap length none)) ∙ (sym e ∙ h))
 
-module _ (r : Resolution) (b : Block) (before after : List Fault) (start : SoFar) (s : Supposed) (same : b ≡ r.module_read.block) (first : before ≡ filter is_of_occurrences r.faults) (begins : start ≡ at_first r) (told : ReportsAfter before after (so_far_in s) (reported_block start (block_of b))) where
+module _ (r : Resolution) (b : Block) (before after : List Fault) (start : SoFar) (s : Supposed) (same : b ≡ r.module_read.block) (first : before ≡ filter is_of_occurrences r.faults) (begins : start ≡ at_first r) (reported : ReportsAfter before after (so_far_in s) (reported_block start (block_of b))) where
   pub all_reported : after ≡ reported_module r
-  all_reported = told.told ∙ ((λ i. first i ++ (reported_block (begins i) (block_of (same i))).faults) ∙ sym (module_told r))
+  all_reported = reported.reported ∙ ((λ i. first i ++ (reported_block (begins i) (block_of (same i))).faults) ∙ sym (module_reported r))
 
   module _ (law : DeclarationsKnown) (is : IsResolution r) (none : after ≡ []) where
     pub knows : KnowsDeclarations (so_far_in s) (named_tree_of r.module_read)
-    knows = subst (λ p. KnowsDeclarations p (named_tree_of r.module_read)) (sym (told.known ∙ (λ i. (reported_block (begins i) (block_of (same i))).known))) (law r is (sym all_reported ∙ none))
+    knows = subst (λ p. KnowsDeclarations p (named_tree_of r.module_read)) (sym (reported.known ∙ (λ i. (reported_block (begins i) (block_of (same i))).known))) (law r is (sym all_reported ∙ none))
 
-    pub in_order : AreMadeInOrder [] s.composites.items
+    pub in_order : AreEntriesInOrder [] s.composites.items
     in_order = table_in_order s (named_tree_of r.module_read) knows
 
     pub declares : HasDeclarations (named_tree_of r.module_read) (table_in s)

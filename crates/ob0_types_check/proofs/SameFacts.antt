@@ -47,7 +47,7 @@ pub facts_same : (s : Supposed) (only_constants : Bool) → facts_in s only_cons
 facts_same s only_constants = λ j. record {
   source = s.resolved.now.module_read.source;
   types = record { integer = type.Integer; boolean = type.Boolean; unknown = type.Unknown; same = same_type; form = λ t. form_same s.composites.items t j };
-  stands_for = λ token. meant_at s.meanings.items (ordinal_in s.resolved.now.ordinals token) j;
+  object_for = λ token. meant_at s.meanings.items (ordinal_in s.resolved.now.ordinals token) j;
   only_constants = only_constants;
 }
 

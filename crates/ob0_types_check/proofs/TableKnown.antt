@@ -10,7 +10,7 @@ use Rattle.ob0_types_rules.specs.Expressions as meant
 use Rattle.ob0_types_rules.specs.Typing.{depth, scalars}
 use Rattle.ob0_types_rules.specs.WellTyped.{Signature, signature_of}
 use Rattle.ob0_types_table.specs.KnownTables.{declared_in, shapes_of}
-use Rattle.ob0_types_table.specs.Tables.{AreMadeInOrder, IsEntry, IsMade, fields_shape, formal_in, made_shape, no_shape, object_in, only_array, only_record, shapes_from, type_shape}
+use Rattle.ob0_types_table.specs.Tables.{AreEntriesInOrder, IsEntry, IsTypeMade, fields_shape, formal_in, made_shape, no_shape, object_in, only_array, only_record, shapes_from, type_shape}
 use Rattle.ob0_types_table.specs.declared.known.Field.{Field}
 use Rattle.ob0_types_table.specs.declared.known.Formal as formal
 use Rattle.ob0_types_table.specs.declared.known.Object as object
@@ -59,20 +59,20 @@ type_there known (type.Array i) u e = shape_there as_array only_array array_only
 type_there known (type.Record i) u e = shape_there as_record only_record record_only known i u e
 type_there known type.Unknown u e = absurd (cc)
 
-made_there : (known : List Shape) (t : TypeId) (u : Shape) → shape_in known t ≡ Some u → IsMade (length known) t
+made_there : (known : List Shape) (t : TypeId) (u : Shape) → shape_in known t ≡ Some u → IsTypeMade (length known) t
 made_there known type.Integer u e = tt
 made_there known type.Boolean u e = tt
 made_there known (type.Array i) u e = place_there as_array known i u e
 made_there known (type.Record i) u e = place_there as_record known i u e
 made_there known type.Unknown u e = absurd (cc)
 
-fields_there : (known : List Shape) (fs : List Field) (gs : FieldShapes) → FieldsAgree (shape_in known) (fields_in fs) gs → (fields_shape known fs ≡ gs) × All (λ f. IsMade (length known) f.of) fs
+fields_there : (known : List Shape) (fs : List Field) (gs : FieldShapes) → FieldsAgree (shape_in known) (fields_in fs) gs → (fields_shape known fs ≡ gs) × All (λ f. IsTypeMade (length known) f.of) fs
 fields_there known [] no_field_shape h = (refl, λ k d less. absurd (omega (arith, less)))
 fields_there known [] (next_field_shape x s gs) h = absurd h
 fields_there known (f ∷ fs) no_field_shape h = absurd h
 fields_there known (f ∷ fs) (next_field_shape x s gs) h =
     let rest = fields_there known fs gs h.2 in
-    ((λ i. next_field_shape (h.0 i) (type_there known f.of s h.1 i) (rest.0 i)), All-cons (λ f. IsMade (length known) f.of) f fs (made_there known f.of s h.1) rest.1)
+    ((λ i. next_field_shape (h.0 i) (type_there known f.of s h.1 i) (rest.0 i)), All-cons (λ f. IsTypeMade (length known) f.of) f fs (made_there known f.of s h.1) rest.1)
 
 -- an entry of the table
 entry_there : (known : List Shape) (m : TypeEntry) (s : Shape) → MadeAgrees (shape_in known) (made_of m) s → (made_shape known m ≡ s) × IsEntry known m
@@ -86,14 +86,14 @@ entry_there known (made.Record r) s h =
     let same : made_shape known (made.Record r) ≡ s = ap (record_shape r.ordinal) all.0 ∙ sym e in
     (same, record { parts = all.1; counted = (h.scalars ∙ ap scalars (sym same), h.depth ∙ ap depth (sym same)) })
 
-entries_there : (known : List Shape) (ms : List TypeEntry) (ss : List Shape) → EachMade known (map made_of ms) ss → AreMadeInOrder known ms × (shapes_from known ms ≡ known ++ ss)
+entries_there : (known : List Shape) (ms : List TypeEntry) (ss : List Shape) → EachMade known (map made_of ms) ss → AreEntriesInOrder known ms × (shapes_from known ms ≡ known ++ ss)
 entries_there known [] [] h = (tt, sym (append-nil known))
 entries_there known [] (s ∷ ss) h = absurd h
 entries_there known (m ∷ ms) [] h = absurd h
 entries_there known (m ∷ ms) (s ∷ ss) h =
     let one = entry_there known m s h.0 in
     let rest = entries_there (known ++ s ∷ []) ms ss h.1 in (
-      (one.1, subst (λ z. AreMadeInOrder (known ++ z ∷ []) ms) (sym one.0) rest.0),
+      (one.1, subst (λ z. AreEntriesInOrder (known ++ z ∷ []) ms) (sym one.0) rest.0),
       ap (λ z. shapes_from (known ++ z ∷ []) ms) one.0 ∙ (rest.1 ∙ append_assoc known (s ∷ []) ss),
     )
 
@@ -137,7 +137,7 @@ module _ (s : Supposed) (m : Tree Name module_text) (h : KnowsDeclarations (so_f
   abbrev second_set : List (Option object.Object)
   second_set = set first_set 5 (Some (kind.Standard standards.Write))
 
-  in_order : AreMadeInOrder [] s.composites.items
+  in_order : AreEntriesInOrder [] s.composites.items
   in_order = (entries_there [] s.composites.items h.shapes h.table).0
 
   shapes_are : shapes_of (table_in s) ≡ h.shapes
@@ -180,7 +180,7 @@ module _ (s : Supposed) (m : Tree Name module_text) (h : KnowsDeclarations (so_f
       let n : ℕ = suc (suc (suc (suc (suc (suc (suc k)))))) in
       other_there n (λ e. absurd (omega (arith, e))) (λ e. absurd (omega (arith, e))) (λ e. absurd (omega (arith, e))) (h.standards n (omega arith))
 
-  pub table_in_order : AreMadeInOrder [] s.composites.items
+  pub table_in_order : AreEntriesInOrder [] s.composites.items
   table_in_order = in_order
 
   pub table_declares : (k : ℕ) → declared_in (table_in s) k ≡ declared_object m k

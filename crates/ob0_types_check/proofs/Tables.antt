@@ -8,7 +8,7 @@ use Rattle.ob0_types_rules.specs.Typing.{shape_of_field}
 use Rattle.ob0_values.specs.Values.{FieldShapes, Shape, array_shape, next_field_shape, no_field_shape, record_shape}
 use Rattle.ob0_types_check.proofs.DeclaredShapes.{longer_more, made_kept}
 use Rattle.ob0_types_check.specs.Known.{a_record, an_array}
-use Rattle.ob0_types_check.specs.SoFar.{MadeType, PartTypes, TypedField, elements_at, elements_in, field_at, field_in, first_field, form_at, of_elements, of_fields, same_type}
+use Rattle.ob0_types_check.specs.SoFar.{MadeType, PartTypes, FieldSoFar, elements_at, elements_in, field_at, field_in, first_field, form_at, of_elements, of_fields, same_type}
 use Rattle.ob0_types_check.specs.Agreement.{EachMade, FieldsAgree, FormAgrees, MadeAgrees, PartsAgree, TableAgrees, as_array, as_record, shape_in}
 use Rattle.ob0_types_check.specs.ReportLaws.{TypesOfTables}
 use Rattle.ob0_types_check.proofs.Untold.{some-none, some-same}
@@ -36,7 +36,7 @@ array-formed shape k (of_elements n t) r s (u, e, known) h = (k, n, u, some-same
 array-formed shape k (of_fields fields) r s (fs, e, each) h = absurd (some-none s (sym h ∙ ap as_array e))
 
 -- a field by its name
-field-there : (shape : TypeId → Option Shape) (fields : List TypedField) (fs : FieldShapes) → FieldsAgree shape fields fs → (x : Name) → option_map shape (first_field fields x) ≡ option_map Some (shape_of_field fs x)
+field-there : (shape : TypeId → Option Shape) (fields : List FieldSoFar) (fs : FieldShapes) → FieldsAgree shape fields fs → (x : Name) → option_map shape (first_field fields x) ≡ option_map Some (shape_of_field fs x)
 field-there shape [] no_field_shape h x = refl
 field-there shape [] (next_field_shape y s fs) h x = absurd h
 field-there shape (f ∷ fields) no_field_shape h x = absurd h

@@ -41,9 +41,9 @@ alike f (x ∷ xs) = ap (λ fs. formal_of f ∷ fs) (alike f xs)
 pub parameters_added : (old : List formal.Formal) (f : formal.Formal) (xs : List ℕ) → map formal_of (old ++ map (λ x. f) xs) ≡ map formal_of old ++ map (λ x. formal_of f) xs
 parameters_added old f xs = map-append formal_of old (map (λ x. f) xs) ∙ ap (λ fs. map formal_of old ++ fs) (alike f xs)
 
-pub constant_told : (p : SoFar) (x : ℕ) (e : Tree ℕ expression) → constant_declared p (declares_constant x e) ≡ (reported_constant (facts_at p true) e >>= (λ v. right (define p (a_constant v) x)))
+pub constant_reported : (p : SoFar) (x : ℕ) (e : Tree ℕ expression) → constant_declared p (declares_constant x e) ≡ (reported_constant (facts_at p true) e >>= (λ v. right (define p (a_constant v) x)))
 unfolding constant_declared
-constant_told p x e = refl
+constant_reported p x e = refl
 
 pub constants_ended : (p : SoFar) → reported_constants p end ≡ right p
 unfolding reported_constants
@@ -56,9 +56,9 @@ constants_stepped p t ts = refl
 pub constants_chain : IsChain reported_constants constant_declared
 constants_chain = record { ended = constants_ended; stepped = constants_stepped }
 
-pub type_told : (p : SoFar) (x : ℕ) (t : Tree ℕ written_type) → type_declared p (declares_type x t) ≡ (reported_type 0 p t >>= (λ u. right (define u.behind (a_type u.of) x)))
+pub type_reported : (p : SoFar) (x : ℕ) (t : Tree ℕ written_type) → type_declared p (declares_type x t) ≡ (reported_type 0 p t >>= (λ u. right (define u.following (a_type u.of) x)))
 unfolding type_declared
-type_told p x t = refl
+type_reported p x t = refl
 
 pub types_ended : (p : SoFar) → reported_types p end ≡ right p
 unfolding reported_types
@@ -71,9 +71,9 @@ types_stepped p t ts = refl
 pub types_chain : IsChain reported_types type_declared
 types_chain = record { ended = types_ended; stepped = types_stepped }
 
-pub variables_told : (p : SoFar) (ns : Names) (t : Tree ℕ written_type) → variables_declared p (declares_variable (names_of ns) t) ≡ (reported_type 0 p t >>= (λ u. right (define_all u.behind (a_variable u.of) (ns.first ∷ ns.more.items))))
+pub variables_reported : (p : SoFar) (ns : Names) (t : Tree ℕ written_type) → variables_declared p (declares_variable (names_of ns) t) ≡ (reported_type 0 p t >>= (λ u. right (define_all u.following (a_variable u.of) (ns.first ∷ ns.more.items))))
 unfolding variables_declared
-variables_told p ns t = ap (λ xs. reported_type 0 p t >>= (λ u. right (define_all u.behind (a_variable u.of) xs))) (names_are ns)
+variables_reported p ns t = ap (λ xs. reported_type 0 p t >>= (λ u. right (define_all u.following (a_variable u.of) xs))) (names_are ns)
 
 pub variables_ended : (p : SoFar) → reported_variables p end ≡ right p
 unfolding reported_variables
@@ -86,14 +86,14 @@ variables_stepped p t ts = refl
 pub variables_chain : IsChain reported_variables variables_declared
 variables_chain = record { ended = variables_ended; stepped = variables_stepped }
 
-parameters_told : (h : KnownHeading) (b : Bool) (ns : Tree ℕ names) (t : Tree ℕ written_type) → reported_section h (then_section (if b then variable_section ns t else value_section ns t)) ≡ (reported_type 0 h.behind t >>= (λ u. right (with_parameters h b (names_listed ns) u)))
+parameters_reported : (h : KnownHeading) (b : Bool) (ns : Tree ℕ names) (t : Tree ℕ written_type) → reported_section h (then_section (if b then variable_section ns t else value_section ns t)) ≡ (reported_type 0 h.following t >>= (λ u. right (with_parameters h b (names_listed ns) u)))
 unfolding reported_section reported_parameters
-parameters_told h true ns t = refl
-parameters_told h false ns t = refl
+parameters_reported h true ns t = refl
+parameters_reported h false ns t = refl
 
-pub section_told : (h : KnownHeading) (b : Bool) (ns : Names) (t : Tree ℕ written_type)
-    → reported_section h (then_section (if b then variable_section (names_of ns) t else value_section (names_of ns) t)) ≡ (reported_type 0 h.behind t >>= (λ u. right (with_parameters h b (ns.first ∷ ns.more.items) u)))
-section_told h b ns t = parameters_told h b (names_of ns) t ∙ ap (λ xs. reported_type 0 h.behind t >>= (λ u. right (with_parameters h b xs u))) (names_are ns)
+pub section_reported : (h : KnownHeading) (b : Bool) (ns : Names) (t : Tree ℕ written_type)
+    → reported_section h (then_section (if b then variable_section (names_of ns) t else value_section (names_of ns) t)) ≡ (reported_type 0 h.following t >>= (λ u. right (with_parameters h b (ns.first ∷ ns.more.items) u)))
+section_reported h b ns t = parameters_reported h b (names_of ns) t ∙ ap (λ xs. reported_type 0 h.following t >>= (λ u. right (with_parameters h b xs u))) (names_are ns)
 
 pub sections_listed : (ss : List Section) → formal_sections (one (formals_listed ss)) ≡ items_of further_section_of ss
 sections_listed [] = refl
@@ -110,19 +110,19 @@ sections_stepped h t ts = refl
 pub sections_chain : IsChain reported_sections reported_section
 sections_chain = record { ended = sections_ended; stepped = sections_stepped }
 
-pub no_body_told : (p : SoFar) → reported_body p none ≡ right p
+pub no_body_reported : (p : SoFar) → reported_body p none ≡ right p
 unfolding reported_body
-no_body_told p = refl
+no_body_reported p = refl
 
-pub body_told : (p : SoFar) (a : Tree ℕ sequence) → reported_body p (one (begins a)) ≡ record { known = p; faults = reported_sequence (facts_at p false) a }
+pub body_reported : (p : SoFar) (a : Tree ℕ sequence) → reported_body p (one (begins a)) ≡ record { known = p; faults = reported_sequence (facts_at p false) a }
 unfolding reported_body
-body_told p a = refl
+body_reported p a = refl
 
-pub block_told : (p : SoFar) (cs : Tree ℕ (maybe constants)) (ts : Tree ℕ (maybe type_names)) (vs : Tree ℕ (maybe variables)) (ps : Tree ℕ (items procedure)) (a : Tree ℕ (maybe body))
+pub block_reported : (p : SoFar) (cs : Tree ℕ (maybe constants)) (ts : Tree ℕ (maybe type_names)) (vs : Tree ℕ (maybe variables)) (ps : Tree ℕ (items procedure)) (a : Tree ℕ (maybe body))
     → reported_block p (has_body (declares cs ts vs ps) a)
     ≡ (reported_constants p (section_constants cs) >>= (λ q. reported_types q (section_types ts) >>= (λ r. reported_variables r (section_variables vs) >>= (λ s. reported_procedures s ps >>= (λ t. reported_body t a)))))
 unfolding reported_block
-block_told p cs ts vs ps a = refl
+block_reported p cs ts vs ps a = refl
 
 procedures_ended : (p : SoFar) → reported_procedures p end ≡ right p
 unfolding reported_block
@@ -136,16 +136,16 @@ pub procedures_chain : IsChain reported_procedures reported_procedure
 procedures_chain = record { ended = procedures_ended; stepped = procedures_stepped }
 
 with_parts : (p : SoFar) (x : ℕ) (fs : Tree ℕ (maybe formals)) (b : Tree ℕ block) (closing : ℕ)
-    → reported_procedure p (declares_procedure x fs b closing) ≡ (reported_sections (record { formals = []; behind = p }) (formal_sections fs) >>= (λ h. reported_block (after_heading x h) b))
+    → reported_procedure p (declares_procedure x fs b closing) ≡ (reported_sections (record { formals = []; following = p }) (formal_sections fs) >>= (λ h. reported_block (after_heading x h) b))
 unfolding reported_block
 with_parts p x fs b closing = refl
 
-pub procedure_told : (p : SoFar) (d : Procedure)
-    → reported_procedure p (procedure_of d) ≡ (reported_sections (record { formals = []; behind = p }) (formal_sections (formals_of (out-Procedure d).formals)) >>= (λ h. reported_block (after_heading (out-Procedure d).name h) (block_of (out-Procedure d).block)))
-procedure_told p d =
+pub procedure_reported : (p : SoFar) (d : Procedure)
+    → reported_procedure p (procedure_of d) ≡ (reported_sections (record { formals = []; following = p }) (formal_sections (formals_of (out-Procedure d).formals)) >>= (λ h. reported_block (after_heading (out-Procedure d).name h) (block_of (out-Procedure d).block)))
+procedure_reported p d =
     let x = out-Procedure d in
     ap (reported_procedure p) (sym (ap procedure_of (roll-out-Procedure d)) ∙ procedure_made x) ∙ with_parts p x.name (formals_of x.formals) (block_of x.block) x.closing
 
-pub module_told : (r : Resolution) → reported_module r ≡ filter is_of_occurrences r.faults ++ (reported_block (at_first r) (module_block (tree_of r.module_read))).faults
+pub module_reported : (r : Resolution) → reported_module r ≡ filter is_of_occurrences r.faults ++ (reported_block (at_first r) (module_block (tree_of r.module_read))).faults
 unfolding reported_module
-module_told r = refl
+module_reported r = refl

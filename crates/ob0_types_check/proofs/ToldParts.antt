@@ -10,73 +10,73 @@ use Rattle.ob0_types_check.specs.TypeFaults.{evaluated, reported_constant}
 use Rattle.ob0_types_check.proofs.Chains.{IsChain, then_assoc}
 
 -- one more operand
-abbrev pub told_added : {T : Type 0} → Facts T → Operand T → Tree ℕ (item addend) → Reported (Operand T)
-told_added facts x (adds o t) = reported_term facts t >>= add_operands facts o x
+abbrev pub reported_added : {T : Type 0} → Facts T → Operand T → Tree ℕ (item addend) → Reported (Operand T)
+reported_added facts x (adds o t) = reported_term facts t >>= add_operands facts o x
 
-abbrev pub told_multiplied : {T : Type 0} → Facts T → Operand T → Tree ℕ (item multiplier) → Reported (Operand T)
-told_multiplied facts x (multiplies o f) = reported_factor facts f >>= multiply_operands facts o x
+abbrev pub reported_multiplied : {T : Type 0} → Facts T → Operand T → Tree ℕ (item multiplier) → Reported (Operand T)
+reported_multiplied facts x (multiplies o f) = reported_factor facts f >>= multiply_operands facts o x
 
 module _ {T : Type 0} (facts : Facts T) where
-  pub alone_told : (a : Tree ℕ simple) → reported_expression facts (compares a none) ≡ reported_simple facts a
+  pub alone_reported : (a : Tree ℕ simple) → reported_expression facts (compares a none) ≡ reported_simple facts a
   unfolding reported_expression
-  alone_told a = refl
+  alone_reported a = refl
 
-  pub related_told : (r : Relation) (a b : Tree ℕ simple) → reported_expression facts (compares a (one (relates r b))) ≡ (reported_simple facts a >>= (λ x. reported_simple facts b >>= relate_operands facts r x))
+  pub related_reported : (r : Relation) (a b : Tree ℕ simple) → reported_expression facts (compares a (one (relates r b))) ≡ (reported_simple facts a >>= (λ x. reported_simple facts b >>= relate_operands facts r x))
   unfolding reported_expression
-  related_told r a b = refl
+  related_reported r a b = refl
 
-  pub simple_told : (s : Option Sign) (t : Tree ℕ term) (rest : Tree ℕ (items addend)) → reported_simple facts (sum s t rest) ≡ (reported_term facts t >>= (λ x. sign_operand facts s x >>= (λ y. reported_addends facts y rest)))
+  pub simple_reported : (s : Option Sign) (t : Tree ℕ term) (rest : Tree ℕ (items addend)) → reported_simple facts (sum s t rest) ≡ (reported_term facts t >>= (λ x. sign_operand facts s x >>= (λ y. reported_addends facts y rest)))
   unfolding reported_expression
-  simple_told s t rest = refl
+  simple_reported s t rest = refl
 
-  pub term_told : (f : Tree ℕ factor) (rest : Tree ℕ (items multiplier)) → reported_term facts (product f rest) ≡ (reported_factor facts f >>= (λ x. reported_multipliers facts x rest))
+  pub term_reported : (f : Tree ℕ factor) (rest : Tree ℕ (items multiplier)) → reported_term facts (product f rest) ≡ (reported_factor facts f >>= (λ x. reported_multipliers facts x rest))
   unfolding reported_expression
-  term_told f rest = refl
+  term_reported f rest = refl
 
-  pub designator_told : (x : ℕ) (path : Tree ℕ (items selector)) → reported_factor facts (designator x path) ≡ (named facts x >>= (λ base. reported_selectors facts base path))
+  pub designator_reported : (x : ℕ) (path : Tree ℕ (items selector)) → reported_factor facts (designator x path) ≡ (named facts x >>= (λ base. reported_selectors facts base path))
   unfolding reported_expression
-  designator_told x path = refl
+  designator_reported x path = refl
 
-  pub integer_told : (n : ℕ) → reported_factor facts (integer n) ≡ right (a_number facts n)
+  pub integer_reported : (n : ℕ) → reported_factor facts (integer n) ≡ right (a_number facts n)
   unfolding reported_expression
-  integer_told n = refl
+  integer_reported n = refl
 
-  pub parentheses_told : (e : Tree ℕ expression) → reported_factor facts (parenthesised e) ≡ (reported_expression facts e >>= (λ x. right (enclosed facts x)))
+  pub parentheses_reported : (e : Tree ℕ expression) → reported_factor facts (parenthesised e) ≡ (reported_expression facts e >>= (λ x. right (enclosed facts x)))
   unfolding reported_expression
-  parentheses_told e = refl
+  parentheses_reported e = refl
 
-  pub negation_told : (f : Tree ℕ factor) → reported_factor facts (negation f) ≡ (reported_factor facts f >>= complement_operand facts)
+  pub negation_reported : (f : Tree ℕ factor) → reported_factor facts (negation f) ≡ (reported_factor facts f >>= complement_operand facts)
   unfolding reported_expression
-  negation_told f = refl
+  negation_reported f = refl
 
-  pub field_told : (x : Operand T) (n : ℕ) → reported_selector facts x (field n) ≡ field_selected facts x n
+  pub field_reported : (x : Operand T) (n : ℕ) → reported_selector facts x (field n) ≡ field_selected facts x n
   unfolding reported_selector
-  field_told x n = refl
+  field_reported x n = refl
 
-  pub index_told : (x : Operand T) (e : Tree ℕ expression) → reported_selector facts x (index e) ≡ (reported_expression facts e >>= element_selected facts x)
+  pub index_reported : (x : Operand T) (e : Tree ℕ expression) → reported_selector facts x (index e) ≡ (reported_expression facts e >>= element_selected facts x)
   unfolding reported_selector
-  index_told x e = refl
+  index_reported x e = refl
 
   added_ended : (x : Operand T) → reported_addends facts x end ≡ right x
   unfolding reported_expression
   added_ended x = refl
 
-  added_stepped : (x : Operand T) (t : Tree ℕ (item addend)) (ts : Tree ℕ (items addend)) → reported_addends facts x (more t ts) ≡ (told_added facts x t >>= (λ y. reported_addends facts y ts))
+  added_stepped : (x : Operand T) (t : Tree ℕ (item addend)) (ts : Tree ℕ (items addend)) → reported_addends facts x (more t ts) ≡ (reported_added facts x t >>= (λ y. reported_addends facts y ts))
   unfolding reported_expression
   added_stepped x (adds o t) ts = then_assoc (reported_term facts t) (add_operands facts o x) (λ y. reported_addends facts y ts)
 
-  pub added_chain : IsChain (reported_addends facts) (told_added facts)
+  pub added_chain : IsChain (reported_addends facts) (reported_added facts)
   added_chain = record { ended = added_ended; stepped = added_stepped }
 
   multiplied_ended : (x : Operand T) → reported_multipliers facts x end ≡ right x
   unfolding reported_expression
   multiplied_ended x = refl
 
-  multiplied_stepped : (x : Operand T) (t : Tree ℕ (item multiplier)) (ts : Tree ℕ (items multiplier)) → reported_multipliers facts x (more t ts) ≡ (told_multiplied facts x t >>= (λ y. reported_multipliers facts y ts))
+  multiplied_stepped : (x : Operand T) (t : Tree ℕ (item multiplier)) (ts : Tree ℕ (items multiplier)) → reported_multipliers facts x (more t ts) ≡ (reported_multiplied facts x t >>= (λ y. reported_multipliers facts y ts))
   unfolding reported_expression
   multiplied_stepped x (multiplies o f) ts = then_assoc (reported_factor facts f) (multiply_operands facts o x) (λ y. reported_multipliers facts y ts)
 
-  pub multiplied_chain : IsChain (reported_multipliers facts) (told_multiplied facts)
+  pub multiplied_chain : IsChain (reported_multipliers facts) (reported_multiplied facts)
   multiplied_chain = record { ended = multiplied_ended; stepped = multiplied_stepped }
 
   selected_ended : (x : Operand T) → reported_selectors facts x end ≡ right x
@@ -91,6 +91,6 @@ module _ {T : Type 0} (facts : Facts T) where
   pub selected_chain : IsChain (reported_selectors facts) (reported_selector facts)
   selected_chain = record { ended = selected_ended; stepped = selected_stepped }
 
-  pub constant_told : (e : Tree ℕ expression) → reported_constant facts e ≡ (reported_expression facts e >>= evaluated facts)
+  pub constant_reported : (e : Tree ℕ expression) → reported_constant facts e ≡ (reported_expression facts e >>= evaluated facts)
   unfolding reported_constant
-  constant_told e = refl
+  constant_reported e = refl

@@ -12,7 +12,7 @@ use Rattle.ob0_tree.specs.declared.tree.Expression.{Expression}
 use Rattle.ob0_tree.specs.declared.tree.Statement.{Statement}
 use Rattle.ob0_types_rules.specs.Arguments.{arguments_listed, further_arguments}
 use Rattle.ob0_types_check.specs.ExpressionFaults.{reported_expression, reported_selectors}
-use Rattle.ob0_types_check.specs.Known.{Facts, Formal, a_procedure}
+use Rattle.ob0_types_check.specs.Known.{Facts, KnownFormal, a_procedure}
 use Rattle.ob0_types_check.specs.Operations.{a_name, required, at_token, ◌>>=◌}
 use Rattle.ob0_types_check.specs.StatementFaults.{target_meaning, call_by_meaning, passed, reported_argument, reported_arguments, reported_required, reported_assignment, reported_call, reported_condition, reported_else, reported_elsifs, reported_parts, reported_sequence, reported_statement, reported_statements, reported_target}
 use Rattle.ob0_types_check.specs.SupposedFacts.{formal_of}
@@ -27,50 +27,50 @@ all_listed [] = refl
 all_listed (e ∷ es) = ap (λ z. expression_of e ∷ z) (further_listed es)
 
 module _ {T : Type 0} (facts : Facts T) where
-  pub asked_told : (wanted : T) (e : Tree ℕ expression) → reported_required facts wanted e ≡ (reported_expression facts e >>= required facts wanted).faults
+  pub requested_reported : (wanted : T) (e : Tree ℕ expression) → reported_required facts wanted e ≡ (reported_expression facts e >>= required facts wanted).faults
   unfolding reported_required
-  asked_told wanted e = refl
+  requested_reported wanted e = refl
 
-  pub target_told : (x : ℕ) (path : Tree ℕ (items selector)) → reported_target facts x path ≡ (target_meaning facts x >>= (λ t. reported_selectors facts (a_name t x) path))
+  pub target_reported : (x : ℕ) (path : Tree ℕ (items selector)) → reported_target facts x path ≡ (target_meaning facts x >>= (λ t. reported_selectors facts (a_name t x) path))
   unfolding reported_target
-  target_told x path = refl
+  target_reported x path = refl
 
-  pub argument_told : (f : Formal T) (e : Tree ℕ expression) → reported_argument facts f e ≡ (reported_expression facts e >>= passed facts f).faults
+  pub argument_reported : (f : KnownFormal T) (e : Tree ℕ expression) → reported_argument facts f e ≡ (reported_expression facts e >>= passed facts f).faults
   unfolding reported_argument
-  argument_told f e = refl
+  argument_reported f e = refl
 
-  pub empty_told : reported_statement facts empty ≡ []
+  pub empty_reported : reported_statement facts empty ≡ []
   unfolding reported_statement
-  empty_told = refl
+  empty_reported = refl
 
-  pub assigned_told : (x : ℕ) (path : Tree ℕ (items selector)) (e : Tree ℕ expression) → reported_statement facts (assigns x path e) ≡ reported_assignment facts (reported_target facts x path) e
+  pub assigned_reported : (x : ℕ) (path : Tree ℕ (items selector)) (e : Tree ℕ expression) → reported_statement facts (assigns x path e) ≡ reported_assignment facts (reported_target facts x path) e
   unfolding reported_statement
-  assigned_told x path e = refl
+  assigned_reported x path e = refl
 
-  pub called_told : (p : ℕ) (es : Tree ℕ (maybe arguments)) → reported_statement facts (calls p es) ≡ reported_call facts p (arguments_listed es)
+  pub called_reported : (p : ℕ) (es : Tree ℕ (maybe arguments)) → reported_statement facts (calls p es) ≡ reported_call facts p (arguments_listed es)
   unfolding reported_statement
-  called_told p es = refl
+  called_reported p es = refl
 
-  pub branches_told : (e : Tree ℕ expression) (a : Tree ℕ sequence) (rest : Tree ℕ (items elsif_part)) (last : Tree ℕ (maybe else_part))
+  pub branches_reported : (e : Tree ℕ expression) (a : Tree ℕ sequence) (rest : Tree ℕ (items elsif_part)) (last : Tree ℕ (maybe else_part))
       → reported_statement facts (branches e a rest last) ≡ reported_condition facts e ++ (reported_sequence facts a ++ (reported_elsifs facts rest ++ reported_else facts last))
   unfolding reported_statement
-  branches_told e a rest last = refl
+  branches_reported e a rest last = refl
 
-  pub while_told : (e : Tree ℕ expression) (a : Tree ℕ sequence) → reported_statement facts (while_loop e a) ≡ reported_condition facts e ++ reported_sequence facts a
+  pub while_reported : (e : Tree ℕ expression) (a : Tree ℕ sequence) → reported_statement facts (while_loop e a) ≡ reported_condition facts e ++ reported_sequence facts a
   unfolding reported_statement
-  while_told e a = refl
+  while_reported e a = refl
 
-  pub repeat_told : (e : Tree ℕ expression) (a : Tree ℕ sequence) → reported_statement facts (repeat_loop a e) ≡ reported_sequence facts a ++ reported_condition facts e
+  pub repeat_reported : (e : Tree ℕ expression) (a : Tree ℕ sequence) → reported_statement facts (repeat_loop a e) ≡ reported_sequence facts a ++ reported_condition facts e
   unfolding reported_statement
-  repeat_told e a = refl
+  repeat_reported e a = refl
 
-  pub no_else_told : reported_else facts none ≡ []
+  pub no_else_reported : reported_else facts none ≡ []
   unfolding reported_statement
-  no_else_told = refl
+  no_else_reported = refl
 
-  pub else_told : (a : Tree ℕ sequence) → reported_else facts (one (else_branch a)) ≡ reported_sequence facts a
+  pub else_reported : (a : Tree ℕ sequence) → reported_else facts (one (else_branch a)) ≡ reported_sequence facts a
   unfolding reported_statement
-  else_told a = refl
+  else_reported a = refl
 
   -- sequences and branches, from the first on
   flat : (ss : List Statement) → reported_sequence facts (sequence_listed ss) ≡ reported_statements facts (items_of further_statement_of ss)

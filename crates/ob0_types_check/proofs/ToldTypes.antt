@@ -8,45 +8,45 @@ use Rattle.ob0_types_check.specs.ExpressionFaults.{reported_expression}
 use Rattle.ob0_types_check.specs.Operations.{right, ◌>>=◌}
 use Rattle.ob0_types_check.specs.SoFar.{SoFar, facts_at}
 use Rattle.ob0_types_check.specs.TypeFaults.{length_of, type_named}
-use Rattle.ob0_types_check.specs.WrittenTypeFaults.{Gathered, array_made, gathered_after, nothing_gathered, ordinal_here, record_made, record_word, told_fields, reported_group, told_groups, reported_type, word_before}
+use Rattle.ob0_types_check.specs.WrittenTypeFaults.{Gathered, array_made, gathered_after, nothing_gathered, ordinal_here, record_made, record_word, reported_fields, reported_group, reported_groups, reported_type, word_before}
 use Rattle.ob0_types_check.proofs.Chains.{IsChain, then_assoc}
 
-pub named_told : (around : ℕ) (p : SoFar) (x : ℕ) → reported_type around p (named_type x) ≡ (type_named (facts_at p false) x >>= (λ t. right (record { of = t; behind = p })))
+pub named_reported : (around : ℕ) (p : SoFar) (x : ℕ) → reported_type around p (named_type x) ≡ (type_named (facts_at p false) x >>= (λ t. right (record { of = t; following = p })))
 unfolding reported_type
-named_told around p x = refl
+named_reported around p x = refl
 
-pub array_told : (around : ℕ) (p : SoFar) (e : Tree ℕ expression) (u : Tree ℕ written_type)
+pub array_reported : (around : ℕ) (p : SoFar) (e : Tree ℕ expression) (u : Tree ℕ written_type)
     → reported_type around p (array_type e u) ≡ (reported_expression (facts_at p true) e >>= (λ o. length_of (facts_at p false) o >>= (λ n. reported_type (suc around) p u >>= array_made (ordinal_here around p) o n)))
 unfolding reported_type
-array_told around p e u = refl
+array_reported around p e u = refl
 
-pub no_fields_told : (around : ℕ) (g : Gathered) → told_fields around g no_fields ≡ right g
+pub no_fields_reported : (around : ℕ) (g : Gathered) → reported_fields around g no_fields ≡ right g
 unfolding reported_type
-no_fields_told around g = refl
+no_fields_reported around g = refl
 
-pub fields_told : (around : ℕ) (g : Gathered) (ns : Tree ℕ names) (t : Tree ℕ written_type) → told_fields around g (some_fields ns t) ≡ (reported_type around g.behind t >>= (λ u. right (gathered_after g (names_listed ns) u)))
+pub fields_reported : (around : ℕ) (g : Gathered) (ns : Tree ℕ names) (t : Tree ℕ written_type) → reported_fields around g (some_fields ns t) ≡ (reported_type around g.following t >>= (λ u. right (gathered_after g (names_listed ns) u)))
 unfolding reported_type
-fields_told around g ns t = refl
+fields_reported around g ns t = refl
 
-pub group_told : (around : ℕ) (g : Gathered) (f : Tree ℕ fields) → reported_group around g (then_fields f) ≡ told_fields around g f
+pub group_reported : (around : ℕ) (g : Gathered) (f : Tree ℕ fields) → reported_group around g (then_fields f) ≡ reported_fields around g f
 unfolding reported_group
-group_told around g f = refl
+group_reported around g f = refl
 
-groups_ended : (around : ℕ) (g : Gathered) → told_groups around g end ≡ right g
+groups_ended : (around : ℕ) (g : Gathered) → reported_groups around g end ≡ right g
 unfolding reported_type
 groups_ended around g = refl
 
-groups_stepped : (around : ℕ) (g : Gathered) (t : Tree ℕ (item further_fields)) (ts : Tree ℕ (items further_fields)) → told_groups around g (more t ts) ≡ (reported_group around g t >>= (λ h. told_groups around h ts))
+groups_stepped : (around : ℕ) (g : Gathered) (t : Tree ℕ (item further_fields)) (ts : Tree ℕ (items further_fields)) → reported_groups around g (more t ts) ≡ (reported_group around g t >>= (λ h. reported_groups around h ts))
 unfolding reported_type reported_group
 groups_stepped around g (then_fields f) ts = refl
 
-pub groups_chain : (around : ℕ) → IsChain (told_groups around) (reported_group around)
+pub groups_chain : (around : ℕ) → IsChain (reported_groups around) (reported_group around)
 groups_chain around = record { ended = groups_ended around; stepped = groups_stepped around }
 
 -- a record without groups is one with an empty group
-pub record_told : (around : ℕ) (p : SoFar) (gs : List Fields)
-    → reported_type around p (record_listed gs) ≡ (told_groups (suc around) (nothing_gathered p) (items_of further_fields_of_group gs) >>= record_made (record_word (items_of further_fields_of_group gs)) (ordinal_here around p))
+pub record_reported : (around : ℕ) (p : SoFar) (gs : List Fields)
+    → reported_type around p (record_listed gs) ≡ (reported_groups (suc around) (nothing_gathered p) (items_of further_fields_of_group gs) >>= record_made (record_word (items_of further_fields_of_group gs)) (ordinal_here around p))
 unfolding reported_type
-record_told around p [] = refl
-record_told around p (g ∷ gs) =
-    then_assoc (told_fields (suc around) (nothing_gathered p) (fields_of g)) (λ h. told_groups (suc around) h (items_of further_fields_of_group gs)) (record_made (word_before (fields_of g) (record_word (items_of further_fields_of_group gs))) (ordinal_here around p))
+record_reported around p [] = refl
+record_reported around p (g ∷ gs) =
+    then_assoc (reported_fields (suc around) (nothing_gathered p) (fields_of g)) (λ h. reported_groups (suc around) h (items_of further_fields_of_group gs)) (record_made (word_before (fields_of g) (record_word (items_of further_fields_of_group gs))) (ordinal_here around p))

@@ -21,7 +21,7 @@ known-as s f e = f.known ∙ (sym f.typed ∙ e)
 
 -- a name that has a type: no fault is reported of it
 abbrev pub NameTyped : {T N P : Type 0} → Facts T → (ℕ → N) → Meanings N Shape P → Role → ℕ → Type 0
-NameTyped facts label meaning role.LookedUp x = (s : Shape) → object_type (meaning.stands_for (label x)) ≡ Some s → (named facts x).faults ≡ []
+NameTyped facts label meaning role.LookedUp x = (s : Shape) → object_type (meaning.object_for (label x)) ≡ Some s → (named facts x).faults ≡ []
 NameTyped facts label meaning role.FieldName x = Unit {0}
 NameTyped facts label meaning role.Declaring x = Unit {0}
 NameTyped facts label meaning role.ClosingName x = Unit {0}
@@ -121,7 +121,7 @@ module _ {T N P : Type 0} (facts : Facts T) (shape : T → Option Shape) (types 
 
     factor-right : (f : Tree ℕ factor) → AllTyped f → (s : Shape) → type_of_factor meaning (tree f) ≡ Some s → (reported_factor facts f).faults ≡ []
     factor-right (designator x path) (k, n) s h =
-        let (u, hu, last) = and-then (λ s. type_at meaning s (tree path)) (object_type (meaning.stands_for (label x))) s h in
+        let (u, hu, last) = and-then (λ s. type_at meaning s (tree path)) (object_type (meaning.object_for (label x))) s h in
         let left = n.0 u hu in
         let name : NameFits facts shape label meaning x = k.0 left in
         none-of-both (named facts x).faults _ left (selectors-right (named facts x).known u path (known-as u name.fits hu) (k.1, n.1) s last)

@@ -15,10 +15,10 @@ use Rattle.ob0_types_check.specs.Known.{Reported}
 use Rattle.ob0_types_check.specs.SoFar.{SoFar, at_first}
 use Rattle.ob0_types_check.specs.WellTypedLaws.{NoFaultInModules}
 use Rattle.ob0_types_check.proofs.BlocksDeclared.{constants_declare, next_le, types_declare}
-use Rattle.ob0_types_check.proofs.BlocksFit.{declarations_told, first_stands, heading_known, heading_told, procedure_told}
+use Rattle.ob0_types_check.proofs.BlocksFit.{declarations_reported, first_stands, heading_known, heading_reported, procedure_reported}
 use Rattle.ob0_types_check.proofs.BoundModules.{held, names_bound-holds}
 use Rattle.ob0_types_check.proofs.DeclaredModules.{module_placed, numbering_of}
-use Rattle.ob0_types_check.proofs.DeclaredNames.{BlockPlaced, Numbering, ProcedurePlaced, ProceduresPlaced, behind_constants, behind_procedure, behind_types, behind_variables, constants-mapped, formals-mapped, scope_behind, types-mapped, variables-mapped}
+use Rattle.ob0_types_check.proofs.DeclaredNames.{BlockPlaced, Numbering, ProcedurePlaced, ProceduresPlaced, following_constants, following_procedure, following_types, following_variables, constants-mapped, formals-mapped, scope_following, types-mapped, variables-mapped}
 use Rattle.ob0_types_check.proofs.DeclaredStanding.{Stands, later_same, stands_later}
 use Rattle.ob0_types_check.proofs.EqualShapes.{each-true}
 use Rattle.ob0_types_check.proofs.MadeOnce.{Fresh, fresh_after, fresh_first}
@@ -57,15 +57,15 @@ module _ (w : Numbering) (fit : PartsFit) (fine : PartsRight) where
         let dc = constants_declare w fit (section_constants cs) k n p before scope env st placed.0 none₁ in
         let c_is : declare_constants as_names env (section_constants (named w.source cs)) ≡ Some dc.env = ap (declare_constants as_names env) (constants-mapped text value cs) ∙ dc.given_is in
         let t_is : types dc.env ≡ Some first = given-again types (declare_constants as_names env (section_constants (named w.source cs))) dc.env (Some first) c_is hf in
-        let none₂ = types_right w fit fine (section_types ts) k (first_type n b) t₁.known dc.after (behind_constants w scope n b) dc.env (omega (arith, fresh.counted, dc.apart.counted)) dc.stands placed.1 first (sym (ap (declare_types as_names dc.env k) (types-mapped text value ts)) ∙ t_is) in
-        let dt = types_declare w fit (section_types ts) k (first_type n b) t₁.known dc.after (behind_constants w scope n b) dc.env (omega (arith, fresh.counted, dc.apart.counted)) dc.stands placed.1 none₂ in
+        let none₂ = types_right w fit fine (section_types ts) k (first_type n b) t₁.known dc.after (following_constants w scope n b) dc.env (omega (arith, fresh.counted, dc.apart.counted)) dc.stands placed.1 first (sym (ap (declare_types as_names dc.env k) (types-mapped text value ts)) ∙ t_is) in
+        let dt = types_declare w fit (section_types ts) k (first_type n b) t₁.known dc.after (following_constants w scope n b) dc.env (omega (arith, fresh.counted, dc.apart.counted)) dc.stands placed.1 none₂ in
         let first_is : first ≡ dt.env = some-same first dt.env (sym t_is ∙ (ap (declare_types as_names dc.env k) (types-mapped text value ts) ∙ dt.given_is)) in
         let v_is : declare_typed as_names (after_types k nb) (named w.source (section_variables vs)) dt.env ≡ Some inner =
         (λ i. declare_typed as_names (after_types k nb) (sym (variables-mapped text value vs) i) (sym first_is i)) ∙ hv in
         let t_same : types_constructors (section_types (named w.source ts)) ≡ types_constructors (named w.source (section_types ts)) = ap types_constructors (types-mapped text value ts) in
-        let none₃ = variables_right w fit fine (section_variables vs) (after_types k nb) (first_variable n b) t₂.known dt.after (behind_types w scope n b) dt.env (omega (arith, fresh.counted, dc.apart.counted, dt.apart.counted, t_same)) dt.stands placed.2 inner v_is in
-        let d = declarations_told w fit cs ts vs ps statements k n p before scope env fresh.counted st placed.0 placed.1 placed.2 none₁ none₂ none₃ in
-        let rest = procedures_right ps statements (after_variables k nb) (first_procedure n b) t₃.known d.after (behind_variables w scope n b) d.env d.stands (fresh_after k (after_variables k nb) before d.after d.apart fresh) placed.3
+        let none₃ = variables_right w fit fine (section_variables vs) (after_types k nb) (first_variable n b) t₂.known dt.after (following_types w scope n b) dt.env (omega (arith, fresh.counted, dc.apart.counted, dt.apart.counted, t_same)) dt.stands placed.2 inner v_is in
+        let d = declarations_reported w fit cs ts vs ps statements k n p before scope env fresh.counted st placed.0 placed.1 placed.2 none₁ none₂ none₃ in
+        let rest = procedures_right ps statements (after_variables k nb) (first_procedure n b) t₃.known d.after (following_variables w scope n b) d.env d.stands (fresh_after k (after_variables k nb) before d.after d.apart fresh) placed.3
         (held-again (option_and_then variables (declare_first as_names env k nb)) test d.env d.given_is h) in
         none-of-both t₁.faults (t₂.faults ++ (t₃.faults ++ (t₄.faults ++ (reported_body t₄.known statements).faults))) none₁
         (none-of-both t₂.faults (t₃.faults ++ (t₄.faults ++ (reported_body t₄.known statements).faults)) none₂
@@ -82,9 +82,9 @@ module _ (w : Numbering) (fit : PartsFit) (fine : PartsRight) where
         let given : Option (List (TypedParameter Name)) = typed_parameters as_names env k (procedure_formals nd) in
         let (ps, hp, fitting) = held given (λ ps. own ps && others ps) h in
         let none = procedure_right d k n p before scope env st fresh placed.0 ps hp (each-true (own ps) (others ps) fitting).0 in
-        let f = procedure_told w fit d k n p before scope env fresh.counted st placed.0 none in
+        let f = procedure_reported w fit d k n p before scope env fresh.counted st placed.0 none in
         let both = each-true (own f.parameters) (others f.parameters) (held-again given (λ ps. own ps && others ps) f.parameters f.typed h) in
-        let last = procedures_right rest statements (k + procedure_constructors nd) (after_procedure (suc n) d) q f.after (behind_procedure w scope n d) (heading (procedure_name nd) f.parameters env) f.stands
+        let last = procedures_right rest statements (k + procedure_constructors nd) (after_procedure (suc n) d) q f.after (following_procedure w scope n d) (heading (procedure_name nd) f.parameters env) f.stands
         (fresh_after k (k + procedure_constructors nd) before f.after f.apart fresh) placed.1 both.1 in
         (none-of-both (reported_procedure p d).faults (reported_procedures q rest).faults none last.0, last.1)
 
@@ -94,15 +94,15 @@ module _ (w : Numbering) (fit : PartsFit) (fine : PartsRight) where
     procedure_right (declares_procedure x fs b closing) k n p before scope env st fresh placed ps hp h =
         let text : ℕ → Name = text_at w.source in
         let weak = stands_later w n n (suc n) p p before before scope env (le_refl n) (next_le n) st (later_same n p before st.table) in
-        let none = sections_right w fit fine (formal_sections fs) k (suc n) (record { formals = []; behind = p }) before scope env fresh.counted weak placed.1 ps (sym (ap (typed_parameters as_names env k) (formals-mapped text (value_at w.source) fs)) ∙ hp) in
-        let e = heading_told w fit x fs k n p before scope env fresh.counted st placed.0 placed.1 none in
+        let none = sections_right w fit fine (formal_sections fs) k (suc n) (record { formals = []; following = p }) before scope env fresh.counted weak placed.1 ps (sym (ap (typed_parameters as_names env k) (formals-mapped text (value_at w.source) fs)) ∙ hp) in
+        let e = heading_reported w fit x fs k n p before scope env fresh.counted st placed.0 placed.1 none in
         let same : ps ≡ e.parameters = some-same ps e.parameters (sym hp ∙ e.typed) in
         let first : ℕ = k + formals_constructors (formal_sections (named w.source fs)) in
         let m : ℕ = after_names (suc n) (formal_names (formal_sections fs)) in
         let inner : block_fits as_names (bind_typed e.parameters (heading (text x) e.parameters env)) first (named w.source b) ≡ true =
         subst (λ qs. block_fits as_names (bind_typed qs (heading (text x) qs env)) first (named w.source b) ≡ true) same h in
-        none-of-both (reported_sections (record { formals = []; behind = p }) (formal_sections fs)).faults (reported_block (heading_known p x fs) b).faults none
-        (block_right b first m (heading_known p x fs) e.after (scope_behind w (suc n) (formal_names (formal_sections fs)) ((text x, n) ∷ scope)) (bind_typed e.parameters (heading (text x) e.parameters env)) e.inside
+        none-of-both (reported_sections (record { formals = []; following = p }) (formal_sections fs)).faults (reported_block (heading_known p x fs) b).faults none
+        (block_right b first m (heading_known p x fs) e.after (scope_following w (suc n) (formal_names (formal_sections fs)) ((text x, n) ∷ scope)) (bind_typed e.parameters (heading (text x) e.parameters env)) e.inside
         (fresh_after k first before e.after e.apart fresh) placed.2 inner)
 
 pub no_fault_in_modules-holds : NoFaultInModules

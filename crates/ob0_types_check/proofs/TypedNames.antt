@@ -106,7 +106,7 @@ module _ {T : Type 0} (facts : Facts T) (shape : T → Option Shape) where
 
 module _ {T N : Type 0} (facts : Facts T) (shape : T → Option Shape) (label : ℕ → N) (meaning : Typed N) where
   name-typed : facts.only_constants ≡ false → (r : Role) (x : ℕ) → TokenAgrees facts shape label meaning r x → NameTyped facts label meaning r x
-  name-typed only role.LookedUp x a = λ s h. stands-right facts shape x (facts.stands_for x) (meaning.stands_for (label x)) only a s h
+  name-typed only role.LookedUp x a = λ s h. stands-right facts shape x (facts.object_for x) (meaning.object_for (label x)) only a s h
   name-typed only role.FieldName x a = tt
   name-typed only role.Declaring x a = tt
   name-typed only role.ClosingName x a = tt
@@ -117,7 +117,7 @@ module _ {T N : Type 0} (facts : Facts T) (shape : T → Option Shape) (label : 
   names-typed only (x ∷ xs) a = (name-typed only x.0 x.1 a.0, names-typed only xs a.1)
 
   constant-typed : (Q : Type 0) (r : Role) (x : ℕ) → TokenAgrees facts shape label meaning r x → NameTyped {P = Q} facts label (constants_only meaning) r x
-  constant-typed Q role.LookedUp x a = λ s h. only-right facts shape Q x (facts.stands_for x) (meaning.stands_for (label x)) a s h
+  constant-typed Q role.LookedUp x a = λ s h. only-right facts shape Q x (facts.object_for x) (meaning.object_for (label x)) a s h
   constant-typed Q role.FieldName x a = tt
   constant-typed Q role.Declaring x a = tt
   constant-typed Q role.ClosingName x a = tt

@@ -72,8 +72,8 @@ module _ {T N : Type 0} (facts : Facts T) (shape : T → Option Shape) (types : 
 
   named-place : (x : ℕ) (m : Option (Meaning T)) (o : Option (Object Shape Signature)) (v : Shape) → MeansAlike shape m o → o ≡ Some (meant.a_variable v) → (named_value facts x m).known.is_place ≡ true
   named-place x None o v a e = absurd a
-  named-place x (Some (a_type t)) o v (s, told, stands) e = absurd (some-none v (sym (ap object_type e) ∙ ap object_type stands))
-  named-place x (Some (a_constant c)) o v (w, told, stands, scalar) e = let same : Some (meant.a_constant w) ≡ Some (meant.a_variable v) = sym stands ∙ e in absurd (cc)
+  named-place x (Some (a_type t)) o v (s, reported, stands) e = absurd (some-none v (sym (ap object_type e) ∙ ap object_type stands))
+  named-place x (Some (a_constant c)) o v (w, reported, stands, scalar) e = let same : Some (meant.a_constant w) ≡ Some (meant.a_variable v) = sym stands ∙ e in absurd (cc)
   named-place x (Some (a_procedure fs)) o v (signature, stands, formals) e = no-signature facts shape types apart only label meaning o v signature e stands
   named-place x (Some (a_variable t)) o v a e = variable-place x t facts.only_constants
 
@@ -96,11 +96,11 @@ module _ {T N : Type 0} (facts : Facts T) (shape : T → Option Shape) (types : 
   place-known (compares (sum None (product (designator x path) end) (more (adds o u) rest)) c) k s h = no-designator s h
   place-known (compares (sum None (product (designator x path) end) end) (one (relates r b))) k s h = no-designator s h
   place-known (compares (sum None (product (designator x path) end) end) none) k s h =
-      let (v, stands, typed) = variable-of (meaning.stands_for (label x)) (λ v. type_at meaning v (here path)) s h in
-      let factor : type_of_factor meaning (here (designator x path)) ≡ Some s = goes-on (λ s. type_at meaning s (here path)) (object_type (meaning.stands_for (label x))) v (Some s) (ap object_type stands) typed in
+      let (v, stands, typed) = variable-of (meaning.object_for (label x)) (λ v. type_at meaning v (here path)) s h in
+      let factor : type_of_factor meaning (here (designator x path)) ≡ Some s = goes-on (λ s. type_at meaning s (here path)) (object_type (meaning.object_for (label x))) v (Some s) (ap object_type stands) typed in
       record {
         typed = ap (λ o. option_and_then (λ x. option_and_then (λ y. Some y) (Some x)) (option_and_then (λ x. Some x) o)) factor;
-        placed = parts-placed facts (named facts x).known path ∙ named-place x (facts.stands_for x) (meaning.stands_for (label x)) v k.0 stands;
+        placed = parts-placed facts (named facts x).known path ∙ named-place x (facts.object_for x) (meaning.object_for (label x)) v k.0 stands;
       }
 
   passed-right : (b : Bool) (of : T) (g : Formal) (e : Tree ℕ expression) → g.mode ≡ mode_of b → shape of ≡ Some g.shape → Named e → argument_fits meaning g (here e) ≡ true
@@ -120,11 +120,11 @@ module _ {T N : Type 0} (facts : Facts T) (shape : T → Option Shape) (types : 
       none-of-both (reported_expression facts e).faults _ (expression-typed facts shape types apart only label meaning e k g.shape typed)
       (required-right facts shape types apart of o (alike o.of of g.shape (operand-typed facts shape types apart only label meaning e k g.shape typed) wanted))
 
-  argument-right : (f : known.Formal T) (g : Formal) (e : Tree ℕ expression) → g.mode ≡ mode_of f.by_place → shape f.of ≡ Some g.shape → Named e → argument_fits meaning g (here e) ≡ true → reported_argument facts f e ≡ []
+  argument-right : (f : known.KnownFormal T) (g : Formal) (e : Tree ℕ expression) → g.mode ≡ mode_of f.by_place → shape f.of ≡ Some g.shape → Named e → argument_fits meaning g (here e) ≡ true → reported_argument facts f e ≡ []
   unfolding reported_argument
   argument-right f g e mode wanted k h = passed-right f.by_place f.of g e mode wanted k h
 
-  arguments-right : (fs : List (known.Formal T)) (gs : Signature) (es : List (Tree ℕ expression)) → FormalsAgree shape fs gs → EachAgreed facts shape types label meaning es → arguments_fit meaning gs (map here es) ≡ true
+  arguments-right : (fs : List (known.KnownFormal T)) (gs : Signature) (es : List (Tree ℕ expression)) → FormalsAgree shape fs gs → EachAgreed facts shape types label meaning es → arguments_fit meaning gs (map here es) ≡ true
       → (length fs ≡ length es) × (reported_arguments facts fs es ≡ [])
   unfolding arguments_fit
   arguments-right [] [] [] a k h = (refl, refl)
@@ -144,9 +144,9 @@ module _ {T N : Type 0} (facts : Facts T) (shape : T → Option Shape) (types : 
   called-right : (x : ℕ) (m : Option (Meaning T)) (o : Option (Object Shape Signature)) (es : List (Tree ℕ expression)) → MeansAlike shape m o → EachAgreed facts shape types label meaning es → call_fits meaning (signature_of o) (map here es) ≡ true → call_by_meaning facts x m es ≡ []
   unfolding call_fits
   called-right x None o es a k h = absurd a
-  called-right x (Some (a_type t)) o es (s, told, stands) k h = not-called o (Some (meant.a_type s)) es stands refl h
-  called-right x (Some (a_constant c)) o es (v, told, stands, scalar) k h = not-called o (Some (meant.a_constant v)) es stands refl h
-  called-right x (Some (a_variable t)) o es (s, told, stands) k h = not-called o (Some (meant.a_variable s)) es stands refl h
+  called-right x (Some (a_type t)) o es (s, reported, stands) k h = not-called o (Some (meant.a_type s)) es stands refl h
+  called-right x (Some (a_constant c)) o es (v, reported, stands, scalar) k h = not-called o (Some (meant.a_constant v)) es stands refl h
+  called-right x (Some (a_variable t)) o es (s, reported, stands) k h = not-called o (Some (meant.a_variable s)) es stands refl h
   called-right x (Some (a_procedure fs)) o es (signature, stands, formals) k h =
       let parts = arguments-right fs signature es formals k (sym (ap (λ s. call_fits meaning s (map here es)) stands) ∙ h) in
       ap (λ b. if b then reported_arguments facts fs es else at_token facts code.ArgumentCount x) (eq-eqb (length fs) (length es) parts.0) ∙ parts.1
@@ -154,8 +154,8 @@ module _ {T N : Type 0} (facts : Facts T) (shape : T → Option Shape) (types : 
   call-right : (x : ℕ) (es : Tree ℕ (maybe arguments)) → Named (calls x es) → statement_fits meaning (here (calls x es)) ≡ true → reported_call facts x (arguments_listed es) ≡ []
   unfolding statement_fits
   call-right x es k h =
-      called-right x (facts.stands_for x) (meaning.stands_for (label x)) (arguments_listed es) k.0 (arguments-agreed facts shape types label meaning es k.1)
-      (sym (ap (call_fits meaning (signature_of (meaning.stands_for (label x)))) (arguments-mapped facts shape types label meaning es)) ∙ h)
+      called-right x (facts.object_for x) (meaning.object_for (label x)) (arguments_listed es) k.0 (arguments-agreed facts shape types label meaning es k.1)
+      (sym (ap (call_fits meaning (signature_of (meaning.object_for (label x)))) (arguments-mapped facts shape types label meaning es)) ∙ h)
 
   mutual
     unfolding reported_statement statement_fits

@@ -17,7 +17,7 @@ use Rattle.ob0_types_check.specs.Operations.{right}
 use Rattle.ob0_types_check.specs.SoFar.{PartTypes, Size, SoFar, facts_at, is_within, made, make, of_elements, size_at, too_large}
 use Rattle.ob0_types_check.specs.SoFar as so_far
 use Rattle.ob0_types_check.specs.TypeFaults.{length_of, type_meant}
-use Rattle.ob0_types_check.specs.WrittenTypeFaults.{Gathered, array_made, array_size, nothing_gathered, record_made, record_size, record_word, told_fields, told_groups, ordinal_here, reported_type, word_before}
+use Rattle.ob0_types_check.specs.WrittenTypeFaults.{Gathered, array_made, array_size, nothing_gathered, record_made, record_size, record_word, reported_fields, reported_groups, ordinal_here, reported_type, word_before}
 use Rattle.ob0_types_check.specs.Agreement.{MeansAlike, shape_in}
 use Rattle.ob0_types_check.specs.WellTypedLaws.{NoFaultInConstants, NoFaultInLengths, NoFaultInStatements}
 use Rattle.ob0_types_check.proofs.DeclaredNames.{AreSeen, IsSeen, Numbering, each_part}
@@ -70,13 +70,13 @@ no-type (Some (meant.a_standard p)) signature s e h = absurd (some-none s (sym h
 meant-right : (p : SoFar) (before : List Shape) (x : ℕ) (m : Option (Meaning TypeId)) (o : Option (meant.Object Shape Signature)) → MeansAlike (shape_in before) m o → (s : Shape) → type_of_name o ≡ Some s → (type_meant (facts_at p false) x m).faults ≡ []
 meant-right p before x None o a s h = refl
 meant-right p before x (Some (a_type t)) o a s h = refl
-meant-right p before x (Some (a_constant c)) o (v, told, stands, scalar) s h = absurd (some-none s (sym h ∙ ap type_of_name stands))
-meant-right p before x (Some (a_variable t)) o (u, told, stands) s h = absurd (some-none s (sym h ∙ ap type_of_name stands))
+meant-right p before x (Some (a_constant c)) o (v, reported, stands, scalar) s h = absurd (some-none s (sym h ∙ ap type_of_name stands))
+meant-right p before x (Some (a_variable t)) o (u, reported, stands) s h = absurd (some-none s (sym h ∙ ap type_of_name stands))
 meant-right p before x (Some (a_procedure fs)) o (signature, stands, formals) s h = no-type o signature s stands h
 
 -- an array of a length that is known
-array-right : (ordinal : ℕ) (o : Operand TypeId) (told : Option ℕ) (count : ℕ) (u : so_far.TypedAfter) → told ≡ Some count → is_within (array_size count (size_at u.behind.made u.of)) ≡ true → (array_made ordinal o told u).faults ≡ []
-array-right ordinal o told count u e h = ap (λ c. (array_made ordinal o c u).faults) e ∙ make-right u.behind _ ordinal (of_elements count u.of) (array_size count (size_at u.behind.made u.of)) h
+array-right : (ordinal : ℕ) (o : Operand TypeId) (reported : Option ℕ) (count : ℕ) (u : so_far.TypedAfter) → reported ≡ Some count → is_within (array_size count (size_at u.following.made u.of)) ≡ true → (array_made ordinal o reported u).faults ≡ []
+array-right ordinal o reported count u e h = ap (λ c. (array_made ordinal o c u).faults) e ∙ make-right u.following _ ordinal (of_elements count u.of) (array_size count (size_at u.following.made u.of)) h
 
 module _ (w : Numbering) (fit : PartsFit) (fine : PartsRight) (n : ℕ) (scope : Scope Name) (env : TypeEnvironment Name) where
   abbrev here : Typed Name
@@ -87,8 +87,8 @@ module _ (w : Numbering) (fit : PartsFit) (fine : PartsRight) (n : ℕ) (scope :
 
     pub type_right : (around k : ℕ) (t : Tree ℕ written_type) (p : SoFar) (before : List Shape) → length before + around ≡ k → Stands w p before n scope env → AreSeen w scope t → (s : Shape) → denoted (meanings as_names env) k (named w.source t) ≡ Some s → (reported_type around p t).faults ≡ []
     type_right around k (named_type x) p before at st seen s h =
-        none-of-both (type_meant (facts_at p false) x ((facts_at p false).stands_for x)).faults []
-        (meant-right p before x ((facts_at p false).stands_for x) ((meanings as_names env).stands_for (text_at w.source x)) (seen_stands w p false before n scope env st x seen.0) s h) refl
+        none-of-both (type_meant (facts_at p false) x ((facts_at p false).object_for x)).faults []
+        (meant-right p before x ((facts_at p false).object_for x) ((meanings as_names env).object_for (text_at w.source x)) (seen_stands w p false before n scope env st x seen.0) s h) refl
     type_right around k (array_type e u) p before at st seen s h =
         let parts = each_part (IsSeen w scope) (occurrences e) (occurrences u) seen in
         let given : Option Shape = denoted here (suc k) (named w.source u) in
@@ -110,8 +110,8 @@ module _ (w : Numbering) (fit : PartsFit) (fine : PartsRight) (n : ℕ) (scope :
         let (r, hr, limits) = and-then (λ s. within_limits (array_shape k long.length s)) given s limited in
         let inner = type_right (suc around) (suc k) u p before (omega (arith, at)) st parts.1 r hr in
         let d = type_denotes w fit n scope env (suc around) (suc k) u p before (omega (arith, at)) st parts.1 inner in
-        let size = array_sized (size_at el.known.behind.made el.known.of) k long.length d.shape (size_agrees el.known.behind.made d.after el.known.of d.shape d.later.table d.known) in
-        let small = is-within (array_size long.length (size_at el.known.behind.made el.known.of)) (array_shape k long.length d.shape) s size (given-again (λ s. within_limits (array_shape k long.length s)) given d.shape (Some s) d.given_is limited) in
+        let size = array_sized (size_at el.known.following.made el.known.of) k long.length d.shape (size_agrees el.known.following.made d.after el.known.of d.shape d.later.table d.known) in
+        let small = is-within (array_size long.length (size_at el.known.following.made el.known.of)) (array_shape k long.length d.shape) s size (given-again (λ s. within_limits (array_shape k long.length s)) given d.shape (Some s) d.given_is limited) in
         none-of-both (reported_expression (facts_at p true) e).faults _ a.0
         (none-of-both l.faults _ a.1 (none-of-both el.faults (array_made (ordinal_here around p) o l.known el.known).faults inner (array-right (ordinal_here around p) o l.known long.length el.known long.known small)))
     type_right around k (record_type g rest) p before at st seen s h =
@@ -123,33 +123,33 @@ module _ (w : Numbering) (fit : PartsFit) (fine : PartsRight) (n : ℕ) (scope :
         let (ys, hy, later) = and-then (λ ys. option_and_then (λ fs. within_limits (record_shape k fs)) (own ys)) others s h in
         let (fs, hf, last) = and-then (λ fs. within_limits (record_shape k fs)) (own ys) s later in
         let word : ℕ = word_before g (record_word rest) in
-        let first : Reported Gathered = told_fields (suc around) (nothing_gathered p) g in
-        let all : Reported Gathered = told_groups (suc around) first.known rest in
+        let first : Reported Gathered = reported_fields (suc around) (nothing_gathered p) g in
+        let all : Reported Gathered = reported_groups (suc around) first.known rest in
         let none = group_right (suc around) (suc k) g (nothing_gathered p) before (omega (arith, at)) st parts.0 ys fs hf in
         let one = group_gathers w fit n scope env (suc around) (suc k) g (nothing_gathered p) before no_field_shape (omega (arith, at)) st parts.0 (nothing_agrees before p) none in
-        let behind = stands_later w n n n p first.known.behind before one.gathers.after scope env (le_refl n) (le_refl n) st one.gathers.later in
-        let rests = groups_right (suc around) (suc k + c) rest first.known one.gathers.after one.own (omega (arith, at, one.gathers.apart.counted)) behind parts.1 one.gathers.agrees ys hy in
-        let other = groups_gather w fit n scope env (suc around) (suc k + c) rest first.known one.gathers.after one.own (omega (arith, at, one.gathers.apart.counted)) behind parts.1 one.gathers.agrees rests in
+        let following = stands_later w n n n p first.known.following before one.gathers.after scope env (le_refl n) (le_refl n) st one.gathers.later in
+        let rests = groups_right (suc around) (suc k + c) rest first.known one.gathers.after one.own (omega (arith, at, one.gathers.apart.counted)) following parts.1 one.gathers.agrees ys hy in
+        let other = groups_gather w fit n scope env (suc around) (suc k + c) rest first.known one.gathers.after one.own (omega (arith, at, one.gathers.apart.counted)) following parts.1 one.gathers.agrees rests in
         let whole = both_gather n p before (suc k) (suc k + c) (suc k + c + d) no_field_shape own first.known all.known others one other in
         let limited : within_limits (record_shape k whole.own) ≡ Some s = given-again (λ fs. within_limits (record_shape k fs)) (option_and_then own others) whole.own (Some s) whole.given_is (grouped others own (λ fs. within_limits (record_shape k fs)) ∙ h) in
         let small = is-within (record_size all.known.size) (record_shape k whole.own) s (record_sized whole.gathers.after all.known k whole.own whole.gathers.agrees) limited in
-        none-of-both first.faults _ none (none-of-both all.faults (record_made word (ordinal_here around p) all.known).faults rests (make-right all.known.behind word (ordinal_here around p) (so_far.of_fields all.known.fields) (record_size all.known.size) small))
+        none-of-both first.faults _ none (none-of-both all.faults (record_made word (ordinal_here around p) all.known).faults rests (make-right all.known.following word (ordinal_here around p) (so_far.of_fields all.known.fields) (record_size all.known.size) small))
 
-    group_right : (around k : ℕ) (t : Tree ℕ fields) (g : Gathered) (before : List Shape) → length before + around ≡ k → Stands w g.behind before n scope env → AreSeen w scope t → (later fs : FieldShapes) → denoted_group (meanings as_names env) k later (named w.source t) ≡ Some fs → (told_fields around g t).faults ≡ []
+    group_right : (around k : ℕ) (t : Tree ℕ fields) (g : Gathered) (before : List Shape) → length before + around ≡ k → Stands w g.following before n scope env → AreSeen w scope t → (later fs : FieldShapes) → denoted_group (meanings as_names env) k later (named w.source t) ≡ Some fs → (reported_fields around g t).faults ≡ []
     group_right around k no_fields g before at st seen later fs h = refl
     group_right around k (some_fields ns t) g before at st seen later fs h =
         let (s, hs, last) = and-then (λ s. Some (with_fields (map (λ x. x) (names_listed (named w.source ns))) s later)) (denoted here k (named w.source t)) fs h in
-        none-of-both (reported_type around g.behind t).faults [] (type_right around k t g.behind before at st seen s hs) refl
+        none-of-both (reported_type around g.following t).faults [] (type_right around k t g.following before at st seen s hs) refl
 
-    groups_right : (around k : ℕ) (t : Tree ℕ (items further_fields)) (g : Gathered) (before : List Shape) (first : FieldShapes) → length before + around ≡ k → Stands w g.behind before n scope env → AreSeen w scope t → GatheredAgrees before g first
-        → (fs : FieldShapes) → denoted_groups (meanings as_names env) k (named w.source t) ≡ Some fs → (told_groups around g t).faults ≡ []
+    groups_right : (around k : ℕ) (t : Tree ℕ (items further_fields)) (g : Gathered) (before : List Shape) (first : FieldShapes) → length before + around ≡ k → Stands w g.following before n scope env → AreSeen w scope t → GatheredAgrees before g first
+        → (fs : FieldShapes) → denoted_groups (meanings as_names env) k (named w.source t) ≡ Some fs → (reported_groups around g t).faults ≡ []
     groups_right around k end g before first at st seen agrees fs h = refl
     groups_right around k (more (then_fields f) rest) g before first at st seen agrees fs h =
         let parts = each_part (IsSeen w scope) (occurrences f) (occurrences rest) seen in
         let c : ℕ = group_constructors (named w.source f) in
-        let next : Reported Gathered = told_fields around g f in
+        let next : Reported Gathered = reported_fields around g f in
         let (ys, hy, hf) = and-then (λ ys. denoted_group here k ys (named w.source f)) (denoted_groups here (k + c) (named w.source rest)) fs h in
         let none = group_right around k f g before at st parts.0 ys fs hf in
         let one = group_gathers w fit n scope env around k f g before first at st parts.0 agrees none in
-        let behind = stands_later w n n n g.behind next.known.behind before one.gathers.after scope env (le_refl n) (le_refl n) st one.gathers.later in
-        none-of-both next.faults (told_groups around next.known rest).faults none (groups_right around (k + c) rest next.known one.gathers.after (followed first one.own) (omega (arith, at, one.gathers.apart.counted)) behind parts.1 one.gathers.agrees ys hy)
+        let following = stands_later w n n n g.following next.known.following before one.gathers.after scope env (le_refl n) (le_refl n) st one.gathers.later in
+        none-of-both next.faults (reported_groups around next.known rest).faults none (groups_right around (k + c) rest next.known one.gathers.after (followed first one.own) (omega (arith, at, one.gathers.apart.counted)) following parts.1 one.gathers.agrees ys hy)

@@ -3,23 +3,23 @@ use Rattle.std.proofs.Common.{◌≡◌, Bool, true, false, ◌||◌, ◌&&◌, 
 use Rattle.ob0_scan.specs.declared.fault.Fault.{Fault}
 use Rattle.ob0_types_check.specs.Known.{Reported}
 
-pub none-told : {A : Type 0} (xs ys : List A) → xs ++ ys ≡ [] → (xs ≡ []) × (ys ≡ [])
-none-told [] ys h = (refl, h)
-none-told (x ∷ xs) ys h = absurd (cc)
+pub none-reported : {A : Type 0} (xs ys : List A) → xs ++ ys ≡ [] → (xs ≡ []) × (ys ≡ [])
+none-reported [] ys h = (refl, h)
+none-reported (x ∷ xs) ys h = absurd (cc)
 
 pub none-if : {A : Type 0} (b : Bool) (x : A) → (if b then [] else x ∷ []) ≡ [] → b ≡ true
 none-if true x h = refl
 none-if false x h = absurd (cc)
 
 -- the first of two, where of the second something is reported
-pub first-told : {A : Type 0} (b : Bool) (one other : Reported A) (x : Fault) → other.faults ≡ x ∷ [] → (if b then one else other).faults ≡ [] → (b ≡ true) × (one.faults ≡ [])
-first-told true one other x e h = (refl, h)
-first-told false one other x e h = absurd (cc)
+pub first-reported : {A : Type 0} (b : Bool) (one other : Reported A) (x : Fault) → other.faults ≡ x ∷ [] → (if b then one else other).faults ≡ [] → (b ≡ true) × (one.faults ≡ [])
+first-reported true one other x e h = (refl, h)
+first-reported false one other x e h = absurd (cc)
 
 -- and the second, where of the first something is reported
-pub second-told : {A : Type 0} (b : Bool) (one other : Reported A) (x : Fault) → one.faults ≡ x ∷ [] → (if b then one else other).faults ≡ [] → (b ≡ false) × (other.faults ≡ [])
-second-told true one other x e h = absurd (cc)
-second-told false one other x e h = (refl, h)
+pub second-reported : {A : Type 0} (b : Bool) (one other : Reported A) (x : Fault) → one.faults ≡ x ∷ [] → (if b then one else other).faults ≡ [] → (b ≡ false) × (other.faults ≡ [])
+second-reported true one other x e h = absurd (cc)
+second-reported false one other x e h = (refl, h)
 
 pub first-of : (a b c : Bool) → (a || (b || c)) ≡ true → (b ≡ true → ⊥) → (c ≡ true → ⊥) → a ≡ true
 first-of true b c h nb nc = refl

@@ -63,7 +63,7 @@ module _ {N : Type 0} (among : Meanings N Place (Unit {0})) where
   whole-value None = refl
   whole-value (Some v) = refl
 
-  pub name-valued : (x : N) (c : Option Value) → among.stands_for x ≡ option_map a_constant c → given_value (evaluate_factor among [] (designator x end)) ≡ c
+  pub name-valued : (x : N) (c : Option Value) → among.object_for x ≡ option_map a_constant c → given_value (evaluate_factor among [] (designator x end)) ≡ c
   unfolding evaluate
   name-valued x c e = ap (λ o. given_value (value_of [] o >>= (λ w. gives [] >>= (λ steps. or_stuck (at_path steps w))))) e ∙ whole-value c
 
@@ -90,7 +90,7 @@ module _ {N : Type 0} (among : Meanings N Place (Unit {0})) where
   parts-value None scalar s ts = refl
   parts-value (Some v) scalar s ts = part-value v s ts (scalar v refl)
 
-  pub parts-valued : (x : N) (c : Option Value) (s : Tree N (item selector)) (ts : Tree N (items selector)) → among.stands_for x ≡ option_map a_constant c
+  pub parts-valued : (x : N) (c : Option Value) (s : Tree N (item selector)) (ts : Tree N (items selector)) → among.object_for x ≡ option_map a_constant c
       → ((v : Value) → c ≡ Some v → is_some (value_type v) ≡ true) → given_value (evaluate_factor among [] (designator x (more s ts))) ≡ None
   unfolding evaluate
   parts-valued x c s ts e scalar =

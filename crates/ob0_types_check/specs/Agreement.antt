@@ -14,8 +14,8 @@ use Rattle.ob0_types_rules.specs.Typing as typing
 use Rattle.ob0_types_rules.specs.Typing.{shape_of_field, value_type}
 use Rattle.ob0_types_rules.specs.WellTyped.{Signature, Typed, signature_of}
 use Rattle.ob0_values.specs.Values.{FieldShapes, Shape, Value, array_shape, boolean_shape, integer_shape, next_field_shape, no_field_shape, record_shape}
-use Rattle.ob0_types_check.specs.Known.{Facts, Form, Formal, Meaning, Types, a_constant, a_procedure, a_record, a_scalar, a_type, a_variable, an_array, unknown_form}
-use Rattle.ob0_types_check.specs.SoFar.{MadeType, PartTypes, TypedField, of_elements, of_fields}
+use Rattle.ob0_types_check.specs.Known.{Facts, Form, KnownFormal, Meaning, Types, a_constant, a_procedure, a_record, a_scalar, a_type, a_variable, an_array, unknown_form}
+use Rattle.ob0_types_check.specs.SoFar.{MadeType, PartTypes, FieldSoFar, of_elements, of_fields}
 
 -- What is known of a type's parts is so of the parts of a shape. `shape` gives the shapes of types: None where a type is unknown.
 abbrev pub FormAgrees : {T : Type 0} → (T → Option Shape) → Form T → Shape → Type 0
@@ -39,7 +39,7 @@ pub record TypesAgree {T : Type 0} (types : Types T) (shape : T → Option Shape
   pub formed : (t : T) (s : Shape) → shape t ≡ Some s → FormAgrees shape (types.form t) s
 
 -- parameters are those of a signature, one by one
-abbrev pub FormalsAgree : {T : Type 0} → (T → Option Shape) → List (Formal T) → Signature → Type 0
+abbrev pub FormalsAgree : {T : Type 0} → (T → Option Shape) → List (KnownFormal T) → Signature → Type 0
 FormalsAgree shape [] [] = Unit {0}
 FormalsAgree shape [] (g ∷ gs) = ⊥
 FormalsAgree shape (f ∷ fs) [] = ⊥
@@ -98,7 +98,7 @@ abbrev pub TokenAgrees : {T N : Type 0}
     → ℕ
     → Type 0
 TokenAgrees facts shape label meaning role.LookedUp x =
-    MeansAlike shape (facts.stands_for x) (meaning.stands_for (label x))
+    MeansAlike shape (facts.object_for x) (meaning.object_for (label x))
 TokenAgrees facts shape label meaning role.FieldName x =
     meaning.written (label x) ≡ text_at facts.source x
 TokenAgrees facts shape label meaning role.Declaring x = Unit {0}
@@ -145,7 +145,7 @@ shape_in shapes (type.Record i) = option_and_then as_record (slice_get shapes i)
 shape_in shapes type.Unknown = None
 
 -- fields are those of a record's shape, one by one
-abbrev pub FieldsAgree : (TypeId → Option Shape) → List TypedField → FieldShapes → Type 0
+abbrev pub FieldsAgree : (TypeId → Option Shape) → List FieldSoFar → FieldShapes → Type 0
 FieldsAgree shape [] no_field_shape = Unit {0}
 FieldsAgree shape [] (next_field_shape x s fs) = ⊥
 FieldsAgree shape (f ∷ fields) no_field_shape = ⊥

@@ -9,7 +9,7 @@ use Rattle.ob0_scope_rules.specs.Resolution.{Resolution, is_of_occurrences}
 use Rattle.ob0_types_table.specs.declared.types.TypeId.{TypeId}
 use Rattle.ob0_tree.specs.Parsed.{tree_of}
 use Rattle.ob0_tree.specs.Tree.{Tree, begins, block, body, constant, declares, declares_constant, declares_procedure, declares_type, declares_variable, end, further_section, has_body, item, items, maybe, more, names, none, one, procedure, then_section, type_name, value_section, variable, variable_section, written_type}
-use Rattle.ob0_types_check.specs.Known.{Formal, Reported, a_constant, a_procedure, a_type, a_variable}
+use Rattle.ob0_types_check.specs.Known.{KnownFormal, Reported, a_constant, a_procedure, a_type, a_variable}
 use Rattle.ob0_types_check.specs.Operations.{right, ◌>>=◌}
 use Rattle.ob0_types_check.specs.SoFar.{SoFar, TypedAfter, at_first, define, define_all, facts_at}
 use Rattle.ob0_types_check.specs.StatementFaults.{reported_sequence}
@@ -36,7 +36,7 @@ unfoldable pub type_declared : SoFar → Tree ℕ (item type_name) → Reported 
 unfolding reported_type
 type_declared p (declares_type x t) = do
   u ← reported_type 0 p t
-  right (define u.behind (a_type u.of) x)
+  right (define u.following (a_type u.of) x)
 
 -- the faults of types, each known after its right side
 unfoldable pub reported_types : SoFar → Tree ℕ (items type_name) → Reported SoFar
@@ -51,7 +51,7 @@ unfoldable pub variables_declared : SoFar → Tree ℕ (item variable) → Repor
 unfolding reported_type
 variables_declared p (declares_variable ns t) = do
   u ← reported_type 0 p t
-  right (define_all u.behind (a_variable u.of) (names_listed ns))
+  right (define_all u.following (a_variable u.of) (names_listed ns))
 
 -- the faults of variables, each known after its type
 unfoldable pub reported_variables : SoFar → Tree ℕ (items variable) → Reported SoFar
@@ -63,15 +63,15 @@ reported_variables p (more g rest) = do
 
 -- the parameters of a heading so far, and what is known after them
 pub record KnownHeading : Type 0 where
-  pub formals : List (Formal TypeId)
-  pub behind : SoFar
+  pub formals : List (KnownFormal TypeId)
+  pub following : SoFar
 
 -- parameters of one type, which are variables in their procedure
 abbrev pub with_parameters : KnownHeading → Bool → List ℕ → TypedAfter → KnownHeading
 with_parameters h by_place xs t =
     record {
       formals = h.formals ++ map (λ x. record { by_place = by_place; of = t.of }) xs;
-      behind = define_all t.behind (a_variable t.of) xs;
+      following = define_all t.following (a_variable t.of) xs;
     }
 
 -- the faults of parameters of one type
@@ -82,7 +82,7 @@ unfoldable pub reported_parameters : KnownHeading
     → Reported KnownHeading
 unfolding reported_type
 reported_parameters h by_place ns t = do
-  u ← reported_type 0 h.behind t
+  u ← reported_type 0 h.following t
   right (with_parameters h by_place (names_listed ns) u)
 
 -- the faults of a section of parameters
@@ -105,7 +105,7 @@ reported_sections h (more s rest) = do
 
 -- a procedure is known after its heading, and so in its own block
 abbrev pub after_heading : ℕ → KnownHeading → SoFar
-after_heading x h = define h.behind (a_procedure h.formals) x
+after_heading x h = define h.following (a_procedure h.formals) x
 
 -- the faults of a body's statements
 unfoldable pub reported_body : SoFar → Tree ℕ (maybe body) → Reported SoFar
@@ -134,7 +134,7 @@ unfoldable mutual
 
   pub reported_procedure : SoFar → Tree ℕ (item procedure) → Reported SoFar
   reported_procedure p (declares_procedure x fs b closing) = do
-    h ← reported_sections (record { formals = []; behind = p }) (formal_sections fs)
+    h ← reported_sections (record { formals = []; following = p }) (formal_sections fs)
     reported_block (after_heading x h) b
 
 -- the names that nothing binds, in text order, and then the faults of types

@@ -22,7 +22,7 @@ pub record Types (T : Type 0) : Type 0 where
   pub form : T → Form T
 
 -- a formal parameter: passed by its place, as VAR, or by its value
-pub record Formal (T : Type 0) : Type 0 where
+pub record KnownFormal (T : Type 0) : Type 0 where
   pub by_place : Bool
   pub of : T
 
@@ -32,13 +32,13 @@ pub data Meaning (T : Type 0) : Type 0 where
   a_type : T → Meaning T
   a_constant : Option Value → Meaning T
   a_variable : T → Meaning T
-  a_procedure : List (Formal T) → Meaning T
+  a_procedure : List (KnownFormal T) → Meaning T
 
 -- What is known at a place of a text. A name goes by its token; in a constant expression names mean constants alone.
 pub record Facts (T : Type 0) : Type 0 where
   pub source : Scanned
   pub types : Types T
-  pub stands_for : ℕ → Option (Meaning T)
+  pub object_for : ℕ → Option (Meaning T)
   pub only_constants : Bool
 
 -- An expression as an operand: its type, its value where that is known before any run and there is no fault in it, whether it

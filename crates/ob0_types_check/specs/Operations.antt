@@ -37,7 +37,7 @@ t >>= next = preceded_by t.faults (next t.known)
 -- x is what is known, and what is reported follows the faults from before
 pub record ReportsAfter {A : Type 0} (before after : List Fault) (x : A) (t : Reported A) : Type 0 where
   pub known : x ≡ t.known
-  pub told : after ≡ before ++ t.faults
+  pub reported : after ≡ before ++ t.faults
 
 -- a token's neighbours; nothing precedes the first, and nothing after the end of the text
 abbrev pub token_before : ℕ → ℕ
@@ -237,7 +237,7 @@ named_value facts token (Some (a_procedure fs)) =
 
 -- a name where a value is required
 abbrev pub named : {T : Type 0} → Facts T → ℕ → Reported (Operand T)
-named facts token = named_value facts token (facts.stands_for token)
+named facts token = named_value facts token (facts.object_for token)
 
 -- the part of a designator up to this token, of this type; a constant has no parts
 abbrev pub part_of : {T : Type 0} → Operand T → T → ℕ → Operand T

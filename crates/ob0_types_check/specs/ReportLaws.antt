@@ -41,9 +41,9 @@ ExpressionsFit N =
     (reported_expression (facts_at p only_constants) e).known (mapped label (value_at p.source) e)
 
 -- a constant's right side of which nothing is reported has the value that is known, a scalar
-pub record ConstantFits {N : Type 0} (meaning : Typed N) (told : Option Value) (e : Tree N expression) : Type 0 where
+pub record ConstantFits {N : Type 0} (meaning : Typed N) (reported : Option Value) (e : Tree N expression) : Type 0 where
   pub value : Value
-  pub known : told ≡ Some value
+  pub known : reported ≡ Some value
   pub given : constant_value meaning e ≡ Some value
   pub scalar : is_some (value_type value) ≡ true
 
@@ -57,10 +57,10 @@ ConstantsFit N =
     (mapped label (value_at p.source) e)
 
 -- an array's length of which nothing is reported is the one that is known
-pub record LengthFits {N : Type 0} (meaning : Typed N) (told : Option ℕ) (e : Tree N expression) : Type 0 where
+pub record LengthFits {N : Type 0} (meaning : Typed N) (reported : Option ℕ) (e : Tree N expression) : Type 0 where
   pub value : Value
   pub length : ℕ
-  pub known : told ≡ Some length
+  pub known : reported ≡ Some length
   pub given : constant_value meaning e ≡ Some value
   pub counted : array_length value ≡ Some length
 

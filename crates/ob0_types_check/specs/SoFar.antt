@@ -18,14 +18,14 @@ pub record Size : Type 0 where
   pub depth : ℕ
 
 -- a field of a record
-pub record TypedField : Type 0 where
+pub record FieldSoFar : Type 0 where
   pub name : Name
   pub of : TypeId
 
 -- what an array or a record is made of: how many elements of a type, or its fields in order
 pub data PartTypes : Type 0 where
   of_elements : ℕ → TypeId → PartTypes
-  of_fields : List TypedField → PartTypes
+  of_fields : List FieldSoFar → PartTypes
 
 -- an array or record that was made: the ordinal of its word ARRAY or RECORD, its parts and its size
 pub record MadeType : Type 0 where
@@ -61,7 +61,7 @@ elements_at None = type.Unknown
 elements_at (Some m) = elements_in m.parts
 
 -- the type of the first field of a name
-abbrev pub first_field : List TypedField → Name → Option TypeId
+abbrev pub first_field : List FieldSoFar → Name → Option TypeId
 first_field [] x = None
 first_field (f ∷ fields) x = if same_name x f.name then Some f.of else first_field fields x
 
@@ -105,7 +105,7 @@ facts_at p only_constants =
     record {
       source = p.source;
       types = types_at p.made;
-      stands_for = meaning_at p;
+      object_for = meaning_at p;
       only_constants = only_constants;
     }
 
@@ -157,7 +157,7 @@ is_within z = nat_le z.scalars 65536 && nat_le z.depth 100
 -- a type, and what is known after its text
 pub record TypedAfter : Type 0 where
   pub of : TypeId
-  pub behind : SoFar
+  pub following : SoFar
 
 -- the type of the array or record at this place of the list
 abbrev pub type_with : PartTypes → ℕ → TypeId
@@ -168,7 +168,7 @@ type_with (of_fields fields) k = type.Record k
 abbrev pub made : SoFar → ℕ → PartTypes → Size → TypedAfter
 made p ordinal parts size = record {
   of = type_with parts (length p.made);
-  behind =
+  following =
       record {
         source = p.source;
         ordinals = p.ordinals;
@@ -181,7 +181,7 @@ made p ordinal parts size = record {
 abbrev pub too_large : SoFar → ℕ → Reported TypedAfter
 too_large p word =
     record {
-      known = record { of = type.Unknown; behind = p };
+      known = record { of = type.Unknown; following = p };
       faults = at_token (facts_at p false) code.TypeTooLarge word;
     }
 

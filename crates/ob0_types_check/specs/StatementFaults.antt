@@ -5,7 +5,7 @@ use Rattle.ob0_scan.specs.declared.fault.Code.TheVariants as code
 use Rattle.ob0_scan.specs.declared.fault.Fault.{Fault}
 use Rattle.ob0_tree.specs.Tree.{Tree, assigns, branches, calls, else_branch, else_part, elsif_branch, elsif_part, empty, end, expression, further_statement, items, maybe, more, none, one, repeat_loop, runs, selector, sequence, statement, then_statement, while_loop}
 use Rattle.ob0_types_rules.specs.Arguments.{arguments_listed}
-use Rattle.ob0_types_check.specs.Known.{Facts, Formal, Meaning, Operand, Reported, a_constant, a_procedure, a_type, a_variable}
+use Rattle.ob0_types_check.specs.Known.{Facts, KnownFormal, Meaning, Operand, Reported, a_constant, a_procedure, a_type, a_variable}
 use Rattle.ob0_types_check.specs.ExpressionFaults.{reported_expression, reported_selectors}
 use Rattle.ob0_types_check.specs.Operations.{a_name, required, at_operand, at_token, right, ◌>>=◌}
 
@@ -32,7 +32,7 @@ target_by_meaning facts token None = right facts.types.unknown
 
 -- what a name may be assigned, and its fault
 abbrev pub target_meaning : {T : Type 0} → Facts T → ℕ → Reported T
-target_meaning facts token = target_by_meaning facts token (facts.stands_for token)
+target_meaning facts token = target_by_meaning facts token (facts.object_for token)
 
 -- the target of an assignment
 unfoldable pub reported_target : {T : Type 0}
@@ -54,7 +54,7 @@ abbrev pub reported_assignment : {T : Type 0}
 reported_assignment facts target e = target.faults ++ reported_required facts target.known.of e
 
 -- a VAR parameter requires a variable with its selectors, alone, and each parameter for its type
-abbrev pub passed : {T : Type 0} → Facts T → Formal T → Operand T → Reported T
+abbrev pub passed : {T : Type 0} → Facts T → KnownFormal T → Operand T → Reported T
 passed facts f o =
     if f.by_place && not o.is_place
     then record { known = facts.types.unknown; faults = at_operand facts code.NotVariable o }
@@ -63,7 +63,7 @@ passed facts f o =
 -- the faults of an argument
 unfoldable pub reported_argument : {T : Type 0}
     → Facts T
-    → Formal T
+    → KnownFormal T
     → Tree ℕ expression
     → List Fault
 unfolding reported_expression
@@ -72,7 +72,7 @@ reported_argument facts f e = (reported_expression facts e >>= passed facts f).f
 -- arguments beside their parameters
 abbrev pub reported_arguments : {T : Type 0}
     → Facts T
-    → List (Formal T)
+    → List (KnownFormal T)
     → List (Tree ℕ expression)
     → List Fault
 reported_arguments facts [] es = []
@@ -107,7 +107,7 @@ call_by_meaning facts p None es = reported_parts facts es
 
 -- the faults of a call
 abbrev pub reported_call : {T : Type 0} → Facts T → ℕ → List (Tree ℕ expression) → List Fault
-reported_call facts p es = call_by_meaning facts p (facts.stands_for p) es
+reported_call facts p es = call_by_meaning facts p (facts.object_for p) es
 
 unfoldable mutual
   unfolding reported_required reported_target reported_argument

@@ -22,9 +22,9 @@ use Rattle.ob0_types_check.specs.declared.reporting.supposed.Meaning.TheVariants
 use Rattle.ob0_types_check.specs.declared.reporting.supposed.Size as code_size
 use Rattle.ob0_types_check.specs.declared.reporting.supposed.Supposed.{Supposed}
 use Rattle.ob0_types_check.specs.declared.reporting.written_types.Gathered as gathering
-use Rattle.ob0_types_check.specs.Known.{Facts, Form, Formal, Meaning, Operand, Reported, Types, a_constant, a_procedure, a_record, a_scalar, a_type, a_variable, an_array, unknown_form}
+use Rattle.ob0_types_check.specs.Known.{Facts, Form, KnownFormal, Meaning, Operand, Reported, Types, a_constant, a_procedure, a_record, a_scalar, a_type, a_variable, an_array, unknown_form}
 use Rattle.ob0_types_check.specs.DeclarationFaults.{KnownHeading}
-use Rattle.ob0_types_check.specs.SoFar.{MadeType, Size, SoFar, TypedField, of_elements, of_fields, same_type}
+use Rattle.ob0_types_check.specs.SoFar.{MadeType, Size, SoFar, FieldSoFar, of_elements, of_fields, same_type}
 use Rattle.ob0_types_check.specs.WrittenTypeFaults.{Gathered}
 
 -- the type of an array's elements; unknown where there is no array
@@ -59,7 +59,7 @@ types_in composites =
     }
 
 -- a parameter of the code
-abbrev pub formal_of : formal.Formal → Formal TypeId
+abbrev pub formal_of : formal.Formal → KnownFormal TypeId
 formal_of f = record { by_place = f.by_place; of = f.of }
 
 -- what a declaration of the code is
@@ -80,7 +80,7 @@ abbrev pub facts_in : Supposed → Bool → Facts TypeId
 facts_in s only_constants = record {
   source = s.resolved.now.module_read.source;
   types = types_in s.composites.items;
-  stands_for = λ token. option_map meaning_of (declared_at s token);
+  object_for = λ token. option_map meaning_of (declared_at s token);
   only_constants = only_constants;
 }
 
@@ -100,7 +100,7 @@ abbrev pub size_of : code_size.Size → Size
 size_of z = record { scalars = z.scalars; depth = z.depth }
 
 -- fields of the code
-abbrev pub fields_in : List Field → List TypedField
+abbrev pub fields_in : List Field → List FieldSoFar
 fields_in fields = map (λ f. record { name = string_bytes f.name; of = f.of }) fields
 
 -- What is supposed, as what is known so far: an array or record of the code.
@@ -129,7 +129,7 @@ so_far_in s = record {
 
 -- a heading of the code
 abbrev pub heading_in : Supposed → List formal.Formal → KnownHeading
-heading_in s formals = record { formals = map formal_of formals; behind = so_far_in s }
+heading_in s formals = record { formals = map formal_of formals; following = so_far_in s }
 
 -- a size that is counted to the end of `usize`
 abbrev pub counted : Size → Size
@@ -139,11 +139,11 @@ counted z = record { scalars = min z.scalars (2 ^ 64 - 1); depth = min z.depth (
 pub record IsGathered (g : Gathered) (s : Supposed) (now : gathering.Gathered) : Type 0 where
   pub fields : fields_in now.fields.items ≡ g.fields
   pub size : size_of now.size ≡ counted g.size
-  pub behind : so_far_in s ≡ g.behind
+  pub following : so_far_in s ≡ g.following
 
 -- what is gathered of a record's fields, after the faults from before
 pub record Gathers (before after : List Fault) (s : Supposed) (gathered : gathering.Gathered) (t : Reported Gathered) : Type 0 where
-  pub told : after ≡ before ++ t.faults
+  pub reported : after ≡ before ++ t.faults
   pub now : IsGathered t.known s gathered
 
 -- what a declaration of the code is, in the table; where its constant has a fault, it has no value

@@ -22,7 +22,7 @@ type_meant facts token None = right facts.types.unknown
 
 -- a name where a type is required
 abbrev pub type_named : {T : Type 0} → Facts T → ℕ → Reported T
-type_named facts token = type_meant facts token (facts.stands_for token)
+type_named facts token = type_meant facts token (facts.object_for token)
 
 -- a constant expression whose evaluation has a fault is reported as a whole; in one that has another fault nothing is evaluated
 abbrev pub valued : {T : Type 0} → Facts T → Operand T → Option Value → Reported (Option Value)

@@ -10,7 +10,7 @@ use Rattle.ob0_tree.specs.Tree.{Tree, array_type, end, fields, further_fields, i
 use Rattle.ob0_types_check.specs.ExpressionFaults.{reported_expression}
 use Rattle.ob0_types_check.specs.Known.{Operand, Reported}
 use Rattle.ob0_types_check.specs.Operations.{right, token_before, ◌>>=◌}
-use Rattle.ob0_types_check.specs.SoFar.{Size, SoFar, TypedAfter, TypedField, facts_at, make, no_scalar, of_elements, of_fields, size_at}
+use Rattle.ob0_types_check.specs.SoFar.{Size, SoFar, TypedAfter, FieldSoFar, facts_at, make, no_scalar, of_elements, of_fields, size_at}
 use Rattle.ob0_types_check.specs.TypeFaults.{length_of, type_named}
 
 -- so many of the same beside one another, inside an array
@@ -25,20 +25,20 @@ ordinal_here around p = length p.made + around
 -- An array of a faulty length is unknown as a whole; the type of its elements is looked at all the same. The word ARRAY is
 -- before the length.
 abbrev pub array_made : ℕ → Operand TypeId → Option ℕ → TypedAfter → Reported TypedAfter
-array_made ordinal o None element = right (record { of = type.Unknown; behind = element.behind })
+array_made ordinal o None element = right (record { of = type.Unknown; following = element.following })
 array_made ordinal o (Some n) element =
-    make element.behind (token_before o.first) ordinal (of_elements n element.of)
-    (array_size n (size_at element.behind.made element.of))
+    make element.following (token_before o.first) ordinal (of_elements n element.of)
+    (array_size n (size_at element.following.made element.of))
 
 -- the fields of a record so far, their size, and what is known after them
 pub record Gathered : Type 0 where
-  pub fields : List TypedField
+  pub fields : List FieldSoFar
   pub size : Size
-  pub behind : SoFar
+  pub following : SoFar
 
 -- no field yet
 abbrev pub nothing_gathered : SoFar → Gathered
-nothing_gathered p = record { fields = []; size = no_scalar; behind = p }
+nothing_gathered p = record { fields = []; size = no_scalar; following = p }
 
 -- the size of parts side by side
 abbrev pub beside : Size → Size → Size
@@ -48,9 +48,9 @@ beside z w = record { scalars = z.scalars + w.scalars; depth = max z.depth w.dep
 abbrev pub with_name : TypeId → Gathered → ℕ → Gathered
 with_name t g token =
     record {
-      fields = g.fields ++ record { name = text_at g.behind.source token; of = t } ∷ [];
-      size = beside g.size (size_at g.behind.made t);
-      behind = g.behind;
+      fields = g.fields ++ record { name = text_at g.following.source token; of = t } ∷ [];
+      size = beside g.size (size_at g.following.made t);
+      following = g.following;
     }
 
 -- the names of one group
@@ -61,7 +61,7 @@ with_names t g (x ∷ xs) = with_names t (with_name t g x) xs
 -- fields of one type, after its text
 abbrev pub gathered_after : Gathered → List ℕ → TypedAfter → Gathered
 gathered_after g xs t =
-    with_names t.of (record { fields = g.fields; size = g.size; behind = t.behind }) xs
+    with_names t.of (record { fields = g.fields; size = g.size; following = t.following }) xs
 
 -- a record has at least one scalar
 abbrev pub record_size : Size → Size
@@ -74,8 +74,8 @@ first_name (listed x rest) = x
 
 -- the token before a group of fields
 abbrev pub word_before : Tree ℕ fields → ℕ → ℕ
-word_before (some_fields ns t) behind = token_before (first_name ns)
-word_before no_fields behind = token_before behind
+word_before (some_fields ns t) following = token_before (first_name ns)
+word_before no_fields following = token_before following
 
 -- the word RECORD
 abbrev pub record_word : Tree ℕ (items further_fields) → ℕ
@@ -84,7 +84,7 @@ record_word (more (then_fields g) rest) = word_before g (record_word rest)
 
 -- a record of its own, or `TypeTooLarge`
 abbrev pub record_made : ℕ → ℕ → Gathered → Reported TypedAfter
-record_made word ordinal g = make g.behind word ordinal (of_fields g.fields) (record_size g.size)
+record_made word ordinal g = make g.following word ordinal (of_fields g.fields) (record_size g.size)
 
 -- the faults of a type that is in so many ARRAY and RECORD
 unfoldable mutual
@@ -93,30 +93,30 @@ unfoldable mutual
   pub reported_type : ℕ → SoFar → Tree ℕ written_type → Reported TypedAfter
   reported_type around p (named_type x) = do
     t ← type_named (facts_at p false) x
-    right (record { of = t; behind = p })
+    right (record { of = t; following = p })
   reported_type around p (array_type e u) = do
     o ← reported_expression (facts_at p true) e
     n ← length_of (facts_at p false) o
     element ← reported_type (suc around) p u
     array_made (ordinal_here around p) o n element
   reported_type around p (record_type g rest) = do
-    first ← told_fields (suc around) (nothing_gathered p) g
-    all ← told_groups (suc around) first rest
+    first ← reported_fields (suc around) (nothing_gathered p) g
+    all ← reported_groups (suc around) first rest
     record_made (word_before g (record_word rest)) (ordinal_here around p) all
 
-  pub told_fields : ℕ → Gathered → Tree ℕ fields → Reported Gathered
-  told_fields around so_far no_fields = right so_far
-  told_fields around so_far (some_fields ns t) = do
-    u ← reported_type around so_far.behind t
+  pub reported_fields : ℕ → Gathered → Tree ℕ fields → Reported Gathered
+  reported_fields around so_far no_fields = right so_far
+  reported_fields around so_far (some_fields ns t) = do
+    u ← reported_type around so_far.following t
     right (gathered_after so_far (names_listed ns) u)
 
-  pub told_groups : ℕ → Gathered → Tree ℕ (items further_fields) → Reported Gathered
-  told_groups around so_far end = right so_far
-  told_groups around so_far (more (then_fields g) rest) = do
-    next ← told_fields around so_far g
-    told_groups around next rest
+  pub reported_groups : ℕ → Gathered → Tree ℕ (items further_fields) → Reported Gathered
+  reported_groups around so_far end = right so_far
+  reported_groups around so_far (more (then_fields g) rest) = do
+    next ← reported_fields around so_far g
+    reported_groups around next rest
 
 -- one group more
 unfoldable pub reported_group : ℕ → Gathered → Tree ℕ (item further_fields) → Reported Gathered
 unfolding reported_type
-reported_group around so_far (then_fields g) = told_fields around so_far g
+reported_group around so_far (then_fields g) = reported_fields around so_far g

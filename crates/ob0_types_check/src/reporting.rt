@@ -14,7 +14,7 @@ ghost use Rattle.std.specs.Prelude.{◌≡◌, ◌++◌, [], IfOk, OnOk, MatchOp
 ghost use Rattle.std.specs.List.{filter};
 ghost use Rattle.ob0_scope_rules.specs.Resolution.{is_of_occurrences};
 ghost use Rattle.ob0_tree.specs.Parsed.{named_tree_of};
-ghost use Rattle.ob0_types_table.specs.Tables.{AreMadeInOrder};
+ghost use Rattle.ob0_types_table.specs.Tables.{AreEntriesInOrder};
 ghost use Rattle.ob0_types_check.specs.ModuleLaws.{HasDeclarations};
 ghost use Rattle.ob0_types_check.specs.DeclarationFaults.{reported_module};
 ghost use Rattle.ob0_types_check.specs.SoFar.{at_first};
@@ -69,7 +69,7 @@ pub fn report_faults<'t>(alloc: Global, resolved: &'t Resolved<'t>) -> Result<Re
 
 /// What is known, as a table.
 fn known_of<'t>(alloc: Global, supposed: Supposed<'t>) -> Result<Known, AllocError>
-    requires { AreMadeInOrder [] supposed.composites.items }
+    requires { AreEntriesInOrder [] supposed.composites.items }
     ensures { IfOk result (λ t. t ≡ table_in supposed.entry) }
 {
     let Supposed {

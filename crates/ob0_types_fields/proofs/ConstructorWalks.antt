@@ -10,9 +10,9 @@ use Rattle.ob0_types_rules.specs.Typing.{type_declared}
 use Rattle.ob0_types_rules.specs.WellTyped.{Signature}
 use Rattle.ob0_values.specs.Values.{Shape}
 use Rattle.ob0_types_fields.specs.FieldTypes.{constructed}
-use Rattle.ob0_types_fields.specs.Search.{Sought, is_found, is_after, after_all, after_one, found_type}
+use Rattle.ob0_types_fields.specs.Search.{SearchState, is_found, is_after, after_all, after_one, found_type}
 
-pub after_both : (s : Sought) (xs ys : List (Option Shape)) → after_all s (xs ++ ys) ≡ after_all (after_all s xs) ys
+pub after_both : (s : SearchState) (xs ys : List (Option Shape)) → after_all s (xs ++ ys) ≡ after_all (after_all s xs) ys
 after_both s [] ys = refl
 after_both s (x ∷ xs) ys = after_both (after_one s x) xs ys
 
@@ -34,10 +34,10 @@ found_at (suc n) (x ∷ xs) = go (suc n == 0) refl (found_at n xs)
         ap (λ k. found_type (after_all (is_after k) xs)) less ∙ later
 
 -- the search after those that were passed, with those that are left, is the search after all
-pub record OverItems {A : Type 0} {i : Item} (f : A → Tree ℕ (item i)) (m : Meanings ℕ Shape Signature) (t : Option Shape) (start : Sought) (xs : List A) (done : ℕ) (now : Sought) : Type 0 where
+pub record OverItems {A : Type 0} {i : Item} (f : A → Tree ℕ (item i)) (m : Meanings ℕ Shape Signature) (t : Option Shape) (start : SearchState) (xs : List A) (done : ℕ) (now : SearchState) : Type 0 where
   pub so_far : after_all now (constructed m t (items_of f (drop done xs))) ≡ after_all start (constructed m t (items_of f xs))
 
-pub items_go_on : {A : Type 0} {i : Item} {f : A → Tree ℕ (item i)} {m : Meanings ℕ Shape Signature} {t : Option Shape} {start : Sought} {xs : List A} {done : ℕ} {now : Sought} (x : A) (next : Sought)
+pub items_go_on : {A : Type 0} {i : Item} {f : A → Tree ℕ (item i)} {m : Meanings ℕ Shape Signature} {t : Option Shape} {start : SearchState} {xs : List A} {done : ℕ} {now : SearchState} (x : A) (next : SearchState)
     → OverItems f m t start xs done now → done < length xs → x ≡ get_or xs done x → next ≡ after_all now (constructed m t (f x)) → OverItems f m t start xs (done + 1) next
 items_go_on {f = f} {m = m} {t = t} {xs = xs} {done = done} {now = now} x next w less here is =
     let rest : List (Option Shape) = constructed m t (items_of f (drop (done + 1) xs)) in
@@ -47,7 +47,7 @@ items_go_on {f = f} {m = m} {t = t} {xs = xs} {done = done} {now = now} x next w
           ∙ (sym (ap (λ ys. after_all now (constructed m t (items_of f ys))) (drop_more xs done x less ∙ ap (λ y. y ∷ drop (done + 1) xs) (sym here))) ∙ w.so_far));
     }
 
-pub items_end : {A : Type 0} {i : Item} {f : A → Tree ℕ (item i)} {m : Meanings ℕ Shape Signature} {t : Option Shape} {start : Sought} {xs : List A} {done : ℕ} {now : Sought}
+pub items_end : {A : Type 0} {i : Item} {f : A → Tree ℕ (item i)} {m : Meanings ℕ Shape Signature} {t : Option Shape} {start : SearchState} {xs : List A} {done : ℕ} {now : SearchState}
     → OverItems f m t start xs done now → length xs ≤ done → now ≡ after_all start (constructed m t (items_of f xs))
 items_end {f = f} {m = m} {t = t} {xs = xs} {done = done} {now = now} w all =
     sym (ap (λ ys. after_all now (constructed m t (items_of f ys))) (drop_all done xs all)) ∙ w.so_far
@@ -60,9 +60,9 @@ pub formals_walked : (m : Meanings ℕ Shape Signature) (t : Option Shape) (ss :
 formals_walked m t [] = refl
 formals_walked m t (s ∷ ss) = refl
 
-pub section_walked : (m : Meanings ℕ Shape Signature) (t : Option Shape) (s : Section) → constructed m t (section_of s) ≡ constructed m (type_declared (m.stands_for s.names.first)) (type_of s.written)
+pub section_walked : (m : Meanings ℕ Shape Signature) (t : Option Shape) (s : Section) → constructed m t (section_of s) ≡ constructed m (type_declared (m.object_for s.names.first)) (type_of s.written)
 section_walked m t s = by s.by_reference
   where
-    by : (b : Bool) → constructed m t (if b then variable_section (names_of s.names) (type_of s.written) else value_section (names_of s.names) (type_of s.written)) ≡ constructed m (type_declared (m.stands_for s.names.first)) (type_of s.written)
+    by : (b : Bool) → constructed m t (if b then variable_section (names_of s.names) (type_of s.written) else value_section (names_of s.names) (type_of s.written)) ≡ constructed m (type_declared (m.object_for s.names.first)) (type_of s.written)
     by true = refl
     by false = refl

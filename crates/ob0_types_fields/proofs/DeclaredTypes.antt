@@ -46,12 +46,12 @@ module _ (r : Resolution) where
 
   abbrev pub TypesStand : Tree ℕ (items type_name) → Type 0
   TypesStand end = Unit {0}
-  TypesStand (more (declares_type x u) ds) = ((s : Shape) × (meaning.stands_for x ≡ Some (a_type s)) × Denotes u s) × TypesStand ds
+  TypesStand (more (declares_type x u) ds) = ((s : Shape) × (meaning.object_for x ≡ Some (a_type s)) × Denotes u s) × TypesStand ds
 
   -- of names that are declared together the first
   abbrev pub VariablesStand : Tree ℕ (items variable) → Type 0
   VariablesStand end = Unit {0}
-  VariablesStand (more (declares_variable ns u) gs) = ((s : Shape) × (meaning.stands_for (first_listed ns) ≡ Some (a_variable s)) × Denotes u s) × VariablesStand gs
+  VariablesStand (more (declares_variable ns u) gs) = ((s : Shape) × (meaning.object_for (first_listed ns) ≡ Some (a_variable s)) × Denotes u s) × VariablesStand gs
 
   abbrev pub first_parameter : Tree ℕ section → ℕ
   first_parameter (value_section ns u) = first_listed ns
@@ -59,7 +59,7 @@ module _ (r : Resolution) where
 
   abbrev pub FormalsStand : Tree ℕ (items further_section) → Type 0
   FormalsStand end = Unit {0}
-  FormalsStand (more (then_section f) fs) = ((s : Shape) × (meaning.stands_for (first_parameter f) ≡ Some (a_variable s)) × Denotes (section_type f) s) × FormalsStand fs
+  FormalsStand (more (then_section f) fs) = ((s : Shape) × (meaning.object_for (first_parameter f) ≡ Some (a_variable s)) × Denotes (section_type f) s) × FormalsStand fs
 
   abbrev mutual
     pub BlockStands : Tree ℕ block → Type 0
@@ -97,7 +97,7 @@ module _ (r : Resolution) where
   put_weaker env after P Q f p = record { bound = p.bound; is = p.is; says = λ right. f (p.says right) }
 
   -- a token means what its label is bound to
-  stands : (x : ℕ) (o : Object Shape Signature) → at_label objects (label_in r x) ≡ Some o → meaning.stands_for x ≡ Some o
+  stands : (x : ℕ) (o : Object Shape Signature) → at_label objects (label_in r x) ≡ Some o → meaning.object_for x ≡ Some o
   stands x o h = go (ordinal_in r.ordinals x) h
     where
       go : (k : Option ℕ) → at_label objects (as_label as_names k (text_at r.module_read.source x)) ≡ Some o → option_and_then objects k ≡ Some o
@@ -188,7 +188,7 @@ module _ (r : Resolution) where
       (denoted (meanings as_labels env) k (in_labels r u))
       ≡ Some qs
       → ((e : TypeEnvironment Label) (ps : List (TypedParameter Label)) → typed_parameters as_labels e (k + constructors (in_labels r u)) (in_labels r fs) ≡ Some ps → Right objects (bind_typed ps []) → FormalsStand fs)
-      → Right objects (bind_typed qs []) → ((s : Shape) × (meaning.stands_for x ≡ Some (a_variable s)) × Denotes u s) × FormalsStand fs
+      → Right objects (bind_typed qs []) → ((s : Shape) × (meaning.object_for x ≡ Some (a_variable s)) × Denotes u s) × FormalsStand fs
   section-stands env k mode x others u fs qs h later right =
       let n : ℕ = k + constructors (in_labels r u) in
       let xs : List Label = label_in r x ∷ others in

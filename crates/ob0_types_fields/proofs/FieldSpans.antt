@@ -37,19 +37,19 @@ follow_from : (from : ℕ) (ls : List Lexeme) → Follow from (tokens_from from 
 follow_from from [] = tt
 follow_from from (l ∷ ls) = follow_one l.kind from (length l.text) (tokens_from (from + length l.text) ls) (follow_from (from + length l.text) ls)
 
-behind : (from : ℕ) (ts : List Token) (i : ℕ) (d : Token) → Follow from ts → i < length ts
+following : (from : ℕ) (ts : List Token) (i : ℕ) (d : Token) → Follow from ts → i < length ts
     → (from ≤ (get_or ts i d).span.start) × ((get_or ts i d).span.start ≤ (get_or ts i d).span.end)
-behind from [] i d h less = absurd (omega (arith, less))
-behind from (t ∷ ts) zero d h less = (h.0, h.1.0)
-behind from (t ∷ ts) (suc i) d h less =
-    let later = behind t.span.end ts i d h.1.1 (omega (arith, less)) in
+following from [] i d h less = absurd (omega (arith, less))
+following from (t ∷ ts) zero d h less = (h.0, h.1.0)
+following from (t ∷ ts) (suc i) d h less =
+    let later = following t.span.end ts i d h.1.1 (omega (arith, less)) in
     (omega (arith, h.0, h.1.0, later.0), later.1)
 
 apart : (from : ℕ) (ts : List Token) (i j : ℕ) (d : Token) → Follow from ts → i < j → j < length ts
     → (get_or ts i d).span.end ≤ (get_or ts j d).span.start
 apart from [] i j d h less within = absurd (omega (arith, within))
 apart from (t ∷ ts) i zero d h less within = absurd (omega (arith, less))
-apart from (t ∷ ts) zero (suc j) d h less within = (behind t.span.end ts j d h.1.1 (omega (arith, within))).0
+apart from (t ∷ ts) zero (suc j) d h less within = (following t.span.end ts j d h.1.1 (omega (arith, within))).0
 apart from (t ∷ ts) (suc i) (suc j) d h less within = apart t.span.end ts i j d h.1.1 (omega (arith, less)) (omega (arith, within))
 
 -- ---- identifiers in text order
@@ -96,8 +96,8 @@ module _ (source : Scanned) (scan : IsScan source) where
       (λ other.
       let first = read i (omega (arith, le, less)) in
       let second = read j less in
-      let one = behind 0 source.tokens i nothing follow (omega (arith, le, less)) in
-      let two = behind 0 source.tokens j nothing follow less in
+      let one = following 0 source.tokens i nothing follow (omega (arith, le, less)) in
+      let two = following 0 source.tokens j nothing follow less in
       let between = apart 0 source.tokens i j nothing follow other less in (
         omega (arith, ap (λ (s : Span). s.start) first, ap (λ (s : Span). s.start) second, one.1, between),
         omega (arith, ap (λ (s : Span). s.end) first, ap (λ (s : Span). s.end) second, two.1, between),
@@ -128,18 +128,18 @@ module _ (source : Scanned) (offset : ℕ) where
       one false e = refl
       one true e = absurd (omega (arith, leb-true offset (end_of source x) (and_parts (nat_le (start_of source x) offset) (nat_le offset (end_of source x)) e).1, ltb-true (end_of source x) offset before))
 
-  off_behind : (x : ℕ × ℕ) → offset < start_of source x → is_on offset (span_at source x.0) ≡ false
-  off_behind x behind = one (is_on offset (span_at source x.0)) refl
+  off_following : (x : ℕ × ℕ) → offset < start_of source x → is_on offset (span_at source x.0) ≡ false
+  off_following x following = one (is_on offset (span_at source x.0)) refl
     where
       one : (b : Bool) → is_on offset (span_at source x.0) ≡ b → b ≡ false
       one false e = refl
-      one true e = absurd (omega (arith, leb-true (start_of source x) offset (and_parts (nat_le (start_of source x) offset) (nat_le offset (end_of source x)) e).0, behind))
+      one true e = absurd (omega (arith, leb-true (start_of source x) offset (and_parts (nat_le (start_of source x) offset) (nat_le offset (end_of source x)) e).0, following))
 
-  none_behind : (xs : List (ℕ × ℕ)) → ((i : ℕ) (d : ℕ × ℕ) → i < length xs → offset < start_of source (get_or xs i d)) → field_on source offset xs ≡ None
-  none_behind [] h = refl
-  none_behind (x ∷ xs) h =
-      ap (λ b. if b then Some x else field_on source offset xs) (off_behind x (h zero x (omega arith)))
-      ∙ none_behind xs (λ i d less. h (suc i) d (omega (arith, less)))
+  none_following : (xs : List (ℕ × ℕ)) → ((i : ℕ) (d : ℕ × ℕ) → i < length xs → offset < start_of source (get_or xs i d)) → field_on source offset xs ≡ None
+  none_following [] h = refl
+  none_following (x ∷ xs) h =
+      ap (λ b. if b then Some x else field_on source offset xs) (off_following x (h zero x (omega arith)))
+      ∙ none_following xs (λ i d less. h (suc i) d (omega (arith, less)))
 
   pub halved : (xs : List (ℕ × ℕ)) (k : ℕ) → IsNonDecreasingBy (start_of source) xs → IsPartitionPoint (λ x. nat_lt (end_of source x) offset ≡ true) (λ x. nat_lt (end_of source x) offset ≡ false) xs k → k ≤ length xs
       → on_place source offset (slice_get xs k) ≡ field_on source offset xs
@@ -150,8 +150,8 @@ module _ (source : Scanned) (offset : ℕ) where
       one true e = refl
       one false e =
           let reached : offset ≤ end_of source x = ltb-false (end_of source x) offset (point.1 zero x (omega arith) (omega arith)) in
-          let behind : offset < start_of source x = either (nat_le (start_of source x) offset) refl (le-leb offset (end_of source x) reached) e in
-          sym (none_behind xs (λ i d less. omega (arith, behind, rise zero (suc i) d (omega arith) (omega (arith, less)))))
+          let following : offset < start_of source x = either (nat_le (start_of source x) offset) refl (le-leb offset (end_of source x) reached) e in
+          sym (none_following xs (λ i d less. omega (arith, following, rise zero (suc i) d (omega arith) (omega (arith, less)))))
         where
           either : (b : Bool) → nat_le (start_of source x) offset ≡ b → nat_le offset (end_of source x) ≡ true → is_on offset (span_at source x.0) ≡ false → offset < start_of source x
           either false before reached off = leb-false (start_of source x) offset before

@@ -36,11 +36,11 @@ use Rattle.ob0_types_fields.proofs.OwnedTokens.{fields_have-owners, module-token
 
 -- ---- a name that no field had, written at each field
 
-abbrev anew : Name → Name
-anew x = 0 ∷ x
+abbrev again : Name → Name
+again x = 0 ∷ x
 
 abbrev mark : Role → Name → Name
-mark role.FieldName x = anew x
+mark role.FieldName x = again x
 mark role.Declaring x = x
 mark role.LookedUp x = x
 mark role.ClosingName x = x
@@ -53,7 +53,7 @@ abbrev marked : List (Role × Name) → List (Role × Name)
 marked xs = map mark_at xs
 
 abbrev every : FieldNames
-every k x = anew x
+every k x = again x
 
 abbrev ids : {s : Sort} → Tree Name s → List (Role × Name)
 ids t = identifiers role.Declaring t
@@ -80,14 +80,14 @@ mutual
   multipliers-marked m (more (multiplies o a) rest) = both mark_at (ids a) (ids rest) (factor-marked m a) (multipliers-marked m rest)
 
   factor-marked : (m : Typed Name) (a : Tree Name factor) → ids (refield every m None a) ≡ marked (ids a)
-  factor-marked m (designator x path) = ap (λ z. (role.LookedUp, x) ∷ z) (path-marked m (object_type (m.stands_for x)) path)
+  factor-marked m (designator x path) = ap (λ z. (role.LookedUp, x) ∷ z) (path-marked m (object_type (m.object_for x)) path)
   factor-marked m (integer n) = refl
   factor-marked m (parenthesised e) = expression-marked m e
   factor-marked m (negation a) = factor-marked m a
 
   path-marked : (m : Typed Name) (s : Option Shape) (path : Tree Name (items selector)) → ids (refield every m s path) ≡ marked (ids path)
   path-marked m s end = refl
-  path-marked m s (more (field x) rest) = ap (λ z. (role.FieldName, anew x) ∷ z) (path-marked m (type_after s (field x)) rest)
+  path-marked m s (more (field x) rest) = ap (λ z. (role.FieldName, again x) ∷ z) (path-marked m (type_after s (field x)) rest)
   path-marked m s (more (index e) rest) = both mark_at (ids e) (ids rest) (expression-marked m e) (path-marked m (type_after s (index e)) rest)
 
 further_arguments-marked : (m : Typed Name) (es : Tree Name (items further_argument)) → ids (refield every m None es) ≡ marked (ids es)
@@ -102,7 +102,7 @@ arguments-marked m (one (some_arguments e es)) = both mark_at (ids e) (ids es) (
 mutual
   statement-marked : (m : Typed Name) (a : Tree Name statement) → ids (refield every m None a) ≡ marked (ids a)
   statement-marked m empty = refl
-  statement-marked m (assigns x path e) = ap (λ z. (role.LookedUp, x) ∷ z) (both mark_at (ids path) (ids e) (path-marked m (object_type (m.stands_for x)) path) (expression-marked m e))
+  statement-marked m (assigns x path e) = ap (λ z. (role.LookedUp, x) ∷ z) (both mark_at (ids path) (ids e) (path-marked m (object_type (m.object_for x)) path) (expression-marked m e))
   statement-marked m (calls x es) = ap (λ z. (role.LookedUp, x) ∷ z) (arguments-marked m es)
   statement-marked m (branches e a rest last) =
       both mark_at (ids e) (ids a ++ (ids rest ++ ids last)) (expression-marked m e)
@@ -206,8 +206,8 @@ mutual
 
   factor-plain : (m : Typed Name) (a : Tree Name factor) (s : Shape) → type_of_factor (alone m) a ≡ Some s → ids a ≡ marked (ids a)
   factor-plain m (designator x path) s h =
-      let (t, et, h₁) = some-gives (object_type {P = Unit {0}} (option_map a_constant (constant_of (m.stands_for x)))) (λ t. type_at (alone m) t path) s h in
-      ap (λ z. (role.LookedUp, x) ∷ z) (path-plain m t path s (constant-scalar (m.stands_for x) t et) h₁)
+      let (t, et, h₁) = some-gives (object_type {P = Unit {0}} (option_map a_constant (constant_of (m.object_for x)))) (λ t. type_at (alone m) t path) s h in
+      ap (λ z. (role.LookedUp, x) ∷ z) (path-plain m t path s (constant-scalar (m.object_for x) t et) h₁)
   factor-plain m (integer n) s h = refl
   factor-plain m (parenthesised e) s h = expression-plain m e s h
   factor-plain m (negation a) s h = let (x, ex, h₁) = some-gives (type_of_factor (alone m) a) complement_type s h in factor-plain m a x ex
@@ -233,10 +233,10 @@ constant_section-plain env (one (declares_constants cs)) after h = constants-pla
 
 further-marked : (k : ℕ) (ns : Tree Name (items further_name)) → identifiers role.FieldName (with_names (λ x. x) (every (Some k)) ns) ≡ marked (identifiers role.FieldName ns)
 further-marked k end = refl
-further-marked k (more (then_name x) rest) = ap (λ z. (role.FieldName, anew x) ∷ z) (further-marked k rest)
+further-marked k (more (then_name x) rest) = ap (λ z. (role.FieldName, again x) ∷ z) (further-marked k rest)
 
 names-marked : (k : ℕ) (ns : Tree Name names) → identifiers role.FieldName (with_names (λ x. x) (every (Some k)) ns) ≡ marked (identifiers role.FieldName ns)
-names-marked k (listed x rest) = ap (λ z. (role.FieldName, anew x) ∷ z) (further-marked k rest)
+names-marked k (listed x rest) = ap (λ z. (role.FieldName, again x) ∷ z) (further-marked k rest)
 
 mutual
   unfolding denoted
@@ -354,7 +354,7 @@ module-marked (is_module x b closing) h = ap (λ z. (role.ModuleName, x) ∷ z) 
 -- ---- what records declare is written alike, whatever is written where no record is known
 
 abbrev by_record : FieldNames
-by_record = of_records (λ k x. anew x)
+by_record = of_records (λ k x. again x)
 
 alike-names : (k : ℕ) (xs : List Name) → NamesAgree every by_record k xs
 alike-names k [] = tt
@@ -376,7 +376,7 @@ others_are : {A : Type 0} {x y : A} {xs ys : List A} → x ∷ xs ≡ y ∷ ys �
 others_are h = cc
 
 abbrev owner_writes : Scanned → (ℕ → Option ℕ) → ℕ → Name
-owner_writes source table i = of_records (λ k x. anew x) (table i) (text_at source i)
+owner_writes source table i = of_records (λ k x. again x) (table i) (text_at source i)
 
 -- an identifier has an owner exactly where it is written as a field
 abbrev Matches : Role → Option ℕ → Type 0
@@ -385,7 +385,7 @@ Matches role.FieldName (Some k) = Unit {0}
 Matches _ None = Unit {0}
 Matches _ (Some k) = ⊥
 
-matched : (x : Name) (r : Role) (o : Option ℕ) → mark r x ≡ of_records (λ k x. anew x) o x → Matches r o
+matched : (x : Name) (r : Role) (o : Option ℕ) → mark r x ≡ of_records (λ k x. again x) o x → Matches r o
 matched x role.FieldName None h = longer x (sym h)
 matched x role.FieldName (Some k) h = tt
 matched x role.Declaring None h = tt
@@ -407,7 +407,7 @@ listed_fields source table ((i, o) ∷ xs) ((r, j) ∷ ys) e has h =
     let same : i ≡ j = first_is e in
     let owned : table j ≡ o = ap table (sym same) ∙ has.0 in
     let written : mark r (text_at source j) ≡ owner_writes source table j = ap (λ z. z.1) (first_is h) in
-    by_role r o same (matched (text_at source j) r o (written ∙ ap (λ o. of_records (λ k x. anew x) o (text_at source j)) owned))
+    by_role r o same (matched (text_at source j) r o (written ∙ ap (λ o. of_records (λ k x. again x) o (text_at source j)) owned))
     (listed_fields source table xs ys (others_are e) has.1 (others_are h))
   where
     by_role : (r : Role) (o : Option ℕ) → i ≡ j → Matches r o → map (λ x. x.0) (fields_among xs) ≡ written_fields ys → map (λ x. x.0) (fields_among ((i, o) ∷ xs)) ≡ written_fields ((r, j) ∷ ys)
@@ -428,7 +428,7 @@ fields_listed-holds r named fits =
     let m : Parsed = r.module_read in
     let owners : List (Option ℕ) = with_owners r in
     let has : HasOwners (ordinal_in owners) (owned_tokens r) = fields_have-owners r named in
-    let by_table = owners_by_declaration-holds r owners named fits has (λ k x. anew x) in
+    let by_table = owners_by_declaration-holds r owners named fits has (λ k x. again x) in
     let written : marked (ids (named_tree_of m)) ≡ ids (mapped (owner_writes m.source (ordinal_in owners)) (value_at m.source) (tree_of m)) =
     sym (module-marked (named_tree_of m) fits.1) ∙ (ap ids (module-alike every by_record (named_tree_of m) (alike-records (records (named_tree_of m))) fits.1) ∙ ap ids by_table) in
     listed_fields m.source (ordinal_in owners) (owned_tokens r) (identifiers role.Declaring (tree_of m))

@@ -22,9 +22,9 @@ pub record OnPath (m : Meanings ℕ Shape Signature) (start : List (ℕ × ℕ))
 pub path_begins : (m : Meanings ℕ Shape Signature) (start : List (ℕ × ℕ)) (base : Option Shape) (xs : List Selector) → OnPath m start base xs 0 start base
 path_begins m start base xs = record { so_far = refl }
 
-pub path_goes_on : {m : Meanings ℕ Shape Signature} {start : List (ℕ × ℕ)} {base : Option Shape} {xs : List Selector} {done : ℕ} {out : List (ℕ × ℕ)} {at : Option Shape} (x : Selector) (next : List (ℕ × ℕ)) (behind : Option Shape)
-    → OnPath m start base xs done out at → done < length xs → x ≡ get_or xs done x → next ≡ out ++ marked_at m at (selector_of x) → behind ≡ passed m at (selector_of x) → OnPath m start base xs (done + 1) next behind
-path_goes_on {m = m} {xs = xs} {done = done} {out = out} {at = at} x next behind w less here found typed =
+pub path_goes_on : {m : Meanings ℕ Shape Signature} {start : List (ℕ × ℕ)} {base : Option Shape} {xs : List Selector} {done : ℕ} {out : List (ℕ × ℕ)} {at : Option Shape} (x : Selector) (next : List (ℕ × ℕ)) (following : Option Shape)
+    → OnPath m start base xs done out at → done < length xs → x ≡ get_or xs done x → next ≡ out ++ marked_at m at (selector_of x) → following ≡ passed m at (selector_of x) → OnPath m start base xs (done + 1) next following
+path_goes_on {m = m} {xs = xs} {done = done} {out = out} {at = at} x next following w less here found typed =
     let rest : Tree ℕ (items selector) = items_of selector_of (drop (done + 1) xs) in
     let cut : items_of selector_of (drop done xs) ≡ more (selector_of x) rest = ap (items_of selector_of) (drop_more xs done x less ∙ ap (λ y. y ∷ drop (done + 1) xs) (sym here)) in
     record {

@@ -64,14 +64,14 @@ mutual
   marked-fields m (adds a b) = marked-fields m b
   marked-fields m (product a b) = among-both (owned m None a) (owned m None b) (marked-fields m a) (marked-fields m b)
   marked-fields m (multiplies a b) = marked-fields m b
-  marked-fields m (designator a b) = path-fields m (object_type (m.stands_for a)) b
+  marked-fields m (designator a b) = path-fields m (object_type (m.object_for a)) b
   marked-fields m (integer a) = refl
   marked-fields m (parenthesised a) = marked-fields m a
   marked-fields m (negation a) = marked-fields m a
   marked-fields m (field a) = refl
   marked-fields m (index a) = marked-fields m a
   marked-fields m empty = refl
-  marked-fields m (assigns a b c) = among-both (owned m (object_type (m.stands_for a)) b) (owned m None c) (path-fields m (object_type (m.stands_for a)) b) (marked-fields m c)
+  marked-fields m (assigns a b c) = among-both (owned m (object_type (m.object_for a)) b) (owned m None c) (path-fields m (object_type (m.object_for a)) b) (marked-fields m c)
   marked-fields m (calls a b) = marked-fields m b
   marked-fields m (branches a b c d) = among-both (owned m None a) (owned m None b ++ (owned m None c ++ (owned m None d))) (marked-fields m a) (among-both (owned m None b) (owned m None c ++ (owned m None d)) (marked-fields m b) (among-both (owned m None c) (owned m None d) (marked-fields m c) (marked-fields m d)))
   marked-fields m (while_loop a b) = among-both (owned m None a) (owned m None b) (marked-fields m a) (marked-fields m b)

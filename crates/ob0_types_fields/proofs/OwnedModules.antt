@@ -188,7 +188,7 @@ module _ (l : ℕ → Name → Name) (at : ℕ → Option ℕ) (text : ℕ → N
   label i = as_label as_names (ordinal i) (text i)
 
   abbrev by_token : Meanings ℕ Shape Signature
-  by_token = record { stands_for = λ i. option_and_then objects (ordinal i); written = text }
+  by_token = record { object_for = λ i. option_and_then objects (ordinal i); written = text }
 
   -- the statements of a block
   alike-listed : (noted : TypeNoted Name) → Right objects (typed_by_ordinal noted) → (xs : List ℕ) → map (label_of as_names (as_label as_names) (typed_scope noted)) (map text xs) ≡ map label xs
@@ -206,7 +206,7 @@ module _ (l : ℕ → Name → Name) (at : ℕ → Option ℕ) (text : ℕ → N
       alike-listed noted right (occurrences st)
       (ap (map look) (sym (occurrences-mapped text value st)) ∙ (sym (occurrences-with_names look (as_label as_names None) (mapped text value st)) ∙ (ap occurrences e ∙ occurrences-mapped label value st)))
 
-  same-types : (meaning : Typed Name) (xs : List ℕ) → Alike meaning by_token xs → SameTypes (here meaning.stands_for text value) by_token xs
+  same-types : (meaning : Typed Name) (xs : List ℕ) → Alike meaning by_token xs → SameTypes (here meaning.object_for text value) by_token xs
   same-types meaning [] h = tt
   same-types meaning (x ∷ xs) h = (h.0, same-types meaning xs h.1)
 
@@ -219,7 +219,7 @@ module _ (l : ℕ → Name → Name) (at : ℕ → Option ℕ) (text : ℕ → N
   record ProceduresHeld (noted : TypeNoted Name) (j k : ℕ) (statements : Tree Label (maybe body)) (ps : Tree ℕ (items procedure)) : Type 0 where
     pub descends : Descends (after_procedures k (mapped text value ps)) (procedures_bindings as_labels (typed_by_ordinal noted) j (relabel_procedures as_names (as_label as_names) (typed_scope noted) k (mapped text value ps))) k
     pub last : TypeNoted Name
-    pub behind : types_after_procedures (typed_by_name noted) j (mapped text value ps) ≡ typed_by_name last
+    pub following : types_after_procedures (typed_by_name noted) j (mapped text value ps) ≡ typed_by_name last
     pub below : TypedBelow (after_procedures k (mapped text value ps)) last
     pub fits : body_fits as_labels (typed_by_ordinal last) statements ≡ true
     pub scoped : typed_scope last ≡ declare_procedure_names k (mapped text value ps) (typed_scope noted)
@@ -229,7 +229,7 @@ module _ (l : ℕ → Name → Name) (at : ℕ → Option ℕ) (text : ℕ → N
 
   no-procedures : (noted : TypeNoted Name) (j k : ℕ) → TypedBelow k noted → (statements : Tree Label (maybe body)) → procedures_fit as_labels (typed_by_ordinal noted) j statements end ≡ true → ProceduresHeld noted j k statements end
   unfolding block_bindings block_fits
-  no-procedures noted j k below statements h = record { descends = le_refl k; last = noted; behind = refl; below = below; fits = h; scoped = refl; written = λ right all e has. (refl, right) }
+  no-procedures noted j k below statements h = record { descends = le_refl k; last = noted; following = refl; below = below; fits = h; scoped = refl; written = λ right all e has. (refl, right) }
 
   -- a block, after its procedures
   named_count : (j : ℕ) (cs : Tree ℕ (maybe constants)) (ts : Tree ℕ (maybe type_names)) (vs : Tree ℕ (maybe variables)) (ps : Tree ℕ (items procedure)) (st : Tree ℕ (maybe body))
@@ -283,15 +283,15 @@ module _ (l : ℕ → Name → Name) (at : ℕ → Option ℕ) (text : ℕ → N
             let s2 = owners_split at (owned_type_section j ts) (B ++ C) s1.1 in
             let s3 = owners_split at B C s2.1 in
             let r = q.written right_last two.0 (ap (λ s. relabel_procedures as_names (as_label as_names) s kp nps) o.within.0 ∙ ap block_procedures numbered) s3.1 in
-            let behind_all : typed_scope q.last ≡ declare_procedure_names kp nps (procedures_scope k nb scope) = q.scoped ∙ ap (declare_procedure_names kp nps) o.within.0 in
+            let following_all : typed_scope q.last ≡ declare_procedure_names kp nps (procedures_scope k nb scope) = q.scoped ∙ ap (declare_procedure_names kp nps) o.within.0 in
             let variables-written : refield_variable_section (of_records l) (after_types j nb) (mapped text value vs) ≡ mapped (λ i. of_records l (at i) (text i)) value vs =
             (λ i. refield_variable_section (of_records l) (j + counted_type_section text value ts i) (mapped text value vs)) ∙ variable_section-owned l at text value (after_types j b) vs s3.0 in
             let procedures-written : refield_procedures (of_records l) (types_after_variables (typed_by_name noted) j nb) (after_variables j nb) nps ≡ mapped (λ i. of_records l (at i) (text i)) value ps =
             (λ i. refield_procedures (of_records l) (o.named i) (counted i) nps) ∙ r.0 in
-            let environment : types_after_procedures (types_after_variables (typed_by_name noted) j nb) (after_variables j nb) nps ≡ typed_by_name q.last = (λ i. types_after_procedures (o.named i) (counted i) nps) ∙ q.behind in
+            let environment : types_after_procedures (types_after_variables (typed_by_name noted) j nb) (after_variables j nb) nps ≡ typed_by_name q.last = (λ i. types_after_procedures (o.named i) (counted i) nps) ∙ q.following in
             let body-written : refield (of_records l) (meanings as_names (types_after_procedures (types_after_variables (typed_by_name noted) j nb) (after_variables j nb) nps)) None (mapped text value st) ≡ mapped (λ i. of_records l (at i) (text i)) value st =
             ap (λ e. refield (of_records l) (meanings as_names e) None (mapped text value st)) environment
-            ∙ statements-written noted q.last (after_procedures kp nps) q.below r.1 (declare_procedure_names kp nps (procedures_scope k nb scope)) behind_all st q.fits (ap block_statements numbered) s0.1 in
+            ∙ statements-written noted q.last (after_procedures kp nps) q.below r.1 (declare_procedure_names kp nps (procedures_scope k nb scope)) following_all st q.fits (ap block_statements numbered) s0.1 in
             λ i. has_body (declares (unowned-all l at text value cs s1.0 i) (type_section-owned l at text value j ts s2.0 i) (variables-written i) (procedures-written i)) (body-written i);
       }
 
@@ -370,7 +370,7 @@ module _ (l : ℕ → Name → Name) (at : ℕ → Option ℕ) (text : ℕ → N
       record {
         descends = subst (λ z. Descends (after_procedures k (more np nrest)) z k) (sym t.all_listed) (descends_join (after_procedures n nrest) n k R (B ++ H) later.descends (descends_join n m k B H inside.descends t.front));
         last = later.last;
-        behind = (λ i. types_after_procedures (heading (text x) (t.pars i) (typed_by_name noted)) (j + counted_procedure text value p i) nrest) ∙ later.behind;
+        following = (λ i. types_after_procedures (heading (text x) (t.pars i) (typed_by_name noted)) (j + counted_procedure text value p i) nrest) ∙ later.following;
         below = later.below;
         fits = later.fits;
         scoped = later.scoped;

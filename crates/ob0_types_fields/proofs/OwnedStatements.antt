@@ -140,37 +140,37 @@ unowned-all l at text value t h = unowned-mapped l at text value role.Declaring 
 -- names that mean values of the same types, by name and by token
 abbrev pub Alike : {P : Type 0} → Typed Name → Meanings ℕ Shape P → List ℕ → Type 0
 Alike meaning m [] = Unit {0}
-Alike meaning m (x ∷ xs) = (object_type (meaning.stands_for (m.written x)) ≡ object_type (m.stands_for x)) × Alike meaning m xs
+Alike meaning m (x ∷ xs) = (object_type (meaning.object_for (m.written x)) ≡ object_type (m.object_for x)) × Alike meaning m xs
 
 alike_split : {P : Type 0} (meaning : Typed Name) (m : Meanings ℕ Shape P) (xs ys : List ℕ) → Alike meaning m (xs ++ ys) → Alike meaning m xs × Alike meaning m ys
 alike_split meaning m [] ys h = (tt, h)
 alike_split meaning m (x ∷ xs) ys h = let rest = alike_split meaning m xs ys h.1 in ((h.0, rest.0), rest.1)
 
-behind-mapped : {P : Type 0} {i : Item} (m : Meanings ℕ Shape P) (value : ℕ → ℕ) (s : Option Shape) (t : Tree ℕ (item i)) → type_after s (mapped m.written value t) ≡ passed m s t
-behind-mapped m value s (relates a b) = refl
-behind-mapped m value s (adds a b) = refl
-behind-mapped m value s (multiplies a b) = refl
-behind-mapped m value s (field a) = refl
-behind-mapped m value s (index a) = refl
-behind-mapped m value s no_arguments = refl
-behind-mapped m value s (some_arguments a b) = refl
-behind-mapped m value s (then_argument a) = refl
-behind-mapped m value s (then_statement a) = refl
-behind-mapped m value s (elsif_branch a b) = refl
-behind-mapped m value s (else_branch a) = refl
-behind-mapped m value s (then_name a) = refl
-behind-mapped m value s (then_fields a) = refl
-behind-mapped m value s no_formals = refl
-behind-mapped m value s (some_formals a b) = refl
-behind-mapped m value s (then_section a) = refl
-behind-mapped m value s (declares_constant a b) = refl
-behind-mapped m value s (declares_constants a) = refl
-behind-mapped m value s (declares_type a b) = refl
-behind-mapped m value s (declares_types a) = refl
-behind-mapped m value s (declares_variable a b) = refl
-behind-mapped m value s (declares_variables a) = refl
-behind-mapped m value s (declares_procedure a b c d) = refl
-behind-mapped m value s (begins a) = refl
+following-mapped : {P : Type 0} {i : Item} (m : Meanings ℕ Shape P) (value : ℕ → ℕ) (s : Option Shape) (t : Tree ℕ (item i)) → type_after s (mapped m.written value t) ≡ passed m s t
+following-mapped m value s (relates a b) = refl
+following-mapped m value s (adds a b) = refl
+following-mapped m value s (multiplies a b) = refl
+following-mapped m value s (field a) = refl
+following-mapped m value s (index a) = refl
+following-mapped m value s no_arguments = refl
+following-mapped m value s (some_arguments a b) = refl
+following-mapped m value s (then_argument a) = refl
+following-mapped m value s (then_statement a) = refl
+following-mapped m value s (elsif_branch a b) = refl
+following-mapped m value s (else_branch a) = refl
+following-mapped m value s (then_name a) = refl
+following-mapped m value s (then_fields a) = refl
+following-mapped m value s no_formals = refl
+following-mapped m value s (some_formals a b) = refl
+following-mapped m value s (then_section a) = refl
+following-mapped m value s (declares_constant a b) = refl
+following-mapped m value s (declares_constants a) = refl
+following-mapped m value s (declares_type a b) = refl
+following-mapped m value s (declares_types a) = refl
+following-mapped m value s (declares_variable a b) = refl
+following-mapped m value s (declares_variables a) = refl
+following-mapped m value s (declares_procedure a b c d) = refl
+following-mapped m value s (begins a) = refl
 
 -- each selector that is a name with the ordinal of the record before it, whether or not that has such a field
 abbrev pub recorded : {P : Type 0} {s : Sort} → Meanings ℕ Shape P → Option Shape → Tree ℕ s → List (ℕ × Option ℕ)
@@ -184,14 +184,14 @@ recorded m s (sum a b c) = recorded m None b ++ (recorded m None c)
 recorded m s (adds a b) = recorded m None b
 recorded m s (product a b) = recorded m None a ++ (recorded m None b)
 recorded m s (multiplies a b) = recorded m None b
-recorded m s (designator a b) = (a, None) ∷ (recorded m (object_type (m.stands_for a)) b)
+recorded m s (designator a b) = (a, None) ∷ (recorded m (object_type (m.object_for a)) b)
 recorded m s (integer a) = []
 recorded m s (parenthesised a) = recorded m None a
 recorded m s (negation a) = recorded m None a
 recorded m s (field a) = (a, record_of s) ∷ []
 recorded m s (index a) = recorded m None a
 recorded m s empty = []
-recorded m s (assigns a b c) = (a, None) ∷ (recorded m (object_type (m.stands_for a)) b ++ (recorded m None c))
+recorded m s (assigns a b c) = (a, None) ∷ (recorded m (object_type (m.object_for a)) b ++ (recorded m None c))
 recorded m s (calls a b) = (a, None) ∷ (recorded m None b)
 recorded m s (branches a b c d) = recorded m None a ++ (recorded m None b ++ (recorded m None c ++ (recorded m None d)))
 recorded m s (while_loop a b) = recorded m None a ++ (recorded m None b)
@@ -216,7 +216,7 @@ recorded-mapped l at meaning m value s (more a b) h e =
     let p = owners_split at (recorded m s a) (recorded m (passed m s a) b) h in
     let q = alike_split meaning m (occurrences a) (occurrences b) e in
     λ i. more (recorded-mapped l at meaning m value s a p.0 q.0 i)
-    ((ap (λ z. refield (of_records l) meaning z (mapped m.written value b)) (behind-mapped m value s a) ∙ recorded-mapped l at meaning m value (passed m s a) b p.1 q.1) i)
+    ((ap (λ z. refield (of_records l) meaning z (mapped m.written value b)) (following-mapped m value s a) ∙ recorded-mapped l at meaning m value (passed m s a) b p.1 q.1) i)
 recorded-mapped l at meaning m value s (compares a b) h e =
     let p0 = owners_split at (recorded m None a) (recorded m None b) h in
     let q0 = alike_split meaning m (occurrences a) (occurrences b) e in
@@ -232,7 +232,7 @@ recorded-mapped l at meaning m value s (product a b) h e =
     let q0 = alike_split meaning m (occurrences a) (occurrences b) e in
     λ i. product (recorded-mapped l at meaning m value None a p0.0 q0.0 i) (recorded-mapped l at meaning m value None b p0.1 q0.1 i)
 recorded-mapped l at meaning m value s (multiplies a b) h e = λ i. multiplies a (recorded-mapped l at meaning m value None b h e i)
-recorded-mapped l at meaning m value s (designator a b) h e = λ i. designator (of_records l (sym h.0 i) (m.written a)) ((ap (λ z. refield (of_records l) meaning z (mapped m.written value b)) e.0 ∙ recorded-mapped l at meaning m value (object_type (m.stands_for a)) b h.1 e.1) i)
+recorded-mapped l at meaning m value s (designator a b) h e = λ i. designator (of_records l (sym h.0 i) (m.written a)) ((ap (λ z. refield (of_records l) meaning z (mapped m.written value b)) e.0 ∙ recorded-mapped l at meaning m value (object_type (m.object_for a)) b h.1 e.1) i)
 recorded-mapped l at meaning m value s (integer a) h e = refl
 recorded-mapped l at meaning m value s (parenthesised a) h e = λ i. parenthesised (recorded-mapped l at meaning m value None a h e i)
 recorded-mapped l at meaning m value s (negation a) h e = λ i. negation (recorded-mapped l at meaning m value None a h e i)
@@ -240,9 +240,9 @@ recorded-mapped l at meaning m value s (field a) h e = λ i. field (of_records l
 recorded-mapped l at meaning m value s (index a) h e = λ i. index (recorded-mapped l at meaning m value None a h e i)
 recorded-mapped l at meaning m value s empty h e = refl
 recorded-mapped l at meaning m value s (assigns a b c) h e =
-    let p0 = owners_split at (recorded m (object_type (m.stands_for a)) b) (recorded m None c) h.1 in
+    let p0 = owners_split at (recorded m (object_type (m.object_for a)) b) (recorded m None c) h.1 in
     let q0 = alike_split meaning m (occurrences b) (occurrences c) e.1 in
-    λ i. assigns (of_records l (sym h.0 i) (m.written a)) ((ap (λ z. refield (of_records l) meaning z (mapped m.written value b)) e.0 ∙ recorded-mapped l at meaning m value (object_type (m.stands_for a)) b p0.0 q0.0) i) (recorded-mapped l at meaning m value None c p0.1 q0.1 i)
+    λ i. assigns (of_records l (sym h.0 i) (m.written a)) ((ap (λ z. refield (of_records l) meaning z (mapped m.written value b)) e.0 ∙ recorded-mapped l at meaning m value (object_type (m.object_for a)) b p0.0 q0.0) i) (recorded-mapped l at meaning m value None c p0.1 q0.1 i)
 recorded-mapped l at meaning m value s (calls a b) h e = λ i. calls (of_records l (sym h.0 i) (m.written a)) (recorded-mapped l at meaning m value None b h.1 e.1 i)
 recorded-mapped l at meaning m value s (branches a b c d) h e =
     let p0 = owners_split at (recorded m None a) (recorded m None b ++ (recorded m None c ++ (recorded m None d))) h in
@@ -304,7 +304,7 @@ recorded-mapped l at meaning m value s (is_module a b c) h e = unowned-all l at 
 -- it hangs on the types of values alone
 abbrev pub SameTypes : {P Q : Type 0} → Meanings ℕ Shape P → Meanings ℕ Shape Q → List ℕ → Type 0
 SameTypes m n [] = Unit {0}
-SameTypes m n (x ∷ xs) = (object_type (m.stands_for x) ≡ object_type (n.stands_for x)) × SameTypes m n xs
+SameTypes m n (x ∷ xs) = (object_type (m.object_for x) ≡ object_type (n.object_for x)) × SameTypes m n xs
 
 types_split : {P Q : Type 0} (m : Meanings ℕ Shape P) (n : Meanings ℕ Shape Q) (xs ys : List ℕ) → SameTypes m n (xs ++ ys) → SameTypes m n xs × SameTypes m n ys
 types_split m n [] ys h = (tt, h)
@@ -355,7 +355,7 @@ owned-alike m n same s (product a b) e =
     let q0 = types_split m n (occurrences a) (occurrences b) e in
     λ i. owned-alike m n same None a q0.0 i ++ (owned-alike m n same None b q0.1 i)
 owned-alike m n same s (multiplies a b) e = λ i. owned-alike m n same None b e i
-owned-alike m n same s (designator a b) e = λ i. (a, None) ∷ (((ap (λ z. owned m z b) e.0 ∙ owned-alike m n same (object_type (n.stands_for a)) b e.1) i))
+owned-alike m n same s (designator a b) e = λ i. (a, None) ∷ (((ap (λ z. owned m z b) e.0 ∙ owned-alike m n same (object_type (n.object_for a)) b e.1) i))
 owned-alike m n same s (integer a) e = refl
 owned-alike m n same s (parenthesised a) e = λ i. owned-alike m n same None a e i
 owned-alike m n same s (negation a) e = λ i. owned-alike m n same None a e i
@@ -364,7 +364,7 @@ owned-alike m n same s (index a) e = λ i. owned-alike m n same None a e i
 owned-alike m n same s empty e = refl
 owned-alike m n same s (assigns a b c) e =
     let q0 = types_split m n (occurrences b) (occurrences c) e.1 in
-    λ i. (a, None) ∷ (((ap (λ z. owned m z b) e.0 ∙ owned-alike m n same (object_type (n.stands_for a)) b q0.0) i) ++ (owned-alike m n same None c q0.1 i))
+    λ i. (a, None) ∷ (((ap (λ z. owned m z b) e.0 ∙ owned-alike m n same (object_type (n.object_for a)) b q0.0) i) ++ (owned-alike m n same None c q0.1 i))
 owned-alike m n same s (calls a b) e = λ i. (a, None) ∷ (owned-alike m n same None b e.1 i)
 owned-alike m n same s (branches a b c d) e =
     let q0 = types_split m n (occurrences a) (occurrences b ++ (occurrences c ++ (occurrences d))) e in
@@ -434,7 +434,7 @@ recorded-alike m n same s (product a b) e =
     let q0 = types_split m n (occurrences a) (occurrences b) e in
     λ i. recorded-alike m n same None a q0.0 i ++ (recorded-alike m n same None b q0.1 i)
 recorded-alike m n same s (multiplies a b) e = λ i. recorded-alike m n same None b e i
-recorded-alike m n same s (designator a b) e = λ i. (a, None) ∷ (((ap (λ z. recorded m z b) e.0 ∙ recorded-alike m n same (object_type (n.stands_for a)) b e.1) i))
+recorded-alike m n same s (designator a b) e = λ i. (a, None) ∷ (((ap (λ z. recorded m z b) e.0 ∙ recorded-alike m n same (object_type (n.object_for a)) b e.1) i))
 recorded-alike m n same s (integer a) e = refl
 recorded-alike m n same s (parenthesised a) e = λ i. recorded-alike m n same None a e i
 recorded-alike m n same s (negation a) e = λ i. recorded-alike m n same None a e i
@@ -443,7 +443,7 @@ recorded-alike m n same s (index a) e = λ i. recorded-alike m n same None a e i
 recorded-alike m n same s empty e = refl
 recorded-alike m n same s (assigns a b c) e =
     let q0 = types_split m n (occurrences b) (occurrences c) e.1 in
-    λ i. (a, None) ∷ (((ap (λ z. recorded m z b) e.0 ∙ recorded-alike m n same (object_type (n.stands_for a)) b q0.0) i) ++ (recorded-alike m n same None c q0.1 i))
+    λ i. (a, None) ∷ (((ap (λ z. recorded m z b) e.0 ∙ recorded-alike m n same (object_type (n.object_for a)) b q0.0) i) ++ (recorded-alike m n same None c q0.1 i))
 recorded-alike m n same s (calls a b) e = λ i. (a, None) ∷ (recorded-alike m n same None b e.1 i)
 recorded-alike m n same s (branches a b c d) e =
     let q0 = types_split m n (occurrences a) (occurrences b ++ (occurrences c ++ (occurrences d))) e in

@@ -40,7 +40,7 @@ element-integer _ _ u h = absurd (cc)
 
 module _ (stands : Name → Option (Object Shape Signature)) (text : ℕ → Name) (value : ℕ → ℕ) where
   abbrev pub here : Meanings ℕ Shape Signature
-  here = record { stands_for = λ x. stands (text x); written = text }
+  here = record { object_for = λ x. stands (text x); written = text }
 
   mutual
     unfolding type_of

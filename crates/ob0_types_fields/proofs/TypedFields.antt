@@ -128,19 +128,19 @@ module _ (r : Resolution) where
   types-counted : (ds : Tree ℕ (items type_name)) → length (constructed (meaning r) None ds) ≡ types_constructors ds
   types-counted end = refl
   types-counted (more (declares_type x u) ds) =
-      length-append (constructed (meaning r) None (declares_type x u)) (constructed (meaning r) None ds) ∙ (λ i. type-counted (type_declared ((meaning r).stands_for x)) u i + types-counted ds i)
+      length-append (constructed (meaning r) None (declares_type x u)) (constructed (meaning r) None ds) ∙ (λ i. type-counted (type_declared ((meaning r).object_for x)) u i + types-counted ds i)
 
   variables-counted : (gs : Tree ℕ (items variable)) → length (constructed (meaning r) None gs) ≡ variables_constructors gs
   variables-counted end = refl
   variables-counted (more (declares_variable ns u) gs) =
-      length-append (constructed (meaning r) None (declares_variable ns u)) (constructed (meaning r) None gs) ∙ (λ i. type-counted (type_declared ((meaning r).stands_for (first_listed ns))) u i + variables-counted gs i)
+      length-append (constructed (meaning r) None (declares_variable ns u)) (constructed (meaning r) None gs) ∙ (λ i. type-counted (type_declared ((meaning r).object_for (first_listed ns))) u i + variables-counted gs i)
 
   sections-counted : (fs : Tree ℕ (items further_section)) → length (constructed (meaning r) None fs) ≡ formals_constructors fs
   sections-counted end = refl
   sections-counted (more (then_section (value_section ns u)) fs) =
-      length-append (constructed (meaning r) None (value_section ns u)) (constructed (meaning r) None fs) ∙ (λ i. type-counted (type_declared ((meaning r).stands_for (first_listed ns))) u i + sections-counted fs i)
+      length-append (constructed (meaning r) None (value_section ns u)) (constructed (meaning r) None fs) ∙ (λ i. type-counted (type_declared ((meaning r).object_for (first_listed ns))) u i + sections-counted fs i)
   sections-counted (more (then_section (variable_section ns u)) fs) =
-      length-append (constructed (meaning r) None (variable_section ns u)) (constructed (meaning r) None fs) ∙ (λ i. type-counted (type_declared ((meaning r).stands_for (first_listed ns))) u i + sections-counted fs i)
+      length-append (constructed (meaning r) None (variable_section ns u)) (constructed (meaning r) None fs) ∙ (λ i. type-counted (type_declared ((meaning r).object_for (first_listed ns))) u i + sections-counted fs i)
 
   type_section-counted : (ts : Tree ℕ (maybe type_names)) → length (constructed (meaning r) None ts) ≡ types_constructors (section_types ts)
   type_section-counted none = refl
@@ -298,11 +298,11 @@ module _ (r : Resolution) where
     Agree own fs = (y : Name) → is_among y own ≡ true → shape_of_field all y ≡ shape_of_field fs y
 
   -- after a group a name is found as from those that follow, where it isn't one of the group's
-  behind-group : (env : TypeEnvironment Label) (k : ℕ) (later fs : FieldShapes) (g : Tree ℕ fields) → denoted_group (meanings as_labels env) k later (in_labels r g) ≡ Some fs → GroupPlain (in_labels r g)
+  following-group : (env : TypeEnvironment Label) (k : ℕ) (later fs : FieldShapes) (g : Tree ℕ fields) → denoted_group (meanings as_labels env) k later (in_labels r g) ≡ Some fs → GroupPlain (in_labels r g)
       → (others : List Name) → are_distinct (group_fields (mapped text value g) ++ others) ≡ true → (y : Name) → is_among y others ≡ true → shape_of_field fs y ≡ shape_of_field later y
   unfolding denoted
-  behind-group env k later fs no_fields h plain others distinct y among = ap (λ z. shape_of_field z y) (sym (some_inverse h))
-  behind-group env k later fs (some_fields ns t) h plain others distinct y among =
+  following-group env k later fs no_fields h plain others distinct y among = ap (λ z. shape_of_field z y) (sym (some_inverse h))
+  following-group env k later fs (some_fields ns t) h plain others distinct y among =
       let one = then_some (denoted (meanings as_labels env) k (in_labels r t)) (λ s. Some (with_fields (map label_text (names_listed (in_labels r ns))) s later)) fs h in
       let own : List Name = names_listed (mapped text value ns) in
       ap (λ z. shape_of_field z y) (sym (some_inverse one.2) ∙ ap (λ xs. with_fields xs one.0 later) (texts ns plain.0)) ∙ with-none y own one.0 later (distinct-apart y own others distinct among)
@@ -338,7 +338,7 @@ module _ (r : Resolution) where
         (each-weaker (InRecord z j (first ++ later) (suc j)) (HasField (Some z ∷ (first ++ later)) j) (λ x h. of-record z j (first ++ later) x h) (xs ++ ys)
         (groups-have z j first later (suc j) (suc j + group_constructors g) xs ys (ap (λ c. suc j + c) (sym (group-counted r (Some z) g)))
         (group-has env (suc k) k all one.0 all g two.1 plain.0 o2.0 (λ y among. refl) j (suc j))
-        (groups-all env n k all one.0 rest one.1 plain.1 o2.1 (distinct-right own others o1.0) (λ y among. behind-group env (suc k) one.0 all g two.1 plain.0 others o1.0 y among) j (suc j + group_constructors g))))
+        (groups-all env n k all one.0 rest one.1 plain.1 o2.1 (distinct-right own others o1.0) (λ y among. following-group env (suc k) one.0 all g two.1 plain.0 others o1.0 y among) j (suc j + group_constructors g))))
 
     group-has : (env : TypeEnvironment Label) (k o : ℕ) (all later fs : FieldShapes) (g : Tree ℕ fields) → denoted_group (meanings as_labels env) k later (in_labels r g) ≡ Some fs → GroupPlain (in_labels r g) → group_once (mapped text value g) ≡ true
         → Agree o all (group_fields (mapped text value g)) fs → (j n : ℕ) → AllByRecursion (InRecord (record_shape o all) j (constructed (meaning r) (Some (record_shape o all)) g) n) (marked_group j n g)
@@ -368,7 +368,7 @@ module _ (r : Resolution) where
         groups-have z j (constructed (meaning r) (Some z) g) (constructed (meaning r) (Some z) rest) n (n + group_constructors g) (marked_group j n g) (marked_groups j (n + group_constructors g) rest) (ap (λ c. n + c) (sym (group-counted r (Some z) g)))
         (group-has env k o all one.0 fs g one.2 plain.0 o1.0 (λ y among. agree y (among-left y own others among)) j n)
         (groups-all env (k + group_constructors (in_labels r g)) o all one.0 rest one.1 plain.1 o1.1 (distinct-right own others distinct)
-        (λ y among. agree y (among-right y own others among) ∙ behind-group env k one.0 fs g one.2 plain.0 others distinct y among) j (n + group_constructors g))
+        (λ y among. agree y (among-right y own others among) ∙ following-group env k one.0 fs g one.2 plain.0 others distinct y among) j (n + group_constructors g))
 
   -- ---- declarations
 
@@ -381,7 +381,7 @@ module _ (r : Resolution) where
   types-have end stand plain once k = tt
   types-have (more (declares_type x u) ds) stand plain once k =
       let o = and_parts (fields_once (mapped text value u)) (types_once (mapped text value ds)) once in
-      let t : Option Shape = type_declared ((meaning r).stands_for x) in
+      let t : Option Shape = type_declared ((meaning r).object_for x) in
       parts-have (constructed (meaning r) t u) (constructed (meaning r) None ds) k (k + constructors u) (marked_type k u) (marked_types (k + constructors u) ds) (ap (λ c. k + c) (sym (type-counted r t u)))
       (declared-have t u stand.0.0 (ap type_declared stand.0.1) stand.0.2 plain.0 o.0 k) (types-have ds stand.1 plain.1 o.1 (k + constructors u))
 
@@ -389,7 +389,7 @@ module _ (r : Resolution) where
   variables-have end stand plain once k = tt
   variables-have (more (declares_variable (listed x others) u) gs) stand plain once k =
       let o = and_parts (fields_once (mapped text value u)) (variables_once (mapped text value gs)) once in
-      let t : Option Shape = type_declared ((meaning r).stands_for x) in
+      let t : Option Shape = type_declared ((meaning r).object_for x) in
       parts-have (constructed (meaning r) t u) (constructed (meaning r) None gs) k (k + constructors u) (marked_type k u) (marked_variables (k + constructors u) gs) (ap (λ c. k + c) (sym (type-counted r t u)))
       (declared-have t u stand.0.0 (ap type_declared stand.0.1) stand.0.2 plain.0 o.0 k) (variables-have gs stand.1 plain.1 o.1 (k + constructors u))
 
@@ -397,12 +397,12 @@ module _ (r : Resolution) where
   sections-have end stand plain once k = tt
   sections-have (more (then_section (value_section (listed x others) u)) fs) stand plain once k =
       let o = and_parts (fields_once (mapped text value u)) (formals_once (mapped text value fs)) once in
-      let t : Option Shape = type_declared ((meaning r).stands_for x) in
+      let t : Option Shape = type_declared ((meaning r).object_for x) in
       parts-have (constructed (meaning r) t u) (constructed (meaning r) None fs) k (k + constructors u) (marked_type k u) (marked_sections (k + constructors u) fs) (ap (λ c. k + c) (sym (type-counted r t u)))
       (declared-have t u stand.0.0 (ap type_declared stand.0.1) stand.0.2 plain.0 o.0 k) (sections-have fs stand.1 plain.1 o.1 (k + constructors u))
   sections-have (more (then_section (variable_section (listed x others) u)) fs) stand plain once k =
       let o = and_parts (fields_once (mapped text value u)) (formals_once (mapped text value fs)) once in
-      let t : Option Shape = type_declared ((meaning r).stands_for x) in
+      let t : Option Shape = type_declared ((meaning r).object_for x) in
       parts-have (constructed (meaning r) t u) (constructed (meaning r) None fs) k (k + constructors u) (marked_type k u) (marked_sections (k + constructors u) fs) (ap (λ c. k + c) (sym (type-counted r t u)))
       (declared-have t u stand.0.0 (ap type_declared stand.0.1) stand.0.2 plain.0 o.0 k) (sections-have fs stand.1 plain.1 o.1 (k + constructors u))
 

@@ -40,14 +40,14 @@ constructed m t (some_fields ns of) =
 constructed m t (then_fields f) = constructed m t f
 constructed m t (some_formals first others) = constructed m t first ++ constructed m t others
 constructed m t (value_section ns of) =
-    constructed m (type_declared (m.stands_for (first_listed ns))) of
+    constructed m (type_declared (m.object_for (first_listed ns))) of
 constructed m t (variable_section ns of) =
-    constructed m (type_declared (m.stands_for (first_listed ns))) of
+    constructed m (type_declared (m.object_for (first_listed ns))) of
 constructed m t (then_section s) = constructed m t s
-constructed m t (declares_type name of) = constructed m (type_declared (m.stands_for name)) of
+constructed m t (declares_type name of) = constructed m (type_declared (m.object_for name)) of
 constructed m t (declares_types ts) = constructed m t ts
 constructed m t (declares_variable ns of) =
-    constructed m (type_declared (m.stands_for (first_listed ns))) of
+    constructed m (type_declared (m.object_for (first_listed ns))) of
 constructed m t (declares_variables vs) = constructed m t vs
 constructed m t (declares_procedure name fs b closing) = constructed m t fs ++ constructed m t b
 constructed m t (declares cs ts vs ps) =

@@ -57,7 +57,7 @@ owned m s (sum a b c) = owned m None b ++ (owned m None c)
 owned m s (adds a b) = owned m None b
 owned m s (product a b) = owned m None a ++ (owned m None b)
 owned m s (multiplies a b) = owned m None b
-owned m s (designator a b) = (a, None) ∷ (owned m (object_type (m.stands_for a)) b)
+owned m s (designator a b) = (a, None) ∷ (owned m (object_type (m.object_for a)) b)
 owned m s (integer a) = []
 owned m s (parenthesised a) = owned m None a
 owned m s (negation a) = owned m None a
@@ -65,7 +65,7 @@ owned m s (field a) = (a, owner s (m.written a)) ∷ []
 owned m s (index a) = owned m None a
 owned m s empty = []
 owned m s (assigns a b c) =
-    (a, None) ∷ (owned m (object_type (m.stands_for a)) b ++ (owned m None c))
+    (a, None) ∷ (owned m (object_type (m.object_for a)) b ++ (owned m None c))
 owned m s (calls a b) = (a, None) ∷ (owned m None b)
 owned m s (branches a b c d) =
     owned m None a ++ (owned m None b ++ (owned m None c ++ (owned m None d)))
@@ -178,7 +178,7 @@ abbrev pub token_objects : (ℕ → Option (Object Shape Signature))
     → Meanings ℕ Shape Signature
 token_objects objects r =
     record {
-      stands_for
+      object_for
           = λ token. option_and_then objects (ordinal_in r.ordinals token);
       written = λ token. text_at r.module_read.source token;
     }
@@ -244,14 +244,14 @@ abbrev mutual
   marked m (adds a b) = marked m b
   marked m (product a b) = marked m a ++ (marked m b)
   marked m (multiplies a b) = marked m b
-  marked m (designator a b) = marked_path m (object_type (m.stands_for a)) b
+  marked m (designator a b) = marked_path m (object_type (m.object_for a)) b
   marked m (integer a) = []
   marked m (parenthesised a) = marked m a
   marked m (negation a) = marked m a
   marked m (field a) = []
   marked m (index a) = marked m a
   marked m empty = []
-  marked m (assigns a b c) = marked_path m (object_type (m.stands_for a)) b ++ (marked m c)
+  marked m (assigns a b c) = marked_path m (object_type (m.object_for a)) b ++ (marked m c)
   marked m (calls a b) = marked m b
   marked m (branches a b c d) = marked m a ++ (marked m b ++ (marked m c ++ (marked m d)))
   marked m (while_loop a b) = marked m a ++ (marked m b)

@@ -15,22 +15,22 @@ use Rattle.ob0_types_fields.specs.FieldTypes.{TypedField}
 use Rattle.ob0_types_fields.specs.Owned.{token_objects}
 
 -- the type that was found, or how many ARRAY and RECORD come before it
-pub data Sought : Type 0 where
-  is_found : Option Shape → Sought
-  is_after : ℕ → Sought
+pub data SearchState : Type 0 where
+  is_found : Option Shape → SearchState
+  is_after : ℕ → SearchState
 
 -- after one more, which constructs the type t
-abbrev pub after_one : Sought → Option Shape → Sought
+abbrev pub after_one : SearchState → Option Shape → SearchState
 after_one (is_found found) t = is_found found
 after_one (is_after n) t = if n == 0 then is_found t else is_after (n - 1)
 
 -- after several
-abbrev pub after_all : Sought → List (Option Shape) → Sought
+abbrev pub after_all : SearchState → List (Option Shape) → SearchState
 after_all s [] = s
 after_all s (t ∷ ts) = after_all (after_one s t) ts
 
 -- the type that was found, if any
-abbrev pub found_type : Sought → Option Shape
+abbrev pub found_type : SearchState → Option Shape
 found_type (is_found found) = found
 found_type (is_after n) = None
 
@@ -43,12 +43,12 @@ abbrev pub type_in : ConstructorWalk → Option TypeId → Option Shape
 type_in w of = option_map (type_shape (shapes_of w.known.now)) of
 
 -- a search of the code
-abbrev pub search_in : List Shape → Search → Sought
+abbrev pub search_in : List Shape → Search → SearchState
 search_in shapes (search.Found of) = is_found (option_map (type_shape shapes) of)
 search_in shapes (search.Before n) = is_after n
 
 -- what a search of the walk means
-abbrev pub sought_in : ConstructorWalk → Search → Sought
+abbrev pub sought_in : ConstructorWalk → Search → SearchState
 sought_in w s = search_in (shapes_of w.known.now) s
 
 -- a field of the code, with its type

@@ -11,7 +11,7 @@ ghost use Rattle.ob0_types_fields.specs.Listed.{beside, listed_by};
 ghost use Rattle.ob0_types_fields.specs.Owned.{marked_module, token_objects};
 
 use crate::declaring::block;
-use crate::owning::{Fields, Owning};
+use crate::owning::{FieldTokens, Owning};
 use crate::reading::{field_on, first_among, place_among, tokens_among};
 use ob0_scan::Tokens;
 use ob0_scope_rules::Resolved;
@@ -23,8 +23,8 @@ use std::marker::Model;
 /// tokens. Each comes with the ordinal of its record among the ARRAY and RECORD of the text.
 #[derive(Drop)]
 pub struct FieldList {
-    declared: Fields,
-    all: Fields,
+    declared: FieldTokens,
+    all: FieldTokens,
 }
 
 impl Model for FieldList {
@@ -101,7 +101,7 @@ impl FieldList {
 }
 
 /// The fields that a module declares, each with the ordinal of its record.
-fn declared_fields(alloc: Global, resolved: &Resolved<'_>) -> Result<Fields, AllocError>
+fn declared_fields(alloc: Global, resolved: &Resolved<'_>) -> Result<FieldTokens, AllocError>
     ensures { IfOk result (λ found. found.items ≡ declared_fields resolved.now.module_read) }
 {
     let mut found = Vec::new(alloc);
@@ -116,7 +116,7 @@ fn fields_beside<'a, 't>(
     known: &'a Known,
     resolved: &'a Resolved<'t>,
     declared: &[(usize, usize)],
-) -> Result<Fields, AllocError>
+) -> Result<FieldTokens, AllocError>
     ensures { IfOk result (λ found. found.items
         ≡ beside declared.now (marked_module (token_objects (declared_in known.now) resolved.now)
         (tree_of resolved.now.module_read))) }
@@ -133,7 +133,7 @@ fn found_fields<'a, 't>(
     alloc: Global,
     known: &'a Known,
     resolved: &'a Resolved<'t>,
-) -> Result<Fields, AllocError>
+) -> Result<FieldTokens, AllocError>
     ensures { IfOk result (λ found. found.items
         ≡ marked_module (token_objects (declared_in known.now) resolved.now)
         (tree_of resolved.now.module_read)) }

@@ -22,7 +22,7 @@ use ob0_types_table::{Known, Object, TypeId, scalar_type, text_at};
 use std::alloc::AllocError;
 
 /// Tokens of fields, each with the ordinal of its record.
-pub(crate) type Fields = Vec<(usize, usize)>;
+pub(crate) type FieldTokens = Vec<(usize, usize)>;
 
 /// A module with the table of its declarations.
 #[derive(Clone, Copy)]
@@ -35,7 +35,7 @@ impl<'a, 't> Owning<'a, 't> {
     /// The type of the variable, parameter or constant that the name at a token is bound to.
     fn value_type(&self, token: usize) -> Option<TypeId>
         ensures { option_map (type_shape (shapes_of self.now.known.now)) result
-            ≡ object_type ((meaning_in self.now).stands_for token) }
+            ≡ object_type ((meaning_in self.now).object_for token) }
     {
         let ordinal = self.resolved.ordinal_at(token)?;
         match self.known.object(ordinal)? {
@@ -51,7 +51,7 @@ impl<'a, 't> Owning<'a, 't> {
     /// Notes the record whose field a name selects, and gives the field's type.
     fn select(
         &self,
-        found: &mut Fields,
+        found: &mut FieldTokens,
         base: Option<TypeId>,
         name: usize,
     ) -> Result<Option<TypeId>, AllocError>
@@ -59,7 +59,7 @@ impl<'a, 't> Owning<'a, 't> {
             ≡ found.old.items
             ++ mark name (owner (option_map (type_shape (shapes_of self.now.known.now)) base)
             ((meaning_in self.now).written name))) }
-        ensures behind { IfOk result (λ t. option_map (type_shape (shapes_of self.now.known.now)) t
+        ensures following { IfOk result (λ t. option_map (type_shape (shapes_of self.now.known.now)) t
             ≡ option_and_then (λ z. field_type z ((meaning_in self.now).written name))
             (option_map (type_shape (shapes_of self.now.known.now)) base)) }
     {
@@ -87,7 +87,7 @@ impl<'a, 't> Owning<'a, 't> {
 
     /// What is selected in an expression.
     #[cycle(expressions)]
-    fn expression(&self, found: &mut Fields, e: &Expression) -> Result<(), AllocError>
+    fn expression(&self, found: &mut FieldTokens, e: &Expression) -> Result<(), AllocError>
         ensures { IfOk result (λ _. found.new.items
             ≡ found.old.items ++ marked (meaning_in self.now) (expression_of e.now)) }
     {
@@ -99,7 +99,7 @@ impl<'a, 't> Owning<'a, 't> {
     }
 
     #[cycle(expressions)]
-    fn simple(&self, found: &mut Fields, s: &Simple) -> Result<(), AllocError>
+    fn simple(&self, found: &mut FieldTokens, s: &Simple) -> Result<(), AllocError>
         ensures { IfOk result (λ _. found.new.items
             ≡ found.old.items ++ marked (meaning_in self.now) (simple_of s.now)) }
     {
@@ -111,7 +111,7 @@ impl<'a, 't> Owning<'a, 't> {
     }
 
     #[cycle(expressions)]
-    fn term(&self, found: &mut Fields, t: &Term) -> Result<(), AllocError>
+    fn term(&self, found: &mut FieldTokens, t: &Term) -> Result<(), AllocError>
         ensures { IfOk result (λ _. found.new.items
             ≡ found.old.items ++ marked (meaning_in self.now) (term_of t.now)) }
     {
@@ -123,7 +123,7 @@ impl<'a, 't> Owning<'a, 't> {
     }
 
     #[cycle(expressions)]
-    fn factor(&self, found: &mut Fields, f: &Factor) -> Result<(), AllocError>
+    fn factor(&self, found: &mut FieldTokens, f: &Factor) -> Result<(), AllocError>
         ensures { IfOk result (λ _. found.new.items
             ≡ found.old.items ++ marked (meaning_in self.now) (factor_of f.now)) }
     {
@@ -136,7 +136,7 @@ impl<'a, 't> Owning<'a, 't> {
     }
 
     #[cycle(expressions)]
-    fn designator(&self, found: &mut Fields, d: &Designator) -> Result<(), AllocError>
+    fn designator(&self, found: &mut FieldTokens, d: &Designator) -> Result<(), AllocError>
         ensures { IfOk result (λ _. found.new.items
             ≡ found.old.items ++ marked (meaning_in self.now) (designator_of d.now)) }
     {
@@ -151,7 +151,7 @@ impl<'a, 't> Owning<'a, 't> {
     #[cycle(expressions)]
     fn selector(
         &self,
-        found: &mut Fields,
+        found: &mut FieldTokens,
         base: Option<TypeId>,
         s: &Selector,
     ) -> Result<Option<TypeId>, AllocError>
@@ -159,7 +159,7 @@ impl<'a, 't> Owning<'a, 't> {
             ≡ found.old.items
             ++ marked_at (meaning_in self.now)
             (option_map (type_shape (shapes_of self.now.known.now)) base) (selector_of s.now)) }
-        ensures behind { IfOk result (λ t. option_map (type_shape (shapes_of self.now.known.now)) t
+        ensures following { IfOk result (λ t. option_map (type_shape (shapes_of self.now.known.now)) t
             ≡ passed (meaning_in self.now)
             (option_map (type_shape (shapes_of self.now.known.now)) base) (selector_of s.now)) }
     {
@@ -172,7 +172,7 @@ impl<'a, 't> Owning<'a, 't> {
         }
     }
 
-    fn assignment(&self, found: &mut Fields, a: &Assignment) -> Result<(), AllocError>
+    fn assignment(&self, found: &mut FieldTokens, a: &Assignment) -> Result<(), AllocError>
         ensures { IfOk result (λ _. found.new.items
             ≡ found.old.items ++ marked (meaning_in self.now) (assignment_of a.now)) }
     {
@@ -180,7 +180,7 @@ impl<'a, 't> Owning<'a, 't> {
         self.expression(found, &a.value)
     }
 
-    fn call(&self, found: &mut Fields, c: &Call) -> Result<(), AllocError>
+    fn call(&self, found: &mut FieldTokens, c: &Call) -> Result<(), AllocError>
         ensures { IfOk result (λ _. found.new.items
             ≡ found.old.items ++ marked (meaning_in self.now) (call_of c.now)) }
     {
@@ -190,7 +190,7 @@ impl<'a, 't> Owning<'a, 't> {
         Ok(())
     }
 
-    fn arguments(&self, found: &mut Fields, given: &Vec<Expression>) -> Result<(), AllocError>
+    fn arguments(&self, found: &mut FieldTokens, given: &Vec<Expression>) -> Result<(), AllocError>
         ensures { IfOk result (λ _. found.new.items
             ≡ found.old.items ++ marked (meaning_in self.now) (arguments_in given.now)) }
     {
@@ -201,7 +201,11 @@ impl<'a, 't> Owning<'a, 't> {
     }
 
     #[cycle(statements)]
-    fn sequence(&self, found: &mut Fields, statements: &Vec<Statement>) -> Result<(), AllocError>
+    fn sequence(
+        &self,
+        found: &mut FieldTokens,
+        statements: &Vec<Statement>,
+    ) -> Result<(), AllocError>
         ensures { IfOk result (λ _. found.new.items
             ≡ found.old.items ++ marked (meaning_in self.now) (sequence_in statements.now)) }
     {
@@ -212,7 +216,7 @@ impl<'a, 't> Owning<'a, 't> {
     }
 
     #[cycle(statements)]
-    fn statement(&self, found: &mut Fields, s: &Statement) -> Result<(), AllocError>
+    fn statement(&self, found: &mut FieldTokens, s: &Statement) -> Result<(), AllocError>
         ensures { IfOk result (λ _. found.new.items
             ≡ found.old.items ++ marked (meaning_in self.now) (statement_of s.now)) }
     {
@@ -233,7 +237,7 @@ impl<'a, 't> Owning<'a, 't> {
     }
 
     #[cycle(statements)]
-    fn branches(&self, found: &mut Fields, i: &If) -> Result<(), AllocError>
+    fn branches(&self, found: &mut FieldTokens, i: &If) -> Result<(), AllocError>
         ensures { IfOk result
             (λ _. found.new.items ≡ found.old.items ++ marked (meaning_in self.now) (if_of i.now)) }
     {
@@ -247,7 +251,7 @@ impl<'a, 't> Owning<'a, 't> {
     }
 
     #[cycle(statements)]
-    fn elsifs(&self, found: &mut Fields, parts: &Vec<Elsif>) -> Result<(), AllocError>
+    fn elsifs(&self, found: &mut FieldTokens, parts: &Vec<Elsif>) -> Result<(), AllocError>
         ensures { IfOk result (λ _. found.new.items
             ≡ found.old.items ++ marked (meaning_in self.now) (elsifs_in parts.now)) }
     {
@@ -260,7 +264,7 @@ impl<'a, 't> Owning<'a, 't> {
 
     fn body(
         &self,
-        found: &mut Fields,
+        found: &mut FieldTokens,
         statements: &Option<Vec<Statement>>,
     ) -> Result<(), AllocError>
         ensures { IfOk result (λ _. found.new.items
@@ -277,7 +281,7 @@ impl<'a, 't> Owning<'a, 't> {
     #[cycle(blocks)]
     pub(crate) fn block(
         &self,
-        found: &mut Fields,
+        found: &mut FieldTokens,
         made: &mut Vec<usize>,
         b: &Block,
     ) -> Result<(), AllocError>
@@ -298,7 +302,7 @@ impl<'a, 't> Owning<'a, 't> {
     #[cycle(blocks)]
     fn procedure(
         &self,
-        found: &mut Fields,
+        found: &mut FieldTokens,
         made: &mut Vec<usize>,
         p: &Procedure,
     ) -> Result<(), AllocError>

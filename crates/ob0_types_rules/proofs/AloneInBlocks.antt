@@ -18,11 +18,11 @@ use Rattle.ob0_types_rules.specs.Typing.{constant_value, constructors, denoted}
 use Rattle.ob0_types_rules.specs.WellTyped.{Signature, TypeEnvironment, TypedParameter, bind_names, bind_typed, block_fits, body_fits, declare_typed, heading, some_and, procedure_fits, procedures_fit, section_mode, typed_parameters}
 use Rattle.ob0_types_rules.proofs.Agreeing.{Agree, HoldsOf}
 use Rattle.ob0_types_rules.proofs.EditedDeclarations.{Outside, Worth, constants-edited, outside-right}
-use Rattle.ob0_types_rules.proofs.EditedParts.{all-left, body-worth, constants-worth, first-edited, heading-outside, mark_all, names_of, own-worth, procedures-worth, read-all, rest-worth, types-outside, with_value}
+use Rattle.ob0_types_rules.proofs.EditedParts.{all-left, body-has_value, constants-has_value, first-edited, heading-outside, mark_all, names_of, own-has_value, procedures-has_value, read-all, rest-has_value, types-outside, with_value}
 use Rattle.ob0_types_rules.proofs.EditedTypes.{Checked, LeftTyped, anything, as_signed, bind_typed-all, declarations-edited, parameter_pairs, parameter_pairs-names, parameters-edited, typed-names}
-use Rattle.ob0_types_rules.proofs.Leaves.{Here, Literal, known-value, read-stands_for, read_meanings}
+use Rattle.ob0_types_rules.proofs.Leaves.{Here, Literal, known-value, read-object_for, read_meanings}
 use Rattle.ob0_types_rules.proofs.Literals.{some_inverse}
-use Rattle.ob0_types_rules.proofs.Marks.{Marks, Sound, Sound-weaken, found, found-right, knowns, ordinal-found, read, read_edited, scope_marked, worth-found}
+use Rattle.ob0_types_rules.proofs.Marks.{Marks, Sound, Sound-weaken, found, found-right, knowns, ordinal-found, read, read_edited, scope_marked, has_value-found}
 use Rattle.ob0_types_rules.proofs.TypedElsewhere.{AreConstant, constant_value-elsewhere, denoted-elsewhere, sequence-elsewhere, then_some}
 use Rattle.ob0_types_rules.proofs.TypesByOrdinal.{typed_names}
 use Rattle.std.proofs.lemmas.Bool.{and_parts}
@@ -35,7 +35,7 @@ abbrev pub StandsAlone : ℕ → Placed
 StandsAlone d s j scope t = NoneOf (IsOf d scope) (names_elsewhere t)
 
 pub stands-constant : {V P Q : Type 0} (edit : Edit) (w : Value) (X : Marks V P → Name → ℕ → P → Type 0) (p : ℕ → P → Q) (n : ℕ) (marks : Marks V P) → Sound edit w X n marks → AreConstant (IsOf edit.constant (scope_marked marks)) (read_meanings p marks) w
-stands-constant edit w X p n marks s x k = read-stands_for p marks x ∙ worth-found edit w p (found marks x) (found-right edit w X n marks x s) (sym (ordinal-found marks x) ∙ k)
+stands-constant edit w X p n marks s x k = read-object_for p marks x ∙ has_value-found edit w p (found marks x) (found-right edit w X n marks x s) (sym (ordinal-found marks x) ∙ k)
 
 pub agree-some : {X Y Z : Type 0} (p : X → Y) (q : X → Z) (P : X → Type 0) (r : Option Y) (s : Option Z) → Agree p q P r s → (y : Y) → r ≡ Some y → (x : X) × P x × (p x ≡ y)
 agree-some {X} {Y} p q P r s (a, e, e', holds) y h = go a holds (sym e ∙ h)
@@ -52,20 +52,20 @@ pub alone-constants : {V P Q : Type 0} (edit : Edit) (w : Value) (X : Marks V P 
     → Worth edit w k (after_names k (constant_names cs)) (value_among (knowns marks) edit.constant k cs) → (env : Environment Name V Q) → declare_constants as_names (read p marks) cs ≡ Some env
     → EachConstant (StandsAlone edit.constant) j (scope_marked marks) k cs
 unfolding declare_constants value_among
-alone-constants edit w X p j k marks s seven end worth env h = tt
-alone-constants {V} {P} edit w X p j k marks s seven (more (declares_constant x e) cs) worth env h =
+alone-constants edit w X p j k marks s seven end has_value env h = tt
+alone-constants {V} {P} edit w X p j k marks s seven (more (declares_constant x e) cs) has_value env h =
     let (v, ev, h₁) = then_some (constant_value (read_meanings p marks) e) (λ v. declare_constants as_names ((x, a_constant v) ∷ read p marks) cs) env h in
     let n : ℕ = after_names (suc k) (constant_names cs) in
     let below : suc k ≤ n = le-after_names (suc k) (constant_names cs) in
     let known : constant_value (meanings as_names (knowns marks)) e ≡ Some v = known-value p marks e ∙ ev in
     let choice : Bool → Option Value = λ t. if t then Some v else value_among ((x, a_constant v) ∷ knowns marks) edit.constant (suc k) cs in
     let value : k ≤ edit.constant → edit.constant < n → choice (k == edit.constant) ≡ Some w = λ l m.
-    sym (ap (option_and_then (λ v. if k == edit.constant then Some v else value_among ((x, a_constant v) ∷ knowns marks) edit.constant (suc k) cs)) known) ∙ worth l m in (
+    sym (ap (option_and_then (λ v. if k == edit.constant then Some v else value_among ((x, a_constant v) ∷ knowns marks) edit.constant (suc k) cs)) known) ∙ has_value l m in (
       constant_value-elsewhere (IsOf edit.constant (scope_marked marks)) (read_meanings p marks) w (stands-constant edit w X p k marks s) e v ev,
       alone-constants edit w X p (j + length (occurrences e)) (suc k) (record { name = x; ordinal = k; object = a_constant v } ∷ marks) (
         le_refl (suc k),
         record {
-          worth = λ t. ap a_constant (some_inverse (sym (ap choice (eq-eqb k edit.constant t)) ∙ value (omega (arith, t)) (omega (arith, t, below))));
+          has_value = λ t. ap a_constant (some_inverse (sym (ap choice (eq-eqb k edit.constant t)) ∙ value (omega (arith, t)) (omega (arith, t, below))));
           yes_is = λ t. absurd (omega (arith, t, seven));
           no_is = λ t. absurd (omega (arith, t, seven));
         },
@@ -146,7 +146,7 @@ mutual
   pub alone-block : (edit : Edit) (w : Value) → Literal edit w → (i j k : ℕ) (marks : Marks Shape Signature) → Checked edit w k marks → 7 ≤ k → (b : Tree Name block)
       → EachBlock (Here edit w) j (scope_marked marks) k b → Worth edit w k (after_block k b) (value_in_block (knowns marks) edit.constant k b)
       → block_fits as_names (read as_signed marks) i b ≡ true → EachBlock (StandsAlone edit.constant) j (scope_marked marks) k b
-  alone-block edit w lit i j k marks s seven (has_body (declares cs ts vs ps) statements) here worth h =
+  alone-block edit w lit i j k marks s seven (has_body (declares cs ts vs ps) statements) here has_value h =
       let b : Tree Name block = has_body (declares cs ts vs ps) statements in
       let d : ℕ = edit.constant in
       let jt : ℕ = j + length (occurrences cs) in
@@ -161,24 +161,24 @@ mutual
       let (env₀, e₀, f₀) = constants_first (read as_signed marks) i b env₁ e₁ in
       let (inner₀, left₀, r₀) = agree-some (read as_signed) (read_edited edit as_signed) (LeftTyped edit w (first_type k b) (types_scope k b (scope_marked marks)) (declare_constants as_names (knowns marks) (section_constants cs)))
       (declare_constants as_names (read as_signed marks) (section_constants cs)) (declare_constants as_names (read_edited edit as_signed marks) (edited_constants edit j k (section_constants cs)))
-      (constants-edited edit w lit anything as_signed as_signed j k marks s seven (section_constants cs) here.0 (constants-worth edit w (knowns marks) k b worth)) env₀ e₀ in
+      (constants-edited edit w lit anything as_signed as_signed j k marks s seven (section_constants cs) here.0 (constants-has_value edit w (knowns marks) k b has_value)) env₀ e₀ in
       let (inner₁, left₁, r₁) = agree-some (read as_signed) (read_edited edit as_signed) (LeftTyped edit w (first_variable k b) (variables_scope k b (scope_marked marks)) (option_map (bind_names (named_types (section_types ts)) no_constant) (declare_constants as_names (knowns marks) (section_constants cs))))
       (declare_first as_names (read as_signed marks) i b) (declare_first as_names (read_edited edit as_signed marks) i (edited_block edit j k b))
-      (first-edited edit w lit anything as_signed as_signed i j k marks s seven b here worth) env₁ e₁ in
+      (first-edited edit w lit anything as_signed as_signed i j k marks s seven b here has_value) env₁ e₁ in
       let (inner₂, left₂, r₂) = agree-some (read as_signed) (read_edited edit as_signed)
       (LeftTyped edit w (first_procedure k b) (procedures_scope k b (scope_marked marks)) (option_map (bind_names (variable_names (section_variables vs)) no_constant) (option_map (bind_names (named_types (section_types ts)) no_constant) (declare_constants as_names (knowns marks) (section_constants cs)))))
       (option_and_then (declare_typed as_names (after_types i b) (section_variables vs)) (declare_first as_names (read as_signed marks) i b))
       (option_and_then (declare_typed as_names (after_types i (edited_block edit j k b)) (block_variables (edited_block edit j k b))) (declare_first as_names (read_edited edit as_signed marks) i (edited_block edit j k b)))
-      (declarations-edited edit w lit i j k marks s seven b here worth) env₂ e₂ in
+      (declarations-edited edit w lit i j k marks s seven b here has_value) env₂ e₂ in
       let later = alone-procedures edit w lit (after_variables i b) jp js (first_procedure k b) inner₂ left₂.sound (omega (arith, seven, above, types, variables)) statements ps
-      (subst (λ scope. EachProcedure (Here edit w) jp scope (first_procedure k b) ps) (sym left₂.scoped) here.3) (procedures-worth edit w (knowns marks) (knowns inner₂) k b worth left₂.value)
+      (subst (λ scope. EachProcedure (Here edit w) jp scope (first_procedure k b) ps) (sym left₂.scoped) here.3) (procedures-has_value edit w (knowns marks) (knowns inner₂) k b has_value left₂.value)
       (ap (λ env. procedures_fit as_names env (after_variables i b) statements ps) r₂ ∙ fits) in (
-        alone-constants edit w anything as_signed j k marks s seven (section_constants cs) (constants-worth edit w (knowns marks) k b worth) env₀ e₀,
+        alone-constants edit w anything as_signed j k marks s seven (section_constants cs) (constants-has_value edit w (knowns marks) k b has_value) env₀ e₀,
         subst (λ scope. EachType (StandsAlone d) jt scope (first_type k b) (section_types ts)) left₀.scoped
-            (alone-types edit w anything as_signed i jt (first_type k b) inner₀ left₀.sound (omega (arith, seven, above)) (section_types ts) (λ l m. types-outside edit w (knowns marks) k b worth l (omega (arith, m, variables))) env₁
+            (alone-types edit w anything as_signed i jt (first_type k b) inner₀ left₀.sound (omega (arith, seven, above)) (section_types ts) (λ l m. types-outside edit w (knowns marks) k b has_value l (omega (arith, m, variables))) env₁
             (ap (λ env. declare_types as_names env i (section_types ts)) r₀ ∙ f₀)),
         subst (λ scope. EachVariable (StandsAlone d) jv scope (first_variable k b) (section_variables vs)) left₁.scoped
-            (alone-variables edit w (after_types i b) jv (first_variable k b) inner₁ left₁.sound (omega (arith, seven, above, types)) (section_variables vs) (λ l m. types-outside edit w (knowns marks) k b worth (omega (arith, l, types)) m) env₂
+            (alone-variables edit w (after_types i b) jv (first_variable k b) inner₁ left₁.sound (omega (arith, seven, above, types)) (section_variables vs) (λ l m. types-outside edit w (knowns marks) k b has_value (omega (arith, l, types)) m) env₂
             (ap (declare_typed as_names (after_types i b) (section_variables vs)) r₁ ∙ f₁)),
         subst (λ scope. EachProcedure (StandsAlone d) jp scope (first_procedure k b) ps) left₂.scoped later.0,
         subst (λ scope. NoneOf (IsOf d (declare_procedure_names (first_procedure k b) ps scope)) (names_elsewhere statements)) left₂.scoped later.1,
@@ -188,18 +188,18 @@ mutual
       → EachProcedure (Here edit w) j (scope_marked marks) k ps → Worth edit w k (after_procedures k ps) (value_in_procedures (knowns marks) edit.constant k ps)
       → procedures_fit as_names (read as_signed marks) i statements ps ≡ true
       → EachProcedure (StandsAlone edit.constant) j (scope_marked marks) k ps × NoneOf (IsOf edit.constant (declare_procedure_names k ps (scope_marked marks))) (names_elsewhere statements)
-  alone-procedures edit w lit i j js k marks s seven statements end here worth h = (tt, alone-body edit w k marks s statements h)
-  alone-procedures edit w lit i j js k marks s seven statements (more (declares_procedure x fs b closing) rest) here worth h =
+  alone-procedures edit w lit i j js k marks s seven statements end here has_value h = (tt, alone-body edit w k marks s statements h)
+  alone-procedures edit w lit i j js k marks s seven statements (more (declares_procedure x fs b closing) rest) here has_value h =
       let p : Tree Name (item procedure) = declares_procedure x fs b closing in
       let d : ℕ = edit.constant in
       let jb : ℕ = j + length (occurrences fs) in
       let xs : List Name = formal_names (formal_sections fs) in
       let n : ℕ = after_names (suc k) xs in
       let jr : ℕ = j + length (occurrences p) in
-      let mine : Worth edit w k (after_procedure (suc k) p) (value_in_procedure ((x, no_constant) ∷ knowns marks) edit.constant (suc k) p) = own-worth edit w (knowns marks) k p rest worth in
+      let mine : Worth edit w k (after_procedure (suc k) p) (value_in_procedure ((x, no_constant) ∷ knowns marks) edit.constant (suc k) p) = own-has_value edit w (knowns marks) k p rest has_value in
       let outside : Outside edit k n = heading-outside edit w ((x, no_constant) ∷ knowns marks) k x closing fs b mine in
       let above : suc k ≤ n = le-after_names (suc k) xs in
-      let behind : suc k ≤ after_procedure (suc k) p = le-after_procedure (suc k) p in
+      let following : suc k ≤ after_procedure (suc k) p = le-after_procedure (suc k) p in
       let own : Outside edit k (suc k) = λ l m. outside l (omega (arith, m, above)) in
       let later : Checked edit w (suc k) marks = Sound-weaken edit w anything k (suc k) marks (le_of_lt (le_refl (suc k))) s in
       let outside' : Outside edit (suc k) n = λ l m. outside (omega (arith, l)) m in
@@ -214,15 +214,15 @@ mutual
       let left : LeftTyped edit w n (declare_names (suc k) xs (scope_marked inner)) (Some (bind_names xs no_constant (knowns inner))) (mark_all (suc k) pairs inner) =
       subst (λ ys. LeftTyped edit w (after_names (suc k) ys) (declare_names (suc k) ys (scope_marked inner)) (Some (bind_names ys no_constant (knowns inner))) (mark_all (suc k) pairs inner)) listed_names
       (all-left edit w anything (suc k) pairs inner sound (omega (arith, seven)) (λ l m. outside' l (subst (λ ys. edit.constant < after_names (suc k) ys) listed_names m))) in
-      let last = alone-procedures edit w lit (i + procedure_constructors p) jr js (after_procedure (suc k) p) inner (Sound-weaken edit w anything (suc k) (after_procedure (suc k) p) inner behind sound) (omega (arith, seven, behind)) statements rest
-      here.1 (rest-worth edit w (knowns marks) k p rest worth) both.1 in (
+      let last = alone-procedures edit w lit (i + procedure_constructors p) jr js (after_procedure (suc k) p) inner (Sound-weaken edit w anything (suc k) (after_procedure (suc k) p) inner following sound) (omega (arith, seven, following)) statements rest
+      here.1 (rest-has_value edit w (knowns marks) k p rest has_value) both.1 in (
         (
           (
             alone-sections edit w i j (suc k) marks later (omega (arith, seven)) (formal_sections fs) outside' ps e,
             subst (λ scope. EachBlock (StandsAlone d) jb scope n b) left.scoped
                 (alone-block edit w lit (i + formals_constructors (formal_sections fs)) jb n (mark_all (suc k) pairs inner) left.sound (omega (arith, seven, above)) b
                 (subst (λ scope. EachBlock (Here edit w) jb scope n b) (sym left.scoped) here.0.1)
-                (subst (λ known. Worth edit w n (after_block n b) (value_in_block known edit.constant n b)) (some_inverse left.value) (body-worth edit w ((x, no_constant) ∷ knowns marks) k x closing fs b mine))
+                (subst (λ known. Worth edit w n (after_block n b) (value_in_block known edit.constant n b)) (some_inverse left.value) (body-has_value edit w ((x, no_constant) ∷ knowns marks) k x closing fs b mine))
                 (sym (ap (λ env. block_fits as_names env (i + formals_constructors (formal_sections fs)) b) (bind_typed-all ps (heading x ps (read as_signed marks)) ∙ read-all as_signed (suc k) pairs inner)) ∙ both.0)),
           ),
           last.0,

@@ -16,7 +16,7 @@ then-goes o next a b e h = ap (λ o. o >>= next) e ∙ h
 -- the meanings of a run have the constants
 abbrev pub HasConstants : {N V P Q : Type 0} → Meanings N V P → Meanings N Place Q → Type 0
 HasConstants {N} checked active =
-    ((x : N) → checked.written x ≡ active.written x) × ((x : N) (w : Value) → constant_of (checked.stands_for x) ≡ Some w → constant_of (active.stands_for x) ≡ Some w)
+    ((x : N) → checked.written x ≡ active.written x) × ((x : N) (w : Value) → constant_of (checked.object_for x) ≡ Some w → constant_of (active.object_for x) ≡ Some w)
 
 pub constant-value_of : {P : Type 0} (store : Store) (o : Option (Object Place P)) (w : Value) → constant_of o ≡ Some w → value_of store o ≡ gives w
 constant-value_of store None w h = absurd (cc)
@@ -85,9 +85,9 @@ mutual
   pub evaluate_factor-held : {N V P Q : Type 0} (checked : Meanings N V P) (active : Meanings N Place Q) (store : Store) → HasConstants checked active → (a : Tree N factor) (v : Value)
       → evaluate_factor {P = Unit {0}} (constants_only checked) [] a ≡ gives v → evaluate_factor active store a ≡ gives v
   evaluate_factor-held checked active store has (designator x path) v h =
-      let (w, ew, h₁) = then-gives (value_of {P = Unit {0}} [] ((constants_only checked).stands_for x)) (λ w. follow {P = Unit {0}} (constants_only checked) [] w path >>= (λ steps. or_stuck (at_path steps w))) v h in
+      let (w, ew, h₁) = then-gives (value_of {P = Unit {0}} [] ((constants_only checked).object_for x)) (λ w. follow {P = Unit {0}} (constants_only checked) [] w path >>= (λ steps. or_stuck (at_path steps w))) v h in
       let (steps, es, h₂) = then-gives (follow {P = Unit {0}} (constants_only checked) [] w path) (λ steps. or_stuck (at_path steps w)) v h₁ in
-      then-goes (value_of store (active.stands_for x)) (λ w. follow active store w path >>= (λ steps. or_stuck (at_path steps w))) w v (constant-value_of store (active.stands_for x) w (has.1 x w (only_constant (constant_of (checked.stands_for x)) w ew)))
+      then-goes (value_of store (active.object_for x)) (λ w. follow active store w path >>= (λ steps. or_stuck (at_path steps w))) w v (constant-value_of store (active.object_for x) w (has.1 x w (only_constant (constant_of (checked.object_for x)) w ew)))
       (then-goes (follow active store w path) (λ steps. or_stuck (at_path steps w)) steps v (follow-held checked active store has w path steps es) h₂)
   evaluate_factor-held checked active store has (integer n) v h = h
   evaluate_factor-held checked active store has (parenthesised e) v h = evaluate-held checked active store has e v h

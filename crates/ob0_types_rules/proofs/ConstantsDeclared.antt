@@ -26,8 +26,8 @@ use Rattle.ob0_types_rules.proofs.TypedElsewhere.{then_some}
 use Rattle.ob0_types_rules.proofs.TypeNaturality.{constant_value-map}
 use Rattle.ob0_types_rules.proofs.TypesByOrdinal.{TypeNoted, TypedBelow, TypedBelow-weaken, TypedWithin, bind_names-by_ordinal, bind_typed-by_ordinal, label_typed, label_typed-formals, noted_names, noted_parameters, parameters_typed, typed_by_name, typed_by_ordinal, typed_label, typed_meanings-agree, typed_names, typed_outermost, typed_scope}
 
-abbrev pub worth : TypeEnvironment Label → ℕ → Option Value
-worth env d = constant_of (object_bound env d)
+abbrev pub has_value : TypeEnvironment Label → ℕ → Option Value
+has_value env d = constant_of (object_bound env d)
 
 -- bindings of ordinals from k on and below n alone
 abbrev pub Binds : ℕ → ℕ → TypeEnvironment Label → Type 0
@@ -68,11 +68,11 @@ plain-append : (xs ys : TypeEnvironment Label) → AllPlain xs → AllPlain ys �
 plain-append [] ys a b = b
 plain-append (x ∷ xs) ys a b = (a.0, plain-append xs ys a.1 b)
 
-plain-worth : (env : TypeEnvironment Label) (d : ℕ) → AllPlain env → worth env d ≡ None
-plain-worth [] d a = refl
-plain-worth ((x, o) ∷ env) d a =
+plain-has_value : (env : TypeEnvironment Label) (d : ℕ) → AllPlain env → has_value env d ≡ None
+plain-has_value [] d a = refl
+plain-has_value ((x, o) ∷ env) d a =
     ap constant_of (newest-if (same_label (declared d) x) x o env (from_binding as_labels env (declared d)))
-    ∙ (elim (same_label (declared d) x) as (λ t. constant_of (cond t (Some o) (object_bound env d)) ≡ None) [ true ↦ a.0 | false ↦ plain-worth env d a.1 ])
+    ∙ (elim (same_label (declared d) x) as (λ t. constant_of (cond t (Some o) (object_bound env d)) ≡ None) [ true ↦ a.0 | false ↦ plain-has_value env d a.1 ])
 
 -- the same constants are known
 abbrev pub Knows : Known → TypeNoted Name → Type 0
@@ -83,9 +83,9 @@ knows-more known noted x k o p e knows = λ y.
     elim (same_name y x) as (λ v. constant_of (newest (elim v [ true ↦ (x, o) ∷ known | false ↦ from_binding as_names known y ])) ≡ constant_of (newest (elim v [ true ↦ typed_by_name (record { name = x; ordinal = k; object = p } ∷ noted) | false ↦ from_binding as_names (typed_by_name noted) y ])))
     [ true ↦ e | false ↦ knows y ]
 
-known-worth : (known : Known) (noted : TypeNoted Name) (k : ℕ) → Knows known noted → TypedBelow k noted → (e : Tree Name expression)
+known-has_value : (known : Known) (noted : TypeNoted Name) (k : ℕ) → Knows known noted → TypedBelow k noted → (e : Tree Name expression)
     → constant_value (meanings as_labels (typed_by_ordinal noted)) (relabel_uses as_names (as_label as_names) (typed_scope noted) e) ≡ constant_value (meanings as_names known) e
-known-worth known noted k knows below e =
+known-has_value known noted k knows below e =
     constant_value-map (typed_label as_names noted) (as_label as_names None) (meanings as_labels (typed_by_ordinal noted)) (meanings as_names known) e
     (λ x. ap constant_of (typed_meanings-agree as_names k noted below x) ∙ sym (knows x)) (λ x. refl)
 
@@ -100,7 +100,7 @@ pub record Constants (known : Known) (noted : TypeNoted Name) (k : ℕ) (cs : Tr
   pub known_after : Known
   pub known_is : declare_constants as_names known cs ≡ Some known_after
   pub knows : Knows known_after after
-  pub worth_is : (d : ℕ) → k ≤ d → d < after_names k (constant_names cs) → value_among known d k cs ≡ worth bound d
+  pub has_value_is : (d : ℕ) → k ≤ d → d < after_names k (constant_names cs) → value_among known d k cs ≡ has_value bound d
 
 constants-bound : (known : Known) (noted : TypeNoted Name) (k : ℕ) → Knows known noted → TypedBelow k noted → (cs : Tree Name (items constant)) (env : TypeEnvironment Label)
     → declare_constants as_labels (typed_by_ordinal noted) (relabel_constants as_names (as_label as_names) (typed_scope noted) k cs) ≡ Some env → Constants known noted k cs env
@@ -116,38 +116,38 @@ constants-bound known noted k knows below end env h =
       known_after = known;
       known_is = refl;
       knows = knows;
-      worth_is = λ d l m. absurd (omega (arith, l, m));
+      has_value_is = λ d l m. absurd (omega (arith, l, m));
     }
 constants-bound known noted k knows below (more (declares_constant x e) cs) env h =
     let found = then_some (constant_value (meanings as_labels (typed_by_ordinal noted)) (relabel_uses as_names (as_label as_names) (typed_scope noted) e))
     (λ v. declare_constants as_labels ((declared k, a_constant v) ∷ typed_by_ordinal noted) (relabel_constants as_names (as_label as_names) ((x, k) ∷ typed_scope noted) (suc k) cs)) env h in
     let v : Value = found.0 in
     let n : ℕ = after_names (suc k) (constant_names cs) in
-    let behind : suc k ≤ n = le-after_names (suc k) (constant_names cs) in
+    let following : suc k ≤ n = le-after_names (suc k) (constant_names cs) in
     let last : TypeEnvironment Label = (declared k, a_constant v) ∷ [] in
     let known' : Known = (x, a_constant v) ∷ known in
     let r = constants-bound known' (record { name = x; ordinal = k; object = a_constant v } ∷ noted) (suc k) (knows-more known noted x k (a_constant v) (a_constant v) refl knows) (le_refl (suc k), below) cs env found.2 in
-    let value : constant_value (meanings as_names known) e ≡ Some v = sym (known-worth known noted k knows below e) ∙ found.1 in
+    let value : constant_value (meanings as_names known) e ≡ Some v = sym (known-has_value known noted k knows below e) ∙ found.1 in
     let choice : ℕ → Bool → Option Value = λ d t. if t then Some v else value_among known' d (suc k) cs in
     let own : Binds k (suc k) last = ((k, refl, le_refl k, le_refl (suc k)), tt) in
-    let chosen : (d : ℕ) → k ≤ d → d < n → (t : Bool) → (k == d) ≡ t → choice d t ≡ worth (r.bound ++ last) d =
-    λ d l m t. elim t as (λ t. (k == d) ≡ t → choice d t ≡ worth (r.bound ++ last) d) [
+    let chosen : (d : ℕ) → k ≤ d → d < n → (t : Bool) → (k == d) ≡ t → choice d t ≡ has_value (r.bound ++ last) d =
+    λ d l m t. elim t as (λ t. (k == d) ≡ t → choice d t ≡ has_value (r.bound ++ last) d) [
       | true ↦ λ same. sym (ap constant_of (bound-elsewhere (suc k) n d r.bound last r.binds (λ p q. omega (arith, p, eqb-true k d same))
           ∙ newest-if (d == k) (declared k) (a_constant v) [] [] ∙ ap (λ t. cond t (Some (a_constant v)) None) (eq-eqb d k (sym (eqb-true k d same)))))
       | false ↦ λ other. let differ : k ≡ d → ⊥ = λ e. true≢false (sym (eq-eqb k d e) ∙ other) in
-          r.worth_is d (omega (arith, l, differ)) m ∙ sym (ap constant_of (bound-first k (suc k) d r.bound last own (λ p q. differ (omega (arith, p, q)))))
+          r.has_value_is d (omega (arith, l, differ)) m ∙ sym (ap constant_of (bound-first k (suc k) d r.bound last own (λ p q. differ (omega (arith, p, q)))))
     ] in
     record {
       bound = r.bound ++ last;
       front = r.front ∙ sym (append_assoc r.bound last (typed_by_ordinal noted));
-      binds = binds-append k n r.bound last (binds-wider (suc k) n k n r.bound (le_of_lt (le_refl (suc k))) (le_refl n) r.binds) (binds-wider k (suc k) k n last (le_refl k) behind own);
+      binds = binds-append k n r.bound last (binds-wider (suc k) n k n r.bound (le_of_lt (le_refl (suc k))) (le_refl n) r.binds) (binds-wider k (suc k) k n last (le_refl k) following own);
       after = r.after;
       reads = r.reads;
       within = r.within;
       known_after = r.known_after;
       known_is = ap (option_and_then (λ w. declare_constants as_names ((x, a_constant w) ∷ known) cs)) value ∙ r.known_is;
       knows = r.knows;
-      worth_is = λ d l m. ap (option_and_then (λ w. if k == d then Some w else value_among ((x, a_constant w) ∷ known) d (suc k) cs)) value ∙ chosen d l m (k == d) refl;
+      has_value_is = λ d l m. ap (option_and_then (λ w. if k == d then Some w else value_among ((x, a_constant w) ∷ known) d (suc k) cs)) value ∙ chosen d l m (k == d) refl;
     }
 
 -- names that mean no constant
@@ -261,7 +261,7 @@ held (Some a) test h = (a, refl, h)
 -- bindings that hold the values of constants, ordinal by ordinal
 pub record Worths (k n : ℕ) (value : ℕ → Option Value) (bindings : TypeEnvironment Label) : Type 0 where
   pub binds : Binds k n bindings
-  pub worth_is : (d : ℕ) → k ≤ d → value d ≡ worth bindings d
+  pub has_value_is : (d : ℕ) → k ≤ d → value d ≡ has_value bindings d
 
 -- a choice by whether an ordinal is below a bound
 below-or : (d n : ℕ) (x y : Option Value) (z : Option Value) → (d < n → x ≡ z) → (n ≤ d → y ≡ z) → (if nat_lt d n then x else y) ≡ z
@@ -406,14 +406,14 @@ block-values known noted k (has_body (declares cs ts vs ps) statements) inner P 
     let own_binds : Binds k kp own = opened-binds known noted k b inner o in
     record {
       binds = binds-append k n P own (binds-wider kp n k n P (omega (arith, first, second)) (le_refl n) p.binds) (binds-wider k kp k n own (le_refl k) third own_binds);
-      worth_is = λ d l.
+      has_value_is = λ d l.
           below-or d kt (value_among known d k (section_constants cs))
           (if nat_lt d kp then None else option_and_then (λ inner. value_in_procedures (bind_names names no_constant inner) d kp ps) (declare_constants as_names known (section_constants cs)))
-          (worth (P ++ own) d)
-          (λ m. o.constants.worth_is d l m ∙ sym (ap constant_of (bound-elsewhere kp n d P own p.binds (λ a z. omega (arith, a, m, second)) ∙ bound-elsewhere kt kp d w c plain_binds (λ a z. omega (arith, a, m)))))
-          (λ m. below-or d kp None (option_and_then (λ inner. value_in_procedures (bind_names names no_constant inner) d kp ps) (declare_constants as_names known (section_constants cs))) (worth (P ++ own) d)
-          (λ z. sym (ap constant_of (bound-elsewhere kp n d P own p.binds (λ a y. omega (arith, a, z)) ∙ bound-first k kt d w c o.constants.binds (λ a y. omega (arith, m, y))) ∙ plain-worth w d o.others.plain))
-          (λ z. ap (option_and_then (λ inner. value_in_procedures (bind_names names no_constant inner) d kp ps)) o.constants.known_is ∙ p.worth_is d z ∙ sym (ap constant_of (bound-first k kp d P own own_binds (λ a y. omega (arith, z, y))))));
+          (has_value (P ++ own) d)
+          (λ m. o.constants.has_value_is d l m ∙ sym (ap constant_of (bound-elsewhere kp n d P own p.binds (λ a z. omega (arith, a, m, second)) ∙ bound-elsewhere kt kp d w c plain_binds (λ a z. omega (arith, a, m)))))
+          (λ m. below-or d kp None (option_and_then (λ inner. value_in_procedures (bind_names names no_constant inner) d kp ps) (declare_constants as_names known (section_constants cs))) (has_value (P ++ own) d)
+          (λ z. sym (ap constant_of (bound-elsewhere kp n d P own p.binds (λ a y. omega (arith, a, z)) ∙ bound-first k kt d w c o.constants.binds (λ a y. omega (arith, m, y))) ∙ plain-has_value w d o.others.plain))
+          (λ z. ap (option_and_then (λ inner. value_in_procedures (bind_names names no_constant inner) d kp ps)) o.constants.known_is ∙ p.has_value_is d z ∙ sym (ap constant_of (bound-first k kp d P own own_binds (λ a y. omega (arith, z, y))))));
     }
 
 -- a procedure's name and parameters
@@ -484,21 +484,21 @@ procedure-values known k x closing fs b rest B H R inside_block binds plain late
     let above : suc k ≤ m = le-after_names (suc k) xs in
     let inside : m ≤ q = le-after_block m b in
     let last : q ≤ n = le-after_procedures q rest in
-    let behind : k ≤ q = omega (arith, above, inside) in
+    let following : k ≤ q = omega (arith, above, inside) in
     let one_binds : Binds k q Q = binds-append k q B H (binds-wider m q k q B (omega (arith, above)) (le_refl q) inside_block.binds) (binds-wider k m k q H (le_refl k) inside binds) in
     record {
-      binds = binds-append k n R Q (binds-wider q n k n R behind (le_refl n) later.binds) (binds-wider k q k n Q (le_refl k) last one_binds);
-      worth_is = λ d l.
-          below-or d q (value_in_procedure known' d (suc k) p) (value_in_procedures known' d q rest) (worth (R ++ Q) d)
-          (λ u. below-or d m None (value_in_block (bind_names xs no_constant known') d m b) (worth (R ++ Q) d)
-          (λ z. sym (ap constant_of (bound-elsewhere q n d R Q later.binds (λ a y. omega (arith, a, u)) ∙ bound-elsewhere m q d B H inside_block.binds (λ a y. omega (arith, a, z))) ∙ plain-worth H d plain))
-          (λ z. inside_block.worth_is d z ∙ sym (ap constant_of (bound-elsewhere q n d R Q later.binds (λ a y. omega (arith, a, u)) ∙ bound-first k m d B H binds (λ a y. omega (arith, z, y))))))
-          (λ u. later.worth_is d u ∙ sym (ap constant_of (bound-first k q d R Q one_binds (λ a y. omega (arith, u, y)))));
+      binds = binds-append k n R Q (binds-wider q n k n R following (le_refl n) later.binds) (binds-wider k q k n Q (le_refl k) last one_binds);
+      has_value_is = λ d l.
+          below-or d q (value_in_procedure known' d (suc k) p) (value_in_procedures known' d q rest) (has_value (R ++ Q) d)
+          (λ u. below-or d m None (value_in_block (bind_names xs no_constant known') d m b) (has_value (R ++ Q) d)
+          (λ z. sym (ap constant_of (bound-elsewhere q n d R Q later.binds (λ a y. omega (arith, a, u)) ∙ bound-elsewhere m q d B H inside_block.binds (λ a y. omega (arith, a, z))) ∙ plain-has_value H d plain))
+          (λ z. inside_block.has_value_is d z ∙ sym (ap constant_of (bound-elsewhere q n d R Q later.binds (λ a y. omega (arith, a, u)) ∙ bound-first k m d B H binds (λ a y. omega (arith, z, y))))))
+          (λ u. later.has_value_is d u ∙ sym (ap constant_of (bound-first k q d R Q one_binds (λ a y. omega (arith, u, y)))));
     }
 
 no-procedures : (known : Known) (noted : TypeNoted Name) (j k : ℕ) → Worths k k (λ d. value_in_procedures known d k end) (procedures_bindings as_labels (typed_by_ordinal noted) j end)
 unfolding value_in_block block_bindings
-no-procedures known noted j k = record { binds = tt; worth_is = λ d l. refl }
+no-procedures known noted j k = record { binds = tt; has_value_is = λ d l. refl }
 
 mutual
   pub block-worths : (known : Known) (noted : TypeNoted Name) (j k : ℕ) → Knows known noted → TypedBelow k noted → (b : Tree Name block)
@@ -571,7 +571,7 @@ module-worths : (m : Tree Name module_text) → fits_over as_labels (numbered m)
 unfolding fits_over all_known
 module-worths (is_module x b closing) h d l =
     let w = block-worths predeclared_known (typed_outermost as_names) 0 7 (knows-all (typed_outermost as_names)) predeclared-below b h in
-    w.worth_is d l ∙ sym (ap constant_of (bound-first 0 7 d (block_bindings as_labels (outermost as_labels) 0 (relabel_block as_names (as_label as_names) (typed_scope (typed_outermost as_names)) 7 b)) (outermost as_labels) outermost-binds (λ a z. omega (arith, l, z))))
+    w.has_value_is d l ∙ sym (ap constant_of (bound-first 0 7 d (block_bindings as_labels (outermost as_labels) 0 (relabel_block as_names (as_label as_names) (typed_scope (typed_outermost as_names)) 7 b)) (outermost as_labels) outermost-binds (λ a z. omega (arith, l, z))))
 
 -- in a well-typed module a constant evaluates to what its declaration is bound to
 pub predeclared-none : (m : Tree Name module_text) (d : ℕ) → d < 7 → None ≡ value_of_constant m d

@@ -18,10 +18,10 @@ uses-map uses P Q f k (x ∷ xs) u = (λ e. f x (u.0 e), uses-map uses P Q f (su
 -- what is known of a literal in constant expressions
 pub record ConstantWritten {V P : Type 0} (meaning : Meanings Name V P) (v : Tree Name factor) (w : Value) : Type 0 where
   pub typed : type_of_factor {P = Unit {0}} (constants_only meaning) v ≡ value_type w
-  pub worth : evaluate_factor {P = Unit {0}} (constants_only meaning) [] v ≡ gives w
+  pub has_value : evaluate_factor {P = Unit {0}} (constants_only meaning) [] v ≡ gives w
 
 abbrev pub StandsFor : {V P : Type 0} → Meanings Name V P → Value → Name → Type 0
-StandsFor meaning w x = meaning.stands_for x ≡ Some (a_constant w)
+StandsFor meaning w x = meaning.object_for x ≡ Some (a_constant w)
 
 pub constant_value-written : {V P : Type 0} (meaning : Meanings Name V P) (uses : Uses) (v : Tree Name factor) (w : Value) → ConstantWritten meaning v w → (k : ℕ) (e : Tree Name expression) → UsesAre uses (StandsFor meaning w) k (occurrences e)
     → constant_value meaning (inline_in uses v k e) ≡ constant_value meaning e
@@ -29,7 +29,7 @@ unfolding constant_value
 constant_value-written {V} {P} meaning uses v w h k e u =
     let u₁ : UsesAre uses (StandsFor {V = Shape} {P = Unit {0}} (constants_only meaning) w) k (occurrences e) = uses-map uses (StandsFor meaning w) (StandsFor (constants_only meaning) w) (λ x e. ap (λ o. option_map a_constant (constant_of o)) e) k (occurrences e) u in
     let u₂ : UsesAre uses (StandsFor {V = Place} {P = Unit {0}} (constants_only meaning) w) k (occurrences e) = uses-map uses (StandsFor meaning w) (StandsFor (constants_only meaning) w) (λ x e. ap (λ o. option_map a_constant (constant_of o)) e) k (occurrences e) u in
-    λ i. option_and_then (λ s. given_value (evaluate-inlined {P = Unit {0}} (constants_only meaning) [] uses v w record { worth = h.worth } k e u₂ i))
+    λ i. option_and_then (λ s. given_value (evaluate-inlined {P = Unit {0}} (constants_only meaning) [] uses v w record { has_value = h.has_value } k e u₂ i))
     (type_of-inlined {P = Unit {0}} (constants_only meaning) uses v w record { typed = h.typed } k e u₁ i)
 
 mutual

@@ -41,7 +41,7 @@ Worth edit w k n o = k ≤ edit.constant → edit.constant < n → o ≡ Some w
 
 pub outside-right : {V P : Type 0} (edit : Edit) (w : Value) (x : Name) (k : ℕ) (o : Object V P) → 7 ≤ k → Outside edit k (suc k) → IsRight {V = V} {P = P} edit w record { name = x; ordinal = k; object = o }
 outside-right edit w x k o seven outside = record {
-  worth = λ e. absurd (outside (omega (arith, e)) (omega (arith, e)));
+  has_value = λ e. absurd (outside (omega (arith, e)) (omega (arith, e)));
   yes_is = λ e. absurd (omega (arith, e, seven));
   no_is = λ e. absurd (omega (arith, e, seven));
 }
@@ -62,17 +62,17 @@ constants-tail : {V P Q : Type 0} (edit : Edit) (w : Value) (X : Marks V P → N
     → Agree (read p) (read_edited edit q) (Left edit w X (after_names (suc k) (constant_names cs)) (declare_names (suc k) (constant_names cs) ((x, k) ∷ scope_marked marks)) (declare_constants as_names (knowns marks) (more (declares_constant x e) cs)))
     (declare_constants as_names ((x, a_constant v) ∷ read p marks) cs) (declare_constants as_names (read_edited edit q (record { name = x; ordinal = k; object = a_constant v } ∷ marks)) cs')
 unfolding declare_constants value_among
-constants-tail {V} {P} {Q} edit w X p q k marks s seven x e cs cs' worth next v known =
+constants-tail {V} {P} {Q} edit w X p q k marks s seven x e cs cs' has_value next v known =
     let n : ℕ = after_names (suc k) (constant_names cs) in
     let below : suc k ≤ n = le-after_names (suc k) (constant_names cs) in
     let b : Mark V P = record { name = x; ordinal = k; object = a_constant v } in
     let choice : Bool → Option Value = λ t. if t then Some v else value_among ((x, a_constant v) ∷ knowns marks) edit.constant (suc k) cs in
     let value : k ≤ edit.constant → edit.constant < n → choice (k == edit.constant) ≡ Some w = λ l m.
-    sym (ap (option_and_then (λ v. if k == edit.constant then Some v else value_among ((x, a_constant v) ∷ knowns marks) edit.constant (suc k) cs)) known) ∙ worth l m in
+    sym (ap (option_and_then (λ v. if k == edit.constant then Some v else value_among ((x, a_constant v) ∷ knowns marks) edit.constant (suc k) cs)) known) ∙ has_value l m in
     subst (λ o. Agree (read p) (read_edited edit q) (Left edit w X n (declare_names (suc k) (constant_names cs) ((x, k) ∷ scope_marked marks)) (option_and_then (λ v. declare_constants as_names ((x, a_constant v) ∷ knowns marks) cs) o))
     (declare_constants as_names ((x, a_constant v) ∷ read p marks) cs) (declare_constants as_names (read_edited edit q (b ∷ marks)) cs')) (sym known)
     (next b record {
-      worth = λ t. ap a_constant (some_inverse (sym (ap choice (eq-eqb k edit.constant t)) ∙ value (omega (arith, t)) (omega (arith, t, below))));
+      has_value = λ t. ap a_constant (some_inverse (sym (ap choice (eq-eqb k edit.constant t)) ∙ value (omega (arith, t)) (omega (arith, t, below))));
       yes_is = λ t. absurd (omega (arith, t, seven));
       no_is = λ t. absurd (omega (arith, t, seven));
     } refl tt refl (λ l m. sym (ap choice (ne_eqb k edit.constant (λ t. omega (arith, t, l)))) ∙ value (omega (arith, l)) m))
@@ -90,21 +90,21 @@ pub constants-edited : {V P Q : Type 0} (edit : Edit) (w : Value) → Literal ed
     → Agree (read p) (read_edited edit q) (Left edit w X (after_names k (constant_names cs)) (declare_names k (constant_names cs) (scope_marked marks)) (declare_constants as_names (knowns marks) cs))
     (declare_constants as_names (read p marks) cs) (declare_constants as_names (read_edited edit q marks) (edited_constants edit j k cs))
 unfolding declare_constants
-constants-edited edit w lit X p q j k marks s seven end here worth = (Some marks, refl, refl, record { scoped = refl; sound = s; value = refl })
-constants-edited {V} {P} {Q} edit w lit X p q j k marks s seven (more (declares_constant x e) cs) here worth =
+constants-edited edit w lit X p q j k marks s seven end here has_value = (Some marks, refl, refl, record { scoped = refl; sound = s; value = refl })
+constants-edited {V} {P} {Q} edit w lit X p q j k marks s seven (more (declares_constant x e) cs) here has_value =
     let n : ℕ = after_names (suc k) (constant_names cs) in
     let cs' : Tree Name (items constant) = edited_constants edit (j + length (occurrences e)) (suc k) cs in
     let Result : Marks V P → Type 0 = Left edit w X n (declare_names (suc k) (constant_names cs) ((x, k) ∷ scope_marked marks)) (declare_constants as_names (knowns marks) (more (declares_constant x e) cs)) in
     let before : Option Value = constant_value (read_meanings p marks) e in
     let tail : (v : Value) → constant_value (meanings as_names (knowns marks)) e ≡ Some v → Agree (read p) (read_edited edit q) Result (declare_constants as_names ((x, a_constant v) ∷ read p marks) cs) (declare_constants as_names (read_edited edit q (record { name = x; ordinal = k; object = a_constant v } ∷ marks)) cs') =
-    constants-tail edit w X p q k marks s seven x e cs cs' worth
+    constants-tail edit w X p q k marks s seven x e cs cs' has_value
     (λ b right ordinal proc named w'. constants-edited edit w lit X p q (j + length (occurrences e)) (suc k) (b ∷ marks) (omega (arith, ordinal), right, proc, Sound-weaken edit w X k b.ordinal marks (omega (arith, ordinal)) s) (omega (arith, seven)) cs
     (subst₂ (λ y m. EachConstant (Here edit w) (j + length (occurrences e)) ((y, m) ∷ scope_marked marks) (suc k) cs) (sym named) (sym ordinal) here.1) w') in
     (elim (is_left edit k) as (λ t. is_left edit k ≡ t → Agree (read p) (read_edited edit q) Result (option_and_then (λ v. declare_constants as_names ((x, a_constant v) ∷ read p marks) cs) before)
     (declare_constants as_names (read_edited edit q marks) (if t then cs' else more (declares_constant x (leaf edit j e)) cs'))) [
       | true ↦ λ l.
           let d : k ≡ edit.constant = eqb-true k edit.constant (and_parts edit.gone (k == edit.constant) l).1 in
-          let v = value-known (knowns marks) edit.constant k x e cs w (worth (omega (arith, d)) (omega (arith, d, le-after_names (suc k) (constant_names cs)))) in
+          let v = value-known (knowns marks) edit.constant k x e cs w (has_value (omega (arith, d)) (omega (arith, d, le-after_names (suc k) (constant_names cs)))) in
           subst₂ (λ o env. Agree (read p) (read_edited edit q) Result (option_and_then (λ v. declare_constants as_names ((x, a_constant v) ∷ read p marks) cs) o) (declare_constants as_names env cs'))
           (sym v.1 ∙ known-value p marks e) (ap (λ t. if t then read_edited edit q marks else (x, a_constant v.0) ∷ read_edited edit q marks) l) (tail v.0 v.1)
       | false ↦ λ l. agree-known (read p) (read_edited edit q) Result (λ v. declare_constants as_names ((x, a_constant v) ∷ read p marks) cs) (λ v. declare_constants as_names ((x, a_constant v) ∷ read_edited edit q marks) cs')

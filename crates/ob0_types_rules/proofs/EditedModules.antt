@@ -29,7 +29,7 @@ marked_outermost =
     ∷ record { name = predeclared_name 1; ordinal = 1; object = a_type boolean_shape } ∷ record { name = predeclared_name 0; ordinal = 0; object = a_type integer_shape } ∷ []
 
 predeclared-right : {V P : Type 0} (edit : Edit) (w : Value) (x : Name) (k : ℕ) (o : Object V P) → 7 ≤ edit.constant → k < 7 → (k ≡ 2 → o ≡ a_constant (truth true)) → (k ≡ 3 → o ≡ a_constant (truth false)) → IsRight {V = V} {P = P} edit w record { name = x; ordinal = k; object = o }
-predeclared-right edit w x k o seven low yes_holds no_holds = record { worth = λ e. absurd (omega (arith, e, seven, low)); yes_is = yes_holds; no_is = no_holds }
+predeclared-right edit w x k o seven low yes_holds no_holds = record { has_value = λ e. absurd (omega (arith, e, seven, low)); yes_is = yes_holds; no_is = no_holds }
 
 pub outermost-sound : {V P : Type 0} (edit : Edit) (w : Value) (X : Marks V P → Name → ℕ → P → Type 0) → 7 ≤ edit.constant → Sound edit w X 7 (marked_outermost {V = V} {P = P})
 outermost-sound edit w X seven = (
@@ -76,14 +76,14 @@ read_edited-below edit w X q n (b ∷ marks) s h =
 pub record IsFitted (edit : Edit) (w : Value) (m : Tree Name module_text) : Type 0 where
   pub literal : Literal edit w
   pub here : EachBlock (Here edit w) 0 (predeclared_scope as_names) 7 (module_block m)
-  pub worth : value_in_block predeclared_known edit.constant 7 (module_block m) ≡ Some w
+  pub has_value : value_in_block predeclared_known edit.constant 7 (module_block m) ≡ Some w
 
 pub fits-edited : (edit : Edit) (w : Value) (m : Tree Name module_text) → IsFitted edit w m → fits_over as_names (edited edit m) ≡ fits_over as_names m
 unfolding fits_over
 fits-edited edit w (is_module x b closing) h =
     let sound : Checked edit w 7 marked_outermost = outermost-sound edit w anything h.literal.ordinal in
     ap (λ env. block_fits as_names env 0 (edited_block edit 0 7 b)) (sym (read_edited-below edit w anything as_signed 7 marked_outermost sound h.literal.ordinal))
-    ∙ block_fits-edited edit w h.literal 0 0 7 marked_outermost sound (le_refl 7) b h.here (λ l m. h.worth)
+    ∙ block_fits-edited edit w h.literal 0 0 7 marked_outermost sound (le_refl 7) b h.here (λ l m. h.has_value)
 
 pub well_typed-edited : (edit : Edit) (w : Value) (m : Tree Name module_text) → IsFitted edit w m → WellTyped m → WellTyped (edited edit m)
 unfolding WellTyped
@@ -160,7 +160,7 @@ written-fitted (is_module x b closing) d w v uses c u =
           0 (predeclared_scope as_names) 7 b
           (all-at (IsBound uses d) 0 (occurrences (relabelled as_names (as_label as_names) m)) (λ i l e t. sym (ap (option_and_then label_ordinal) e) ∙ u.bound i (ap uses (sym (zero-add i)) ∙ t)))
           (all-shown m w uses u.seen);
-      worth = seven.1;
+      has_value = seven.1;
     }
   where
     all-stay : (scope : Scope Name) (xs : List Name) → AllStay (writing uses v d) scope xs
@@ -191,7 +191,7 @@ left-fitted (is_module x b closing) d w v c u =
       here = each-block as_names as_names (IsOther d) (IsOther d) (Here (leaving_out v d) w)
           (λ s j scope t both. (no_writes j scope (occurrences t), subst (λ a. AllStay (leaving_out v d) scope (occurrences a)) (sym (leaf-kept v j t)) (all_others j scope (occurrences t) both)))
           0 (predeclared_scope as_names) 7 b others others;
-      worth = seven.1;
+      has_value = seven.1;
     }
   where
     no_writes : (j : ℕ) (scope : Scope Name) (xs : List Name) → Each (Writes (leaving_out v d) w) j scope xs

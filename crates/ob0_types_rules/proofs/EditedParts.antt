@@ -167,39 +167,39 @@ first_procedure-below k (has_body (declares cs ts vs ps) statements) = le-after_
 pub types-below : (k : ℕ) (b : Tree Name block) → first_type k b ≤ first_procedure k b
 types-below k b = le_trans (le-after_names (first_type k b) (named_types (block_types b))) (le-after_names (first_variable k b) (variable_names (block_variables b)))
 
-pub constants-worth : (edit : Edit) (w : Value) (known : Known) (k : ℕ) (b : Tree Name block) → Worth edit w k (after_block k b) (value_in_block known edit.constant k b)
+pub constants-has_value : (edit : Edit) (w : Value) (known : Known) (k : ℕ) (b : Tree Name block) → Worth edit w k (after_block k b) (value_in_block known edit.constant k b)
     → Worth edit w k (first_type k b) (value_among known edit.constant k (block_constants b))
 unfolding value_in_block
-constants-worth edit w known k (has_body (declares cs ts vs ps) statements) worth l m =
+constants-has_value edit w known k (has_body (declares cs ts vs ps) statements) has_value l m =
     let b : Tree Name block = has_body (declares cs ts vs ps) statements in
     let below : first_type k b ≤ after_block k b = first_type-below k b in
     sym (ap (λ t. if t then value_among known edit.constant k (section_constants cs) else if nat_lt edit.constant (first_procedure k b) then None else option_and_then (λ inner. value_in_procedures (bind_names (named_types (section_types ts) ++ variable_names (section_variables vs)) no_constant inner) edit.constant (first_procedure k b) ps) (declare_constants as_names known (section_constants cs)))
-    (lt-ltb edit.constant (first_type k b) m)) ∙ worth l (omega (arith, m, below))
+    (lt-ltb edit.constant (first_type k b) m)) ∙ has_value l (omega (arith, m, below))
 
 pub types-outside : (edit : Edit) (w : Value) (known : Known) (k : ℕ) (b : Tree Name block) → Worth edit w k (after_block k b) (value_in_block known edit.constant k b) → Outside edit (first_type k b) (first_procedure k b)
 unfolding value_in_block
-types-outside edit w known k (has_body (declares cs ts vs ps) statements) worth l m =
+types-outside edit w known k (has_body (declares cs ts vs ps) statements) has_value l m =
     let b : Tree Name block = has_body (declares cs ts vs ps) statements in
     let below : first_procedure k b ≤ after_block k b = first_procedure-below k b in
     let above : k ≤ first_type k b = le-after_names k (constant_names (section_constants cs)) in
     let last : Option Value = option_and_then (λ inner. value_in_procedures (bind_names (named_types (section_types ts) ++ variable_names (section_variables vs)) no_constant inner) edit.constant (first_procedure k b) ps) (declare_constants as_names known (section_constants cs)) in
     let e : None ≡ Some w =
     sym (ap (λ t. if t then value_among known edit.constant k (section_constants cs) else if nat_lt edit.constant (first_procedure k b) then None else last) (le-ltb edit.constant (first_type k b) l)
-    ∙ ap (λ t. if t then None else last) (lt-ltb edit.constant (first_procedure k b) m)) ∙ worth (omega (arith, l, above)) (omega (arith, m, below)) in
+    ∙ ap (λ t. if t then None else last) (lt-ltb edit.constant (first_procedure k b) m)) ∙ has_value (omega (arith, l, above)) (omega (arith, m, below)) in
     absurd (cc)
 
-pub procedures-worth : (edit : Edit) (w : Value) (known inner : Known) (k : ℕ) (b : Tree Name block) → Worth edit w k (after_block k b) (value_in_block known edit.constant k b)
+pub procedures-has_value : (edit : Edit) (w : Value) (known inner : Known) (k : ℕ) (b : Tree Name block) → Worth edit w k (after_block k b) (value_in_block known edit.constant k b)
     → option_map (bind_names (variable_names (block_variables b)) no_constant) (option_map (bind_names (named_types (block_types b)) no_constant) (declare_constants as_names known (block_constants b))) ≡ Some inner
     → Worth edit w (first_procedure k b) (after_block k b) (value_in_procedures inner edit.constant (first_procedure k b) (block_procedures b))
 unfolding value_in_block
-procedures-worth edit w known inner k (has_body (declares cs ts vs ps) statements) worth e l m =
+procedures-has_value edit w known inner k (has_body (declares cs ts vs ps) statements) has_value e l m =
     let b : Tree Name block = has_body (declares cs ts vs ps) statements in
     let above : k ≤ first_type k b = le-after_names k (constant_names (section_constants cs)) in
     let types : first_type k b ≤ first_procedure k b = types-below k b in
     let last : Option Known → Option Value = option_and_then (λ inner. value_in_procedures (bind_names (named_types (section_types ts) ++ variable_names (section_variables vs)) no_constant inner) edit.constant (first_procedure k b) ps) in
     go (declare_constants as_names known (section_constants cs)) e
     (sym (ap (λ t. if t then value_among known edit.constant k (section_constants cs) else if nat_lt edit.constant (first_procedure k b) then None else last (declare_constants as_names known (section_constants cs))) (le-ltb edit.constant (first_type k b) (omega (arith, l, types)))
-    ∙ ap (λ t. if t then None else last (declare_constants as_names known (section_constants cs))) (le-ltb edit.constant (first_procedure k b) l)) ∙ worth (omega (arith, l, above, types)) m)
+    ∙ ap (λ t. if t then None else last (declare_constants as_names known (section_constants cs))) (le-ltb edit.constant (first_procedure k b) l)) ∙ has_value (omega (arith, l, above, types)) m)
   where
     go : (o : Option Known) → option_map (bind_names (variable_names (section_variables vs)) no_constant) (option_map (bind_names (named_types (section_types ts)) no_constant) o) ≡ Some inner
         → option_and_then (λ inner. value_in_procedures (bind_names (named_types (section_types ts) ++ variable_names (section_variables vs)) no_constant inner) edit.constant (first_procedure k (has_body (declares cs ts vs ps) statements)) ps) o ≡ Some w
@@ -209,42 +209,42 @@ procedures-worth edit w known inner k (has_body (declares cs ts vs ps) statement
         ap (λ env. value_in_procedures env edit.constant (first_procedure k (has_body (declares cs ts vs ps) statements)) ps)
         (sym (bind_names-append (named_types (section_types ts)) (variable_names (section_variables vs)) no_constant known ∙ some_inverse e)) ∙ h
 
-pub own-worth : (edit : Edit) (w : Value) (known : Known) (k : ℕ) (p : Tree Name (item procedure)) (rest : Tree Name (items procedure)) → Worth edit w k (after_procedures k (more p rest)) (value_in_procedures known edit.constant k (more p rest))
+pub own-has_value : (edit : Edit) (w : Value) (known : Known) (k : ℕ) (p : Tree Name (item procedure)) (rest : Tree Name (items procedure)) → Worth edit w k (after_procedures k (more p rest)) (value_in_procedures known edit.constant k (more p rest))
     → Worth edit w k (after_procedure (suc k) p) (value_in_procedure ((procedure_name p, no_constant) ∷ known) edit.constant (suc k) p)
 unfolding value_in_block
-own-worth edit w known k p rest worth l m =
+own-has_value edit w known k p rest has_value l m =
     let below : after_procedure (suc k) p ≤ after_procedures (after_procedure (suc k) p) rest = le-after_procedures (after_procedure (suc k) p) rest in
     sym (ap (λ t. if t then value_in_procedure ((procedure_name p, no_constant) ∷ known) edit.constant (suc k) p else value_in_procedures ((procedure_name p, no_constant) ∷ known) edit.constant (after_procedure (suc k) p) rest)
-    (lt-ltb edit.constant (after_procedure (suc k) p) m)) ∙ worth l (omega (arith, m, below))
+    (lt-ltb edit.constant (after_procedure (suc k) p) m)) ∙ has_value l (omega (arith, m, below))
 
-pub rest-worth : (edit : Edit) (w : Value) (known : Known) (k : ℕ) (p : Tree Name (item procedure)) (rest : Tree Name (items procedure)) → Worth edit w k (after_procedures k (more p rest)) (value_in_procedures known edit.constant k (more p rest))
+pub rest-has_value : (edit : Edit) (w : Value) (known : Known) (k : ℕ) (p : Tree Name (item procedure)) (rest : Tree Name (items procedure)) → Worth edit w k (after_procedures k (more p rest)) (value_in_procedures known edit.constant k (more p rest))
     → Worth edit w (after_procedure (suc k) p) (after_procedures (after_procedure (suc k) p) rest) (value_in_procedures ((procedure_name p, no_constant) ∷ known) edit.constant (after_procedure (suc k) p) rest)
 unfolding value_in_block
-rest-worth edit w known k p rest worth l m =
+rest-has_value edit w known k p rest has_value l m =
     let below : suc k ≤ after_procedure (suc k) p = le-after_procedure (suc k) p in
     sym (ap (λ t. if t then value_in_procedure ((procedure_name p, no_constant) ∷ known) edit.constant (suc k) p else value_in_procedures ((procedure_name p, no_constant) ∷ known) edit.constant (after_procedure (suc k) p) rest)
-    (le-ltb edit.constant (after_procedure (suc k) p) l)) ∙ worth (omega (arith, l, below)) m
+    (le-ltb edit.constant (after_procedure (suc k) p) l)) ∙ has_value (omega (arith, l, below)) m
 
 -- the procedure's own ordinal and its parameters' aren't the constant's
 pub heading-outside : (edit : Edit) (w : Value) (known : Known) (k : ℕ) (x closing : Name) (fs : Tree Name (maybe formals)) (b : Tree Name block)
     → Worth edit w k (after_procedure (suc k) (declares_procedure x fs b closing)) (value_in_procedure known edit.constant (suc k) (declares_procedure x fs b closing)) → Outside edit k (after_names (suc k) (formal_names (formal_sections fs)))
 unfolding value_in_block
-heading-outside edit w known k x closing fs b worth l m =
+heading-outside edit w known k x closing fs b has_value l m =
     let n : ℕ = after_names (suc k) (formal_names (formal_sections fs)) in
     let below : n ≤ after_block n b = le-after_block n b in
     let e : None ≡ Some w =
-    sym (ap (λ t. if t then None else value_in_block (bind_names (formal_names (formal_sections fs)) no_constant known) edit.constant n b) (lt-ltb edit.constant n m)) ∙ worth l (omega (arith, m, below)) in
+    sym (ap (λ t. if t then None else value_in_block (bind_names (formal_names (formal_sections fs)) no_constant known) edit.constant n b) (lt-ltb edit.constant n m)) ∙ has_value l (omega (arith, m, below)) in
     absurd (cc)
 
-pub body-worth : (edit : Edit) (w : Value) (known : Known) (k : ℕ) (x closing : Name) (fs : Tree Name (maybe formals)) (b : Tree Name block)
+pub body-has_value : (edit : Edit) (w : Value) (known : Known) (k : ℕ) (x closing : Name) (fs : Tree Name (maybe formals)) (b : Tree Name block)
     → Worth edit w k (after_procedure (suc k) (declares_procedure x fs b closing)) (value_in_procedure known edit.constant (suc k) (declares_procedure x fs b closing))
     → Worth edit w (after_names (suc k) (formal_names (formal_sections fs))) (after_block (after_names (suc k) (formal_names (formal_sections fs))) b)
     (value_in_block (bind_names (formal_names (formal_sections fs)) no_constant known) edit.constant (after_names (suc k) (formal_names (formal_sections fs))) b)
 unfolding value_in_block
-body-worth edit w known k x closing fs b worth l m =
+body-has_value edit w known k x closing fs b has_value l m =
     let n : ℕ = after_names (suc k) (formal_names (formal_sections fs)) in
     let above : suc k ≤ n = le-after_names (suc k) (formal_names (formal_sections fs)) in
-    sym (ap (λ t. if t then None else value_in_block (bind_names (formal_names (formal_sections fs)) no_constant known) edit.constant n b) (le-ltb edit.constant n l)) ∙ worth (omega (arith, l, above)) m
+    sym (ap (λ t. if t then None else value_in_block (bind_names (formal_names (formal_sections fs)) no_constant known) edit.constant n b) (le-ltb edit.constant n l)) ∙ has_value (omega (arith, l, above)) m
 
 -- constants, then types
 pub first-edited : {V P Q : Type 0} (edit : Edit) (w : Value) → Literal edit w → (X : Marks V P → Name → ℕ → P → Type 0) (p q : ℕ → P → Q) (i j k : ℕ) (marks : Marks V P) → Sound edit w X k marks → 7 ≤ k → (b : Tree Name block)
@@ -252,7 +252,7 @@ pub first-edited : {V P Q : Type 0} (edit : Edit) (w : Value) → Literal edit w
     → Agree (read p) (read_edited edit q) (Left edit w X (first_variable k b) (variables_scope k b (scope_marked marks)) (option_map (bind_names (named_types (block_types b)) no_constant) (declare_constants as_names (knowns marks) (block_constants b))))
     (declare_first as_names (read p marks) i b) (declare_first as_names (read_edited edit q marks) i (edited_block edit j k b))
 unfolding declare_first
-first-edited {V} {P} {Q} edit w lit X p q i j k marks s seven (has_body (declares cs ts vs ps) statements) here worth =
+first-edited {V} {P} {Q} edit w lit X p q i j k marks s seven (has_body (declares cs ts vs ps) statements) here has_value =
     let b : Tree Name block = has_body (declares cs ts vs ps) statements in
     let known : Option Known = declare_constants as_names (knowns marks) (section_constants cs) in
     let above : k ≤ first_type k b = le-after_names k (constant_names (section_constants cs)) in
@@ -265,7 +265,7 @@ first-edited {V} {P} {Q} edit w lit X p q i j k marks s seven (has_body (declare
     (agree-then (read p) (read_edited edit q) Middle (read p) (read_edited edit q) Result
     (λ env. declare_types as_names env i (section_types ts)) (λ env. declare_types as_names env i (leaf edit (j + length (occurrences cs)) (section_types ts)))
     (declare_constants as_names (read p marks) (section_constants cs)) (declare_constants as_names (read_edited edit q marks) (edited_constants edit j k (section_constants cs)))
-    (constants-edited edit w lit X p q j k marks s seven (section_constants cs) here.0 (constants-worth edit w (knowns marks) k b worth))
+    (constants-edited edit w lit X p q j k marks s seven (section_constants cs) here.0 (constants-has_value edit w (knowns marks) k b has_value))
     (λ inner left. agree-weaken (read p) (read_edited edit q)
     (Left edit w X (first_variable k b) (declare_names (first_type k b) (named_types (section_types ts)) (scope_marked inner)) (Some (bind_names (named_types (section_types ts)) no_constant (knowns inner)))) Result
     (declare_types as_names (read p inner) i (section_types ts)) (declare_types as_names (read_edited edit q inner) i (leaf edit (j + length (occurrences cs)) (section_types ts)))
@@ -273,4 +273,4 @@ first-edited {V} {P} {Q} edit w lit X p q i j k marks s seven (has_body (declare
     (ap (declare_names (first_type k b) (named_types (section_types ts))) left.scoped) left.value last)
     (types-edited edit w lit X p q i (j + length (occurrences cs)) (first_type k b) inner left.sound (omega (arith, seven, above)) (section_types ts)
     (subst (λ scope. EachType (Here edit w) (j + length (occurrences cs)) scope (first_type k b) (section_types ts)) (sym left.scoped) here.1)
-    (λ l m. types-outside edit w (knowns marks) k b worth l (omega (arith, m, variables))))))
+    (λ l m. types-outside edit w (knowns marks) k b has_value l (omega (arith, m, variables))))))

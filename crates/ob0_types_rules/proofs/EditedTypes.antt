@@ -19,10 +19,10 @@ use Rattle.ob0_types_rules.specs.Written.{written_value}
 use Rattle.ob0_types_rules.proofs.Agreeing.{Agree, agree-then}
 use Rattle.ob0_types_rules.proofs.DenotedInlined.{constructors-inlined}
 use Rattle.ob0_types_rules.proofs.EditedDeclarations.{Left, Outside, Worth, agree-known, not-constant, outside-right}
-use Rattle.ob0_types_rules.proofs.EditedParts.{agree-weaken, all-left, bind_all, bind_all-names, body-worth, edited-all, first-edited, formals-of, formals_constructors-leaf, heading-outside, left-join, left-then, mark_all, names_of, names_of-with_value, own-worth, procedure_constructors-edited, procedures-worth, read-all, rest-worth, section_mode-leaf, section_names-leaf, section_type-leaf, types-below, types-of, types-outside, types_constructors-leaf, variables-of, variables_constructors-leaf, with_value}
+use Rattle.ob0_types_rules.proofs.EditedParts.{agree-weaken, all-left, bind_all, bind_all-names, body-has_value, edited-all, first-edited, formals-of, formals_constructors-leaf, heading-outside, left-join, left-then, mark_all, names_of, names_of-with_value, own-has_value, procedure_constructors-edited, procedures-has_value, read-all, rest-has_value, section_mode-leaf, section_names-leaf, section_type-leaf, types-below, types-of, types-outside, types_constructors-leaf, variables-of, variables_constructors-leaf, with_value}
 use Rattle.ob0_types_rules.proofs.FitInlined.{alone, sequence_fits-written}
 use Rattle.ob0_types_rules.proofs.FitNaturality.{sequence_fits-map}
-use Rattle.ob0_types_rules.proofs.Leaves.{AllStay, Here, Literal, Tag, as_field, denoted-leaf, edited-stands_for, edited_meanings, none-used, read-stands_for, read_meanings, seen-read, shown, tagged, uses-read}
+use Rattle.ob0_types_rules.proofs.Leaves.{AllStay, Here, Literal, Tag, as_field, denoted-leaf, edited-object_for, edited_meanings, none-used, read-object_for, read_meanings, seen-read, shown, tagged, uses-read}
 use Rattle.ob0_types_rules.proofs.Literals.{IsSeen, literal-typed, some_inverse}
 use Rattle.ob0_types_rules.proofs.Marks.{Mark, Marks, Sound, Sound-weaken, knowns, read, read_edited, scope_marked}
 use Rattle.ob0_types_rules.proofs.TypesByOrdinal.{hold-agrees, typed_names, typed_names-append, typed_parameter}
@@ -58,12 +58,12 @@ literal-no_variable meaning v (elements vs) e h seen = absurd h
 literal-no_variable meaning v (members k ms) e h seen = absurd h
 
 abbrev pub tag : {V P : Type 0} → Meanings Name V P → Name → Tag V P
-tag meaning x = record { object = meaning.stands_for x; text = [] }
+tag meaning x = record { object = meaning.object_for x; text = [] }
 
 pub typed-same : (edit : Edit) (marks : Marks Shape Signature) (xs : List Name) → AllStay edit (scope_marked marks) xs → SameAt (tag (edited_meanings edit as_signed marks)) (tag (read_meanings as_signed marks)) xs
 typed-same edit marks [] stay = tt
 typed-same edit marks (x ∷ xs) stay =
-    (λ i. record { object = (edited-stands_for edit as_signed marks x stay.0 ∙ sym (read-stands_for as_signed marks x)) i; text = [] }, typed-same edit marks xs stay.1)
+    (λ i. record { object = (edited-object_for edit as_signed marks x stay.0 ∙ sym (read-object_for as_signed marks x)) i; text = [] }, typed-same edit marks xs stay.1)
 
 pub sequence_fits-alike : (there here : TypeEnvironment Name) (a : Tree Name sequence) → SameAt (tag (meanings as_names there)) (tag (meanings as_names here)) (occurrences a) → sequence_fits (meanings as_names there) a ≡ sequence_fits (meanings as_names here) a
 sequence_fits-alike there here a e =
@@ -175,7 +175,7 @@ pub declarations-edited : (edit : Edit) (w : Value) → Literal edit w → (i j 
     (LeftTyped edit w (first_procedure k b) (procedures_scope k b (scope_marked marks)) (option_map (bind_names (variable_names (block_variables b)) no_constant) (option_map (bind_names (named_types (block_types b)) no_constant) (declare_constants as_names (knowns marks) (block_constants b)))))
     (option_and_then (declare_typed as_names (after_types i b) (block_variables b)) (declare_first as_names (read as_signed marks) i b))
     (option_and_then (declare_typed as_names (after_types i (edited_block edit j k b)) (block_variables (edited_block edit j k b))) (declare_first as_names (read_edited edit as_signed marks) i (edited_block edit j k b)))
-declarations-edited edit w lit i j k marks s seven (has_body (declares cs ts vs ps) statements) here worth =
+declarations-edited edit w lit i j k marks s seven (has_body (declares cs ts vs ps) statements) here has_value =
     let b : Tree Name block = has_body (declares cs ts vs ps) statements in
     let jt : ℕ = j + length (occurrences cs) in
     let jv : ℕ = j + length (occurrences cs) + length (occurrences ts) in
@@ -190,7 +190,7 @@ declarations-edited edit w lit i j k marks s seven (has_body (declares cs ts vs 
     (agree-then (read as_signed) (read_edited edit as_signed) Middle (read as_signed) (read_edited edit as_signed) Result
     (declare_typed as_names (after_types i b) (section_variables vs)) (declare_typed as_names (after_types i b) (leaf edit jv (section_variables vs)))
     (declare_first as_names (read as_signed marks) i b) (declare_first as_names (read_edited edit as_signed marks) i (edited_block edit j k b))
-    (first-edited edit w lit anything as_signed as_signed i j k marks s seven b here worth)
+    (first-edited edit w lit anything as_signed as_signed i j k marks s seven b here has_value)
     (λ inner left. agree-weaken (read as_signed) (read_edited edit as_signed)
     (LeftTyped edit w (first_procedure k b) (declare_names (first_variable k b) (variable_names (section_variables vs)) (scope_marked inner)) (Some (bind_names (variable_names (section_variables vs)) no_constant (knowns inner)))) Result
     (declare_typed as_names (after_types i b) (section_variables vs) (read as_signed inner)) (declare_typed as_names (after_types i b) (leaf edit jv (section_variables vs)) (read_edited edit as_signed inner))
@@ -198,7 +198,7 @@ declarations-edited edit w lit i j k marks s seven (has_body (declares cs ts vs 
     (ap (declare_names (first_variable k b) (variable_names (section_variables vs))) left.scoped) left.value last)
     (variables-edited edit w lit (after_types i b) jv (first_variable k b) inner left.sound (omega (arith, seven, above, types)) (section_variables vs)
     (subst (λ scope. EachVariable (Here edit w) jv scope (first_variable k b) (section_variables vs)) (sym left.scoped) here.2)
-    (λ l m. types-outside edit w (knowns marks) k b worth (omega (arith, l, types)) m))))
+    (λ l m. types-outside edit w (knowns marks) k b has_value (omega (arith, l, types)) m))))
 
 abbrev pub parameter_pairs : List (TypedParameter Name) → List (Name × Shape)
 parameter_pairs [] = []
@@ -222,7 +222,7 @@ mutual
   pub block_fits-edited : (edit : Edit) (w : Value) → Literal edit w → (i j k : ℕ) (marks : Marks Shape Signature) → Checked edit w k marks → 7 ≤ k → (b : Tree Name block)
       → EachBlock (Here edit w) j (scope_marked marks) k b → Worth edit w k (after_block k b) (value_in_block (knowns marks) edit.constant k b)
       → block_fits as_names (read_edited edit as_signed marks) i (edited_block edit j k b) ≡ block_fits as_names (read as_signed marks) i b
-  block_fits-edited edit w lit i j k marks s seven (has_body (declares cs ts vs ps) statements) here worth =
+  block_fits-edited edit w lit i j k marks s seven (has_body (declares cs ts vs ps) statements) here has_value =
       let b : Tree Name block = has_body (declares cs ts vs ps) statements in
       let b' : Tree Name block = edited_block edit j k b in
       let jp : ℕ = j + length (occurrences cs) + length (occurrences ts) + length (occurrences vs) in
@@ -234,7 +234,7 @@ mutual
       (option_and_then (declare_typed as_names (after_types i b') (block_variables b')) (declare_first as_names (read_edited edit as_signed marks) i b'))
       (λ inner. procedures_fit as_names inner (after_variables i b) statements ps)
       (λ inner. procedures_fit as_names inner (after_variables i b') (leaf edit js statements) (edited_procedures edit jp (first_procedure k b) ps))
-      (declarations-edited edit w lit i j k marks s seven b here worth)
+      (declarations-edited edit w lit i j k marks s seven b here has_value)
       (λ inner left.
       (λ m. procedures_fit as_names (read_edited edit as_signed inner)
       (i + (ap types_constructors (types-of edit (j + length (occurrences cs)) ts) ∙ types_constructors-leaf edit (j + length (occurrences cs)) (section_types ts)) m
@@ -243,13 +243,13 @@ mutual
       ∙ procedures_fit-edited edit w lit (after_variables i b) jp js (first_procedure k b) inner left.sound (omega (arith, seven, above)) statements ps
       (subst (λ scope. EachProcedure (Here edit w) jp scope (first_procedure k b) ps) (sym left.scoped) here.3)
       (subst (λ scope. Here edit w (maybe body) js (declare_procedure_names (first_procedure k b) ps scope) statements) (sym left.scoped) here.4)
-      (procedures-worth edit w (knowns marks) (knowns inner) k b worth left.value))
+      (procedures-has_value edit w (knowns marks) (knowns inner) k b has_value left.value))
 
   pub procedures_fit-edited : (edit : Edit) (w : Value) → Literal edit w → (i j js k : ℕ) (marks : Marks Shape Signature) → Checked edit w k marks → 7 ≤ k → (statements : Tree Name (maybe body)) (ps : Tree Name (items procedure))
       → EachProcedure (Here edit w) j (scope_marked marks) k ps → Here edit w (maybe body) js (declare_procedure_names k ps (scope_marked marks)) statements → Worth edit w k (after_procedures k ps) (value_in_procedures (knowns marks) edit.constant k ps)
       → procedures_fit as_names (read_edited edit as_signed marks) i (leaf edit js statements) (edited_procedures edit j k ps) ≡ procedures_fit as_names (read as_signed marks) i statements ps
-  procedures_fit-edited edit w lit i j js k marks s seven statements end here below worth = body_fits-edited edit w lit k marks s js statements below
-  procedures_fit-edited edit w lit i j js k marks s seven statements (more (declares_procedure x fs b closing) rest) here below worth =
+  procedures_fit-edited edit w lit i j js k marks s seven statements end here below has_value = body_fits-edited edit w lit k marks s js statements below
+  procedures_fit-edited edit w lit i j js k marks s seven statements (more (declares_procedure x fs b closing) rest) here below has_value =
       let p : Tree Name (item procedure) = declares_procedure x fs b closing in
       let p' : Tree Name (item procedure) = edited_procedure edit j (suc k) p in
       let jb : ℕ = j + length (occurrences fs) in
@@ -257,10 +257,10 @@ mutual
       let jr : ℕ = j + length (occurrences p) in
       let rest' : Tree Name (items procedure) = edited_procedures edit jr (after_procedure (suc k) p) rest in
       let statements' : Tree Name (maybe body) = leaf edit js statements in
-      let mine : Worth edit w k (after_procedure (suc k) p) (value_in_procedure ((x, no_constant) ∷ knowns marks) edit.constant (suc k) p) = own-worth edit w (knowns marks) k p rest worth in
+      let mine : Worth edit w k (after_procedure (suc k) p) (value_in_procedure ((x, no_constant) ∷ knowns marks) edit.constant (suc k) p) = own-has_value edit w (knowns marks) k p rest has_value in
       let outside : Outside edit k n = heading-outside edit w ((x, no_constant) ∷ knowns marks) k x closing fs b mine in
       let above : suc k ≤ n = le-after_names (suc k) (formal_names (formal_sections fs)) in
-      let behind : suc k ≤ after_procedure (suc k) p = le-after_procedure (suc k) p in
+      let following : suc k ≤ after_procedure (suc k) p = le-after_procedure (suc k) p in
       let own : Outside edit k (suc k) = λ l m. outside l (omega (arith, m, above)) in
       ap (λ gs. some_and (typed_parameters as_names (read_edited edit as_signed marks) i gs) (λ ps. procedure_fits as_names (bind_typed ps (heading x ps (read_edited edit as_signed marks))) i p'
       && procedures_fit as_names (heading x ps (read_edited edit as_signed marks)) (i + procedure_constructors p') statements' rest')) (formals-of edit j fs)
@@ -285,10 +285,10 @@ mutual
       (i + (ap formals_constructors (formals-of edit j fs) ∙ formals_constructors-leaf edit j (formal_sections fs)) m) (edited_block edit jb n b))
       ∙ (block_fits-edited edit w lit (i + formals_constructors (formal_sections fs)) jb n (mark_all (suc k) pairs inner) left.sound (omega (arith, seven, above)) b
       (subst (λ scope. EachBlock (Here edit w) jb scope n b) (sym left.scoped) here.0.1)
-      (subst (λ known. Worth edit w n (after_block n b) (value_in_block known edit.constant n b)) (some_inverse left.value) (body-worth edit w ((x, no_constant) ∷ knowns marks) k x closing fs b mine))
+      (subst (λ known. Worth edit w n (after_block n b) (value_in_block known edit.constant n b)) (some_inverse left.value) (body-has_value edit w ((x, no_constant) ∷ knowns marks) k x closing fs b mine))
       ∙ sym (ap (λ env. block_fits as_names env (i + formals_constructors (formal_sections fs)) b) (bind_typed-all ps (heading x ps (read as_signed marks)) ∙ read-all as_signed (suc k) pairs inner))) in
       let second : procedures_fit as_names (heading x ps (read_edited edit as_signed marks)) (i + procedure_constructors p') statements' rest' ≡ procedures_fit as_names (heading x ps (read as_signed marks)) (i + procedure_constructors p) statements rest =
       (λ m. procedures_fit as_names (bound m) (i + procedure_constructors-edited edit j (suc k) p m) statements' rest')
-      ∙ procedures_fit-edited edit w lit (i + procedure_constructors p) jr js (after_procedure (suc k) p) inner (Sound-weaken edit w anything (suc k) (after_procedure (suc k) p) inner behind sound) (omega (arith, seven, behind)) statements rest
-      here.1 below (rest-worth edit w (knowns marks) k p rest worth) in
+      ∙ procedures_fit-edited edit w lit (i + procedure_constructors p) jr js (after_procedure (suc k) p) inner (Sound-weaken edit w anything (suc k) (after_procedure (suc k) p) inner following sound) (omega (arith, seven, following)) statements rest
+      here.1 below (rest-has_value edit w (knowns marks) k p rest has_value) in
       λ m. first m && second m)

@@ -49,9 +49,9 @@ pub variable-written : (checked : Typed Name) (uses : Uses) (v : Tree Name facto
     → variable_type checked (Some (x, inline_in uses v k path)) ≡ variable_type checked (Some (x, path))
 unfolding variable_type
 variable-written checked uses v w h k x path u = λ i.
-    elim (checked.stands_for x) [ Some (a_variable s) ↦ type_at-inlined checked uses v w record { typed = h.typed } k s path u i | _ ↦ None ]
+    elim (checked.object_for x) [ Some (a_variable s) ↦ type_at-inlined checked uses v w record { typed = h.typed } k s path u i | _ ↦ None ]
 
-use-no_variable : (checked : Typed Name) (x : Name) (w : Value) → checked.stands_for x ≡ Some (a_constant w) → variable_type checked (Some (x, end)) ≡ None
+use-no_variable : (checked : Typed Name) (x : Name) (w : Value) → checked.object_for x ≡ Some (a_constant w) → variable_type checked (Some (x, end)) ≡ None
 unfolding variable_type
 use-no_variable checked x w e = ap (λ o. elim o [ Some (a_variable s) ↦ type_at checked s end | _ ↦ None ]) e
 
@@ -116,7 +116,7 @@ mutual
   statement_fits-written checked uses v w h k (assigns x path e) u =
       let s = uses-split uses (IsConstant checked w) (suc k) (occurrences path) (occurrences e) u.1 in
       λ i. agree (variable-written checked uses v w h (suc k) x path s.0 i) (type-written checked uses v w h (suc k + length (occurrences path)) e s.1 i)
-  statement_fits-written checked uses v w h k (calls x es) u = call_fits-written checked uses v w h (signature_of (checked.stands_for x)) (suc k) es u.1
+  statement_fits-written checked uses v w h k (calls x es) u = call_fits-written checked uses v w h (signature_of (checked.object_for x)) (suc k) es u.1
   statement_fits-written checked uses v w h k (branches e statements rest last) u =
       let s = uses-split uses (IsConstant checked w) k (occurrences e) (occurrences statements ++ (occurrences rest ++ occurrences last)) u in
       let s₁ = uses-split uses (IsConstant checked w) (k + length (occurrences e)) (occurrences statements) (occurrences rest ++ occurrences last) s.1 in

@@ -13,7 +13,7 @@ use Rattle.ob0_types_rules.proofs.TypeNaturality.{type_at-map, type_of-map}
 pub variable_type-map : {N M P : Type 0} (f h : N → M) (meaning : Meanings M Shape P) (d : Option (N × Tree N (items selector))) → variable_type meaning (option_map (map_designator f h) d) ≡ variable_type (through f h meaning) d
 unfolding variable_type
 variable_type-map f h meaning None = refl
-variable_type-map f h meaning (Some (x, path)) = λ i. elim (meaning.stands_for (f x)) [ Some (a_variable s) ↦ type_at-map f h meaning s path i | _ ↦ None ]
+variable_type-map f h meaning (Some (x, path)) = λ i. elim (meaning.object_for (f x)) [ Some (a_variable s) ↦ type_at-map f h meaning s path i | _ ↦ None ]
 
 pub argument_fits-map : {N M P : Type 0} (f h : N → M) (meaning : Meanings M Shape P) (g : Formal) (e : Tree N expression) → argument_fits meaning g (with_names f h e) ≡ argument_fits (through f h meaning) g e
 unfolding argument_fits
@@ -43,7 +43,7 @@ mutual
   statement_fits-map f h meaning empty = refl
   statement_fits-map f h meaning (assigns x path e) = λ i.
       agree (variable_type-map f h meaning (Some (x, path)) i) (type_of-map f h meaning e i)
-  statement_fits-map f h meaning (calls x es) = call_fits-map f h meaning (signature_of (meaning.stands_for (f x))) es
+  statement_fits-map f h meaning (calls x es) = call_fits-map f h meaning (signature_of (meaning.object_for (f x))) es
   statement_fits-map f h meaning (branches e statements rest last) = λ i.
       condition_fits-map f h meaning e i && (sequence_fits-map f h meaning statements i && (elsifs_fit-map f h meaning rest i && else_fits-map f h meaning last i))
   statement_fits-map f h meaning (while_loop e statements) = λ i. condition_fits-map f h meaning e i && sequence_fits-map f h meaning statements i

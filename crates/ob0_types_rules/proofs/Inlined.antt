@@ -16,10 +16,10 @@ uses-split uses P k (x ∷ xs) ys h =
 
 -- what stays the same while values are written in
 pub record Writing {P : Type 0} (meaning : Meanings Name Place P) (store : Store) (v : Tree Name factor) (w : Value) : Type 0 where
-  pub worth : evaluate_factor meaning store v ≡ gives w
+  pub has_value : evaluate_factor meaning store v ≡ gives w
 
 abbrev pub Stands : {P : Type 0} → Meanings Name Place P → Value → Name → Type 0
-Stands meaning w x = meaning.stands_for x ≡ Some (a_constant w)
+Stands meaning w x = meaning.object_for x ≡ Some (a_constant w)
 
 mutual
   unfolding evaluate
@@ -55,9 +55,9 @@ mutual
   pub evaluate_factor-inlined : {P : Type 0} (meaning : Meanings Name Place P) (store : Store) (uses : Uses) (v : Tree Name factor) (w : Value) → Writing meaning store v w → (k : ℕ) (a : Tree Name factor) → UsesAre uses (Stands meaning w) k (occurrences a) → evaluate_factor meaning store (inline_in uses v k a) ≡ evaluate_factor meaning store a
   evaluate_factor-inlined {P} meaning store uses v w h k (designator x end) u =
       (elim (uses k) as (λ b. uses k ≡ b → evaluate_factor meaning store (if b then v else designator x end) ≡ evaluate_factor meaning store (designator x end))
-      [ true ↦ λ e. h.worth ∙ sym (ap (λ o. value_of {P = P} store o >>= (λ v. gives [] >>= (λ steps. or_stuck (at_path steps v)))) (u.0 e)) | false ↦ λ e. refl ]) refl
+      [ true ↦ λ e. h.has_value ∙ sym (ap (λ o. value_of {P = P} store o >>= (λ v. gives [] >>= (λ steps. or_stuck (at_path steps v)))) (u.0 e)) | false ↦ λ e. refl ]) refl
   evaluate_factor-inlined meaning store uses v w h k (designator x (more step rest)) u = λ i.
-      value_of store (meaning.stands_for x) >>= (λ z. follow-inlined meaning store uses v w h (suc k) z (more step rest) u.1 i >>= (λ steps. or_stuck (at_path steps z)))
+      value_of store (meaning.object_for x) >>= (λ z. follow-inlined meaning store uses v w h (suc k) z (more step rest) u.1 i >>= (λ steps. or_stuck (at_path steps z)))
   evaluate_factor-inlined meaning store uses v w h k (integer n) u = refl
   evaluate_factor-inlined meaning store uses v w h k (parenthesised e) u = evaluate-inlined meaning store uses v w h k e u
   evaluate_factor-inlined meaning store uses v w h k (negation f) u = λ i. evaluate_factor-inlined meaning store uses v w h k f u i >>= negated
@@ -71,4 +71,4 @@ mutual
       λ i. evaluate-inlined meaning store uses v w h k e s.0 i >>= (λ j. element_step z j >>= (λ step. or_stuck (part z step) >>= (λ y. follow-inlined meaning store uses v w h (k + length (occurrences e)) y rest s.1 i >>= (λ steps. gives (step ∷ steps)))))
 
 pub inlining_keeps_evaluation-holds : InliningKeepsEvaluation
-inlining_keeps_evaluation-holds meaning store uses v w k e worth u = evaluate-inlined meaning store uses v w record { worth = worth } k e u
+inlining_keeps_evaluation-holds meaning store uses v w k e has_value u = evaluate-inlined meaning store uses v w record { has_value = has_value } k e u

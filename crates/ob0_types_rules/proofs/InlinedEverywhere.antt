@@ -54,27 +54,27 @@ all-stay edit scope [] h = tt
 all-stay edit scope (x ∷ xs) h = (λ g. h.0, all-stay edit scope xs h.1)
 
 none-of-unshown : (edit : Edit) (w : Value) (j : ℕ) (scope : Scope Name) (xs : List Name) → shown w scope ≡ false → Each (Writes edit w) j scope xs → AllGiveWay edit.uses (IsOf edit.constant scope) j xs → NoneOf (IsOf edit.constant scope) xs
-none-of-unshown edit w j scope [] e told gives_way = tt
-none-of-unshown edit w j scope (x ∷ xs) e told gives_way =
-    (λ k. true≢false (sym (told.0.1 (gives_way.0 k)) ∙ e), none-of-unshown edit w (suc j) scope xs e told.1 gives_way.1)
+none-of-unshown edit w j scope [] e reported gives_way = tt
+none-of-unshown edit w j scope (x ∷ xs) e reported gives_way =
+    (λ k. true≢false (sym (reported.0.1 (gives_way.0 k)) ∙ e), none-of-unshown edit w (suc j) scope xs e reported.1 gives_way.1)
 
 -- where the constant's names are alone as factors, none is left
 pub here-everywhere : (edit : Edit) (w : Value) → Literal edit w → (s : Sort) (j : ℕ) (scope : Scope Name) (t : Tree Name s) → Told edit w s j scope t → StandsAlone edit.constant s j scope t → Here edit w s j scope t
-here-everywhere edit w lit s j scope t told alone_there = (
-  told.0,
+here-everywhere edit w lit s j scope t reported alone_there = (
+  reported.0,
   all-stay edit scope (occurrences (leaf edit j t))
       (⊎_elim
-      (λ yes_shown. none-left edit.uses edit.literal (IsOf edit.constant scope) (literal-names edit.constant w edit.literal lit.written lit.ordinal scope yes_shown) j t told.1 alone_there)
-      (λ not_shown. subst (λ a. NoneOf (IsOf edit.constant scope) (occurrences a)) (sym (inline-nothing edit.uses edit.literal j t (none-used edit w j scope (occurrences t) not_shown told.0)))
-      (none-of-unshown edit w j scope (occurrences t) not_shown told.0 told.1))
+      (λ yes_shown. none-left edit.uses edit.literal (IsOf edit.constant scope) (literal-names edit.constant w edit.literal lit.written lit.ordinal scope yes_shown) j t reported.1 alone_there)
+      (λ not_shown. subst (λ a. NoneOf (IsOf edit.constant scope) (occurrences a)) (sym (inline-nothing edit.uses edit.literal j t (none-used edit w j scope (occurrences t) not_shown reported.0)))
+      (none-of-unshown edit w j scope (occurrences t) not_shown reported.0 reported.1))
       (cases_Bool (shown w scope))),
 )
 
-told-from : (edit : Edit) (w : Value) (j : ℕ) (scope : Scope Name) (xs : List Name) → Each (Both as_names (looking_for (truth_name w)) (IsUseOf edit.uses edit.constant) (IsShownAs edit.uses w)) j scope xs
+reported-from : (edit : Edit) (w : Value) (j : ℕ) (scope : Scope Name) (xs : List Name) → Each (Both as_names (looking_for (truth_name w)) (IsUseOf edit.uses edit.constant) (IsShownAs edit.uses w)) j scope xs
     → Each (Writes edit w) j scope xs × AllGiveWay edit.uses (IsOf edit.constant scope) j xs
-told-from edit w j scope [] both = (tt, tt)
-told-from edit w j scope (x ∷ xs) both =
-    let rest = told-from edit w (suc j) scope xs both.1 in (
+reported-from edit w j scope [] both = (tt, tt)
+reported-from edit w j scope (x ∷ xs) both =
+    let rest = reported-from edit w (suc j) scope xs both.1 in (
       ((λ e. sym (label_ordinal-of as_names scope x) ∙ both.0.0.0 e, λ e. shown-from edit.uses w j scope x both.0.1 e), rest.0),
       (λ k. both.0.0.1 (label_ordinal-of as_names scope x ∙ k), rest.1),
     )
@@ -118,11 +118,11 @@ everywhere-fitted (is_module x b closing) d w v c seen well =
     let low = seven-or-less m d w c.value in
     let lit : Literal edit w = record { written = c.literal; scalar = c.scalar; ordinal = low.0 } in
     let scope : Scope Name = predeclared_scope as_names in
-    let told : EachBlock (Told edit w) 0 scope 7 b =
-    each-block as_names (looking_for (truth_name w)) (IsUseOf uses d) (IsShownAs uses w) (Told edit w) (λ s j scope t both. told-from edit w j scope (occurrences t) both) 0 scope 7 b
+    let reported : EachBlock (Told edit w) 0 scope 7 b =
+    each-block as_names (looking_for (truth_name w)) (IsUseOf uses d) (IsShownAs uses w) (Told edit w) (λ s j scope t both. reported-from edit w j scope (occurrences t) both) 0 scope 7 b
     (all-at (IsUseOf uses d) 0 (occurrences (relabelled as_names (as_label as_names) m)) (λ i l e. subst (λ n. IsUseOf uses d n l) (sym (zero-add i)) (bound-exactly m d i l e)))
     (all-shown m w uses (λ k u. seen k (same_ordinal-true (binds m k) d u))) in
-    record { literal = lit; here = both-block (Told edit w) (StandsAlone d) (Here edit w) (here-everywhere edit w lit) 0 scope 7 b told (alone-module m d w v c well); worth = low.1 }
+    record { literal = lit; here = both-block (Told edit w) (StandsAlone d) (Here edit w) (here-everywhere edit w lit) 0 scope 7 b reported (alone-module m d w v c well); has_value = low.1 }
 
 pub inlining_everywhere_keeps_well_typed-holds : InliningEverywhereKeepsWellTyped
 inlining_everywhere_keeps_well_typed-holds m d w v c seen well =

@@ -13,7 +13,7 @@ pub record Typing {P : Type 0} (checked : Meanings Name Shape P) (v : Tree Name 
   pub typed : type_of_factor checked v ≡ value_type w
 
 abbrev pub IsConstant : {P : Type 0} → Meanings Name Shape P → Value → Name → Type 0
-IsConstant checked w x = checked.stands_for x ≡ Some (a_constant w)
+IsConstant checked w x = checked.object_for x ≡ Some (a_constant w)
 
 pub then-some : (o : Option Shape) → o >>= (λ s. Some s) ≡ o
 then-some None = refl
@@ -55,7 +55,7 @@ mutual
       (elim (uses k) as (λ b. uses k ≡ b → type_of_factor checked (if b then v else designator x end) ≡ type_of_factor checked (designator x end))
       [ true ↦ λ e. h.typed ∙ (sym (then-some (value_type w)) ∙ sym (ap (λ o. object_type o >>= (λ s. Some s)) (u.0 e))) | false ↦ λ e. refl ]) refl
   type_of_factor-inlined checked uses v w h k (designator x (more step rest)) u = λ i.
-      object_type (checked.stands_for x) >>= (λ s. type_at-inlined checked uses v w h (suc k) s (more step rest) u.1 i)
+      object_type (checked.object_for x) >>= (λ s. type_at-inlined checked uses v w h (suc k) s (more step rest) u.1 i)
   type_of_factor-inlined checked uses v w h k (integer n) u = refl
   type_of_factor-inlined checked uses v w h k (parenthesised e) u = type_of-inlined checked uses v w h k e u
   type_of_factor-inlined checked uses v w h k (negation f) u = λ i. type_of_factor-inlined checked uses v w h k f u i >>= complement_type

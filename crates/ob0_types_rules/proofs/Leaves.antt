@@ -16,8 +16,8 @@ use Rattle.ob0_types_rules.specs.Laws.{UsesAre}
 use Rattle.ob0_types_rules.specs.Typing.{constant_of, constant_value, constants_only, denoted, type_of_name}
 use Rattle.ob0_types_rules.specs.Written.{written_value}
 use Rattle.ob0_types_rules.proofs.DenotedInlined.{ConstantWritten, StandsFor, constant_value-written, denoted-written}
-use Rattle.ob0_types_rules.proofs.Literals.{IsSeen, literal-typed, literal-worth}
-use Rattle.ob0_types_rules.proofs.Marks.{Mark, Marks, Sound, Stays, edited-stands, found, found-right, known-found, knowns, no-found, object_as, object_of, ordinal-found, read, read-from, read-stands, read_edited, read_edited-from, scope_marked, worth-found, yes-found}
+use Rattle.ob0_types_rules.proofs.Literals.{IsSeen, literal-typed, literal-has_value}
+use Rattle.ob0_types_rules.proofs.Marks.{Mark, Marks, Sound, Stays, edited-stands, found, found-right, known-found, knowns, no-found, object_as, object_of, ordinal-found, read, read-from, read-stands, read_edited, read_edited-from, scope_marked, has_value-found, yes-found}
 use Rattle.ob0_types_rules.proofs.TypeNaturality.{constant_value-map, denoted-map}
 use Rattle.std.proofs.lemmas.Bool.{cases_Bool, false_from_ne_true}
 
@@ -62,27 +62,27 @@ edited_meanings edit q marks = meanings as_names (read_edited edit q marks)
 abbrev pub read_meanings : {V P Q : Type 0} → (ℕ → P → Q) → Marks V P → Meanings Name V Q
 read_meanings q marks = meanings as_names (read q marks)
 
-pub edited-stands_for : {V P Q : Type 0} (edit : Edit) (q : ℕ → P → Q) (marks : Marks V P) (x : Name) → Stays edit (scope_marked marks) x → (edited_meanings edit q marks).stands_for x ≡ option_map (object_of q) (found marks x)
-edited-stands_for edit q marks x stays = ap newest (read_edited-from edit q marks x stays) ∙ edited-stands edit q marks x stays
+pub edited-object_for : {V P Q : Type 0} (edit : Edit) (q : ℕ → P → Q) (marks : Marks V P) (x : Name) → Stays edit (scope_marked marks) x → (edited_meanings edit q marks).object_for x ≡ option_map (object_of q) (found marks x)
+edited-object_for edit q marks x stays = ap newest (read_edited-from edit q marks x stays) ∙ edited-stands edit q marks x stays
 
-pub read-stands_for : {V P Q : Type 0} (q : ℕ → P → Q) (marks : Marks V P) (x : Name) → (read_meanings q marks).stands_for x ≡ option_map (object_of q) (found marks x)
-read-stands_for q marks x = ap newest (read-from q marks x) ∙ read-stands q marks x
+pub read-object_for : {V P Q : Type 0} (q : ℕ → P → Q) (marks : Marks V P) (x : Name) → (read_meanings q marks).object_for x ≡ option_map (object_of q) (found marks x)
+read-object_for q marks x = ap newest (read-from q marks x) ∙ read-stands q marks x
 
 pub uses-read : {V P Q : Type 0} (edit : Edit) (w : Value) (X : Marks V P → Name → ℕ → P → Type 0) (p : ℕ → P → Q) (n : ℕ) (marks : Marks V P) → Sound edit w X n marks → (j : ℕ) (xs : List Name)
     → Each (Writes edit w) j (scope_marked marks) xs → UsesAre edit.uses (StandsFor (read_meanings p marks) w) j xs
-uses-read edit w X p n marks s j [] told = tt
-uses-read edit w X p n marks s j (x ∷ xs) told = (
-  λ u. read-stands_for p marks x ∙ worth-found edit w p (found marks x) (found-right edit w X n marks x s) (sym (ordinal-found marks x) ∙ told.0.0 u),
-  uses-read edit w X p n marks s (suc j) xs told.1,
+uses-read edit w X p n marks s j [] reported = tt
+uses-read edit w X p n marks s j (x ∷ xs) reported = (
+  λ u. read-object_for p marks x ∙ has_value-found edit w p (found marks x) (found-right edit w X n marks x s) (sym (ordinal-found marks x) ∙ reported.0.0 u),
+  uses-read edit w X p n marks s (suc j) xs reported.1,
 )
 
 pub seen-read : {V P Q : Type 0} (edit : Edit) (w : Value) (X : Marks V P → Name → ℕ → P → Type 0) (p : ℕ → P → Q) (n : ℕ) (marks : Marks V P) → Sound edit w X n marks
     → shown w (scope_marked marks) ≡ true → IsSeen (read_meanings p marks) w
 seen-read edit (truth true) X p n marks s h =
-    read-stands_for p marks (codes "TRUE")
+    read-object_for p marks (codes "TRUE")
     ∙ yes-found edit (truth true) p (found marks (codes "TRUE")) (found-right edit (truth true) X n marks (codes "TRUE") s) (sym (ordinal-found marks (codes "TRUE")) ∙ same_ordinal-true (ordinal_of as_names (scope_marked marks) (codes "TRUE")) 2 h)
 seen-read edit (truth false) X p n marks s h =
-    read-stands_for p marks (codes "FALSE")
+    read-object_for p marks (codes "FALSE")
     ∙ no-found edit (truth false) p (found marks (codes "FALSE")) (found-right edit (truth false) X n marks (codes "FALSE") s) (sym (ordinal-found marks (codes "FALSE")) ∙ same_ordinal-true (ordinal_of as_names (scope_marked marks) (codes "FALSE")) 3 h)
 seen-read edit (number m) X p n marks s h = tt
 seen-read edit (elements vs) X p n marks s h = tt
@@ -98,7 +98,7 @@ seen-constants W R meaning (members k ms) e = tt
 pub literal-constant : {V P : Type 0} (edit : Edit) (w : Value) → Literal edit w → (meaning : Meanings Name V P) → IsSeen meaning w → ConstantWritten meaning edit.literal w
 literal-constant edit w lit meaning seen = record {
   typed = literal-typed {P = Unit {0}} (constants_only meaning) edit.literal w lit.written lit.scalar (seen-constants Shape (Unit {0}) meaning w seen);
-  worth = literal-worth {P = Unit {0}} (constants_only meaning) [] edit.literal w lit.written lit.scalar (seen-constants Place (Unit {0}) meaning w seen);
+  has_value = literal-has_value {P = Unit {0}} (constants_only meaning) [] edit.literal w lit.written lit.scalar (seen-constants Place (Unit {0}) meaning w seen);
 }
 
 -- trees mean the same where their occurrences mean the same constants and types
@@ -108,7 +108,7 @@ pub record Tag (V P : Type 0) : Type 0 where
   pub text : Name
 
 abbrev pub tagged : {V P : Type 0} → Meanings (Tag V P) V P
-tagged = record { stands_for = λ t. t.object; written = λ t. t.text }
+tagged = record { object_for = λ t. t.object; written = λ t. t.text }
 
 abbrev pub as_field : {V P : Type 0} → Name → Tag V P
 as_field x = record { object = None; text = x }
@@ -121,7 +121,7 @@ plain_object (a_procedure p) = a_procedure tt
 plain_object (a_standard p) = a_standard p
 
 abbrev pub plain_tag : {V P : Type 0} → Environment Name V P → Name → Tag (Unit {0}) (Unit {0})
-plain_tag env x = record { object = option_map plain_object ((meanings as_names env).stands_for x); text = [] }
+plain_tag env x = record { object = option_map plain_object ((meanings as_names env).object_for x); text = [] }
 
 pub constant_of-plain : {V P : Type 0} (o : Option (Object V P)) → constant_of (option_map plain_object o) ≡ constant_of o
 constant_of-plain None = refl
@@ -141,11 +141,11 @@ type_of_name-plain (Some (a_standard p)) = refl
 
 constant_value-tagged : {V P : Type 0} (env : Environment Name V P) (e : Tree Name expression) → constant_value tagged (with_names (plain_tag env) as_field e) ≡ constant_value (meanings as_names env) e
 constant_value-tagged env e =
-    constant_value-map (plain_tag env) as_field tagged (meanings as_names env) e (λ x. constant_of-plain ((meanings as_names env).stands_for x)) (λ x. refl)
+    constant_value-map (plain_tag env) as_field tagged (meanings as_names env) e (λ x. constant_of-plain ((meanings as_names env).object_for x)) (λ x. refl)
 
 denoted-tagged : {V P : Type 0} (env : Environment Name V P) (k : ℕ) (t : Tree Name written_type) → denoted tagged k (with_names (plain_tag env) as_field t) ≡ denoted (meanings as_names env) k t
 denoted-tagged env k t =
-    denoted-map (plain_tag env) as_field tagged (meanings as_names env) (λ x. constant_of-plain ((meanings as_names env).stands_for x)) (λ x. type_of_name-plain ((meanings as_names env).stands_for x)) (λ x. refl) k t
+    denoted-map (plain_tag env) as_field tagged (meanings as_names env) (λ x. constant_of-plain ((meanings as_names env).object_for x)) (λ x. type_of_name-plain ((meanings as_names env).object_for x)) (λ x. refl) k t
 
 pub constant_value-alike : {V P W Q : Type 0} (there : Environment Name V P) (here : Environment Name W Q) (e : Tree Name expression) → SameAt (plain_tag there) (plain_tag here) (occurrences e) → constant_value (meanings as_names there) e ≡ constant_value (meanings as_names here) e
 constant_value-alike there here e same =
@@ -169,7 +169,7 @@ plain-same {V} {P} {Q} p q (Some b) = of_object b.object
 pub edited-same : {V P Q : Type 0} (edit : Edit) (p q : ℕ → P → Q) (marks : Marks V P) (xs : List Name) → AllStay edit (scope_marked marks) xs → SameAt (plain_tag (read_edited edit q marks)) (plain_tag (read p marks)) xs
 edited-same edit p q marks [] stay = tt
 edited-same edit p q marks (x ∷ xs) stay = (
-  λ i. record { object = (ap (option_map plain_object) (edited-stands_for edit q marks x stay.0) ∙ (plain-same q p (found marks x) ∙ sym (ap (option_map plain_object) (read-stands_for p marks x)))) i; text = [] },
+  λ i. record { object = (ap (option_map plain_object) (edited-object_for edit q marks x stay.0) ∙ (plain-same q p (found marks x) ∙ sym (ap (option_map plain_object) (read-object_for p marks x)))) i; text = [] },
   edited-same edit p q marks xs stay.1,
 )
 
@@ -200,7 +200,7 @@ pub known-value : {V P Q : Type 0} (p : ℕ → P → Q) (marks : Marks V P) (e 
 known-value {V} {P} {Q} p marks e =
     ap (constant_value (meanings as_names (knowns marks))) (sym (with_names-id e))
     ∙ constant_value-map (λ x. x) (λ x. x) (meanings as_names (knowns marks)) (read_meanings p marks) e
-    (λ x. ap constant_of (known-found marks x) ∙ (same (found marks x) ∙ sym (ap constant_of (read-stands_for p marks x)))) (λ x. refl)
+    (λ x. ap constant_of (known-found marks x) ∙ (same (found marks x) ∙ sym (ap constant_of (read-object_for p marks x)))) (λ x. refl)
   where
     of_object : (k : ℕ) (o : Object V P) → constant_of (Some (known_object o)) ≡ constant_of (Some (object_as (p k) o))
     of_object k (a_type s) = refl

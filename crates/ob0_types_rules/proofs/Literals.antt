@@ -15,34 +15,34 @@ some_inverse {A} {a} {b} e = ap (λ o. unwrap_or o a) e
 
 -- what is written means the value in a run, in each store
 abbrev pub IsSeen : {V P : Type 0} → Meanings Name V P → Value → Type 0
-IsSeen meaning (truth true) = meaning.stands_for (codes "TRUE") ≡ Some (a_constant (truth true))
-IsSeen meaning (truth false) = meaning.stands_for (codes "FALSE") ≡ Some (a_constant (truth false))
+IsSeen meaning (truth true) = meaning.object_for (codes "TRUE") ≡ Some (a_constant (truth true))
+IsSeen meaning (truth false) = meaning.object_for (codes "FALSE") ≡ Some (a_constant (truth false))
 IsSeen meaning _ = Unit {0}
 
-pub least-worth : {P : Type 0} (meaning : Meanings Name Place P) (store : Store) (n : ℕ) → nat_lt n 2147483647 ≡ false → fits (negsuc n) ≡ true → evaluate_factor meaning store (written_number (negsuc n)) ≡ gives (number (negsuc n))
+pub least-has_value : {P : Type 0} (meaning : Meanings Name Place P) (store : Store) (n : ℕ) → nat_lt n 2147483647 ≡ false → fits (negsuc n) ≡ true → evaluate_factor meaning store (written_number (negsuc n)) ≡ gives (number (negsuc n))
 unfolding evaluate
-least-worth meaning store n e h =
+least-has_value meaning store n e h =
     let at : n ≡ 2147483647 = omega (arith, ltb-false n 2147483647 e, ltb-true n 2147483648 h) in
     subst (λ n. evaluate_factor meaning store (written_number (negsuc n)) ≡ gives (number (negsuc n))) (sym at) refl
 
-pub literal-worth : {P : Type 0} (meaning : Meanings Name Place P) (store : Store) (v : Tree Name factor) (w : Value) → written_value w ≡ Some v → IsScalar w → IsSeen meaning w → evaluate_factor meaning store v ≡ gives w
+pub literal-has_value : {P : Type 0} (meaning : Meanings Name Place P) (store : Store) (v : Tree Name factor) (w : Value) → written_value w ≡ Some v → IsScalar w → IsSeen meaning w → evaluate_factor meaning store v ≡ gives w
 unfolding evaluate
-literal-worth meaning store v (number (pos n)) e h seen = subst (λ v. evaluate_factor meaning store v ≡ gives (number (pos n))) (some_inverse e) refl
-literal-worth meaning store v (number (negsuc n)) e h seen =
+literal-has_value meaning store v (number (pos n)) e h seen = subst (λ v. evaluate_factor meaning store v ≡ gives (number (pos n))) (some_inverse e) refl
+literal-has_value meaning store v (number (negsuc n)) e h seen =
     subst (λ v. evaluate_factor meaning store v ≡ gives (number (negsuc n))) (some_inverse e)
     ((elim (nat_lt n 2147483647) as (λ b. nat_lt n 2147483647 ≡ b → evaluate_factor meaning store (written_number (negsuc n)) ≡ gives (number (negsuc n))) [
       | true ↦ λ l. ap (λ b. evaluate_factor meaning store (if b then parenthesised (compares (sum (Some sign.Minus) (product (integer (suc n)) end) end) none) else parenthesised (compares (sum (Some sign.Minus) (product (integer 2147483647) end) (more (adds add_operator.Subtract (product (integer 1) end)) end)) none))) l
           ∙ ap (λ b. (if b then gives (number (negsuc n)) else ends Overflow) >>= (λ v. gives v)) h
-      | false ↦ λ l. least-worth meaning store n l h
+      | false ↦ λ l. least-has_value meaning store n l h
     ]) refl)
-literal-worth {P} meaning store v (truth true) e h seen =
+literal-has_value {P} meaning store v (truth true) e h seen =
     subst (λ v. evaluate_factor meaning store v ≡ gives (truth true)) (some_inverse e)
     (ap (λ o. value_of {P = P} store o >>= (λ v. gives [] >>= (λ steps. or_stuck (at_path steps v)))) seen)
-literal-worth {P} meaning store v (truth false) e h seen =
+literal-has_value {P} meaning store v (truth false) e h seen =
     subst (λ v. evaluate_factor meaning store v ≡ gives (truth false)) (some_inverse e)
     (ap (λ o. value_of {P = P} store o >>= (λ v. gives [] >>= (λ steps. or_stuck (at_path steps v)))) seen)
-literal-worth meaning store v (elements vs) e h seen = absurd h
-literal-worth meaning store v (members k ms) e h seen = absurd h
+literal-has_value meaning store v (elements vs) e h seen = absurd h
+literal-has_value meaning store v (members k ms) e h seen = absurd h
 
 pub literal-typed : {P : Type 0} (meaning : Meanings Name Shape P) (v : Tree Name factor) (w : Value) → written_value w ≡ Some v → IsScalar w → IsSeen meaning w → type_of_factor meaning v ≡ value_type w
 unfolding type_of

@@ -119,7 +119,7 @@ known-found (b ∷ marks) x =
 
 -- what is known of a mark's object by its ordinal
 pub record IsRight {V P : Type 0} (edit : Edit) (w : Value) (b : Mark V P) : Type 0 where
-  pub worth : b.ordinal ≡ edit.constant → b.object ≡ a_constant w
+  pub has_value : b.ordinal ≡ edit.constant → b.object ≡ a_constant w
   pub yes_is : b.ordinal ≡ 2 → b.object ≡ a_constant (truth true)
   pub no_is : b.ordinal ≡ 3 → b.object ≡ a_constant (truth false)
 
@@ -152,9 +152,9 @@ found-right edit w X n (b ∷ marks) x s =
 
 -- a right mark of the constant's ordinal, of TRUE's and of FALSE's
 
-pub worth-found : {V P Q : Type 0} (edit : Edit) (w : Value) (q : ℕ → P → Q) (o : Option (Mark V P)) → HoldsOf (IsRight edit w) o → option_map (λ b. b.ordinal) o ≡ Some edit.constant → option_map (object_of q) o ≡ Some (a_constant w)
-worth-found edit w q None right e = absurd (cc)
-worth-found edit w q (Some b) right e = ap (λ o. Some (object_as (q b.ordinal) o)) (right.worth (some_inverse e))
+pub has_value-found : {V P Q : Type 0} (edit : Edit) (w : Value) (q : ℕ → P → Q) (o : Option (Mark V P)) → HoldsOf (IsRight edit w) o → option_map (λ b. b.ordinal) o ≡ Some edit.constant → option_map (object_of q) o ≡ Some (a_constant w)
+has_value-found edit w q None right e = absurd (cc)
+has_value-found edit w q (Some b) right e = ap (λ o. Some (object_as (q b.ordinal) o)) (right.has_value (some_inverse e))
 
 pub yes-found : {V P Q : Type 0} (edit : Edit) (w : Value) (q : ℕ → P → Q) (o : Option (Mark V P)) → HoldsOf (IsRight edit w) o → option_map (λ b. b.ordinal) o ≡ Some 2 → option_map (object_of q) o ≡ Some (a_constant (truth true))
 yes-found edit w q None right e = absurd (cc)

@@ -9,7 +9,7 @@ use Rattle.ob0_values.specs.Values.{Place, Store, Value, add, add_is_settled, at
 
 -- what names mean, each under another name
 abbrev pub through : {N M V P : Type 0} → (N → M) → (N → M) → Meanings M V P → Meanings N V P
-through f h meaning = record { stands_for = λ x. meaning.stands_for (f x); written = λ x. meaning.written (h x) }
+through f h meaning = record { object_for = λ x. meaning.object_for (f x); written = λ x. meaning.written (h x) }
 
 mutual
   unfolding evaluate
@@ -41,7 +41,7 @@ mutual
 
   pub evaluate_factor-map : {N M P : Type 0} (f h : N → M) (meaning : Meanings M Place P) (store : Store) (a : Tree N factor) → evaluate_factor meaning store (with_names f h a) ≡ evaluate_factor (through f h meaning) store a
   evaluate_factor-map f h meaning store (designator x path) = λ i.
-      value_of store (meaning.stands_for (f x)) >>= (λ v. follow-map f h meaning store v path i >>= (λ steps. or_stuck (at_path steps v)))
+      value_of store (meaning.object_for (f x)) >>= (λ v. follow-map f h meaning store v path i >>= (λ steps. or_stuck (at_path steps v)))
   evaluate_factor-map f h meaning store (integer n) = refl
   evaluate_factor-map f h meaning store (parenthesised e) = evaluate-map f h meaning store e
   evaluate_factor-map f h meaning store (negation a) = λ i. evaluate_factor-map f h meaning store a i >>= negated
@@ -56,7 +56,7 @@ mutual
 pub designate-map : {N M P : Type 0} (f h : N → M) (meaning : Meanings M Place P) (store : Store) (x : N) (path : Tree N (items selector)) → designate meaning store (f x) (with_names f h path) ≡ designate (through f h meaning) store x path
 unfolding designate
 designate-map f h meaning store x path = λ i.
-    place_of (meaning.stands_for (f x)) >>= (λ p. or_stuck (read_place store p) >>= (λ v. follow-map f h meaning store v path i >>= (λ steps. gives record { variable = p.variable; path = p.path ++ steps })))
+    place_of (meaning.object_for (f x)) >>= (λ p. or_stuck (read_place store p) >>= (λ v. follow-map f h meaning store v path i >>= (λ steps. gives record { variable = p.variable; path = p.path ++ steps })))
 
 abbrev pub map_designator : {N M : Type 0} → (N → M) → (N → M) → N × Tree N (items selector) → M × Tree M (items selector)
 map_designator f h d = (f d.0, with_names f h d.1)

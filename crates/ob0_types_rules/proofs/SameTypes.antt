@@ -6,7 +6,7 @@ use Rattle.ob0_types_rules.specs.Expressions.{Meanings}
 use Rattle.ob0_types_rules.specs.Typing.{add_type, complement_type, element_type, field_type, multiply_type, object_type, relation_type, sign_type, type_at, type_of, type_of_addends, type_of_factor, type_of_multipliers, type_of_simple, type_of_term, ◌>>=◌}
 use Rattle.ob0_values.specs.Values.{Shape}
 
-module _ {P Q : Type 0} (m : Meanings Label Shape P) (n : Meanings Label Shape Q) (same : (x : Label) → object_type (m.stands_for x) ≡ object_type (n.stands_for x)) (written : (x : Label) → m.written x ≡ n.written x) where
+module _ {P Q : Type 0} (m : Meanings Label Shape P) (n : Meanings Label Shape Q) (same : (x : Label) → object_type (m.object_for x) ≡ object_type (n.object_for x)) (written : (x : Label) → m.written x ≡ n.written x) where
   mutual
     unfolding type_of
 

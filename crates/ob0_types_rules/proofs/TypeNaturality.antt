@@ -35,7 +35,7 @@ mutual
       type_of_factor-map f h meaning a i >>= (λ y. multiply_type o x y >>= (λ z. type_of_multipliers-map f h meaning z rest i))
 
   pub type_of_factor-map : {N M P : Type 0} (f h : N → M) (meaning : Meanings M Shape P) (a : Tree N factor) → type_of_factor meaning (with_names f h a) ≡ type_of_factor (through f h meaning) a
-  type_of_factor-map f h meaning (designator x path) = λ i. object_type (meaning.stands_for (f x)) >>= (λ s. type_at-map f h meaning s path i)
+  type_of_factor-map f h meaning (designator x path) = λ i. object_type (meaning.object_for (f x)) >>= (λ s. type_at-map f h meaning s path i)
   type_of_factor-map f h meaning (integer n) = refl
   type_of_factor-map f h meaning (parenthesised e) = type_of-map f h meaning e
   type_of_factor-map f h meaning (negation a) = λ i. type_of_factor-map f h meaning a i >>= complement_type
@@ -48,11 +48,11 @@ mutual
 
 -- two constant expressions evaluate to the same where names mean the same constants
 pub constant_value-map : {N M V P W Q : Type 0} (f h : N → M) (there : Meanings M V P) (here : Meanings N W Q) (e : Tree N expression)
-    → ((x : N) → constant_of (there.stands_for (f x)) ≡ constant_of (here.stands_for x)) → ((x : N) → there.written (h x) ≡ here.written x) → constant_value there (with_names f h e) ≡ constant_value here e
+    → ((x : N) → constant_of (there.object_for (f x)) ≡ constant_of (here.object_for x)) → ((x : N) → there.written (h x) ≡ here.written x) → constant_value there (with_names f h e) ≡ constant_value here e
 unfolding constant_value
 constant_value-map f h there here e same_constants same_written = λ i.
-    (type_of-map {P = Unit {0}} f h (constants_only there) e ∙ (λ j. type_of {P = Unit {0}} (record { stands_for = λ x. option_map a_constant (same_constants x j); written = λ x. same_written x j }) e)) i
-    >>= (λ s. given_value ((evaluate-map {P = Unit {0}} f h (constants_only there) [] e ∙ (λ j. evaluate {P = Unit {0}} (record { stands_for = λ x. option_map a_constant (same_constants x j); written = λ x. same_written x j }) [] e)) i))
+    (type_of-map {P = Unit {0}} f h (constants_only there) e ∙ (λ j. type_of {P = Unit {0}} (record { object_for = λ x. option_map a_constant (same_constants x j); written = λ x. same_written x j }) e)) i
+    >>= (λ s. given_value ((evaluate-map {P = Unit {0}} f h (constants_only there) [] e ∙ (λ j. evaluate {P = Unit {0}} (record { object_for = λ x. option_map a_constant (same_constants x j); written = λ x. same_written x j }) [] e)) i))
 
 mutual
   pub constructors-map : {N M : Type 0} (f h : N → M) (t : Tree N written_type) → constructors (with_names f h t) ≡ constructors t
@@ -82,7 +82,7 @@ mutual
   unfolding denoted
 
   pub denoted-map : {N M V P W Q : Type 0} (f h : N → M) (there : Meanings M V P) (here : Meanings N W Q)
-      → ((x : N) → constant_of (there.stands_for (f x)) ≡ constant_of (here.stands_for x)) → ((x : N) → type_of_name (there.stands_for (f x)) ≡ type_of_name (here.stands_for x)) → ((x : N) → there.written (h x) ≡ here.written x)
+      → ((x : N) → constant_of (there.object_for (f x)) ≡ constant_of (here.object_for x)) → ((x : N) → type_of_name (there.object_for (f x)) ≡ type_of_name (here.object_for x)) → ((x : N) → there.written (h x) ≡ here.written x)
       → (k : ℕ) (t : Tree N written_type) → denoted there k (with_names f h t) ≡ denoted here k t
   denoted-map f h there here hc ht hw k (named_type x) = ht x
   denoted-map f h there here hc ht hw k (array_type e t) = λ i.
@@ -92,13 +92,13 @@ mutual
       >>= (λ later. denoted_group-map f h there here hc ht hw (suc k) later g i >>= (λ fs. within_limits (record_shape k fs)))
 
   pub denoted_group-map : {N M V P W Q : Type 0} (f h : N → M) (there : Meanings M V P) (here : Meanings N W Q)
-      → ((x : N) → constant_of (there.stands_for (f x)) ≡ constant_of (here.stands_for x)) → ((x : N) → type_of_name (there.stands_for (f x)) ≡ type_of_name (here.stands_for x)) → ((x : N) → there.written (h x) ≡ here.written x)
+      → ((x : N) → constant_of (there.object_for (f x)) ≡ constant_of (here.object_for x)) → ((x : N) → type_of_name (there.object_for (f x)) ≡ type_of_name (here.object_for x)) → ((x : N) → there.written (h x) ≡ here.written x)
       → (k : ℕ) (later : FieldShapes) (g : Tree N fields) → denoted_group there k later (with_names f h g) ≡ denoted_group here k later g
   denoted_group-map f h there here hc ht hw k later no_fields = refl
   denoted_group-map f h there here hc ht hw k later (some_fields ns t) = λ i. denoted-map f h there here hc ht hw k t i >>= (λ s. Some (with_fields (fields_written f h there here hw ns i) s later))
 
   pub denoted_groups-map : {N M V P W Q : Type 0} (f h : N → M) (there : Meanings M V P) (here : Meanings N W Q)
-      → ((x : N) → constant_of (there.stands_for (f x)) ≡ constant_of (here.stands_for x)) → ((x : N) → type_of_name (there.stands_for (f x)) ≡ type_of_name (here.stands_for x)) → ((x : N) → there.written (h x) ≡ here.written x)
+      → ((x : N) → constant_of (there.object_for (f x)) ≡ constant_of (here.object_for x)) → ((x : N) → type_of_name (there.object_for (f x)) ≡ type_of_name (here.object_for x)) → ((x : N) → there.written (h x) ≡ here.written x)
       → (k : ℕ) (gs : Tree N (items further_fields)) → denoted_groups there k (with_names f h gs) ≡ denoted_groups here k gs
   denoted_groups-map f h there here hc ht hw k end = refl
   denoted_groups-map f h there here hc ht hw k (more (then_fields g) rest) = λ i.

@@ -18,7 +18,7 @@ then_some (Some a) next b h = (a, refl, h)
 
 -- the names of a kind mean one constant
 abbrev pub AreConstant : {V P : Type 0} → (Name → Type 0) → Meanings Name V P → Value → Type 0
-AreConstant K meaning w = (x : Name) → K x → meaning.stands_for x ≡ Some (a_constant w)
+AreConstant K meaning w = (x : Name) → K x → meaning.object_for x ≡ Some (a_constant w)
 
 -- a constant has no selectors
 
@@ -76,7 +76,7 @@ mutual
   pub type_of_factor-elsewhere : {P : Type 0} (K : Name → Type 0) (meaning : Meanings Name Shape P) (w : Value) → AreConstant K meaning w → (a : Tree Name factor) (t : Shape) → type_of_factor meaning a ≡ Some t → NoneOf K (names_elsewhere a)
   type_of_factor-elsewhere K meaning w c (designator x end) t h = tt
   type_of_factor-elsewhere K meaning w c (designator x (more s rest)) t h =
-      let (shape, es, h₁) = then_some (object_type (meaning.stands_for x)) (λ shape. type_at meaning shape (more s rest)) t h in
+      let (shape, es, h₁) = then_some (object_type (meaning.object_for x)) (λ shape. type_at meaning shape (more s rest)) t h in
       (λ k. constant-alone meaning w s rest t (sym (ap (λ o. option_and_then (λ shape. type_at meaning shape (more s rest)) (object_type o)) (c x k)) ∙ h), type_at-elsewhere K meaning w c shape (more s rest) t h₁)
   type_of_factor-elsewhere K meaning w c (integer n) t h = tt
   type_of_factor-elsewhere K meaning w c (parenthesised e) t h = type_of-elsewhere K meaning w c e t h
@@ -145,7 +145,7 @@ variable-parts meaning path (Some (a_standard p)) t h = absurd (cc)
 pub variable-elsewhere : (K : Name → Type 0) (meaning : Typed Name) (w : Value) → AreConstant K meaning w → (x : Name) (path : Tree Name (items selector)) (t : Shape) → variable_type meaning (Some (x, path)) ≡ Some t → (K x → ⊥) × NoneOf K (names_elsewhere path)
 unfolding variable_type
 variable-elsewhere K meaning w c x path t h =
-    let (s, es, h₁) = variable-parts meaning path (meaning.stands_for x) t h in
+    let (s, es, h₁) = variable-parts meaning path (meaning.object_for x) t h in
     (λ k. let e : Some (a_variable s) ≡ Some (a_constant w) = sym es ∙ c x k in absurd (cc), type_at-elsewhere K meaning w c s path t h₁)
 
 pub designated-elsewhere : (K : Name → Type 0) (meaning : Typed Name) (w : Value) → AreConstant K meaning w → (e : Tree Name expression) (t : Shape) → variable_type meaning (designated e) ≡ Some t → NoneOf K (names_elsewhere e)
@@ -181,7 +181,7 @@ arguments-elsewhere K meaning w c (f ∷ fs) (one (some_arguments e es)) h =
     let p = and_parts (argument_fits meaning f e) (arguments_fit meaning fs (further_arguments es)) h in
     none-of-join K (names_elsewhere e) (names_elsewhere es) (argument-elsewhere K meaning w c f e p.0) (further-elsewhere K meaning w c fs es p.1)
 
-call-elsewhere : (K : Name → Type 0) (meaning : Typed Name) (w : Value) → AreConstant K meaning w → (x : Name) (o : Option Signature) (es : Tree Name (maybe arguments)) → signature_of (meaning.stands_for x) ≡ o → call_fits meaning o (arguments_listed es) ≡ true → (K x → ⊥) × NoneOf K (names_elsewhere es)
+call-elsewhere : (K : Name → Type 0) (meaning : Typed Name) (w : Value) → AreConstant K meaning w → (x : Name) (o : Option Signature) (es : Tree Name (maybe arguments)) → signature_of (meaning.object_for x) ≡ o → call_fits meaning o (arguments_listed es) ≡ true → (K x → ⊥) × NoneOf K (names_elsewhere es)
 unfolding call_fits
 call-elsewhere K meaning w c x None es e h = absurd (true≢false (sym h))
 call-elsewhere K meaning w c x (Some fs) es e h = (λ k. let d : None ≡ Some fs = sym (ap signature_of (c x k)) ∙ e in absurd (cc), arguments-elsewhere K meaning w c fs es h)
@@ -199,7 +199,7 @@ mutual
       let (s, t, a, b) = agree-parts (variable_type meaning (Some (x, path))) (type_of meaning e) h in
       let v = variable-elsewhere K meaning w c x path s a in
       (v.0, none-of-join K (names_elsewhere path) (names_elsewhere e) v.1 (type_of-elsewhere K meaning w c e t b))
-  statement-elsewhere K meaning w c (calls x es) h = call-elsewhere K meaning w c x (signature_of (meaning.stands_for x)) es refl h
+  statement-elsewhere K meaning w c (calls x es) h = call-elsewhere K meaning w c x (signature_of (meaning.object_for x)) es refl h
   statement-elsewhere K meaning w c (branches e statements rest last) h =
       let p = and_parts (condition_fits meaning e) (sequence_fits meaning statements && (elsifs_fit meaning rest && else_fits meaning last)) h in
       let q = and_parts (sequence_fits meaning statements) (elsifs_fit meaning rest && else_fits meaning last) p.1 in

@@ -79,7 +79,7 @@ newest-same (b ∷ noted) = refl
 abbrev pub typed_label : {N : Type 0} → Naming N → TypeNoted N → N → Label
 typed_label naming noted = label_of naming (as_label naming) (typed_scope noted)
 
-pub typed_meanings-agree : {N : Type 0} (naming : Naming N) (n : ℕ) (noted : TypeNoted N) → TypedBelow n noted → (x : N) → (meanings as_labels (typed_by_ordinal noted)).stands_for (typed_label naming noted x) ≡ (meanings naming (typed_by_name noted)).stands_for x
+pub typed_meanings-agree : {N : Type 0} (naming : Naming N) (n : ℕ) (noted : TypeNoted N) → TypedBelow n noted → (x : N) → (meanings as_labels (typed_by_ordinal noted)).object_for (typed_label naming noted x) ≡ (meanings naming (typed_by_name noted)).object_for x
 typed_meanings-agree naming n noted below x =
     ap newest (typed_by_ordinal-from naming n noted x below) ∙ (newest-same (typed_from naming noted x) ∙ sym (ap newest (typed_by_name-from naming noted x)))
 
@@ -293,7 +293,7 @@ unfolding body_fits
 body_fits-agrees naming n noted below none = refl
 body_fits-agrees naming n noted below (one (begins statements)) =
     sequence_fits-map (typed_label naming noted) (as_label naming None) (meanings as_labels (typed_by_ordinal noted)) statements
-    ∙ (λ i. sequence_fits (record { stands_for = λ x. typed_meanings-agree naming n noted below x i; written = naming.written }) statements)
+    ∙ (λ i. sequence_fits (record { object_for = λ x. typed_meanings-agree naming n noted below x i; written = naming.written }) statements)
 
 mutual
   unfolding block_fits

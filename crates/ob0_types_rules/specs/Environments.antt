@@ -23,7 +23,7 @@ newest (b ∷ env) = Some b.1
 -- what names mean in an environment: their first bindings
 abbrev pub meanings : {N V P : Type 0} → Naming N → Environment N V P → Meanings N V P
 meanings naming env =
-    record { stands_for = λ x. newest (from_binding naming env x); written = naming.written }
+    record { object_for = λ x. newest (from_binding naming env x); written = naming.written }
 
 -- the outermost block: INTEGER, BOOLEAN, TRUE, FALSE, Read, Write and WriteLn
 abbrev pub outermost : {N V P : Type 0} → Naming N → Environment N V P

@@ -19,7 +19,7 @@ pub data Object (V P : Type 0) : Type 0 where
 
 -- what names mean at a place, nothing where nothing binds; and how the name of a field is written
 pub record Meanings (N V P : Type 0) : Type 0 where
-  pub stands_for : N → Option (Object V P)
+  pub object_for : N → Option (Object V P)
   pub written : N → Name
 
 -- the step to an element; an index below 0 or not below the length ends with Index
@@ -87,7 +87,7 @@ unfoldable mutual
 
   pub evaluate_factor : {N P : Type 0} → Meanings N Place P → Store → Tree N factor → Outcome Value
   evaluate_factor meaning store (designator x path) = do
-    v ← value_of store (meaning.stands_for x)
+    v ← value_of store (meaning.object_for x)
     steps ← follow meaning store v path
     or_stuck (at_path steps v)
   evaluate_factor meaning store (integer n) = gives (number (pos n))
@@ -122,7 +122,7 @@ unfoldable pub designate : {N P : Type 0}
     → Outcome Place
 unfolding evaluate
 designate meaning store x path = do
-  p ← place_of (meaning.stands_for x)
+  p ← place_of (meaning.object_for x)
   v ← or_stuck (read_place store p)
   steps ← follow meaning store v path
   gives record { variable = p.variable; path = p.path ++ steps }

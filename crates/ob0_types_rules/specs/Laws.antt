@@ -32,8 +32,8 @@ ConstantsEvaluate =
     (e : Tree Name expression) (v : Value)
     → ((x : Name) → checked.written x ≡ active.written x)
     → ((x : Name) (w : Value)
-    → constant_of (checked.stands_for x) ≡ Some w
-    → constant_of (active.stands_for x) ≡ Some w)
+    → constant_of (checked.object_for x) ≡ Some w
+    → constant_of (active.object_for x) ≡ Some w)
     → constant_value checked e ≡ Some v → evaluate active store e ≡ gives v
 
 -- each use among the occurrences from number k on has the property
@@ -47,7 +47,7 @@ InliningKeepsEvaluation =
     (meaning : Meanings Name Place (List Mode)) (store : Store) (uses : Uses) (v : Tree Name factor)
     (w : Value) (k : ℕ) (e : Tree Name expression)
     → evaluate_factor meaning store v ≡ gives w
-    → UsesAre uses (λ x. meaning.stands_for x ≡ Some (a_constant w)) k (occurrences e)
+    → UsesAre uses (λ x. meaning.object_for x ≡ Some (a_constant w)) k (occurrences e)
     → evaluate meaning store (inline_in uses v k e) ≡ evaluate meaning store e
 
 -- a factor of a constant's type in place of uses of that constant keeps an expression's type
@@ -56,5 +56,5 @@ InliningKeepsTypes =
     (checked : Typed Name) (uses : Uses) (v : Tree Name factor) (w : Value) (k : ℕ)
     (e : Tree Name expression)
     → type_of_factor checked v ≡ value_type w
-    → UsesAre uses (λ x. checked.stands_for x ≡ Some (a_constant w)) k (occurrences e)
+    → UsesAre uses (λ x. checked.object_for x ≡ Some (a_constant w)) k (occurrences e)
     → type_of checked (inline_in uses v k e) ≡ type_of checked e

@@ -127,7 +127,7 @@ unfoldable mutual
 
   pub type_of_factor : {N P : Type 0} → Meanings N Shape P → Tree N factor → Option Shape
   type_of_factor meaning (designator x path) = do
-    s ← object_type (meaning.stands_for x)
+    s ← object_type (meaning.object_for x)
     type_at meaning s path
   type_of_factor meaning (integer n) = Some integer_shape
   type_of_factor meaning (parenthesised e) = type_of meaning e
@@ -153,8 +153,8 @@ constant_of _ = None
 abbrev pub constants_only : {N V P W Q : Type 0} → Meanings N V P → Meanings N W Q
 constants_only meaning =
     record {
-      stands_for
-          = λ x. option_map a_constant (constant_of (meaning.stands_for x));
+      object_for
+          = λ x. option_map a_constant (constant_of (meaning.object_for x));
       written = meaning.written;
     }
 
@@ -233,7 +233,7 @@ unfoldable mutual
   unfolding constant_value
 
   pub denoted : {N V P : Type 0} → Meanings N V P → ℕ → Tree N written_type → Option Shape
-  denoted meaning k (named_type x) = type_of_name (meaning.stands_for x)
+  denoted meaning k (named_type x) = type_of_name (meaning.object_for x)
   denoted meaning k (array_type e t) = do
     v ← constant_value meaning e
     n ← array_length v

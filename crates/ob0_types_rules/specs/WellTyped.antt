@@ -66,7 +66,7 @@ unfoldable pub variable_type : {N P : Type 0}
 unfolding type_of
 variable_type meaning None = None
 variable_type meaning (Some (x, path)) =
-    elim (meaning.stands_for x) [ Some (a_variable s) ↦ type_at meaning s path | _ ↦ None ]
+    elim (meaning.object_for x) [ Some (a_variable s) ↦ type_at meaning s path | _ ↦ None ]
 
 -- the parameters of what a name means, where that is a procedure
 abbrev pub signature_of : Option (Object Shape Signature) → Option Signature
@@ -125,7 +125,7 @@ unfoldable mutual
   statement_fits meaning (assigns x path e) =
       agree (variable_type meaning (Some (x, path))) (type_of meaning e)
   statement_fits meaning (calls x es) =
-      call_fits meaning (signature_of (meaning.stands_for x)) (arguments_listed es)
+      call_fits meaning (signature_of (meaning.object_for x)) (arguments_listed es)
   statement_fits meaning (branches e statements rest last) =
       condition_fits meaning e
       && (sequence_fits meaning statements && (elsifs_fit meaning rest && else_fits meaning last))

@@ -12,7 +12,7 @@ use Rattle.ob0_types_table.specs.declared.known.TypeEntry.TheVariants as made
 use Rattle.ob0_types_table.specs.declared.known.Field.{Field}
 use Rattle.ob0_types_table.specs.declared.known.Object as declaration
 use Rattle.ob0_types_table.specs.declared.known.Object.TheVariants as kind
-use Rattle.ob0_types_table.specs.Tables.{AreMadeInOrder, CountsParts, IsEntry, IsMade, PartsAreMade, fields_shape, made_shape, no_shape, only_array, only_record, shapes_from, type_shape}
+use Rattle.ob0_types_table.specs.Tables.{AreEntriesInOrder, CountsParts, IsEntry, IsTypeMade, PartsAreMade, fields_shape, made_shape, no_shape, only_array, only_record, shapes_from, type_shape}
 
 pub shapes_from-push : (known : List Shape) (ms : List code.TypeEntry) (m : code.TypeEntry) → shapes_from known (ms ++ m ∷ []) ≡ shapes_from known ms ++ made_shape (shapes_from known ms) m ∷ []
 shapes_from-push known [] m = refl
@@ -34,23 +34,23 @@ shapes_from-known known (x ∷ ms) =
     shapes_from-known (known ++ made_shape known x ∷ []) ms ∙ append_assoc known (made_shape known x ∷ []) (shapes_later (known ++ made_shape known x ∷ []) ms)
 
 -- more shapes change no type that was made
-pub type_shape-more : (shapes later : List Shape) (t : TypeId) → IsMade (length shapes) t → type_shape (shapes ++ later) t ≡ type_shape shapes t
+pub type_shape-more : (shapes later : List Shape) (t : TypeId) → IsTypeMade (length shapes) t → type_shape (shapes ++ later) t ≡ type_shape shapes t
 type_shape-more shapes later type.Integer h = refl
 type_shape-more shapes later type.Boolean h = refl
 type_shape-more shapes later (type.Array i) h = ap only_array (get_or-append shapes later no_shape i h)
 type_shape-more shapes later (type.Record i) h = ap only_record (get_or-append shapes later no_shape i h)
 type_shape-more shapes later type.Unknown h = refl
 
-pub fields_shape-more : (shapes later : List Shape) (fs : List Field) → All (λ f. IsMade (length shapes) f.of) fs → fields_shape (shapes ++ later) fs ≡ fields_shape shapes fs
+pub fields_shape-more : (shapes later : List Shape) (fs : List Field) → All (λ f. IsTypeMade (length shapes) f.of) fs → fields_shape (shapes ++ later) fs ≡ fields_shape shapes fs
 fields_shape-more shapes later [] h = refl
-fields_shape-more shapes later (f ∷ fs) h = λ i. next_field_shape (string_bytes f.name) (type_shape-more shapes later f.of (All-head (λ f. IsMade (length shapes) f.of) f fs h) i) (fields_shape-more shapes later fs (All-tail (λ f. IsMade (length shapes) f.of) f fs h) i)
+fields_shape-more shapes later (f ∷ fs) h = λ i. next_field_shape (string_bytes f.name) (type_shape-more shapes later f.of (All-head (λ f. IsTypeMade (length shapes) f.of) f fs h) i) (fields_shape-more shapes later fs (All-tail (λ f. IsTypeMade (length shapes) f.of) f fs h) i)
 
 pub made_shape-more : (shapes later : List Shape) (m : code.TypeEntry) → PartsAreMade (length shapes) m → made_shape (shapes ++ later) m ≡ made_shape shapes m
 made_shape-more shapes later (made.Array a) h = ap (array_shape a.ordinal a.length) (type_shape-more shapes later a.element h)
 made_shape-more shapes later (made.Record r) h = ap (record_shape r.ordinal) (fields_shape-more shapes later r.fields h)
 
 -- an entry is made over all shapes of the table
-pub shape_at-entry : (known : List Shape) (ms : List code.TypeEntry) (i : ℕ) (m : code.TypeEntry) → AreMadeInOrder known ms → i < length ms → m ≡ get_or ms i m
+pub shape_at-entry : (known : List Shape) (ms : List code.TypeEntry) (i : ℕ) (m : code.TypeEntry) → AreEntriesInOrder known ms → i < length ms → m ≡ get_or ms i m
     → (get_or (shapes_from known ms) (length known + i) no_shape ≡ made_shape (shapes_from known ms) m) × CountsParts m (made_shape (shapes_from known ms) m)
 shape_at-entry known [] i m h less e = absurd (omega arith)
 shape_at-entry known (x ∷ ms) zero m h less e =
@@ -72,17 +72,17 @@ shape_at-entry known (x ∷ ms) (suc i) m h less e =
     let later = shape_at-entry (known ++ made_shape known x ∷ []) ms i m h.1 (omega arith) e in
     (ap (λ n. get_or (shapes_from known (x ∷ ms)) n no_shape) at ∙ later.0, later.1)
 
-pub shape_at-table : (ms : List code.TypeEntry) (i : ℕ) (m : code.TypeEntry) → AreMadeInOrder [] ms → i < length ms → m ≡ get_or ms i m → get_or (shapes_from [] ms) i no_shape ≡ made_shape (shapes_from [] ms) m
+pub shape_at-table : (ms : List code.TypeEntry) (i : ℕ) (m : code.TypeEntry) → AreEntriesInOrder [] ms → i < length ms → m ≡ get_or ms i m → get_or (shapes_from [] ms) i no_shape ≡ made_shape (shapes_from [] ms) m
 shape_at-table ms i m h less e = ap (λ n. get_or (shapes_from [] ms) n no_shape) (sym (zero-add i)) ∙ (shape_at-entry [] ms i m h less e).0
 
-pub counted_at-table : (ms : List code.TypeEntry) (i : ℕ) (m : code.TypeEntry) → AreMadeInOrder [] ms → i < length ms → m ≡ get_or ms i m → CountsParts m (made_shape (shapes_from [] ms) m)
+pub counted_at-table : (ms : List code.TypeEntry) (i : ℕ) (m : code.TypeEntry) → AreEntriesInOrder [] ms → i < length ms → m ≡ get_or ms i m → CountsParts m (made_shape (shapes_from [] ms) m)
 counted_at-table ms i m h less e = (shape_at-entry [] ms i m h less e).1
 
 pub shape_at-past : (ms : List code.TypeEntry) (i : ℕ) → length ms ≤ i → get_or (shapes_from [] ms) i no_shape ≡ no_shape
 shape_at-past ms i h = get_or_past (shapes_from [] ms) i no_shape (omega (arith, length-shapes_from [] ms))
 
 -- one more entry
-pub in_order-push : (known : List Shape) (ms : List code.TypeEntry) (m : code.TypeEntry) → AreMadeInOrder known ms → IsEntry (shapes_from known ms) m → AreMadeInOrder known (ms ++ m ∷ [])
+pub in_order-push : (known : List Shape) (ms : List code.TypeEntry) (m : code.TypeEntry) → AreEntriesInOrder known ms → IsEntry (shapes_from known ms) m → AreEntriesInOrder known (ms ++ m ∷ [])
 in_order-push known [] m h entry = (entry, tt)
 in_order-push known (x ∷ ms) m h entry = (h.0, in_order-push (known ++ made_shape known x ∷ []) ms m h.1 entry)
 

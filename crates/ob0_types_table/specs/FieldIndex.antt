@@ -4,12 +4,12 @@ use Rattle.std.specs.Prelude.{◌≡◌, ℕ, suc, List, [], ◌∷◌, Option, 
 use Rattle.std.specs.declared.alloc.Global.{Global}
 use Rattle.std.specs.BTreeMap.{BTreeMap, get_by_text}
 use Rattle.ob0_scope_rules.specs.Names.{Name, same_name}
-use Rattle.ob0_types_table.specs.declared.field_table.First.{First}
+use Rattle.ob0_types_table.specs.declared.field_table.FirstOfName.{FirstOfName}
 use Rattle.ob0_types_table.specs.declared.known.Field.{Field}
 use Rattle.ob0_types_table.specs.declared.types.TypeId.{TypeId}
 
 -- the first field of a name among fields from place k on
-abbrev pub first_from : ℕ → List Field → Name → Option First
+abbrev pub first_from : ℕ → List Field → Name → Option FirstOfName
 first_from k [] x = None
 first_from k (f ∷ fs) x =
     if same_name x (string_bytes f.name)
@@ -22,9 +22,9 @@ first_type [] x = None
 first_type (f ∷ fs) x = if same_name x (string_bytes f.name) then Some f.of else first_type fs x
 
 -- a map has the first field of each name among fields from a place on
-pub record IsIndexFrom (map : BTreeMap (String Global) First) (k : ℕ) (fields : List Field) : Type 0 where
+pub record IsIndexFrom (map : BTreeMap (String Global) FirstOfName) (k : ℕ) (fields : List Field) : Type 0 where
   pub found : (x : Name) → get_by_text map x ≡ first_from k fields x
 
 -- the map has the first field of each name
-abbrev pub IsIndex : BTreeMap (String Global) First → List Field → Type 0
+abbrev pub IsIndex : BTreeMap (String Global) FirstOfName → List Field → Type 0
 IsIndex map fields = IsIndexFrom map 0 fields

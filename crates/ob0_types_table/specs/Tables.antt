@@ -56,15 +56,15 @@ shapes_from known [] = known
 shapes_from known (m ∷ ms) = shapes_from (known ++ made_shape known m ∷ []) ms
 
 -- a type has been made where there are n shapes
-abbrev pub IsMade : ℕ → TypeId → Type 0
-IsMade n (type.Array i) = i < n
-IsMade n (type.Record i) = i < n
-IsMade n _ = Unit {0}
+abbrev pub IsTypeMade : ℕ → TypeId → Type 0
+IsTypeMade n (type.Array i) = i < n
+IsTypeMade n (type.Record i) = i < n
+IsTypeMade n _ = Unit {0}
 
 -- the parts of a shape were made before it
 abbrev pub PartsAreMade : ℕ → code.TypeEntry → Type 0
-PartsAreMade n (made.Array a) = IsMade n a.element
-PartsAreMade n (made.Record r) = All (λ f. IsMade n f.of) r.fields
+PartsAreMade n (made.Array a) = IsTypeMade n a.element
+PartsAreMade n (made.Record r) = All (λ f. IsTypeMade n f.of) r.fields
 
 -- an entry keeps how many scalars its shape has, and how deep it is
 abbrev pub CountsParts : code.TypeEntry → Shape → Type 0
@@ -77,10 +77,10 @@ pub record IsEntry (shapes : List Shape) (m : code.TypeEntry) : Type 0 where
   pub counted : CountsParts m (made_shape shapes m)
 
 -- each entry is made of those before it
-abbrev pub AreMadeInOrder : List Shape → List code.TypeEntry → Type 0
-AreMadeInOrder known [] = Unit {0}
-AreMadeInOrder known (m ∷ ms) =
-    IsEntry known m × AreMadeInOrder (known ++ made_shape known m ∷ []) ms
+abbrev pub AreEntriesInOrder : List Shape → List code.TypeEntry → Type 0
+AreEntriesInOrder known [] = Unit {0}
+AreEntriesInOrder known (m ∷ ms) =
+    IsEntry known m × AreEntriesInOrder (known ++ made_shape known m ∷ []) ms
 
 -- what a declaration is
 abbrev pub mode_of : Bool → Mode

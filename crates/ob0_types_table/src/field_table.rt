@@ -15,7 +15,7 @@ use std::marker::Model;
 
 /// A field that is the first of its name: its place and its type.
 #[derive(Clone, Copy)]
-struct First {
+struct FirstOfName {
     place: usize,
     of: TypeId,
 }
@@ -24,7 +24,7 @@ struct First {
 #[derive(Drop)]
 pub struct FieldTable {
     fields: Vec<Field>,
-    first_of: BTreeMap<String, First>,
+    first_of: BTreeMap<String, FirstOfName>,
 }
 
 impl Model for FieldTable {
@@ -41,7 +41,7 @@ impl Model for FieldTable {
 }
 
 /// The first field of each name. The last field goes first, so that the first of a name stays.
-fn first_of(alloc: Global, fields: &[Field]) -> Result<BTreeMap<String, First>, AllocError>
+fn first_of(alloc: Global, fields: &[Field]) -> Result<BTreeMap<String, FirstOfName>, AllocError>
     ensures { IfOk result (λ m. IsIndex m fields.now) }
 {
     let mut first = BTreeMap::new(alloc);
@@ -49,7 +49,7 @@ fn first_of(alloc: Global, fields: &[Field]) -> Result<BTreeMap<String, First>, 
     while left > 0 {
         left -= 1;
         let field = &fields[left];
-        let entry = First {
+        let entry = FirstOfName {
             place: left,
             of: field.of,
         };

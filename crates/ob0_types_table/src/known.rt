@@ -112,26 +112,26 @@ impl RecordShape {
 impl Model for Known {
     ghost use Rattle.std.specs.Prelude.{[]};
     ghost use Rattle.ob0_types_table.specs.KnownTables.{Tables};
-    ghost use Rattle.ob0_types_table.specs.Tables.{AreMadeInOrder};
+    ghost use Rattle.ob0_types_table.specs.Tables.{AreEntriesInOrder};
 
     ghost Value = { Tables };
 
     ghost view = { λ k. record { shapes = k.shapes.items; objects = k.objects.items } };
 
-    ghost invariant = { λ k. AreMadeInOrder [] k.shapes.items };
+    ghost invariant = { λ k. AreEntriesInOrder [] k.shapes.items };
 }
 
 impl Known {
     ghost use Rattle.std.specs.Prelude.{◌≡◌, [], length, option_map, option_and_then, slice_get, slice_index_or, MatchOption};
     ghost use Rattle.ob0_types_table.specs.KnownTables.{declared_in, shapes_of};
-    ghost use Rattle.ob0_types_table.specs.Tables.{AreMadeInOrder, CountsParts, made_shape, no_shape, object_in, type_shape};
+    ghost use Rattle.ob0_types_table.specs.Tables.{AreEntriesInOrder, CountsParts, made_shape, no_shape, object_in, type_shape};
     ghost use Rattle.ob0_types_rules.specs.Typing.{constant_of, element_type, field_type, type_declared};
     ghost use Rattle.ob0_values.specs.Scalars.{scalar_value};
     ghost use Rattle.ob0_values.specs.Values.{integer_shape};
 
     /// What is known of a module, by the arrays and records that it makes and by what its declarations are.
     pub fn new(shapes: Vec<TypeEntry>, objects: Vec<Option<Object>>) -> Known
-        requires { AreMadeInOrder [] shapes.items }
+        requires { AreEntriesInOrder [] shapes.items }
         ensures { result ≡ record { shapes = shapes.items; objects = objects.items } }
     {
         Known { shapes, objects }

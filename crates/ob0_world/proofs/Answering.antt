@@ -24,7 +24,7 @@ use Rattle.ob0_rpc.specs.Shapes.{result_message, error_message}
 use Rattle.ob0_rpc.specs.declared.clients.Client.{Client}
 use Rattle.ob0_session.specs.Actions.{ActionsAsked, ListsActions, Offers, wants_inlining, place_of, actions_value}
 use Rattle.ob0_session.specs.Answers as answers_of
-use Rattle.ob0_session.specs.Answers.{State, Reply, Says, Sends, Reaction, reacts, reaction_to, hears, requested, reaction_to_request as asked_in, calls, of_document, lays_out, renames, offers_actions, published, Answers, AnswersInState, AnswersGoingOn, says}
+use Rattle.ob0_session.specs.Answers.{ServerState, Reply, Says, Sends, Reaction, reacts, reaction_to, hears, reaction_to_call, reaction_to_request as requested_in, calls, of_document, lays_out, renames, offers_actions, published, Answers, AnswersInState, AnswersGoingOn, says}
 use Rattle.ob0_session.specs.Diagnosed.{Complaint, IsWellTypedModule, Reports, ReportsFaults, complaint_of}
 use Rattle.ob0_session.specs.Diagnostics.{Diagnoses, diagnostic_of}
 use Rattle.ob0_session.specs.Texts.{utf8}
@@ -41,7 +41,7 @@ use Rattle.ob0_world_editor.proofs.Hearing.{understood_as}
 use Rattle.ob0_world_rules.specs.Edited.{Replacement, replacement_of, replacements}
 use Rattle.ob0_world_rules.specs.Asks.{Ask, rename, inline_here, inline_all, format, indent_read}
 use Rattle.ob0_world_rules.specs.Answers.{place_at, AnswersFor, IsAnswer, IsEmptyIfCorrect}
-use Rattle.ob0_world_rules.specs.Ends.{SentAsk, numbered, ToServer, tells, asks, ToEditor, publishes, answers, after_message}
+use Rattle.ob0_world_rules.specs.Ends.{SentAsk, numbered, ToServer, notifies, requests, ToEditor, publishes, answers, after_message}
 use Rattle.ob0_world_rules.specs.Serving.{Publishes, cleared, Replies}
 use Rattle.ob0_world_rules.proofs.UriLaws.{get_put, uri_itself}
 use Rattle.ob0_world.specs.Queues.{IsRunning, made_of_document, made_first}
@@ -53,43 +53,43 @@ same_json content (Some e) d one other = sym one.1 ∙ other.1
 same_json content None d one other = sym (one other.0) ∙ other.1
 
 -- what the editor understands of the contents that were sent
-pub record Heard (asked : List SentAsk) (sent : List (List ℕ)) (said : List ToEditor) : Type 0 where
-  pub each : All (λ content. (m : ToEditor) × (understood asked content ≡ Some m)) sent
-  pub all : filter_map (understood asked) sent ≡ said
+pub record Heard (requested : List SentAsk) (sent : List (List ℕ)) (said : List ToEditor) : Type 0 where
+  pub each : All (λ content. (m : ToEditor) × (understood requested content ≡ Some m)) sent
+  pub all : filter_map (understood requested) sent ≡ said
   pub count : length sent ≡ length said
 
-heard_none : (asked : List SentAsk) (sent : List (List ℕ)) → sent ≡ [] → Heard asked sent []
-heard_none asked sent none =
-    subst (λ s. Heard asked s []) (sym none) (record { each = All-nil (λ content. (m : ToEditor) × (understood asked content ≡ Some m)); all = refl; count = refl })
+heard_none : (requested : List SentAsk) (sent : List (List ℕ)) → sent ≡ [] → Heard requested sent []
+heard_none requested sent none =
+    subst (λ s. Heard requested s []) (sym none) (record { each = All-nil (λ content. (m : ToEditor) × (understood requested content ≡ Some m)); all = refl; count = refl })
 
-heard_one : (asked : List SentAsk) (sent : List (List ℕ)) (message : Data) (m : ToEditor) → Sends message sent → value_understood asked message ≡ Some m → Heard asked sent (m ∷ [])
-heard_one asked sent message m (content, is, writes) means =
-    let said : understood asked content ≡ Some m = understood_as asked content message writes.reads ∙ means in
-    subst (λ s. Heard asked s (m ∷ [])) (sym is)
+heard_one : (requested : List SentAsk) (sent : List (List ℕ)) (message : Data) (m : ToEditor) → Sends message sent → value_understood requested message ≡ Some m → Heard requested sent (m ∷ [])
+heard_one requested sent message m (content, is, writes) means =
+    let said : understood requested content ≡ Some m = understood_as requested content message writes.reads ∙ means in
+    subst (λ s. Heard requested s (m ∷ [])) (sym is)
     (record {
-      each = All-push (λ c. (m : ToEditor) × (understood asked c ≡ Some m)) [] content (All-nil (λ c. (m : ToEditor) × (understood asked c ≡ Some m))) (m, said);
+      each = All-push (λ c. (m : ToEditor) × (understood requested c ≡ Some m)) [] content (All-nil (λ c. (m : ToEditor) × (understood requested c ≡ Some m))) (m, said);
       all = ap (λ o. cons_option o []) said;
       count = refl;
     })
 
 -- ---- diagnostics
 
-empty_none : (shown : Complaint → Diagnostic) (told : List Complaint) → told ≡ [] → has_none (items_of (map diagnostic_value (map shown told))) ≡ true
+empty_none : (shown : Complaint → Diagnostic) (reported : List Complaint) → reported ≡ [] → has_none (items_of (map diagnostic_value (map shown reported))) ≡ true
 empty_none shown [] none = refl
 empty_none shown (c ∷ cs) none = absurd (cc)
 
-none_empty : (shown : Complaint → Diagnostic) (told : List Complaint) → has_none (items_of (map diagnostic_value (map shown told))) ≡ true → told ≡ []
+none_empty : (shown : Complaint → Diagnostic) (reported : List Complaint) → has_none (items_of (map diagnostic_value (map shown reported))) ≡ true → reported ≡ []
 none_empty shown [] h = refl
 none_empty shown (c ∷ cs) h = absurd (cc)
 
-some_told : (text : List ℕ) (told : List Complaint) → ReportsFaults text told → told ≡ [] → ⊥
-some_told text told (inl lexemes) none = go lexemes.faults lexemes.of_text.some (sym lexemes.all ∙ none)
+some_reported : (text : List ℕ) (reported : List Complaint) → ReportsFaults text reported → reported ≡ [] → ⊥
+some_reported text reported (inl lexemes) none = go lexemes.faults lexemes.of_text.some (sym lexemes.all ∙ none)
   where
     go : (faults : _) → 0 < length faults → map complaint_of faults ≡ [] → ⊥
     go [] some none = omega (arith, some)
     go (f ∷ fs) some none = cc
-some_told text told (inr (inl parser)) none = let other : parser.complaint ∷ [] ≡ [] = sym parser.alone ∙ none in cc
-some_told text told (inr (inr types)) none = go types.faults types.some (sym types.all ∙ none)
+some_reported text reported (inr (inl parser)) none = let other : parser.complaint ∷ [] ≡ [] = sym parser.alone ∙ none in cc
+some_reported text reported (inr (inr types)) none = go types.faults types.some (sym types.all ∙ none)
   where
     go : (faults : _) → 0 < length faults → map complaint_of faults ≡ [] → ⊥
     go [] some none = omega (arith, some)
@@ -98,36 +98,36 @@ some_told text told (inr (inr types)) none = go types.faults types.some (sym typ
 empty_of : List Diagnostic → Bool
 empty_of ds = has_none (items_of (map diagnostic_value ds))
 
-tells_right : (unit : Unit) (text : List ℕ) (ds : List Diagnostic) → Diagnoses unit text ds → IsEmptyIfCorrect text (has_none (items_of (map diagnostic_value ds)))
-tells_right unit text ds (told, telling, is) =
+reports_right : (unit : Unit) (text : List ℕ) (ds : List Diagnostic) → Diagnoses unit text ds → IsEmptyIfCorrect text (has_none (items_of (map diagnostic_value ds)))
+reports_right unit text ds (reported, telling, is) =
     subst (λ ds. IsEmptyIfCorrect text (has_none (items_of (map diagnostic_value ds)))) (sym is) (go telling)
   where
-    go : Reports (utf8 text) told → IsEmptyIfCorrect text (has_none (items_of (map diagnostic_value (map (diagnostic_of unit text) told))))
-    go (inl (found, none)) = (λ empty. found, λ well_typed. empty_none (diagnostic_of unit text) told none)
-    go (inr (unfit, faults)) = (λ empty. absurd (some_told (utf8 text) told faults (none_empty (diagnostic_of unit text) told empty)), λ well_typed. absurd (unfit well_typed))
+    go : Reports (utf8 text) reported → IsEmptyIfCorrect text (has_none (items_of (map diagnostic_value (map (diagnostic_of unit text) reported))))
+    go (inl (found, none)) = (λ empty. found, λ well_typed. empty_none (diagnostic_of unit text) reported none)
+    go (inr (unfit, faults)) = (λ empty. absurd (some_reported (utf8 text) reported faults (none_empty (diagnostic_of unit text) reported empty)), λ well_typed. absurd (unfit well_typed))
 
 -- ---- publications
 
 -- what was sent of a notification
-pub record Noted (asked : List SentAsk) (held : OpenDocuments) (uri : List ℕ) (o : Option Document) (sent : List (List ℕ)) : Type 0 where
+pub record Noted (requested : List SentAsk) (held : OpenDocuments) (uri : List ℕ) (o : Option Document) (sent : List (List ℕ)) : Type 0 where
   pub said : List ToEditor
-  pub heard : Heard asked sent said
+  pub heard : Heard requested sent said
   pub replies : Publishes uri o said (option_to_list (made_first held said))
 
-publishes_step : (asked : List SentAsk) (held : OpenDocuments) (uri : List ℕ) (version : ℤ) (text : List ℕ) (sent : List (List ℕ)) → document_at held uri ≡ Some (InStep version text) → as_i64 (of_integer version) ≡ Some version
-    → Says (published held.unit uri (Some (InStep version text))) sent → Noted asked held uri (Some (InStep version text)) sent
-publishes_step asked held uri version text sent at fits (ds, diagnoses, sends) =
+publishes_step : (requested : List SentAsk) (held : OpenDocuments) (uri : List ℕ) (version : ℤ) (text : List ℕ) (sent : List (List ℕ)) → document_at held uri ≡ Some (InStep version text) → as_i64 (of_integer version) ≡ Some version
+    → Says (published held.unit uri (Some (InStep version text))) sent → Noted requested held uri (Some (InStep version text)) sent
+publishes_step requested held uri version text sent at fits (ds, diagnoses, sends) =
     let empty : Bool = has_none (items_of (map diagnostic_value ds)) in
     record {
       said = publishes uri (Some version) empty ∷ [];
-      heard = heard_one asked sent (publication uri (Some version) ds) (publishes uri (Some version) empty) sends (ap (λ v. Some (publishes uri v empty)) fits);
-      replies = (empty, tells_right held.unit text ds diagnoses, refl, ap (λ o. option_to_list (option_and_then (made_of_document uri version empty) o)) at);
+      heard = heard_one requested sent (publication uri (Some version) ds) (publishes uri (Some version) empty) sends (ap (λ v. Some (publishes uri v empty)) fits);
+      replies = (empty, reports_right held.unit text ds diagnoses, refl, ap (λ o. option_to_list (option_and_then (made_of_document uri version empty) o)) at);
     }
 
-publishes_now : (asked : List SentAsk) (held : OpenDocuments) (uri : List ℕ) (version : ℤ) (t : Option (List ℕ)) (sent : List (List ℕ)) → document_at held uri ≡ Some (document version t) → as_i64 (of_integer version) ≡ Some version
-    → Says (published held.unit uri (Some (document version t))) sent → Noted asked held uri (Some (document version t)) sent
-publishes_now asked held uri version (Some text) sent at fits saying = publishes_step asked held uri version text sent at fits saying
-publishes_now asked held uri version None sent at fits saying = record { said = []; heard = heard_none asked sent saying; replies = (refl, refl) }
+publishes_now : (requested : List SentAsk) (held : OpenDocuments) (uri : List ℕ) (version : ℤ) (t : Option (List ℕ)) (sent : List (List ℕ)) → document_at held uri ≡ Some (document version t) → as_i64 (of_integer version) ≡ Some version
+    → Says (published held.unit uri (Some (document version t))) sent → Noted requested held uri (Some (document version t)) sent
+publishes_now requested held uri version (Some text) sent at fits saying = publishes_step requested held uri version text sent at fits saying
+publishes_now requested held uri version None sent at fits saying = record { said = []; heard = heard_none requested sent saying; replies = (refl, refl) }
 
 -- a document that was changed
 changed_at : (held : OpenDocuments) (uri : List ℕ) (version : ℤ) (how : List TextChange) → document_at (changed held uri version how) uri ≡ option_map (changed_document held.unit version how) (document_at held uri)
@@ -147,56 +147,56 @@ opened_at held uri version text =
     get_put held.by_uri uri (InStep version text) uri ∙ ap (λ b. cond b (Some (InStep version text)) (document_at held uri)) (uri_itself uri)
 
 -- what is said of the document that is held now
-noted_at : (asked : List SentAsk) (held : OpenDocuments) (uri : List ℕ) (o : Option Document) (sent : List (List ℕ)) → document_at held uri ≡ o → (Says (published held.unit uri o) sent → Noted asked held uri o sent)
-    → Says (published held.unit uri (document_at held uri)) sent → Noted asked held uri (document_at held uri) sent
-noted_at asked held uri o sent at then_noted saying =
-    subst (λ o. Noted asked held uri o sent) (sym at) (then_noted (subst (λ o. Says (published held.unit uri o) sent) at saying))
+noted_at : (requested : List SentAsk) (held : OpenDocuments) (uri : List ℕ) (o : Option Document) (sent : List (List ℕ)) → document_at held uri ≡ o → (Says (published held.unit uri o) sent → Noted requested held uri o sent)
+    → Says (published held.unit uri (document_at held uri)) sent → Noted requested held uri (document_at held uri) sent
+noted_at requested held uri o sent at then_noted saying =
+    subst (λ o. Noted requested held uri o sent) (sym at) (then_noted (subst (λ o. Says (published held.unit uri o) sent) at saying))
 
 -- ---- what may be sent
 
 -- the server has taken a message, and sent this
-pub record Served (asked : List SentAsk) (m : ToServer) (before after : State) (sent : List (List ℕ)) : Type 0 where
+pub record Served (requested : List SentAsk) (m : ToServer) (before after : ServerState) (sent : List (List ℕ)) : Type 0 where
   pub running : IsRunning after
   pub held : after.held ≡ after_message before.held m
   pub said : List ToEditor
-  pub heard : Heard asked sent said
+  pub heard : Heard requested sent said
   pub replies : Replies before.held m said (option_to_list (made_first after.held said))
 
 -- the reaction to a notification, and what it saying
-note_served : (asked : List SentAsk) (note : DocumentEvent) (before after : State) (sent : List (List ℕ)) → IsRunning before → HasVersion note → after ≡ (reaction_to before (sent_as note)).after → Says (reaction_to before (sent_as note)).say sent
-    → Served asked (tells note) before after sent
-note_served asked (Opened uri version text) before after sent running fits is saying =
+note_served : (requested : List SentAsk) (note : DocumentEvent) (before after : ServerState) (sent : List (List ℕ)) → IsRunning before → HasVersion note → after ≡ (reaction_to before (sent_as note)).after → Says (reaction_to before (sent_as note)).say sent
+    → Served requested (notifies note) before after sent
+note_served requested (Opened uri version text) before after sent running fits is saying =
     let held : OpenDocuments = opened before.held uri version text in
-    let noted : Noted asked held uri (document_at held uri) sent =
-    noted_at asked held uri (Some (InStep version text)) sent (opened_at before.held uri version text) (publishes_step asked held uri version text sent (opened_at before.held uri version text) fits) saying in
-    subst (λ a. Served asked (tells (Opened uri version text)) before a sent) (sym is)
+    let noted : Noted requested held uri (document_at held uri) sent =
+    noted_at requested held uri (Some (InStep version text)) sent (opened_at before.held uri version text) (publishes_step requested held uri version text sent (opened_at before.held uri version text) fits) saying in
+    subst (λ a. Served requested (notifies (Opened uri version text)) before a sent) (sym is)
     (record { running = running; held = refl; said = noted.said; heard = noted.heard; replies = noted.replies })
-note_served asked (Changed uri version how) before after sent running fits is saying =
+note_served requested (Changed uri version how) before after sent running fits is saying =
     let held : OpenDocuments = changed before.held uri version how in
-    let noted : Noted asked held uri (document_at held uri) sent = go held (document_at before.held uri) (changed_at before.held uri version how) saying in
-    subst (λ a. Served asked (tells (Changed uri version how)) before a sent) (sym is)
+    let noted : Noted requested held uri (document_at held uri) sent = go held (document_at before.held uri) (changed_at before.held uri version how) saying in
+    subst (λ a. Served requested (notifies (Changed uri version how)) before a sent) (sym is)
     (record { running = running; held = refl; said = noted.said; heard = noted.heard; replies = noted.replies })
   where
-    go : (held : OpenDocuments) (o : Option Document) → document_at held uri ≡ option_map (changed_document before.held.unit version how) o → Says (published held.unit uri (document_at held uri)) sent → Noted asked held uri (document_at held uri) sent
-    go held None at saying = noted_at asked held uri None sent at (λ saying. record { said = []; heard = heard_none asked sent saying; replies = (refl, refl) }) saying
+    go : (held : OpenDocuments) (o : Option Document) → document_at held uri ≡ option_map (changed_document before.held.unit version how) o → Says (published held.unit uri (document_at held uri)) sent → Noted requested held uri (document_at held uri) sent
+    go held None at saying = noted_at requested held uri None sent at (λ saying. record { said = []; heard = heard_none requested sent saying; replies = (refl, refl) }) saying
     go held (Some d) at saying =
         let t : Option (List ℕ) = fold (changed_text before.held.unit) (text_of d) how in
-        noted_at asked held uri (Some (document version t)) sent at (publishes_now asked held uri version t sent at fits) saying
-note_served asked (Lost uri) before after sent running fits is saying =
-    subst (λ a. Served asked (tells (Lost uri)) before a sent) (sym is)
-    (record { running = running; held = refl; said = []; heard = heard_none asked sent saying; replies = (refl, refl) })
-note_served asked (Closed uri) before after sent running fits is saying =
-    subst (λ a. Served asked (tells (Closed uri)) before a sent) (sym is) (go (is_some (document_at before.held uri)) refl saying)
+        noted_at requested held uri (Some (document version t)) sent at (publishes_now requested held uri version t sent at fits) saying
+note_served requested (Lost uri) before after sent running fits is saying =
+    subst (λ a. Served requested (notifies (Lost uri)) before a sent) (sym is)
+    (record { running = running; held = refl; said = []; heard = heard_none requested sent saying; replies = (refl, refl) })
+note_served requested (Closed uri) before after sent running fits is saying =
+    subst (λ a. Served requested (notifies (Closed uri)) before a sent) (sym is) (go (is_some (document_at before.held uri)) refl saying)
   where
-    go : (b : Bool) → is_some (document_at before.held uri) ≡ b → Says (cond b (says (publication uri None [])) answers_of.nothing) sent → Served asked (tells (Closed uri)) before (reaction_to before (sent_as (Closed uri))).after sent
+    go : (b : Bool) → is_some (document_at before.held uri) ≡ b → Says (cond b (says (publication uri None [])) answers_of.nothing) sent → Served requested (notifies (Closed uri)) before (reaction_to before (sent_as (Closed uri))).after sent
     go true was saying = record {
       running = running;
       held = refl;
       said = publishes uri None true ∷ [];
-      heard = heard_one asked sent (publication uri None []) (publishes uri None true) saying refl;
+      heard = heard_one requested sent (publication uri None []) (publishes uri None true) saying refl;
       replies = (sym (ap (cleared uri) was), refl);
     }
-    go false was saying = record { running = running; held = refl; said = []; heard = heard_none asked sent saying; replies = (sym (ap (cleared uri) was), refl) }
+    go false was saying = record { running = running; held = refl; said = []; heard = heard_none requested sent saying; replies = (sym (ap (cleared uri) was), refl) }
 
 -- ---- edits
 
@@ -205,22 +205,22 @@ edits_read_back [] = refl
 edits_read_back (e ∷ edits) = ap (option_map (λ es. replacement_of e ∷ es)) (edits_read_back edits)
 
 -- an answer to ask k, where that asks this
-answered : (asked : List SentAsk) (k : ℕ) (uri : List ℕ) (ask : Ask) (answer : Data) → IsAsk asked k uri ask → option_map (λ (a : SentAsk). answers k (edits_for a.ask answer)) (numbered asked k) ≡ Some (answers k (edits_for ask answer))
-answered asked k uri ask answer of = ap (option_map (λ (a : SentAsk). answers k (edits_for a.ask answer))) of.is ∙ ap (λ x. Some (answers k (edits_for x answer))) of.asks_this
+answered : (requested : List SentAsk) (k : ℕ) (uri : List ℕ) (ask : Ask) (answer : Data) → IsAsk requested k uri ask → option_map (λ (a : SentAsk). answers k (edits_for a.ask answer)) (numbered requested k) ≡ Some (answers k (edits_for ask answer))
+answered requested k uri ask answer of = ap (option_map (λ (a : SentAsk). answers k (edits_for a.ask answer))) of.is ∙ ap (λ x. Some (answers k (edits_for x answer))) of.asks_this
 
 -- the answer to an ask
-record Answered (asked : List SentAsk) (k : ℕ) (ask : Ask) (unit : Unit) (o : Option Document) (sent : List (List ℕ)) : Type 0 where
+record Answered (requested : List SentAsk) (k : ℕ) (ask : Ask) (unit : Unit) (o : Option Document) (sent : List (List ℕ)) : Type 0 where
   edits : List Replacement
-  heard : Heard asked sent (answers k edits ∷ [])
+  heard : Heard requested sent (answers k edits ∷ [])
   replies : IsAnswer unit o ask edits
 
 -- a refusal has no edits
-refused : (asked : List SentAsk) (k : ℕ) (uri : List ℕ) (ask : Ask) (unit : Unit) (o : Option Document) (code : ℤ) (why : List ℕ) (sent : List (List ℕ)) → IsAsk asked k uri ask → Sends (error_message (number (unsigned k)) code why) sent
-    → IsAnswer unit o ask [] → Answered asked k ask unit o sent
-refused asked k uri ask unit o code why sent of sends none =
+refused : (requested : List SentAsk) (k : ℕ) (uri : List ℕ) (ask : Ask) (unit : Unit) (o : Option Document) (code : ℤ) (why : List ℕ) (sent : List (List ℕ)) → IsAsk requested k uri ask → Sends (error_message (number (unsigned k)) code why) sent
+    → IsAnswer unit o ask [] → Answered requested k ask unit o sent
+refused requested k uri ask unit o code why sent of sends none =
     record {
       edits = [];
-      heard = heard_one asked sent (error_message (number (unsigned k)) code why) (answers k []) sends (answered asked k uri ask (error_message (number (unsigned k)) code why) of);
+      heard = heard_one requested sent (error_message (number (unsigned k)) code why) (answers k []) sends (answered requested k uri ask (error_message (number (unsigned k)) code why) of);
       replies = none;
     }
 
@@ -228,21 +228,21 @@ refused asked k uri ask unit o code why sent of sends none =
 unfit_answer : (unit : Unit) (text : List ℕ) (ask : Ask) → ¬ IsWellTypedModule (utf8 text) → AnswersFor unit text ask []
 unfit_answer unit text ask unfit = inr (inr unfit, refl)
 
-formatted : (asked : List SentAsk) (k : ℕ) (uri : List ℕ) (indent : Indent) (unit : Unit) (version : ℤ) (text : List ℕ) (sent : List (List ℕ)) → IsAsk asked k uri (format indent)
-    → Says (lays_out unit (number (unsigned k)) (indent_read indent) text) sent → Answered asked k (format indent) unit (Some (InStep version text)) sent
-formatted asked k uri indent unit version text sent of (message, how, sends) = go how
+formatted : (requested : List SentAsk) (k : ℕ) (uri : List ℕ) (indent : Indent) (unit : Unit) (version : ℤ) (text : List ℕ) (sent : List (List ℕ)) → IsAsk requested k uri (format indent)
+    → Says (lays_out unit (number (unsigned k)) (indent_read indent) text) sent → Answered requested k (format indent) unit (Some (InStep version text)) sent
+formatted requested k uri indent unit version text sent of (message, how, sends) = go how
   where
-    go : AnswersFormatting unit (number (unsigned k)) (indent_read indent) text message → Answered asked k (format indent) unit (Some (InStep version text)) sent
+    go : AnswersFormatting unit (number (unsigned k)) (indent_read indent) text message → Answered requested k (format indent) unit (Some (InStep version text)) sent
     go (inl (edits, laid, is)) =
         let answer : Data = result_message (number (unsigned k)) (edits_value edits) in
         let these : edits_for (format indent) answer ≡ replacements edits = ap (λ o. unwrap_or o []) (edits_read_back edits) in
         record {
           edits = replacements edits;
-          heard = heard_one asked sent answer (answers k (replacements edits)) (subst (λ m. Sends m sent) is sends) (answered asked k uri (format indent) answer of ∙ ap (λ es. Some (answers k es)) these);
+          heard = heard_one requested sent answer (answers k (replacements edits)) (subst (λ m. Sends m sent) is sends) (answered requested k uri (format indent) answer of ∙ ap (λ es. Some (answers k es)) these);
           replies = inl (edits, laid, refl);
         }
-    go (inr (inl (long, is))) = refused asked k uri (format indent) unit (Some (InStep version text)) (minus 32803) (refusal_text TooLong) sent of (subst (λ m. Sends m sent) is sends) (inr (inl long, refl))
-    go (inr (inr (unfit, is))) = refused asked k uri (format indent) unit (Some (InStep version text)) (minus 32803) (codes "ill-typed") sent of (subst (λ m. Sends m sent) is sends) (unfit_answer unit text (format indent) unfit)
+    go (inr (inl (long, is))) = refused requested k uri (format indent) unit (Some (InStep version text)) (minus 32803) (refusal_text TooLong) sent of (subst (λ m. Sends m sent) is sends) (inr (inl long, refl))
+    go (inr (inr (unfit, is))) = refused requested k uri (format indent) unit (Some (InStep version text)) (minus 32803) (codes "ill-typed") sent of (subst (λ m. Sends m sent) is sends) (unfit_answer unit text (format indent) unfit)
 
 -- edits of a versioned document are read back
 workspace_read_back : (client : Client) (uri : List ℕ) (version : ℤ) (edits : List Edit) → client.takes_document_changes ≡ true
@@ -260,25 +260,25 @@ renames_read_back : (id : Data) (position : Position) (name uri : List ℕ) (ver
 renames_read_back id position name uri version edits client takes = ap (λ o. unwrap_or o []) (workspace_read_back client uri version edits takes)
 
 -- the request as the session takes it
-abbrev rename_asked : Client → ℕ → List ℕ → Position → List ℕ → ℤ → RenameAsked
-rename_asked client k uri position name version =
+abbrev rename_requested : Client → ℕ → List ℕ → Position → List ℕ → ℤ → RenameAsked
+rename_requested client k uri position name version =
     record { id = number (unsigned k); client = client; at = record { uri = uri; position = position }; version = version; new = name }
 
-renamed : (asked : List SentAsk) (k : ℕ) (uri : List ℕ) (position : Position) (name : List ℕ) (client : Client) (unit : Unit) (version : ℤ) (text : List ℕ) (sent : List (List ℕ)) → client.takes_document_changes ≡ true → IsAsk asked k uri (rename position name)
-    → Says (renames unit (rename_asked client k uri position name version) text) sent → Answered asked k (rename position name) unit (Some (InStep version text)) sent
-renamed asked k uri position name client unit version text sent takes of (message, how, sends) = go how
+renamed : (requested : List SentAsk) (k : ℕ) (uri : List ℕ) (position : Position) (name : List ℕ) (client : Client) (unit : Unit) (version : ℤ) (text : List ℕ) (sent : List (List ℕ)) → client.takes_document_changes ≡ true → IsAsk requested k uri (rename position name)
+    → Says (renames unit (rename_requested client k uri position name version) text) sent → Answered requested k (rename position name) unit (Some (InStep version text)) sent
+renamed requested k uri position name client unit version text sent takes of (message, how, sends) = go how
   where
-    go : AnswersRenaming unit (rename_asked client k uri position name version) text message → Answered asked k (rename position name) unit (Some (InStep version text)) sent
+    go : AnswersRenaming unit (rename_requested client k uri position name version) text message → Answered requested k (rename position name) unit (Some (InStep version text)) sent
     go (inl (edits, found, is)) =
         let answer : Data = result_message (number (unsigned k)) (workspace_edit client uri version edits) in
         let these : edits_for (rename position name) answer ≡ replacements edits = renames_read_back (number (unsigned k)) position name uri version edits client takes in
         record {
           edits = replacements edits;
-          heard = heard_one asked sent answer (answers k (replacements edits)) (subst (λ m. Sends m sent) is sends) (answered asked k uri (rename position name) answer of ∙ ap (λ es. Some (answers k es)) these);
+          heard = heard_one requested sent answer (answers k (replacements edits)) (subst (λ m. Sends m sent) is sends) (answered requested k uri (rename position name) answer of ∙ ap (λ es. Some (answers k es)) these);
           replies = inl (edits, found, refl);
         }
-    go (inr (inl (refusal, why, is))) = refused asked k uri (rename position name) unit (Some (InStep version text)) (minus 32803) (refusal_text refusal) sent of (subst (λ m. Sends m sent) is sends) (inr (inl (refusal, why), refl))
-    go (inr (inr (unfit, is))) = refused asked k uri (rename position name) unit (Some (InStep version text)) (minus 32803) (codes "ill-typed") sent of (subst (λ m. Sends m sent) is sends) (unfit_answer unit text (rename position name) unfit)
+    go (inr (inl (refusal, why, is))) = refused requested k uri (rename position name) unit (Some (InStep version text)) (minus 32803) (refusal_text refusal) sent of (subst (λ m. Sends m sent) is sends) (inr (inl (refusal, why), refl))
+    go (inr (inr (unfit, is))) = refused requested k uri (rename position name) unit (Some (InStep version text)) (minus 32803) (codes "ill-typed") sent of (subst (λ m. Sends m sent) is sends) (unfit_answer unit text (rename position name) unfit)
 
 -- ---- inlining
 
@@ -288,24 +288,24 @@ inlining_at Here position = inline_here position
 inlining_at Everywhere position = inline_all position
 
 -- the one that was asked for, of what is offered
-abbrev asked_for : {A : Type 0} → Inlining → A → A → A
-asked_for Here here everywhere = here
-asked_for Everywhere here everywhere = everywhere
+abbrev requested_for : {A : Type 0} → Inlining → A → A → A
+requested_for Here here everywhere = here
+requested_for Everywhere here everywhere = everywhere
 
 abbrev edits_offered : Option (Vec Edit Global) → List Replacement
 edits_offered (Some edits) = replacements edits.items
 edits_offered None = []
 
 -- of the actions that are offered that with the title is read
-actions_read_back : (how : Inlining) (position : Position) (asked : ActionsAsked) (here everywhere : Option (Vec Edit Global)) → asked.client.takes_document_changes ≡ true
-    → edits_for (inlining_at how position) (result_message asked.id (actions_value asked here everywhere)) ≡ edits_offered (asked_for how here everywhere)
-actions_read_back Here position asked (Some edits) everywhere takes = ap (λ o. unwrap_or o []) (workspace_read_back asked.client asked.uri asked.version edits.items takes)
-actions_read_back Here position asked None (Some other) takes = refl
-actions_read_back Here position asked None None takes = refl
-actions_read_back Everywhere position asked (Some other) (Some edits) takes = ap (λ o. unwrap_or o []) (workspace_read_back asked.client asked.uri asked.version edits.items takes)
-actions_read_back Everywhere position asked None (Some edits) takes = ap (λ o. unwrap_or o []) (workspace_read_back asked.client asked.uri asked.version edits.items takes)
-actions_read_back Everywhere position asked (Some other) None takes = refl
-actions_read_back Everywhere position asked None None takes = refl
+actions_read_back : (how : Inlining) (position : Position) (requested : ActionsAsked) (here everywhere : Option (Vec Edit Global)) → requested.client.takes_document_changes ≡ true
+    → edits_for (inlining_at how position) (result_message requested.id (actions_value requested here everywhere)) ≡ edits_offered (requested_for how here everywhere)
+actions_read_back Here position requested (Some edits) everywhere takes = ap (λ o. unwrap_or o []) (workspace_read_back requested.client requested.uri requested.version edits.items takes)
+actions_read_back Here position requested None (Some other) takes = refl
+actions_read_back Here position requested None None takes = refl
+actions_read_back Everywhere position requested (Some other) (Some edits) takes = ap (λ o. unwrap_or o []) (workspace_read_back requested.client requested.uri requested.version edits.items takes)
+actions_read_back Everywhere position requested None (Some edits) takes = ap (λ o. unwrap_or o []) (workspace_read_back requested.client requested.uri requested.version edits.items takes)
+actions_read_back Everywhere position requested (Some other) None takes = refl
+actions_read_back Everywhere position requested None None takes = refl
 
 none_read_back : (how : Inlining) (position : Position) (id : Data) → edits_for (inlining_at how position) (result_message id (array no_items)) ≡ []
 none_read_back Here position id = refl
@@ -327,31 +327,31 @@ least n = omega arith
 place_is : (unit : Unit) (text : List ℕ) (position : Position) → place_of unit text (empty_at position) ≡ place_at unit text position
 place_is unit text position = least (place_at unit text position)
 
-asked_offered : (how : Inlining) (unit : Unit) (text : List ℕ) (position : Position) (here everywhere : Option (Vec Edit Global)) → Offers Here unit text (place_of unit text (empty_at position)) here
-    → Offers Everywhere unit text (place_of unit text (empty_at position)) everywhere → AnswersFor unit text (inlining_at how position) (edits_offered (asked_for how here everywhere))
-asked_offered Here unit text position here everywhere one other = offered_here unit text position here (subst (λ place. Offers Here unit text place here) (place_is unit text position) one)
-asked_offered Everywhere unit text position here everywhere one other = offered_everywhere unit text position everywhere (subst (λ place. Offers Everywhere unit text place everywhere) (place_is unit text position) other)
+requested_offered : (how : Inlining) (unit : Unit) (text : List ℕ) (position : Position) (here everywhere : Option (Vec Edit Global)) → Offers Here unit text (place_of unit text (empty_at position)) here
+    → Offers Everywhere unit text (place_of unit text (empty_at position)) everywhere → AnswersFor unit text (inlining_at how position) (edits_offered (requested_for how here everywhere))
+requested_offered Here unit text position here everywhere one other = offered_here unit text position here (subst (λ place. Offers Here unit text place here) (place_is unit text position) one)
+requested_offered Everywhere unit text position here everywhere one other = offered_everywhere unit text position everywhere (subst (λ place. Offers Everywhere unit text place everywhere) (place_is unit text position) other)
 
 -- the request as the session takes it
-abbrev actions_asked_at : Client → ℕ → List ℕ → Position → ℤ → ActionsAsked
-actions_asked_at client k uri position version =
+abbrev actions_requested_at : Client → ℕ → List ℕ → Position → ℤ → ActionsAsked
+actions_requested_at client k uri position version =
     record { id = number (unsigned k); client = client; uri = uri; version = version; range = empty_at position; only = None }
 
-inlined : (how : Inlining) (asked : List SentAsk) (k : ℕ) (uri : List ℕ) (position : Position) (client : Client) (unit : Unit) (version : ℤ) (text : List ℕ) (sent : List (List ℕ)) → client.takes_document_changes ≡ true → client.takes_literal_actions ≡ true
-    → IsAsk asked k uri (inlining_at how position)
-    → Says (offers_actions unit (actions_asked_at client k uri position version) text) sent → Answered asked k (inlining_at how position) unit (Some (InStep version text)) sent
-inlined how asked k uri position client unit version text sent takes literal of (message, (value, how_listed, is), sends) = go how_listed
+inlined : (how : Inlining) (requested : List SentAsk) (k : ℕ) (uri : List ℕ) (position : Position) (client : Client) (unit : Unit) (version : ℤ) (text : List ℕ) (sent : List (List ℕ)) → client.takes_document_changes ≡ true → client.takes_literal_actions ≡ true
+    → IsAsk requested k uri (inlining_at how position)
+    → Says (offers_actions unit (actions_requested_at client k uri position version) text) sent → Answered requested k (inlining_at how position) unit (Some (InStep version text)) sent
+inlined how requested k uri position client unit version text sent takes literal of (message, (value, how_listed, is), sends) = go how_listed
   where
     request : ActionsAsked
-    request = actions_asked_at client k uri position version
+    request = actions_requested_at client k uri position version
 
     with_edits : (edits : List Replacement) → edits_for (inlining_at how position) (result_message (number (unsigned k)) value) ≡ edits → AnswersFor unit text (inlining_at how position) edits
-        → Answered asked k (inlining_at how position) unit (Some (InStep version text)) sent
+        → Answered requested k (inlining_at how position) unit (Some (InStep version text)) sent
     with_edits edits these answer_is =
         let answer : Data = result_message (number (unsigned k)) value in
         record {
           edits = edits;
-          heard = heard_one asked sent answer (answers k edits) (subst (λ m. Sends m sent) is sends) (answered asked k uri (inlining_at how position) answer of ∙ ap (λ es. Some (answers k es)) these);
+          heard = heard_one requested sent answer (answers k edits) (subst (λ m. Sends m sent) is sends) (answered requested k uri (inlining_at how position) answer of ∙ ap (λ es. Some (answers k es)) these);
           replies = answer_is;
         }
 
@@ -364,89 +364,89 @@ inlined how asked k uri position client unit version text sent takes literal of 
     unfit (inl unwanted) = absurd (wants client.takes_literal_actions literal unwanted)
     unfit (inr ill_typed) = ill_typed
 
-    go : ListsActions unit request text value → Answered asked k (inlining_at how position) unit (Some (InStep version text)) sent
+    go : ListsActions unit request text value → Answered requested k (inlining_at how position) unit (Some (InStep version text)) sent
     go (inl (here, everywhere, wanted, offers_here, offers_everywhere, listed)) =
-        with_edits (edits_offered (asked_for how here everywhere))
+        with_edits (edits_offered (requested_for how here everywhere))
         (ap (λ v. edits_for (inlining_at how position) (result_message (number (unsigned k)) v)) listed ∙ actions_read_back how position request here everywhere takes)
-        (asked_offered how unit text position here everywhere offers_here offers_everywhere)
+        (requested_offered how unit text position here everywhere offers_here offers_everywhere)
     go (inr (why, listed)) =
         with_edits [] (ap (λ v. edits_for (inlining_at how position) (result_message (number (unsigned k)) v)) listed ∙ none_read_back how position (number (unsigned k))) (unfit_answer unit text (inlining_at how position) (unfit why))
 
 -- ---- asks
 
-asks_served : (asked : List SentAsk) (k : ℕ) (uri : List ℕ) (ask : Ask) (before after : State) (sent : List (List ℕ)) → IsRunning before → after ≡ before → Answered asked k ask before.held.unit (document_at before.held uri) sent
-    → Served asked (asks k uri ask) before after sent
-asks_served asked k uri ask before after sent running same answer =
-    subst (λ a. Served asked (asks k uri ask) before a sent) (sym same)
+asks_served : (requested : List SentAsk) (k : ℕ) (uri : List ℕ) (ask : Ask) (before after : ServerState) (sent : List (List ℕ)) → IsRunning before → after ≡ before → Answered requested k ask before.held.unit (document_at before.held uri) sent
+    → Served requested (requests k uri ask) before after sent
+asks_served requested k uri ask before after sent running same answer =
+    subst (λ a. Served requested (requests k uri ask) before a sent) (sym same)
     (record { running = running; held = refl; said = answers k answer.edits ∷ []; heard = answer.heard; replies = (answer.edits, answer.replies, refl, refl) })
 
 -- an ask about a document, where its answer is known for the text of one that is in step
-about_document : (asked : List SentAsk) (k : ℕ) (uri : List ℕ) (ask : Ask) (say : ℤ → List ℕ → Reply) (before after : State) (sent : List (List ℕ)) → IsRunning before → IsAsk asked k uri ask
-    → ((version : ℤ) (text : List ℕ) → Says (say version text) sent → Answered asked k ask before.held.unit (Some (InStep version text)) sent)
-    → (o : Option Document) → document_at before.held uri ≡ o → after ≡ (of_document before (number (unsigned k)) o say).after → Says (of_document before (number (unsigned k)) o say).say sent → Served asked (asks k uri ask) before after sent
-about_document asked k uri ask say before after sent running of in_step None at same saying =
-    asks_served asked k uri ask before after sent running same (refused asked k uri ask before.held.unit (document_at before.held uri) (minus 32803) (codes "unopened") sent of saying (subst (λ o. IsAnswer before.held.unit o ask []) (sym at) refl))
-about_document asked k uri ask say before after sent running of in_step (Some OutOfStep) at same saying =
-    asks_served asked k uri ask before after sent running same (refused asked k uri ask before.held.unit (document_at before.held uri) (minus 32803) (codes "out of step") sent of saying (subst (λ o. IsAnswer before.held.unit o ask []) (sym at) refl))
-about_document asked k uri ask say before after sent running of in_step (Some (InStep version text)) at same saying =
-    asks_served asked k uri ask before after sent running same (subst (λ o. Answered asked k ask before.held.unit o sent) (sym at) (in_step version text saying))
+about_document : (requested : List SentAsk) (k : ℕ) (uri : List ℕ) (ask : Ask) (say : ℤ → List ℕ → Reply) (before after : ServerState) (sent : List (List ℕ)) → IsRunning before → IsAsk requested k uri ask
+    → ((version : ℤ) (text : List ℕ) → Says (say version text) sent → Answered requested k ask before.held.unit (Some (InStep version text)) sent)
+    → (o : Option Document) → document_at before.held uri ≡ o → after ≡ (of_document before (number (unsigned k)) o say).after → Says (of_document before (number (unsigned k)) o say).say sent → Served requested (requests k uri ask) before after sent
+about_document requested k uri ask say before after sent running of in_step None at same saying =
+    asks_served requested k uri ask before after sent running same (refused requested k uri ask before.held.unit (document_at before.held uri) (minus 32803) (codes "unopened") sent of saying (subst (λ o. IsAnswer before.held.unit o ask []) (sym at) refl))
+about_document requested k uri ask say before after sent running of in_step (Some OutOfStep) at same saying =
+    asks_served requested k uri ask before after sent running same (refused requested k uri ask before.held.unit (document_at before.held uri) (minus 32803) (codes "out of step") sent of saying (subst (λ o. IsAnswer before.held.unit o ask []) (sym at) refl))
+about_document requested k uri ask say before after sent running of in_step (Some (InStep version text)) at same saying =
+    asks_served requested k uri ask before after sent running same (subst (λ o. Answered requested k ask before.held.unit o sent) (sym at) (in_step version text saying))
 
 -- a request of the editor, while the session runs
-request_served : (asked : List SentAsk) (k : ℕ) (uri : List ℕ) (ask : Ask) (params : Data) (before after : State) (sent : List (List ℕ)) → IsRunning before → IsAsk asked k uri ask → call_of (method_of ask) params ≡ Ok (call_for uri ask)
-    → after ≡ (requested before (number (unsigned k)) (method_of ask) params).after → Says (requested before (number (unsigned k)) (method_of ask) params).say sent → Served asked (asks k uri ask) before after sent
-request_served asked k uri (rename position name) params before after sent running of call is saying =
+request_served : (requested : List SentAsk) (k : ℕ) (uri : List ℕ) (ask : Ask) (params : Data) (before after : ServerState) (sent : List (List ℕ)) → IsRunning before → IsAsk requested k uri ask → call_of (method_of ask) params ≡ Ok (call_for uri ask)
+    → after ≡ (reaction_to_call before (number (unsigned k)) (method_of ask) params).after → Says (reaction_to_call before (number (unsigned k)) (method_of ask) params).say sent → Served requested (requests k uri ask) before after sent
+request_served requested k uri (rename position name) params before after sent running of call is saying =
     let id : Data = number (unsigned k) in
-    let say : ℤ → List ℕ → Reply = λ version. renames before.held.unit (rename_asked before.client k uri position name version) in
-    let so : requested before id (method_of (rename position name)) params ≡ of_document before id (document_at before.held uri) say = ap (calls before id) call in
-    about_document asked k uri (rename position name) say before after sent running of
-    (λ version text. renamed asked k uri position name before.client before.held.unit version text sent running.1 of) (document_at before.held uri) refl
+    let say : ℤ → List ℕ → Reply = λ version. renames before.held.unit (rename_requested before.client k uri position name version) in
+    let so : reaction_to_call before id (method_of (rename position name)) params ≡ of_document before id (document_at before.held uri) say = ap (calls before id) call in
+    about_document requested k uri (rename position name) say before after sent running of
+    (λ version text. renamed requested k uri position name before.client before.held.unit version text sent running.1 of) (document_at before.held uri) refl
     (is ∙ ap (λ (x : Reaction). x.after) so) (subst (λ (x : Reaction). Says x.say sent) so saying)
-request_served asked k uri (inline_here position) params before after sent running of call is saying =
+request_served requested k uri (inline_here position) params before after sent running of call is saying =
     let id : Data = number (unsigned k) in
-    let say : ℤ → List ℕ → Reply = λ version. offers_actions before.held.unit (actions_asked_at before.client k uri position version) in
-    let so : requested before id (method_of (inline_here position)) params ≡ of_document before id (document_at before.held uri) say = ap (calls before id) call in
-    about_document asked k uri (inline_here position) say before after sent running of
-    (λ version text. inlined Here asked k uri position before.client before.held.unit version text sent running.1 running.2 of) (document_at before.held uri) refl
+    let say : ℤ → List ℕ → Reply = λ version. offers_actions before.held.unit (actions_requested_at before.client k uri position version) in
+    let so : reaction_to_call before id (method_of (inline_here position)) params ≡ of_document before id (document_at before.held uri) say = ap (calls before id) call in
+    about_document requested k uri (inline_here position) say before after sent running of
+    (λ version text. inlined Here requested k uri position before.client before.held.unit version text sent running.1 running.2 of) (document_at before.held uri) refl
     (is ∙ ap (λ (x : Reaction). x.after) so) (subst (λ (x : Reaction). Says x.say sent) so saying)
-request_served asked k uri (inline_all position) params before after sent running of call is saying =
+request_served requested k uri (inline_all position) params before after sent running of call is saying =
     let id : Data = number (unsigned k) in
-    let say : ℤ → List ℕ → Reply = λ version. offers_actions before.held.unit (actions_asked_at before.client k uri position version) in
-    let so : requested before id (method_of (inline_all position)) params ≡ of_document before id (document_at before.held uri) say = ap (calls before id) call in
-    about_document asked k uri (inline_all position) say before after sent running of
-    (λ version text. inlined Everywhere asked k uri position before.client before.held.unit version text sent running.1 running.2 of) (document_at before.held uri) refl
+    let say : ℤ → List ℕ → Reply = λ version. offers_actions before.held.unit (actions_requested_at before.client k uri position version) in
+    let so : reaction_to_call before id (method_of (inline_all position)) params ≡ of_document before id (document_at before.held uri) say = ap (calls before id) call in
+    about_document requested k uri (inline_all position) say before after sent running of
+    (λ version text. inlined Everywhere requested k uri position before.client before.held.unit version text sent running.1 running.2 of) (document_at before.held uri) refl
     (is ∙ ap (λ (x : Reaction). x.after) so) (subst (λ (x : Reaction). Says x.say sent) so saying)
-request_served asked k uri (format indent) params before after sent running of call is saying =
+request_served requested k uri (format indent) params before after sent running of call is saying =
     let id : Data = number (unsigned k) in
     let say : ℤ → List ℕ → Reply = λ version. lays_out before.held.unit id (indent_read indent) in
-    let so : requested before id (method_of (format indent)) params ≡ of_document before id (document_at before.held uri) say = ap (calls before id) call in
-    about_document asked k uri (format indent) say before after sent running of
-    (λ version text. formatted asked k uri indent before.held.unit version text sent of) (document_at before.held uri) refl
+    let so : reaction_to_call before id (method_of (format indent)) params ≡ of_document before id (document_at before.held uri) say = ap (calls before id) call in
+    about_document requested k uri (format indent) say before after sent running of
+    (λ version text. formatted requested k uri indent before.held.unit version text sent of) (document_at before.held uri) refl
     (is ∙ ap (λ (x : Reaction). x.after) so) (subst (λ (x : Reaction). Says x.say sent) so saying)
 
 -- ---- messages
 
 -- the answers of a session that runs
-going_on : (before after : State) (content : List ℕ) (sent : List (List ℕ)) → IsRunning before → Answers before content sent after → AnswersGoingOn before content sent after
+going_on : (before after : ServerState) (content : List ℕ) (sent : List (List ℕ)) → IsRunning before → Answers before content sent after → AnswersGoingOn before content sent after
 going_on before after content sent running h = subst (λ phase. AnswersInState phase before content sent after) running.0 h
 
 -- what comes of a content with this meaning
-pub reacts_so : (before after : State) (content : List ℕ) (sent : List (List ℕ)) (d : Data) → AnswersGoingOn before content sent after → ReadsContent content (Some d) → (after ≡ (reacts before (meaning_of d)).after) × Says (reacts before (meaning_of d)).say sent
+pub reacts_so : (before after : ServerState) (content : List ℕ) (sent : List (List ℕ)) (d : Data) → AnswersGoingOn before content sent after → ReadsContent content (Some d) → (after ≡ (reacts before (meaning_of d)).after) × Says (reacts before (meaning_of d)).say sent
 reacts_so before after content sent d (json, reads, answer) known =
     subst (λ j. (after ≡ (reacts before (meaning j)).after) × Says (reacts before (meaning j)).say sent) (same_json content json d reads known) answer
 
-pub served : (asked : List SentAsk) (m : ToServer) (before after : State) (content : List ℕ) (sent : List (List ℕ)) → IsRunning before → heard_as.SaysToServer asked m content → Answers before content sent after → Served asked m before after sent
-served asked (tells note) before after content sent running is h =
+pub served : (requested : List SentAsk) (m : ToServer) (before after : ServerState) (content : List ℕ) (sent : List (List ℕ)) → IsRunning before → heard_as.SaysToServer requested m content → Answers before content sent after → Served requested m before after sent
+served requested (notifies note) before after content sent running is h =
     let answer = reacts_so before after content sent is.json (going_on before after content sent running h) is.reads in
     let so : reacts before (meaning_of is.json) ≡ reaction_to before (sent_as note) =
-    ap (reacts before) is.means ∙ ap (λ phase. hears phase before is.method is.params) running.0 ∙ ap (reaction_to before) is.told in
-    note_served asked note before after sent running is.fits (answer.0 ∙ ap (λ (x : Reaction). x.after) so) (subst (λ (x : Reaction). Says x.say sent) so answer.1)
-served asked (asks k uri ask) before after content sent running (is, of) h =
+    ap (reacts before) is.means ∙ ap (λ phase. hears phase before is.method is.params) running.0 ∙ ap (reaction_to before) is.reported in
+    note_served requested note before after sent running is.fits (answer.0 ∙ ap (λ (x : Reaction). x.after) so) (subst (λ (x : Reaction). Says x.say sent) so answer.1)
+served requested (requests k uri ask) before after content sent running (is, of) h =
     let answer = reacts_so before after content sent is.json (going_on before after content sent running h) is.reads in
-    let so : reacts before (meaning_of is.json) ≡ requested before (number (unsigned k)) (method_of ask) is.params =
-    ap (reacts before) is.means ∙ ap (λ phase. asked_in phase before (number (unsigned k)) (method_of ask) is.params) running.0 ∙ begun ask before is.params k in
-    request_served asked k uri ask is.params before after sent running of is.calls (answer.0 ∙ ap (λ (x : Reaction). x.after) so) (subst (λ (x : Reaction). Says x.say sent) so answer.1)
+    let so : reacts before (meaning_of is.json) ≡ reaction_to_call before (number (unsigned k)) (method_of ask) is.params =
+    ap (reacts before) is.means ∙ ap (λ phase. requested_in phase before (number (unsigned k)) (method_of ask) is.params) running.0 ∙ begun ask before is.params k in
+    request_served requested k uri ask is.params before after sent running of is.calls (answer.0 ∙ ap (λ (x : Reaction). x.after) so) (subst (λ (x : Reaction). Says x.say sent) so answer.1)
   where
-    begun : (ask : Ask) (s : State) (params : Data) (k : ℕ) → asked_in Running s (number (unsigned k)) (method_of ask) params ≡ requested s (number (unsigned k)) (method_of ask) params
+    begun : (ask : Ask) (s : ServerState) (params : Data) (k : ℕ) → requested_in Running s (number (unsigned k)) (method_of ask) params ≡ reaction_to_call s (number (unsigned k)) (method_of ask) params
     begun (rename position name) s params k = refl
     begun (inline_here position) s params k = refl
     begun (inline_all position) s params k = refl

@@ -4,7 +4,7 @@ use Rattle.ob0_text.specs.OpenDocuments.{none_open}
 use Rattle.ob0_text.specs.declared.position_types.Unit.{Unit}
 use Rattle.ob0_text.specs.declared.position_types.Unit.TheVariants.{Utf16, Utf8}
 use Rattle.ob0_rpc.specs.Messages.{ReadsContent, meaning_of}
-use Rattle.ob0_session.specs.Answers.{State, start, begins, reacts, Answers}
+use Rattle.ob0_session.specs.Answers.{ServerState, start, begins, reacts, Answers}
 use Rattle.ob0_session.specs.SessionStates.{SessionState, serving, failed}
 use Rattle.ob0_world_editor.specs.Beginning.{initialize_message, client_for}
 use Rattle.ob0_world.specs.Queues.{Contents, bytes, IsRunningOrFailed, held_by}
@@ -19,7 +19,7 @@ holds_none : (unit : Unit) → (begins (client_for unit)).held ≡ none_open uni
 holds_none Utf16 = refl
 holds_none Utf8 = refl
 
-abbrev state_of : SessionState → State → State
+abbrev state_of : SessionState → ServerState → ServerState
 state_of (serving s) other = s
 state_of failed other = other
 

@@ -10,7 +10,7 @@ use Rattle.ob0_text.specs.declared.position_types.Unit.{Unit}
 use Rattle.ob0_world_rules.specs.Edited.{Replacement, edited, after_changes}
 use Rattle.ob0_world_rules.specs.Asks.{Ask}
 use Rattle.ob0_world_rules.specs.Ends.{Open, SentAsk, Editor, numbered, open_at, ToServer, ToEditor, publishes, answers, Ends, new_editor}
-use Rattle.ob0_world_rules.specs.Editing.{opens_document, rewritten, rewrites, changes_text, changes_document, closes_document, asks_about, kept_answer, without_answer, discards, if_same, applies_text, applies_edits, applies_asked, applies_answer}
+use Rattle.ob0_world_rules.specs.Editing.{opens_document, rewritten, rewrites, changes_text, changes_document, closes_document, asks_about, kept_answer, without_answer, discards, if_same, applies_text, applies_edits, applies_requested, applies_answer}
 use Rattle.ob0_world_rules.specs.Events.{Event, open_document, change_document, close_document, ask_about, serve, take_message, apply, discard, Seen, moved, comes_of, takes}
 use Rattle.ob0_world_rules.specs.Happens.{ServerTakes, Happens}
 use Rattle.ob0_world_rules.proofs.SameDocument.{found, left, same_from, Same}
@@ -21,7 +21,7 @@ pub few : (n : ℕ) (e : Editor) → Within n e → n < 2 ^ 63 - 1 → AreFew e
 few n e within h =
     record {
       openings = let a : e.openings ≤ n = within.openings in omega arith;
-      asks = let a : length e.asked ≤ n = within.asks in omega arith;
+      asks = let a : length e.requested ≤ n = within.asks in omega arith;
       versions = λ uri d at. let a : d.version ≤ n = within.versions uri d at in omega arith;
     }
 
@@ -33,7 +33,7 @@ more : (n : ℕ) (e : Editor) → Within n e → Within (n + 1) e
 more n e within =
     record {
       openings = let a : e.openings ≤ n = within.openings in omega arith;
-      asks = let a : length e.asked ≤ n = within.asks in omega arith;
+      asks = let a : length e.requested ≤ n = within.asks in omega arith;
       versions = λ uri d at. let a : d.version ≤ n = within.versions uri d at in omega arith;
     }
 
@@ -41,7 +41,7 @@ put : (n : ℕ) (e : Editor) (uri : List ℕ) (new : Open) (openings : ℕ) → 
 put n e uri new openings within version few_openings =
     record {
       openings = few_openings;
-      asks = let a : length e.asked ≤ n = within.asks in omega arith;
+      asks = let a : length e.requested ≤ n = within.asks in omega arith;
       versions = λ q d at. found e.documents uri q new d (d.version ≤ n + 1) at (λ same is. subst (λ x. x.version ≤ n + 1) is version)
           (λ was. let a : d.version ≤ n = within.versions q d was in omega arith);
     }
@@ -72,7 +72,7 @@ module _ (n : ℕ) (w : Ends) (within : Within n w.editor) where
   close_within uri (Some d) =
       record {
         openings = let a : w.editor.openings ≤ n = within.openings in omega arith;
-        asks = let a : length w.editor.asked ≤ n = within.asks in omega arith;
+        asks = let a : length w.editor.requested ≤ n = within.asks in omega arith;
         versions = λ q x at. let a : x.version ≤ n = within.versions q x (left w.editor.documents uri q x at) in omega arith;
       }
 
@@ -81,7 +81,7 @@ module _ (n : ℕ) (w : Ends) (within : Within n w.editor) where
   ask_within uri ask (Some d) =
       record {
         openings = let a : w.editor.openings ≤ n = within.openings in omega arith;
-        asks = longer w.editor.asked _ within.asks;
+        asks = longer w.editor.requested _ within.asks;
         versions = λ q x at. let a : x.version ≤ n = within.versions q x at in omega arith;
       }
     where
@@ -103,7 +103,7 @@ module _ (n : ℕ) (w : Ends) (within : Within n w.editor) where
 
   apply_within : (k : ℕ) (o : Option (List Replacement)) → Within (n + 1) (comes_of w k (applies_answer w.editor k o)).after.editor
   apply_within k None = more n w.editor within
-  apply_within k (Some edits) = of_asked (numbered w.editor.asked k)
+  apply_within k (Some edits) = of_requested (numbered w.editor.requested k)
     where
       e : Editor
       e = without_answer w.editor k
@@ -116,9 +116,9 @@ module _ (n : ℕ) (w : Ends) (within : Within n w.editor) where
       of_document a None is = more n e (without k)
       of_document a (Some d) is = let same : Same e a d = same_from e a d is in of_text a.uri d (edited e.unit d.text edits) same.at
 
-      of_asked : (o : Option SentAsk) → Within (n + 1) (comes_of w k (applies_asked e edits o)).after.editor
-      of_asked None = more n e (without k)
-      of_asked (Some a) = of_document a (if_same a (open_at e a.uri)) refl
+      of_requested : (o : Option SentAsk) → Within (n + 1) (comes_of w k (applies_requested e edits o)).after.editor
+      of_requested None = more n e (without k)
+      of_requested (Some a) = of_document a (if_same a (open_at e a.uri)) refl
 
   same_editor : (queue : List ToServer) (seen : Seen) (new : Ends) → ServerTakes w queue seen new → new.editor ≡ w.editor
   same_editor [] seen new h = ap (λ (x : Ends). x.editor) h.1

@@ -6,7 +6,7 @@ use Rattle.std.specs.declared.alloc.Global.{Global}
 use Rattle.std.proofs.lemmas.List.{map-append, length-map}
 use Rattle.std.proofs.lemmas.List.Elements.{All-nil, All-cons, All-head, All-tail}
 use Rattle.ob0_text.specs.OpenDocuments.{OpenDocuments}
-use Rattle.ob0_session.specs.Answers.{State}
+use Rattle.ob0_session.specs.Answers.{ServerState}
 use Rattle.ob0_session.specs.SessionStates.{SessionState, serving, failed}
 use Rattle.ob0_session.specs.Steps.{SessionSteps}
 use Rattle.ob0_session.specs.declared.session.Step.{Step}
@@ -27,40 +27,40 @@ use Rattle.ob0_world.proofs.Answering.{Served, served}
 use Rattle.ob0_world.proofs.Waiting.{said_append, said_first, all_appended}
 
 -- all contents that were sent are understood
-each_understood : (asked : List SentAsk) (sent : Contents) → All (λ content. (m : ToEditor) × (understood asked content ≡ Some m)) (bytes sent) → All (IsUnderstood asked) sent
-each_understood asked [] all = All-nil (IsUnderstood asked)
-each_understood asked (c ∷ sent) all =
-    All-cons (IsUnderstood asked) c sent (All-head (λ content. (m : ToEditor) × (understood asked content ≡ Some m)) c.items (bytes sent) all)
-    (each_understood asked sent (All-tail (λ content. (m : ToEditor) × (understood asked content ≡ Some m)) c.items (bytes sent) all))
+each_understood : (requested : List SentAsk) (sent : Contents) → All (λ content. (m : ToEditor) × (understood requested content ≡ Some m)) (bytes sent) → All (IsUnderstood requested) sent
+each_understood requested [] all = All-nil (IsUnderstood requested)
+each_understood requested (c ∷ sent) all =
+    All-cons (IsUnderstood requested) c sent (All-head (λ content. (m : ToEditor) × (understood requested content ≡ Some m)) c.items (bytes sent) all)
+    (each_understood requested sent (All-tail (λ content. (m : ToEditor) × (understood requested content ≡ Some m)) c.items (bytes sent) all))
 
 -- the first message is that of the first content
-made_as_sent : (held : OpenDocuments) (asked : List SentAsk) (sent : Contents) → All (IsUnderstood asked) sent → made_sent held asked sent ≡ made_first held (all_understood asked sent)
-made_as_sent held asked [] all = refl
-made_as_sent held asked (c ∷ sent) all =
-    let first : IsUnderstood asked c = All-head (IsUnderstood asked) c sent all in
-    ap (option_and_then (made_for held)) first.1 ∙ ap (made_first held) (sym (said_first (understood asked) c sent first.0 first.1))
+made_as_sent : (held : OpenDocuments) (requested : List SentAsk) (sent : Contents) → All (IsUnderstood requested) sent → made_sent held requested sent ≡ made_first held (all_understood requested sent)
+made_as_sent held requested [] all = refl
+made_as_sent held requested (c ∷ sent) all =
+    let first : IsUnderstood requested c = All-head (IsUnderstood requested) c sent all in
+    ap (option_and_then (made_for held)) first.1 ∙ ap (made_first held) (sym (said_first (understood requested) c sent first.0 first.1))
 
 -- one that serves goes on as what it is
-session_is : (s : SessionState) (before : State) → s ≡ serving before → IsRunningOrFailed s → IsRunning before
+session_is : (s : SessionState) (before : ServerState) → s ≡ serving before → IsRunningOrFailed s → IsRunning before
 session_is s before is stands = subst IsRunningOrFailed is stands
 
-pub nothing_served : (e : Editor) (q q' r : Contents) (s : SessionState) (ap_list : List applied.Applied) (md : List made.Made) → q ≡ [] → q' ≡ q → ServerTakes (ends_from e q s r ap_list md) (all_heard e.asked q) nothing (ends_from e q' s r ap_list md)
+pub nothing_served : (e : Editor) (q q' r : Contents) (s : SessionState) (ap_list : List applied.Applied) (md : List made.Made) → q ≡ [] → q' ≡ q → ServerTakes (ends_from e q s r ap_list md) (all_heard e.requested q) nothing (ends_from e q' s r ap_list md)
 nothing_served e q q' r s ap_list md none same =
-    subst (λ x. ServerTakes (ends_from e q s r ap_list md) (all_heard e.asked x) nothing (ends_from e q' s r ap_list md)) (sym none) (refl, ap (λ x. ends_from e x s r ap_list md) same)
+    subst (λ x. ServerTakes (ends_from e q s r ap_list md) (all_heard e.requested x) nothing (ends_from e q' s r ap_list md)) (sym none) (refl, ap (λ x. ends_from e x s r ap_list md) same)
 
 -- the session was handed the first content
 pub record Turn (e : Editor) (q rest : Contents) (s s' : SessionState) (content : Vec ℕ Global) (sent : Contents) : Type 0 where
   pub message : ToServer
-  pub says : SaysToServer e.asked message content.items
-  pub before : State
-  pub after : State
+  pub says : SaysToServer e.requested message content.items
+  pub before : ServerState
+  pub after : ServerState
   pub was : s ≡ serving before
   pub is : s' ≡ serving after
-  pub served_so : Served e.asked message before after (bytes sent)
+  pub served_so : Served e.requested message before after (bytes sent)
 
-pub turn : (e : Editor) (q rest r : Contents) (s s' : SessionState) (content : Vec ℕ Global) (sent : Contents) → q ≡ content ∷ rest → Sound e.asked q r s → IsAnswered s content.items (bytes sent) s' → Turn e q rest s s' content sent
+pub turn : (e : Editor) (q rest r : Contents) (s s' : SessionState) (content : Vec ℕ Global) (sent : Contents) → q ≡ content ∷ rest → Sound e.requested q r s → IsAnswered s content.items (bytes sent) s' → Turn e q rest s s' content sent
 turn e q rest r s s' content sent first sound (before, after, was, is, how) =
-    let heard_first : IsHeard e.asked content = All-head (IsHeard e.asked) content rest (subst (All (IsHeard e.asked)) first sound.heard_all) in
+    let heard_first : IsHeard e.requested content = All-head (IsHeard e.requested) content rest (subst (All (IsHeard e.requested)) first sound.heard_all) in
     record {
       message = heard_first.0;
       says = heard_first.1;
@@ -68,22 +68,22 @@ turn e q rest r s s' content sent first sound (before, after, was, is, how) =
       after = after;
       was = was;
       is = is;
-      served_so = served e.asked heard_first.0 before after content.items (bytes sent) (session_is s before was sound.stands) heard_first.1 how;
+      served_so = served e.requested heard_first.0 before after content.items (bytes sent) (session_is s before was sound.stands) heard_first.1 how;
     }
 
-pub rest_sound : (asked : List SentAsk) (q rest r : Contents) (s s' : SessionState) (content : Vec ℕ Global) → q ≡ content ∷ rest → Sound asked q r s → IsRunningOrFailed s' → Sound asked rest r s'
-rest_sound asked q rest r s s' content first sound stands =
-    record { heard_all = All-tail (IsHeard asked) content rest (subst (All (IsHeard asked)) first sound.heard_all); understood_all = sound.understood_all; stands = stands }
+pub rest_sound : (requested : List SentAsk) (q rest r : Contents) (s s' : SessionState) (content : Vec ℕ Global) → q ≡ content ∷ rest → Sound requested q r s → IsRunningOrFailed s' → Sound requested rest r s'
+rest_sound requested q rest r s s' content first sound stands =
+    record { heard_all = All-tail (IsHeard requested) content rest (subst (All (IsHeard requested)) first sound.heard_all); understood_all = sound.understood_all; stands = stands }
 
 pub turn_stands : (e : Editor) (q rest : Contents) (s s' : SessionState) (content : Vec ℕ Global) (sent : Contents) → Turn e q rest s s' content sent → IsRunningOrFailed s'
 turn_stands e q rest s s' content sent t = subst IsRunningOrFailed (sym t.is) t.served_so.running
 
-pub turn_sound : (e : Editor) (q rest r r' : Contents) (s s' : SessionState) (content : Vec ℕ Global) (sent : Contents) (b : Bool) → q ≡ content ∷ rest → Sound e.asked q r s → Turn e q rest s s' content sent → r' ≡ cond b (r ++ sent) r → Sound e.asked rest r' s'
+pub turn_sound : (e : Editor) (q rest r r' : Contents) (s s' : SessionState) (content : Vec ℕ Global) (sent : Contents) (b : Bool) → q ≡ content ∷ rest → Sound e.requested q r s → Turn e q rest s s' content sent → r' ≡ cond b (r ++ sent) r → Sound e.requested rest r' s'
 turn_sound e q rest r r' s s' content sent b first sound t grown =
-    let rested : Sound e.asked rest r s' = rest_sound e.asked q rest r s s' content first sound (turn_stands e q rest s s' content sent t) in
+    let rested : Sound e.requested rest r s' = rest_sound e.requested q rest r s s' content first sound (turn_stands e q rest s s' content sent t) in
     record {
       heard_all = rested.heard_all;
-      understood_all = all_appended (IsUnderstood e.asked) r r' sent b grown sound.understood_all (each_understood e.asked sent t.served_so.heard.each);
+      understood_all = all_appended (IsUnderstood e.requested) r r' sent b grown sound.understood_all (each_understood e.requested sent t.served_so.heard.each);
       stands = rested.stands;
     }
 
@@ -92,32 +92,32 @@ as_list None p is = ap option_to_list is
 as_list (Some m) p is = ap option_to_list is
 
 pub turn_happens : (e : Editor) (q rest r r' : Contents) (s s' : SessionState) (ap_list : List applied.Applied) (md md' : List made.Made) (content : Vec ℕ Global) (sent : Contents) (held : OpenDocuments) (o : Option made.Made) (n : ℕ)
-    → q ≡ content ∷ rest → Turn e q rest s s' content sent → ((st : State) → s' ≡ serving st → held ≡ st.held) → option_map made_of o ≡ made_sent held e.asked sent → r' ≡ r ++ sent → md' ≡ md ++ option_to_list o → n ≡ length sent
-    → ServerTakes (ends_from e q s r ap_list md) (all_heard e.asked q) (events.served n) (ends_from e rest s' r' ap_list md')
-turn_happens e q rest r r' s s' ap_list md md' content sent held o n first t lent is_made grown more count =
+    → q ≡ content ∷ rest → Turn e q rest s s' content sent → ((st : ServerState) → s' ≡ serving st → held ≡ st.held) → option_map made_of o ≡ made_sent held e.requested sent → r' ≡ r ++ sent → md' ≡ md ++ option_to_list o → n ≡ length sent
+    → ServerTakes (ends_from e q s r ap_list md) (all_heard e.requested q) (events.served n) (ends_from e rest s' r' ap_list md')
+turn_happens e q rest r r' s s' ap_list md md' content sent held o n first t references is_made grown more count =
     let w : Ends = ends_from e q s r ap_list md in
     let said : List ToEditor = t.served_so.said in
-    let all : all_understood e.asked sent ≡ said = t.served_so.heard.all in
-    let understood_all : All (IsUnderstood e.asked) sent = each_understood e.asked sent t.served_so.heard.each in
-    let here : held ≡ t.after.held = lent t.after t.is in
+    let all : all_understood e.requested sent ≡ said = t.served_so.heard.all in
+    let understood_all : All (IsUnderstood e.requested) sent = each_understood e.requested sent t.served_so.heard.each in
+    let here : held ≡ t.after.held = references t.after t.is in
     let is_first : option_map made_of o ≡ made_first t.after.held said =
-    is_made ∙ made_as_sent held e.asked sent understood_all ∙ (λ i. made_first (here i) (all i)) in
+    is_made ∙ made_as_sent held e.requested sent understood_all ∙ (λ i. made_first (here i) (all i)) in
     let held_before : held_by s ≡ t.before.held = ap held_by t.was in
     let held_after : held_by s' ≡ after_message (held_by s) t.message = ap held_by t.is ∙ t.served_so.held ∙ ap (λ h. after_message h t.message) (sym held_before) in
-    let this : ServerTakes w (t.message ∷ all_heard e.asked rest) (events.served n) (ends_from e rest s' r' ap_list md') = (
+    let this : ServerTakes w (t.message ∷ all_heard e.requested rest) (events.served n) (ends_from e rest s' r' ap_list md') = (
       said,
       option_to_list (made_first t.after.held said),
       subst (λ h. Replies h t.message said (option_to_list (made_first t.after.held said))) (sym held_before) t.served_so.replies,
       ap events.served (count ∙ sym (length-map sent (λ v. v.items)) ∙ t.served_so.heard.count),
       (λ i. record w {
-        to_server = all_heard e.asked rest;
+        to_server = all_heard e.requested rest;
         held = held_after i;
-        to_editor = (ap (all_understood e.asked) grown ∙ said_append (understood e.asked) r sent ∙ ap (λ x. all_understood e.asked r ++ x) all) i;
+        to_editor = (ap (all_understood e.requested) grown ∙ said_append (understood e.requested) r sent ∙ ap (λ x. all_understood e.requested r ++ x) all) i;
         made = (ap (map made_of) more ∙ map-append made_of md (option_to_list o) ∙ ap (λ x. map made_of md ++ x) (as_list o (made_first t.after.held said) is_first)) i;
       }),
     ) in
     subst (λ x. ServerTakes w x (events.served n) (ends_from e rest s' r' ap_list md'))
-    (sym (ap (all_heard e.asked) first ∙ said_first (heard e.asked) content rest t.message (says_heard e.asked t.message content.items t.says))) this
+    (sym (ap (all_heard e.requested) first ∙ said_first (heard e.requested) content rest t.message (says_heard e.requested t.message content.items t.says))) this
 
 pub answered_so : (old : SessionState) (content : List ℕ) (step : Step) (new : SessionState) → SessionSteps old content step new → IsAnswered old content (bytes step.send.items) new
 answered_so (serving before) content step new (after, is, how, next) = (before, after, refl, is, how)

@@ -13,68 +13,68 @@ use Rattle.serde_json.specs.Read.{read}
 use Rattle.ob0_world_editor.specs.Heard.{heard, SaysToServer, number_of}
 use Rattle.ob0_world_editor.specs.Understood.{understood, value_understood, answer_understood, answer_to, publication_understood}
 use Rattle.ob0_world_editor.proofs.Hearing.{says_heard}
-use Rattle.ob0_world_rules.specs.Ends.{SentAsk, numbered, ToServer, tells, asks, ToEditor}
+use Rattle.ob0_world_rules.specs.Ends.{SentAsk, numbered, ToServer, notifies, requests, ToEditor}
 use Rattle.ob0_world_rules.proofs.SameDocument.{numbered_push}
 use Rattle.ob0_world.specs.Queues.{Contents, bytes, all_heard, all_understood, IsHeard, IsUnderstood}
 
 -- ---- more asks
 
-module _ (asked more : List SentAsk) where
-  says_still : (m : ToServer) (content : List ℕ) → SaysToServer asked m content → SaysToServer (asked ++ more) m content
-  says_still (tells note) content is = is
-  says_still (asks k uri ask) content (is, of) = (is, record { sent = of.sent; is = numbered_push asked more k of.sent of.is; about = of.about; asks_this = of.asks_this })
+module _ (requested more : List SentAsk) where
+  says_still : (m : ToServer) (content : List ℕ) → SaysToServer requested m content → SaysToServer (requested ++ more) m content
+  says_still (notifies note) content is = is
+  says_still (requests k uri ask) content (is, of) = (is, record { sent = of.sent; is = numbered_push requested more k of.sent of.is; about = of.about; asks_this = of.asks_this })
 
-  still_answers : {X : Type 0} (f : SentAsk → X) (k : ℕ) (x : X) → option_map f (numbered asked k) ≡ Some x → option_map f (numbered (asked ++ more) k) ≡ Some x
-  still_answers f k x h = go (numbered asked k) refl h
+  still_answers : {X : Type 0} (f : SentAsk → X) (k : ℕ) (x : X) → option_map f (numbered requested k) ≡ Some x → option_map f (numbered (requested ++ more) k) ≡ Some x
+  still_answers f k x h = go (numbered requested k) refl h
     where
-      go : (o : Option SentAsk) → numbered asked k ≡ o → option_map f o ≡ Some x → option_map f (numbered (asked ++ more) k) ≡ Some x
+      go : (o : Option SentAsk) → numbered requested k ≡ o → option_map f o ≡ Some x → option_map f (numbered (requested ++ more) k) ≡ Some x
       go None is h = absurd (none-some x h)
-      go (Some a) is h = ap (option_map f) (numbered_push asked more k a is) ∙ h
+      go (Some a) is h = ap (option_map f) (numbered_push requested more k a is) ∙ h
 
-  answer_still : (d : Data) (o : Option ℕ) (m : ToEditor) → option_and_then (answer_to asked d) o ≡ Some m → option_and_then (answer_to (asked ++ more) d) o ≡ Some m
+  answer_still : (d : Data) (o : Option ℕ) (m : ToEditor) → option_and_then (answer_to requested d) o ≡ Some m → option_and_then (answer_to (requested ++ more) d) o ≡ Some m
   answer_still d None m h = h
   answer_still d (Some k) m h = still_answers _ k m h
 
-  value_still : (d : Data) (b : Bool) (m : ToEditor) → cond b (option_and_then publication_understood (get (codes "params") d)) (answer_understood asked d) ≡ Some m
-      → cond b (option_and_then publication_understood (get (codes "params") d)) (answer_understood (asked ++ more) d) ≡ Some m
+  value_still : (d : Data) (b : Bool) (m : ToEditor) → cond b (option_and_then publication_understood (get (codes "params") d)) (answer_understood requested d) ≡ Some m
+      → cond b (option_and_then publication_understood (get (codes "params") d)) (answer_understood (requested ++ more) d) ≡ Some m
   value_still d true m h = h
   value_still d false m h = answer_still d (option_and_then number_of (get (codes "id") d)) m h
 
-  understood_still : (content : List ℕ) (m : ToEditor) → understood asked content ≡ Some m → understood (asked ++ more) content ≡ Some m
+  understood_still : (content : List ℕ) (m : ToEditor) → understood requested content ≡ Some m → understood (requested ++ more) content ≡ Some m
   unfolding understood
   understood_still content m h = go (is_utf8 content) (read content) h
     where
-      go : (b : Bool) (o : Option Data) → cond b (option_and_then (value_understood asked) o) None ≡ Some m → cond b (option_and_then (value_understood (asked ++ more)) o) None ≡ Some m
+      go : (b : Bool) (o : Option Data) → cond b (option_and_then (value_understood requested) o) None ≡ Some m → cond b (option_and_then (value_understood (requested ++ more)) o) None ≡ Some m
       go false o h = h
       go true None h = h
       go true (Some d) h = value_still d (is_some (get (codes "method") d)) m h
 
-  pub all_heard_still : (q : Contents) → All (IsHeard asked) q → All (IsHeard (asked ++ more)) q
-  all_heard_still q all = All-weaker (IsHeard asked) (IsHeard (asked ++ more)) (λ c h. (h.0, says_still h.0 c.items h.1)) q all
+  pub all_heard_still : (q : Contents) → All (IsHeard requested) q → All (IsHeard (requested ++ more)) q
+  all_heard_still q all = All-weaker (IsHeard requested) (IsHeard (requested ++ more)) (λ c h. (h.0, says_still h.0 c.items h.1)) q all
 
-  pub all_understood_still : (q : Contents) → All (IsUnderstood asked) q → All (IsUnderstood (asked ++ more)) q
-  all_understood_still q all = All-weaker (IsUnderstood asked) (IsUnderstood (asked ++ more)) (λ c h. (h.0, understood_still c.items h.0 h.1)) q all
+  pub all_understood_still : (q : Contents) → All (IsUnderstood requested) q → All (IsUnderstood (requested ++ more)) q
+  all_understood_still q all = All-weaker (IsUnderstood requested) (IsUnderstood (requested ++ more)) (λ c h. (h.0, understood_still c.items h.0 h.1)) q all
 
-  pub heard_still : (q : Contents) → All (IsHeard asked) q → all_heard (asked ++ more) q ≡ all_heard asked q
+  pub heard_still : (q : Contents) → All (IsHeard requested) q → all_heard (requested ++ more) q ≡ all_heard requested q
   heard_still [] all = refl
   heard_still (c ∷ q) all =
-      let h : IsHeard asked c = All-head (IsHeard asked) c q all in
-      (λ i. cons_option (same i) (heard_still q (All-tail (IsHeard asked) c q all) i))
+      let h : IsHeard requested c = All-head (IsHeard requested) c q all in
+      (λ i. cons_option (same i) (heard_still q (All-tail (IsHeard requested) c q all) i))
     where
-      h : IsHeard asked c
-      h = All-head (IsHeard asked) c q all
+      h : IsHeard requested c
+      h = All-head (IsHeard requested) c q all
 
-      same : heard (asked ++ more) c.items ≡ heard asked c.items
-      same = says_heard (asked ++ more) h.0 c.items (says_still h.0 c.items h.1) ∙ sym (says_heard asked h.0 c.items h.1)
+      same : heard (requested ++ more) c.items ≡ heard requested c.items
+      same = says_heard (requested ++ more) h.0 c.items (says_still h.0 c.items h.1) ∙ sym (says_heard requested h.0 c.items h.1)
 
-  pub understood_same : (q : Contents) → All (IsUnderstood asked) q → all_understood (asked ++ more) q ≡ all_understood asked q
+  pub understood_same : (q : Contents) → All (IsUnderstood requested) q → all_understood (requested ++ more) q ≡ all_understood requested q
   understood_same [] all = refl
-  understood_same (c ∷ q) all = (λ i. cons_option (same i) (understood_same q (All-tail (IsUnderstood asked) c q all) i))
+  understood_same (c ∷ q) all = (λ i. cons_option (same i) (understood_same q (All-tail (IsUnderstood requested) c q all) i))
     where
-      h : IsUnderstood asked c
-      h = All-head (IsUnderstood asked) c q all
+      h : IsUnderstood requested c
+      h = All-head (IsUnderstood requested) c q all
 
-      same : understood (asked ++ more) c.items ≡ understood asked c.items
+      same : understood (requested ++ more) c.items ≡ understood requested c.items
       same = understood_still c.items h.0 h.1 ∙ sym h.1
 
 -- ---- queues

@@ -6,7 +6,7 @@ use Rattle.std.specs.declared.alloc.Global.{Global}
 use Rattle.ob0_text.specs.OpenDocuments.{OpenDocuments, Document, InStep, OutOfStep, document_at, none_open}
 use Rattle.ob0_text.specs.declared.position_types.Unit.{Unit}
 use Rattle.ob0_text.specs.declared.position_types.Unit.TheVariants.{Utf16}
-use Rattle.ob0_session.specs.Answers.{State}
+use Rattle.ob0_session.specs.Answers.{ServerState}
 use Rattle.ob0_session.specs.SessionStates.{SessionState, serving, failed}
 use Rattle.ob0_session.specs.declared.server.Phase.TheVariants.{Running}
 use Rattle.ob0_world_editor.specs.Heard.{heard, SaysToServer}
@@ -31,25 +31,25 @@ bytes contents = map (λ v. v.items) contents
 
 -- what these contents say to the server, and to the editor, where these asks were sent
 abbrev pub all_heard : List SentAsk → Contents → List ToServer
-all_heard asked contents = filter_map (heard asked) (bytes contents)
+all_heard requested contents = filter_map (heard requested) (bytes contents)
 
 -- what the contents that wait say to the editor
 abbrev pub all_understood : List SentAsk → Contents → List ToEditor
-all_understood asked contents = filter_map (understood asked) (bytes contents)
+all_understood requested contents = filter_map (understood requested) (bytes contents)
 
 -- each content says something
 abbrev pub IsHeard : List SentAsk → Vec ℕ Global → Type 0
-IsHeard asked content = (m : ToServer) × SaysToServer asked m content.items
+IsHeard requested content = (m : ToServer) × SaysToServer requested m content.items
 
 -- a content says something to the editor
 abbrev pub IsUnderstood : List SentAsk → Vec ℕ Global → Type 0
-IsUnderstood asked content = (m : ToEditor) × (understood asked content.items ≡ Some m)
+IsUnderstood requested content = (m : ToEditor) × (understood requested content.items ≡ Some m)
 
 -- ---- the session
 
 -- A session that has begun with this editor and isn't at its end: it writes the edits of a workspace with the versions of
 -- their documents, and offers code actions as literals.
-abbrev pub IsRunning : State → Type 0
+abbrev pub IsRunning : ServerState → Type 0
 IsRunning s =
     (s.phase ≡ Running)
     × (s.client.takes_document_changes ≡ true)
@@ -88,9 +88,9 @@ made_first held (m ∷ ms) = made_for held m
 -- ---- the whole
 
 -- what waits says something, and the session serves unless an allocation has failed
-pub record Sound (asked : List SentAsk) (to_server to_editor : Contents) (session : SessionState) : Type 0 where
-  pub heard_all : All (IsHeard asked) to_server
-  pub understood_all : All (IsUnderstood asked) to_editor
+pub record Sound (requested : List SentAsk) (to_server to_editor : Contents) (session : SessionState) : Type 0 where
+  pub heard_all : All (IsHeard requested) to_server
+  pub understood_all : All (IsUnderstood requested) to_editor
   pub stands : IsRunningOrFailed session
 
 -- client and server, from what the code stores of them
@@ -104,9 +104,9 @@ abbrev pub ends_from : Editor
 ends_from e to_server session to_editor applied made =
     record {
       editor = e;
-      to_server = all_heard e.asked to_server;
+      to_server = all_heard e.requested to_server;
       held = held_by session;
-      to_editor = all_understood e.asked to_editor;
+      to_editor = all_understood e.requested to_editor;
       applied = map applied_of applied;
       made = map made_of made;
     }
@@ -132,7 +132,7 @@ both_from e to_server session to_editor applied made =
 -- what is counted has risen by one a step at most
 pub record Within (n : ℕ) (e : Editor) : Type 0 where
   pub openings : e.openings ≤ n
-  pub asks : length e.asked ≤ n
+  pub asks : length e.requested ≤ n
   pub versions : (uri : List ℕ) (d : Open) → open_at e uri ≡ Some d → d.version ≤ n
 
 -- some events lead from the beginning to this
@@ -143,9 +143,9 @@ IsReached w = (unit : Unit) × (events : List Event) × Course (start unit) even
 
 -- the publication with a version that the first of these contents is
 abbrev pub made_sent : OpenDocuments → List SentAsk → Contents → Option Made
-made_sent held asked [] = None
-made_sent held asked (content ∷ contents) =
-    option_and_then (made_for held) (understood asked content.items)
+made_sent held requested [] = None
+made_sent held requested (content ∷ contents) =
+    option_and_then (made_for held) (understood requested content.items)
 
 -- a content, if there is one, waits after the others
 abbrev pub IsSent : Contents → Option (Vec ℕ Global) → seen.Seen → Contents → Type 0

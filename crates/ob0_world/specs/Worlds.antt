@@ -2,7 +2,7 @@
 -- Rule: none; for contracts of `World`: a list of events, step by step.
 use Rattle.std.specs.Prelude.{◌≡◌, ◌<◌, ◌+◌, ◌++◌, ◌⊎◌, ⊤, ℕ, List, [], ◌∷◌, map, take, length, Bool, true, false, Some}
 use Rattle.ob0_text.specs.declared.position_types.Unit.{Unit}
-use Rattle.ob0_session.specs.Answers.{State, begins, Answers}
+use Rattle.ob0_session.specs.Answers.{ServerState, begins, Answers}
 use Rattle.ob0_session.specs.SessionStates.{SessionState, serving}
 use Rattle.ob0_world_editor.specs.Beginning.{client_for}
 use Rattle.ob0_world_editor.specs.Heard.{SaysToServer}
@@ -51,8 +51,8 @@ new_world unit = record { both = new_both unit; steps = 0; ended = false }
 -- the session replies to a content with these
 abbrev pub IsAnswered : SessionState → List ℕ → List (List ℕ) → SessionState → Type 0
 IsAnswered old content sent new =
-    (before : State)
-    × (after : State)
+    (before : ServerState)
+    × (after : ServerState)
     × (old ≡ serving before)
     × (new ≡ serving after)
     × Answers before content sent after
@@ -80,17 +80,17 @@ MovesServer (discard k) old new = new.session ≡ old.session
 
 -- each content says its message: as many contents as messages
 abbrev pub AllSay : List SentAsk → List ToServer → List (List ℕ) → Type 0
-AllSay asked [] [] = ⊤
-AllSay asked (m ∷ messages) (content ∷ contents) =
-    SaysToServer asked m content × AllSay asked messages contents
-AllSay asked [] (content ∷ contents) = ⊥
-AllSay asked (m ∷ messages) [] = ⊥
+AllSay requested [] [] = ⊤
+AllSay requested (m ∷ messages) (content ∷ contents) =
+    SaysToServer requested m content × AllSay requested messages contents
+AllSay requested [] (content ∷ contents) = ⊥
+AllSay requested (m ∷ messages) [] = ⊥
 
 -- The messages are those that the contents say, in both directions, and the server's documents are those of the session.
 pub record IsTied (w : Both) : Type 0 where
-  pub says : AllSay w.ends.editor.asked w.ends.to_server w.to_server
-  pub means : map (understood w.ends.editor.asked) w.to_editor ≡ map Some w.ends.to_editor
-  pub documents : (s : State) → w.session ≡ serving s → w.ends.held ≡ s.held
+  pub says : AllSay w.ends.editor.requested w.ends.to_server w.to_server
+  pub means : map (understood w.ends.editor.requested) w.to_editor ≡ map Some w.ends.to_editor
+  pub documents : (s : ServerState) → w.session ≡ serving s → w.ends.held ≡ s.held
 
 -- ---- one step
 

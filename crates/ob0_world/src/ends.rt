@@ -47,7 +47,7 @@ impl<T: TextStore> Model for Ends<T> {
 
     ghost view = { λ w. both_from w.editor w.to_server.items w.session w.to_editor.items w.applied.items w.made.items };
 
-    ghost invariant = { λ w. Sound w.editor.asked w.to_server.items w.to_editor.items w.session };
+    ghost invariant = { λ w. Sound w.editor.requested w.to_server.items w.to_editor.items w.session };
 }
 
 impl<T: TextStore> Ends<T> {
@@ -272,7 +272,7 @@ fn first_made<T: TextStore>(
     sent: &[Vec<u8>],
 ) -> Result<Option<Made>, AllocError>
     ensures { IfOk result
-        (λ made. option_map made_of made ≡ made_sent documents.now editor.now.asked sent.now) }
+        (λ made. option_map made_of made ≡ made_sent documents.now editor.now.requested sent.now) }
 {
     if sent.is_empty() {
         return Ok(None);
@@ -287,7 +287,7 @@ fn made_of_content<T: TextStore>(
     content: &[u8],
 ) -> Result<Option<Made>, AllocError>
     ensures { IfOk result (λ made. option_map made_of made
-        ≡ option_and_then (made_for documents.now) (understood editor.now.asked content.now)) }
+        ≡ option_and_then (made_for documents.now) (understood editor.now.requested content.now)) }
 {
     let Some(message) = editor.read(content)? else {
         return Ok(None);

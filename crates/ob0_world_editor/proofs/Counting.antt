@@ -19,14 +19,14 @@ use Rattle.ob0_world_editor.specs.Moves.{AreFew, Moves}
 -- after n calls
 pub record Counts (n : ℕ) (e : Editor) : Type 0 where
   pub openings : e.openings ≤ n
-  pub asks : length e.asked ≤ n
+  pub asks : length e.requested ≤ n
   pub versions : (uri : List ℕ) (d : Open) → open_at e uri ≡ Some d → d.version ≤ n
 
 pub few : (n : ℕ) (e : Editor) → n < 2 ^ 63 - 1 → Counts n e → AreFew e
 few n e h counts =
     record {
       openings = let a : e.openings ≤ n = counts.openings in omega arith;
-      asks = let a : length e.asked ≤ n = counts.asks in omega arith;
+      asks = let a : length e.requested ≤ n = counts.asks in omega arith;
       versions = λ uri d at. let a : d.version ≤ n = counts.versions uri d at in omega arith;
     }
 
@@ -39,7 +39,7 @@ more n e e' same counts =
     subst (Counts (n + 1)) (sym same)
     (record {
       openings = let a : e.openings ≤ n = counts.openings in omega arith;
-      asks = let a : length e.asked ≤ n = counts.asks in omega arith;
+      asks = let a : length e.requested ≤ n = counts.asks in omega arith;
       versions = λ uri d at. let a : d.version ≤ n = counts.versions uri d at in omega arith;
     })
 
@@ -47,7 +47,7 @@ put : (n : ℕ) (e : Editor) (uri : List ℕ) (new : Open) (openings : ℕ) → 
 put n e uri new openings counts version few_openings =
     record {
       openings = few_openings;
-      asks = let a : length e.asked ≤ n = counts.asks in omega arith;
+      asks = let a : length e.requested ≤ n = counts.asks in omega arith;
       versions = λ q d at. found e.documents uri q new d (d.version ≤ n + 1) at (λ same is. subst (λ x. x.version ≤ n + 1) is version)
           (λ was. let a : d.version ≤ n = counts.versions q d was in omega arith);
     }
@@ -94,7 +94,7 @@ ask_counts n e e' uri ask content counts moved = go (open_at e uri) content move
         subst (Counts (n + 1)) (sym h.0)
         (record {
           openings = let a : e.openings ≤ n = counts.openings in omega arith;
-          asks = longer e.asked (record { ask = ask; uri = uri; opening = d.opening; version = d.version }) counts.asks;
+          asks = longer e.requested (record { ask = ask; uri = uri; opening = d.opening; version = d.version }) counts.asks;
           versions = λ q x at. let a : x.version ≤ n = counts.versions q x at in omega arith;
         })
 

@@ -7,7 +7,7 @@ use Rattle.serde_json.specs.Data.{Data}
 use Rattle.serde_json.specs.Read.{read}
 use Rattle.ob0_text.specs.OpenDocuments.{DocumentEvent, Opened, Changed, Lost, Closed}
 use Rattle.ob0_rpc.specs.Messages.{ReadsContent, meaning_of}
-use Rattle.ob0_world_rules.specs.Ends.{SentAsk, ToServer, tells, asks}
+use Rattle.ob0_world_rules.specs.Ends.{SentAsk, ToServer, notifies, requests}
 use Rattle.ob0_world_editor.specs.Heard.{heard, message_read, notification_read, sent_as, SaysToServer}
 use Rattle.ob0_world_editor.specs.Understood.{understood, value_understood}
 
@@ -16,32 +16,32 @@ pub said : {M : Type 0} (f : Data → Option M) (content : List ℕ) (d : Data) 
 said f content d reads = ap (λ b. cond b (option_and_then f (read content)) None) (is_utf8-from_IsUtf8 content reads.0) ∙ ap (option_and_then f) reads.1
 
 -- what the editor understands of a content whose JSON value is known, and of one that has none
-pub understood_as : (asked : List SentAsk) (content : List ℕ) (d : Data) → ReadsContent content (Some d) → understood asked content ≡ value_understood asked d
+pub understood_as : (requested : List SentAsk) (content : List ℕ) (d : Data) → ReadsContent content (Some d) → understood requested content ≡ value_understood requested d
 unfolding understood
-understood_as asked content d reads = said (value_understood asked) content d reads
+understood_as requested content d reads = said (value_understood requested) content d reads
 
-pub not_understood : (asked : List SentAsk) (content : List ℕ) → ReadsContent content None → understood asked content ≡ None
+pub not_understood : (requested : List SentAsk) (content : List ℕ) → ReadsContent content None → understood requested content ≡ None
 unfolding understood
-not_understood asked content reads = go (is_utf8 content) refl
+not_understood requested content reads = go (is_utf8 content) refl
   where
-    go : (b : Bool) → is_utf8 content ≡ b → cond b (option_and_then (value_understood asked) (read content)) None ≡ None
-    go true is = ap (option_and_then (value_understood asked)) (reads (IsUtf8-from_is_utf8 content is))
+    go : (b : Bool) → is_utf8 content ≡ b → cond b (option_and_then (value_understood requested) (read content)) None ≡ None
+    go true is = ap (option_and_then (value_understood requested)) (reads (IsUtf8-from_is_utf8 content is))
     go false is = refl
 
 -- a content that says something to a server is heard so
-told_heard : (note : DocumentEvent) → notification_read (sent_as note) ≡ Some (tells note)
-told_heard (Opened uri version text) = refl
-told_heard (Changed uri version all) = refl
-told_heard (Lost uri) = refl
-told_heard (Closed uri) = refl
+reported_heard : (note : DocumentEvent) → notification_read (sent_as note) ≡ Some (notifies note)
+reported_heard (Opened uri version text) = refl
+reported_heard (Changed uri version all) = refl
+reported_heard (Lost uri) = refl
+reported_heard (Closed uri) = refl
 
-pub says_heard : (asked : List SentAsk) (m : ToServer) (content : List ℕ) → SaysToServer asked m content → heard asked content ≡ Some m
+pub says_heard : (requested : List SentAsk) (m : ToServer) (content : List ℕ) → SaysToServer requested m content → heard requested content ≡ Some m
 unfolding heard
-says_heard asked (tells note) content is =
-    said (λ d. message_read asked (meaning_of d)) content is.json is.reads ∙ ap (message_read asked) is.means ∙ ap notification_read is.told ∙ told_heard note
-says_heard asked (asks k uri ask) content (is, of) =
-    said (λ d. message_read asked (meaning_of d)) content is.json is.reads ∙ ap (message_read asked) is.means
-    ∙ ap (option_map (λ a. asks k a.uri a.ask)) of.is ∙ (λ i. Some (asks k (of.about i) (of.asks_this i)))
+says_heard requested (notifies note) content is =
+    said (λ d. message_read requested (meaning_of d)) content is.json is.reads ∙ ap (message_read requested) is.means ∙ ap notification_read is.reported ∙ reported_heard note
+says_heard requested (requests k uri ask) content (is, of) =
+    said (λ d. message_read requested (meaning_of d)) content is.json is.reads ∙ ap (message_read requested) is.means
+    ∙ ap (option_map (λ a. requests k a.uri a.ask)) of.is ∙ (λ i. Some (requests k (of.about i) (of.asks_this i)))
 
 -- what holds of a value that a call gives, and what follows of it
 pub if_ok : {A X : Type 0} {P Q : A → Type 0} (r : Result A X) → ((x : A) → P x → Q x) → IfOk r P → IfOk r Q

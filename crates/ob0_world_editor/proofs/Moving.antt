@@ -5,46 +5,46 @@ use Rattle.std.specs.declared.alloc.Global.{Global}
 use Rattle.std.proofs.lemmas.List.{append_assoc, map-append, length-map}
 use Rattle.std.proofs.lemmas.Option.{slice_get-map, slice_get_read}
 use Rattle.std.proofs.Math.Seq.{drop-cons, drop-nil, take-suc}
-use Rattle.ob0_world_editor.specs.declared.editor.SentAsk as asked
-use Rattle.ob0_world_editor.specs.declared.editor.Answer as answer
+use Rattle.ob0_world_editor.specs.declared.editor.SentAsk as requested
+use Rattle.ob0_world_editor.specs.declared.editor.HeldAnswer as answer
 use Rattle.ob0_world_editor.specs.declared.editor.Rewritten as rewritten
 use Rattle.ob0_world_editor.specs.declared.applied.Applying as applying
 use Rattle.ob0_world_rules.specs.Edited.{Replacement}
 use Rattle.ob0_world_rules.specs.Asks.{Ask}
 use Rattle.ob0_world_rules.specs.Ends.{Open, SentAsk, Answer, Editor, numbered, open_at}
 use Rattle.ob0_world_rules.specs.Editing.{asks_about, kept_answer, all_but, without_answer, applies_answer, ApplyOutcome, not_held, drops_answer, makes}
-use Rattle.ob0_world_editor.specs.Code.{asked_of, answer_of}
+use Rattle.ob0_world_editor.specs.Code.{requested_of, answer_of}
 use Rattle.ob0_world_rules.specs.Edited.{replacements}
 use Rattle.ob0_world_editor.specs.Heard.{IsRequest, SaysToServer}
 use Rattle.ob0_world_editor.specs.Moves.{AreFew, Moves, IsPlaceOf, IsRewritten, IsMade, ComesOf, text_sent}
 
 -- ---- asks
 
-pub numbered_at : (xs : List asked.SentAsk) (n i : ℕ) (a : asked.SentAsk) → n ≡ suc i → i < length xs → a ≡ get_or xs i a → Some (asked_of a) ≡ numbered (map asked_of xs) n
+pub numbered_at : (xs : List requested.SentAsk) (n i : ℕ) (a : requested.SentAsk) → n ≡ suc i → i < length xs → a ≡ get_or xs i a → Some (requested_of a) ≡ numbered (map requested_of xs) n
 numbered_at xs n i a is within at =
-    subst (λ m. Some (asked_of a) ≡ numbered (map asked_of xs) m) (sym is)
-    (sym (slice_get-map asked_of xs i ∙ ap (option_map asked_of) (slice_get_read xs (length xs) i a refl within at)))
+    subst (λ m. Some (requested_of a) ≡ numbered (map requested_of xs) m) (sym is)
+    (sym (slice_get-map requested_of xs i ∙ ap (option_map requested_of) (slice_get_read xs (length xs) i a refl within at)))
 
 past_end : {A : Type 0} (xs : List A) (i : ℕ) → length xs ≤ i → slice_get xs i ≡ None
 past_end [] i h = refl
 past_end (x ∷ xs) zero h = absurd (omega arith)
 past_end (x ∷ xs) (suc i) h = past_end xs i (omega arith)
 
-pub numbered_past : (xs : List asked.SentAsk) (n i : ℕ) → n ≡ suc i → length xs ≤ i → None ≡ numbered (map asked_of xs) n
+pub numbered_past : (xs : List requested.SentAsk) (n i : ℕ) → n ≡ suc i → length xs ≤ i → None ≡ numbered (map requested_of xs) n
 numbered_past xs n i is past =
-    subst (λ m. None ≡ numbered (map asked_of xs) m) (sym is) (sym (slice_get-map asked_of xs i ∙ ap (option_map asked_of) (past_end xs i past)))
+    subst (λ m. None ≡ numbered (map requested_of xs) m) (sym is) (sym (slice_get-map requested_of xs i ∙ ap (option_map requested_of) (past_end xs i past)))
 
 -- ---- the place of an answer
 
 -- the answers before place i aren't it
-pub record Looked (xs : List answer.Answer) (k i : ℕ) : Type 0 where
+pub record Looked (xs : List answer.HeldAnswer) (k i : ℕ) : Type 0 where
   pub held : kept_answer k (map answer_of xs) ≡ kept_answer k (map answer_of (drop i xs))
   pub rest : all_but k (map answer_of xs) ≡ map answer_of (take i xs) ++ all_but k (map answer_of (drop i xs))
 
-pub looked_none : (xs : List answer.Answer) (k : ℕ) → Looked xs k 0
+pub looked_none : (xs : List answer.HeldAnswer) (k : ℕ) → Looked xs k 0
 looked_none xs k = record { held = refl; rest = refl }
 
-pub looked_more : (xs : List answer.Answer) (k i : ℕ) (a : answer.Answer) → i < length xs → a ≡ get_or xs i a → a.number == k ≡ false → Looked xs k i → Looked xs k (i + 1)
+pub looked_more : (xs : List answer.HeldAnswer) (k i : ℕ) (a : answer.HeldAnswer) → i < length xs → a ≡ get_or xs i a → a.number == k ≡ false → Looked xs k i → Looked xs k (i + 1)
 looked_more xs k i a h at other looked =
     let cut : drop i xs ≡ a ∷ drop (suc i) xs = drop-cons xs i a h ∙ ap (λ x. x ∷ drop (suc i) xs) (sym at) in
     record {
@@ -53,20 +53,20 @@ looked_more xs k i a h at other looked =
           (sym (append_assoc (map answer_of (take i xs)) (answer_of a ∷ []) (all_but k (map answer_of (drop (suc i) xs)))));
     }
 
-pub looked_here : (xs : List answer.Answer) (k i : ℕ) (a : answer.Answer) → i < length xs → a ≡ get_or xs i a → a.number == k ≡ true → Looked xs k i → IsPlaceOf xs k (Some i)
+pub looked_here : (xs : List answer.HeldAnswer) (k i : ℕ) (a : answer.HeldAnswer) → i < length xs → a ≡ get_or xs i a → a.number == k ≡ true → Looked xs k i → IsPlaceOf xs k (Some i)
 looked_here xs k i a h at this looked =
     let cut : drop i xs ≡ a ∷ drop (suc i) xs = drop-cons xs i a h ∙ ap (λ x. x ∷ drop (suc i) xs) (sym at) in (
       h,
-      looked.held ∙ rw (cut, this) refl ∙ sym (ap (option_map (λ (x : answer.Answer). replacements x.edits.items)) (slice_get_read xs (length xs) i a refl h at)),
+      looked.held ∙ rw (cut, this) refl ∙ sym (ap (option_map (λ (x : answer.HeldAnswer). replacements x.edits.items)) (slice_get_read xs (length xs) i a refl h at)),
       looked.rest ∙ rw (cut, this) (sym (map-append answer_of (take i xs) (drop (suc i) xs))),
     )
 
-nothing_left : (xs : List answer.Answer) (i : ℕ) → length xs ≤ i → drop i xs ≡ []
+nothing_left : (xs : List answer.HeldAnswer) (i : ℕ) → length xs ≤ i → drop i xs ≡ []
 nothing_left [] i h = drop-nil i
 nothing_left (x ∷ xs) zero h = absurd (omega arith)
 nothing_left (x ∷ xs) (suc i) h = nothing_left xs i (omega arith)
 
-pub looked_all : (xs : List answer.Answer) (k i : ℕ) → length xs ≤ i → Looked xs k i → IsPlaceOf xs k None
+pub looked_all : (xs : List answer.HeldAnswer) (k i : ℕ) → length xs ≤ i → Looked xs k i → IsPlaceOf xs k None
 looked_all xs k i h looked = looked.held ∙ ap (λ ys. kept_answer k (map answer_of ys)) (nothing_left xs i h)
 
 -- where no answer is held, all stay
@@ -93,11 +93,11 @@ comes_made e old new (makes f a m) r applying.TheVariants.Dropped h is = is
 comes_made e old new (makes f a m) r (applying.TheVariants.Made applied content) (is_f, is_a, is_m, few) (is_new, is_applied, says) = (
   is_new ∙ sym is_f,
   is_applied ∙ sym is_a,
-  subst (λ x. SaysToServer f.asked x content.items) (sym is_m) (subst (λ x. SaysToServer x.asked (text_sent r) content.items) (is_new ∙ sym is_f) says),
+  subst (λ x. SaysToServer f.requested x content.items) (sym is_m) (subst (λ x. SaysToServer x.requested (text_sent r) content.items) (is_new ∙ sym is_f) says),
 )
 
-pub edits_at : (xs : List answer.Answer) (i : ℕ) (a : answer.Answer) → i < length xs → a ≡ get_or xs i a → Some (replacements a.edits.items) ≡ option_map (λ (x : answer.Answer). replacements x.edits.items) (slice_get xs i)
-edits_at xs i a h at = sym (ap (option_map (λ (x : answer.Answer). replacements x.edits.items)) (slice_get_read xs (length xs) i a refl h at))
+pub edits_at : (xs : List answer.HeldAnswer) (i : ℕ) (a : answer.HeldAnswer) → i < length xs → a ≡ get_or xs i a → Some (replacements a.edits.items) ≡ option_map (λ (x : answer.HeldAnswer). replacements x.edits.items) (slice_get xs i)
+edits_at xs i a h at = sym (ap (option_map (λ (x : answer.HeldAnswer). replacements x.edits.items)) (slice_get_read xs (length xs) i a refl h at))
 
 -- an editor with fewer answers has no more of all else
 pub few_without : (e : Editor) (k : ℕ) → AreFew e → AreFew (without_answer e k)
@@ -115,14 +115,14 @@ slice_get_last [] x = refl
 slice_get_last (y ∷ xs) x = slice_get_last xs x
 
 -- the editor has asked once more, and the content is that request
-pub asks_once_more : (e new : Editor) (uri : List ℕ) (ask : Ask) (d : Open) (content : Vec ℕ Global) (n : ℕ) (older : List asked.SentAsk) (this : asked.SentAsk) → open_at e uri ≡ Some d → map asked_of older ≡ e.asked → n ≡ length older
-    → asked_of this ≡ record { ask = ask; uri = uri; opening = d.opening; version = d.version } → new ≡ record e { asked = map asked_of (older ++ this ∷ []) } → IsRequest (n + 1) uri ask content.items
+pub asks_once_more : (e new : Editor) (uri : List ℕ) (ask : Ask) (d : Open) (content : Vec ℕ Global) (n : ℕ) (older : List requested.SentAsk) (this : requested.SentAsk) → open_at e uri ≡ Some d → map requested_of older ≡ e.requested → n ≡ length older
+    → requested_of this ≡ record { ask = ask; uri = uri; opening = d.opening; version = d.version } → new ≡ record e { requested = map requested_of (older ++ this ∷ []) } → IsRequest (n + 1) uri ask content.items
     → Moves (asks_about e uri ask (open_at e uri)) e (Some content) new
 asks_once_more e new uri ask d content n older this at were count is is_new request =
     let a : SentAsk = record { ask = ask; uri = uri; opening = d.opening; version = d.version } in
-    let grown : map asked_of (older ++ this ∷ []) ≡ e.asked ++ a ∷ [] = map-append asked_of older (this ∷ []) ∙ (λ i. were i ++ is i ∷ []) in
-    let number : n + 1 ≡ suc (length e.asked) = rw add-one (ap suc (count ∙ sym (length-map older asked_of) ∙ ap length were)) in
+    let grown : map requested_of (older ++ this ∷ []) ≡ e.requested ++ a ∷ [] = map-append requested_of older (this ∷ []) ∙ (λ i. were i ++ is i ∷ []) in
+    let number : n + 1 ≡ suc (length e.requested) = rw add-one (ap suc (count ∙ sym (length-map older requested_of) ∙ ap length were)) in
     subst (λ o. Moves (asks_about e uri ask o) e (Some content) new) (sym at) (
-      is_new ∙ (λ i. record e { asked = grown i }),
-      (subst (λ k. IsRequest k uri ask content.items) number request, record { sent = a; is = slice_get_last e.asked a; about = refl; asks_this = refl }),
+      is_new ∙ (λ i. record e { requested = grown i }),
+      (subst (λ k. IsRequest k uri ask content.items) number request, record { sent = a; is = slice_get_last e.requested a; about = refl; asks_this = refl }),
     )

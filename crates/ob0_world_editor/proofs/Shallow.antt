@@ -56,16 +56,16 @@ version_read n h = rw (lt_true n (2 ^ 63) h) refl
 
 -- ---- notes
 
-pub opening_told : (content uri : List ℕ) (version : ℕ) (text : List ℕ) → version < 2 ^ 63 → ReadsContent content (Some (notification_message (codes "textDocument/didOpen") (open_params uri version text)))
+pub opening_reported : (content uri : List ℕ) (version : ℕ) (text : List ℕ) → version < 2 ^ 63 → ReadsContent content (Some (notification_message (codes "textDocument/didOpen") (open_params uri version text)))
     → IsNote (Opened uri (pos version) (chars text)) content
-opening_told content uri version text h reads =
+opening_reported content uri version text h reads =
     record {
       json = notification_message (codes "textDocument/didOpen") (open_params uri version text);
       reads = reads;
       method = codes "textDocument/didOpen";
       params = open_params uri version text;
       means = refl;
-      told = ap (λ v. open_of (Some uri) v (Some (chars text))) (version_read version h);
+      reported = ap (λ v. open_of (Some uri) v (Some (chars text))) (version_read version h);
       fits = version_read version h;
     }
 
@@ -78,27 +78,27 @@ changed_so content uri version values all h are reads =
       method = codes "textDocument/didChange";
       params = change_params uri version values;
       means = refl;
-      told = (λ i. change_of (Some uri) (version_read version h i) (are i));
+      reported = (λ i. change_of (Some uri) (version_read version h i) (are i));
       fits = version_read version h;
     }
 
-pub changing_told : (content uri : List ℕ) (version : ℕ) (cs : List Change) → version < 2 ^ 63 → ReadsContent content (Some (notification_message (codes "textDocument/didChange") (change_params uri version (map change_value cs))))
+pub changing_reported : (content uri : List ℕ) (version : ℕ) (cs : List Change) → version < 2 ^ 63 → ReadsContent content (Some (notification_message (codes "textDocument/didChange") (change_params uri version (map change_value cs))))
     → IsNote (Changed uri (pos version) (map reported_change cs)) content
-changing_told content uri version cs h reads = changed_so content uri version (map change_value cs) (map reported_change cs) h (changes_read_back cs) reads
+changing_reported content uri version cs h reads = changed_so content uri version (map change_value cs) (map reported_change cs) h (changes_read_back cs) reads
 
-pub rewriting_told : (content uri : List ℕ) (version : ℕ) (text : List ℕ) → version < 2 ^ 63 → ReadsContent content (Some (notification_message (codes "textDocument/didChange") (change_params uri version (change_by None text ∷ []))))
+pub rewriting_reported : (content uri : List ℕ) (version : ℕ) (text : List ℕ) → version < 2 ^ 63 → ReadsContent content (Some (notification_message (codes "textDocument/didChange") (change_params uri version (change_by None text ∷ []))))
     → IsNote (Changed uri (pos version) (whole_text (chars text) ∷ [])) content
-rewriting_told content uri version text h reads = changed_so content uri version (change_by None text ∷ []) (whole_text (chars text) ∷ []) h refl reads
+rewriting_reported content uri version text h reads = changed_so content uri version (change_by None text ∷ []) (whole_text (chars text) ∷ []) h refl reads
 
-pub closing_told : (content uri : List ℕ) → ReadsContent content (Some (notification_message (codes "textDocument/didClose") (close_params uri))) → IsNote (Closed uri) content
-closing_told content uri reads =
+pub closing_reported : (content uri : List ℕ) → ReadsContent content (Some (notification_message (codes "textDocument/didClose") (close_params uri))) → IsNote (Closed uri) content
+closing_reported content uri reads =
     record {
       json = notification_message (codes "textDocument/didClose") (close_params uri);
       reads = reads;
       method = codes "textDocument/didClose";
       params = close_params uri;
       means = refl;
-      told = refl;
+      reported = refl;
       fits = tt;
     }
 

@@ -3,8 +3,8 @@
 use Rattle.std.specs.Prelude.{string_bytes}
 use Rattle.std.specs.Str.{chars}
 use Rattle.ob0_world_editor.specs.declared.asks.Ask as ask
-use Rattle.ob0_world_editor.specs.declared.editor.SentAsk as asked
-use Rattle.ob0_world_editor.specs.declared.editor.Answer as answer
+use Rattle.ob0_world_editor.specs.declared.editor.SentAsk as requested
+use Rattle.ob0_world_editor.specs.declared.editor.HeldAnswer as answer
 use Rattle.ob0_world_editor.specs.declared.reading.Message as message
 use Rattle.ob0_world_editor.specs.declared.applied.Applied as applied
 use Rattle.ob0_world_rules.specs.Edited.{replacements}
@@ -19,13 +19,13 @@ ask_of (ask.TheVariants.InlineAll position) = inline_all position
 ask_of (ask.TheVariants.Format indent) = format indent
 
 -- a request that was sent, of the code
-abbrev pub asked_of : asked.SentAsk → SentAsk
-asked_of a =
+abbrev pub requested_of : requested.SentAsk → SentAsk
+requested_of a =
     record
     { ask = ask_of a.ask; uri = string_bytes a.uri; opening = a.opening; version = a.version }
 
 -- an answer with edits, of the code
-abbrev pub answer_of : answer.Answer → Answer
+abbrev pub answer_of : answer.HeldAnswer → Answer
 answer_of a = record { number = a.number; edits = replacements a.edits.items }
 
 -- a message to the editor, of the code

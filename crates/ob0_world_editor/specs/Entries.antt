@@ -5,14 +5,14 @@ use Rattle.std.specs.Str.{chars}
 use Rattle.std.specs.FinMap as map_of
 use Rattle.std.specs.Coded.{Coded, code_by, coded×, coded_ℕ, coded_list}
 use Rattle.ob0_world_editor.specs.declared.documents.Open as stored
-use Rattle.ob0_world_rules.specs.Ends.{Open, Documents}
+use Rattle.ob0_world_rules.specs.Ends.{Open, EditorDocuments}
 
 -- an open document of the code
 abbrev pub open_of : stored.Open → Open
 open_of d = record { version = d.version; text = chars (string_bytes d.text); opening = d.opening }
 
 -- the open documents as a map from uris
-abbrev pub documents_of : {A : Type 0} → List (String A × stored.Open) → Documents
+abbrev pub documents_of : {A : Type 0} → List (String A × stored.Open) → EditorDocuments
 documents_of entries = map_of.from_entries (map (λ e. (string_bytes e.0, open_of e.1)) entries)
 
 -- the code of an open document
@@ -23,5 +23,5 @@ open_code =
     (λ p. record { version = p.0; text = p.1.0; opening = p.1.1 }) (λ d. refl)
 
 -- the code of the open documents
-abbrev pub open_documents_code : Coded Documents
+abbrev pub open_documents_code : Coded EditorDocuments
 open_documents_code = map_of.code (coded_list coded_ℕ) open_code

@@ -11,7 +11,7 @@ use Rattle.ob0_rpc.specs.Requesting.{call_of}
 use Rattle.ob0_rpc.specs.Messages.{ReadsContent, MessageMeaning, not_json, not_a_message, response, request, notice, meaning_of}
 use Rattle.ob0_rpc.specs.Notes.{Notification, exits, opens, changes, closes, unreadable, other, note_of}
 use Rattle.ob0_world_rules.specs.Asks.{Ask, rename, inline_here, inline_all, format, indent_read}
-use Rattle.ob0_world_rules.specs.Ends.{SentAsk, numbered, ToServer, tells, asks}
+use Rattle.ob0_world_rules.specs.Ends.{SentAsk, numbered, ToServer, notifies, requests}
 use Rattle.ob0_world_editor.specs.Shapes.{method_of, empty_at}
 
 -- ---- as a function: the message in a content, where an ask is known by its number
@@ -30,30 +30,30 @@ number_of (object ms) = None
 -- what a notification says to the server
 abbrev pub notification_read : Notification → Option ToServer
 notification_read exits = None
-notification_read (opens uri version text) = Some (tells (Opened uri version text))
-notification_read (changes uri version all) = Some (tells (Changed uri version all))
-notification_read (closes uri) = Some (tells (Closed uri))
-notification_read (unreadable (Some uri)) = Some (tells (Lost uri))
+notification_read (opens uri version text) = Some (notifies (Opened uri version text))
+notification_read (changes uri version all) = Some (notifies (Changed uri version all))
+notification_read (closes uri) = Some (notifies (Closed uri))
+notification_read (unreadable (Some uri)) = Some (notifies (Lost uri))
 notification_read (unreadable None) = None
 notification_read other = None
 
 -- the request of this number, as the editor sent it
 abbrev pub request_read : List SentAsk → ℕ → Option ToServer
-request_read asked k = option_map (λ a. asks k a.uri a.ask) (numbered asked k)
+request_read requested k = option_map (λ a. requests k a.uri a.ask) (numbered requested k)
 
 -- what a message says to the server
 abbrev pub message_read : List SentAsk → MessageMeaning → Option ToServer
-message_read asked (request id method params) = option_and_then (request_read asked) (number_of id)
-message_read asked (notice method params) = notification_read (note_of method params)
-message_read asked not_json = None
-message_read asked not_a_message = None
-message_read asked response = None
+message_read requested (request id method params) = option_and_then (request_read requested) (number_of id)
+message_read requested (notice method params) = notification_read (note_of method params)
+message_read requested not_json = None
+message_read requested not_a_message = None
+message_read requested response = None
 
 -- the message in a content, where these asks were sent
 unfoldable pub heard : List SentAsk → List ℕ → Option ToServer
-heard asked content =
+heard requested content =
     if is_utf8 content
-    then option_and_then (λ d. message_read asked (meaning_of d)) (read content)
+    then option_and_then (λ d. message_read requested (meaning_of d)) (read content)
     else None
 
 -- ---- as the server reads it
@@ -86,7 +86,7 @@ pub record IsNote (note : DocumentEvent) (content : List ℕ) : Type 0 where
   pub method : List ℕ
   pub params : Data
   pub means : meaning_of json ≡ notice method params
-  pub told : note_of method params ≡ sent_as note
+  pub reported : note_of method params ≡ sent_as note
   pub fits : HasVersion note
 
 -- the content is the request of this number that asks this of a document
@@ -98,13 +98,13 @@ pub record IsRequest (k : ℕ) (uri : List ℕ) (ask : Ask) (content : List ℕ)
   pub calls : call_of (method_of ask) params ≡ Ok (call_for uri ask)
 
 -- ask k is this one
-pub record IsAsk (asked : List SentAsk) (k : ℕ) (uri : List ℕ) (ask : Ask) : Type 0 where
+pub record IsAsk (requested : List SentAsk) (k : ℕ) (uri : List ℕ) (ask : Ask) : Type 0 where
   pub sent : SentAsk
-  pub is : numbered asked k ≡ Some sent
+  pub is : numbered requested k ≡ Some sent
   pub about : sent.uri ≡ uri
   pub asks_this : sent.ask ≡ ask
 
 -- the content says this to a server
 abbrev pub SaysToServer : List SentAsk → ToServer → List ℕ → Type 0
-SaysToServer asked (tells note) content = IsNote note content
-SaysToServer asked (asks k uri ask) content = IsRequest k uri ask content × IsAsk asked k uri ask
+SaysToServer requested (notifies note) content = IsNote note content
+SaysToServer requested (requests k uri ask) content = IsRequest k uri ask content × IsAsk requested k uri ask

@@ -6,19 +6,19 @@ use Rattle.std.specs.FinMap as map_of
 use Rattle.std.specs.declared.alloc.Global.{Global}
 use Rattle.ob0_text.specs.OpenDocuments.{Changed}
 use Rattle.ob0_world_rules.specs.Edited.{whole_text}
-use Rattle.ob0_world_rules.specs.Ends.{Open, Applied, Editor, open_at, ToServer, tells}
+use Rattle.ob0_world_rules.specs.Ends.{Open, Applied, Editor, open_at, ToServer, notifies}
 use Rattle.ob0_world_rules.specs.Editing.{Move, idle, sends, ApplyOutcome, not_held, drops_answer, makes, kept_answer, all_but}
 use Rattle.ob0_world_editor.specs.Code.{answer_of, applied_of}
 use Rattle.ob0_world_rules.specs.Edited.{replacements}
 use Rattle.ob0_world_editor.specs.Heard.{SaysToServer}
 use Rattle.ob0_world_editor.specs.declared.applied.Applying as applying
-use Rattle.ob0_world_editor.specs.declared.editor.Answer as answer
+use Rattle.ob0_world_editor.specs.declared.editor.HeldAnswer as answer
 use Rattle.ob0_world_editor.specs.declared.editor.Rewritten as rewritten
 
 -- there is room for one more of all that is counted
 pub record AreFew (e : Editor) : Type 0 where
   pub openings : e.openings < 2 ^ 63 - 1
-  pub asks : length e.asked < 2 ^ 63 - 1
+  pub asks : length e.requested < 2 ^ 63 - 1
   pub versions : (uri : List ℕ) (d : Open) → open_at e uri ≡ Some d → d.version < 2 ^ 63 - 1
 
 -- the move was made, and this content, if any, says its message
@@ -27,7 +27,7 @@ Moves idle old None new = new ≡ old
 Moves idle old (Some content) new = ⊥
 Moves (sends e message) old None new = ⊥
 Moves (sends e message) old (Some content) new =
-    (new ≡ e) × SaysToServer e.asked message content.items
+    (new ≡ e) × SaysToServer e.requested message content.items
 
 -- this is what became of an answer
 abbrev pub ComesOf : ApplyOutcome → Editor → applying.Applying → Editor → Type 0
@@ -40,12 +40,12 @@ ComesOf (drops_answer e) old (applying.TheVariants.Made applied content) new = �
 ComesOf (makes e a message) old applying.TheVariants.NotHeld new = ⊥
 ComesOf (makes e a message) old applying.TheVariants.Dropped new = ⊥
 ComesOf (makes e a message) old (applying.TheVariants.Made applied content) new =
-    (new ≡ e) × (applied_of applied ≡ a) × SaysToServer e.asked message content.items
+    (new ≡ e) × (applied_of applied ≡ a) × SaysToServer e.requested message content.items
 
 -- ---- the steps of applying
 
 -- where the first answer to ask k is, and what is left without it
-abbrev pub IsPlaceOf : List answer.Answer → ℕ → Option ℕ → Type 0
+abbrev pub IsPlaceOf : List answer.HeldAnswer → ℕ → Option ℕ → Type 0
 IsPlaceOf answers k (Some i) =
     (i < length answers)
     × (kept_answer k (map answer_of answers)
@@ -67,7 +67,7 @@ with_text e r =
 abbrev pub text_sent : rewritten.Rewritten → ToServer
 text_sent r =
     let a : Applied
-    = applied_of r.applied in tells (Changed a.uri (pos r.version) (whole_text a.after ∷ []))
+    = applied_of r.applied in notifies (Changed a.uri (pos r.version) (whole_text a.after ∷ []))
 
 -- this document gets a new text, if any does
 abbrev pub IsRewritten : Editor → ApplyOutcome → Option rewritten.Rewritten → Type 0
@@ -88,4 +88,4 @@ IsMade old r applying.TheVariants.Dropped new = ⊥
 IsMade old r (applying.TheVariants.Made applied content) new =
     (new ≡ with_text old r)
     × (applied_of applied ≡ applied_of r.applied)
-    × SaysToServer new.asked (text_sent r) content.items
+    × SaysToServer new.requested (text_sent r) content.items

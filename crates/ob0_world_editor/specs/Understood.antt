@@ -1,4 +1,4 @@
--- What a content says to the editor: a publication, or the answer to an ask, which is read as what was asked needs it.
+-- What a content says to the editor: a publication, or the answer to a request, which is read as the request needs it.
 -- Rule: docs/PROTOCOL.md, JSON shapes 2.
 use Rattle.std.specs.Prelude.{ℕ, ℤ, List, [], ◌∷◌, Bool, true, false, Option, Some, None, is_some, option_and_then, option_map, unwrap_or, if◌then◌else◌, codes}
 use Rattle.std.specs.Str.{bytes_eq, chars, is_utf8}
@@ -88,23 +88,23 @@ edits_for ask answer =
 
 -- the answer to the request of this number, with its edits
 abbrev pub answer_to : List SentAsk → Data → ℕ → Option ToEditor
-answer_to asked answer k = option_map (λ a. answers k (edits_for a.ask answer)) (numbered asked k)
+answer_to requested answer k = option_map (λ a. answers k (edits_for a.ask answer)) (numbered requested k)
 
 -- an answer to a request that the editor sent
 abbrev pub answer_understood : List SentAsk → Data → Option ToEditor
-answer_understood asked answer =
-    option_and_then (answer_to asked answer) (option_and_then number_of (get (codes "id") answer))
+answer_understood requested answer =
+    option_and_then (answer_to requested answer) (option_and_then number_of (get (codes "id") answer))
 
 -- ---- messages
 
 -- what a message says to the editor
 abbrev pub value_understood : List SentAsk → Data → Option ToEditor
-value_understood asked d =
+value_understood requested d =
     if is_some (get (codes "method") d)
     then option_and_then publication_understood (get (codes "params") d)
-    else answer_understood asked d
+    else answer_understood requested d
 
 -- the message in a content, where these asks were sent
 unfoldable pub understood : List SentAsk → List ℕ → Option ToEditor
-understood asked content =
-    if is_utf8 content then option_and_then (value_understood asked) (read content) else None
+understood requested content =
+    if is_utf8 content then option_and_then (value_understood requested) (read content) else None

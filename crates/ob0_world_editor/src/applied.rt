@@ -13,7 +13,7 @@ pub struct Applied {
 pub enum Applying {
     /// No such answer is held.
     NotHeld,
-    /// The document isn't the one that was asked about any more.
+    /// The document isn't the one of the request any more.
     Dropped,
     /// The edits were made, and this content is the notification.
     Made { applied: Applied, content: Vec<u8> },

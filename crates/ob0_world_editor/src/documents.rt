@@ -24,10 +24,10 @@ pub struct OpenDocuments {
 }
 
 impl Model for OpenDocuments {
-    ghost use Rattle.ob0_world_rules.specs.Ends.{Documents};
+    ghost use Rattle.ob0_world_rules.specs.Ends.{EditorDocuments};
     ghost use Rattle.ob0_world_editor.specs.Entries.{documents_of, open_documents_code};
 
-    ghost Value = { Documents };
+    ghost Value = { EditorDocuments };
 
     ghost coded = { open_documents_code };
 

@@ -3,7 +3,7 @@ ghost use Rattle.std.specs.Prelude.{◌≡◌, IfOk, OnOk, OnErr, map, option_ma
 ghost use Rattle.std.specs.Str.{chars};
 ghost use Rattle.ob0_text.specs.OpenDocuments.{reported_change};
 ghost use Rattle.ob0_world_rules.specs.Ends.{new_editor, numbered, open_at};
-ghost use Rattle.ob0_world_rules.specs.Editing.{opens_document, changes_document, closes_document, asks_about, has_edits, keeps, kept_answer, without_answer, applies_asked, applies_answer};
+ghost use Rattle.ob0_world_rules.specs.Editing.{opens_document, changes_document, closes_document, asks_about, has_edits, keeps, kept_answer, without_answer, applies_requested, applies_answer};
 ghost use Rattle.ob0_world_editor.specs.Code.{ask_of, message_of};
 ghost use Rattle.ob0_world_rules.specs.Edited.{replacements};
 ghost use Rattle.ob0_world_editor.specs.Moves.{AreFew, Moves, ComesOf, IsRewritten, IsMade, IsPlaceOf};
@@ -19,7 +19,7 @@ use ob0_text::{Change, Edit, Unit, Whole};
 use std::alloc::{AllocError, Global};
 use std::marker::Model;
 
-/// What was asked, and the state of the document then.
+/// What was requested, and the state of the document then.
 #[derive(Drop)]
 pub struct SentAsk {
     pub ask: Ask,
@@ -30,7 +30,7 @@ pub struct SentAsk {
 
 /// An answer that the editor holds.
 #[derive(Drop)]
-pub struct Answer {
+pub struct HeldAnswer {
     pub number: u64,
     pub edits: Vec<Edit>,
 }
@@ -50,22 +50,22 @@ pub struct Editor {
     unit: Unit,
     documents: OpenDocuments,
     openings: u64,
-    asked: Vec<SentAsk>,
-    answers: Vec<Answer>,
+    requested: Vec<SentAsk>,
+    answers: Vec<HeldAnswer>,
 }
 
 impl Model for Editor {
     ghost use Rattle.std.specs.Prelude.{map};
     ghost use Rattle.std.specs.Coded.{codes};
     ghost use Rattle.ob0_world_rules.specs.Ends.{Editor};
-    ghost use Rattle.ob0_world_editor.specs.Code.{asked_of, answer_of};
+    ghost use Rattle.ob0_world_editor.specs.Code.{requested_of, answer_of};
     ghost use Rattle.ob0_world_editor.specs.Entries.{open_documents_code};
 
     ghost Value = { Editor };
 
     ghost coded = { Prim.hlevel (codes, open_documents_code) };
 
-    ghost view = { λ e. record { unit = e.unit; documents = e.documents; openings = e.openings; asked = map asked_of e.asked.items; answers = map answer_of e.answers.items } };
+    ghost view = { λ e. record { unit = e.unit; documents = e.documents; openings = e.openings; requested = map requested_of e.requested.items; answers = map answer_of e.answers.items } };
 }
 
 impl Editor {
@@ -78,7 +78,7 @@ impl Editor {
             unit,
             documents: OpenDocuments::new(alloc),
             openings: 0,
-            asked: Vec::new(alloc),
+            requested: Vec::new(alloc),
             answers: Vec::new(alloc),
         }
     }
@@ -89,7 +89,7 @@ impl Editor {
         ensures ok { IfOk result (λ content. Moves
             (opens_document self.old uri.now (chars text.now) (open_at self.old uri.now)) self.old
             content self.new) }
-        ensures err { OnErr result (self.new.asked ≡ self.old.asked) }
+        ensures err { OnErr result (self.new.requested ≡ self.old.requested) }
     {
         if self.documents.get(uri).is_some() {
             return Ok(None);
@@ -116,7 +116,7 @@ impl Editor {
         ensures ok { IfOk result (λ content. Moves (changes_document self.old uri.now
             (map reported_change changes.now) (open_at self.old uri.now)) self.old content
             self.new) }
-        ensures err { OnErr result (self.new.asked ≡ self.old.asked) }
+        ensures err { OnErr result (self.new.requested ≡ self.old.requested) }
     {
         let Some(open) = self.documents.get(uri) else {
             return Ok(None);
@@ -142,7 +142,7 @@ impl Editor {
         ensures ok { IfOk result (λ content. Moves
             (closes_document self.old uri.now (open_at self.old uri.now)) self.old content
             self.new) }
-        ensures err { OnErr result (self.new.asked ≡ self.old.asked) }
+        ensures err { OnErr result (self.new.requested ≡ self.old.requested) }
     {
         if self.documents.get(uri).is_none() {
             return Ok(None);
@@ -158,17 +158,17 @@ impl Editor {
         ensures ok { IfOk result (λ content. Moves
             (asks_about self.old uri.now (ask_of ask.now) (open_at self.old uri.now)) self.old
             content self.new) }
-        ensures err { OnErr result (self.new.asked ≡ self.old.asked) }
+        ensures err { OnErr result (self.new.requested ≡ self.old.requested) }
     {
         let Some(open) = self.documents.get(uri) else {
             return Ok(None);
         };
         let (version, opening) = (open.version, open.opening);
-        let number = self.asked.len() as u64 + 1;
+        let number = self.requested.len() as u64 + 1;
         let content = request(self.alloc, number, uri, ask)?;
         let ask = copied(self.alloc, ask)?;
         let uri = String::from_str(self.alloc, uri)?;
-        self.asked.push(SentAsk {
+        self.requested.push(SentAsk {
             ask,
             uri,
             opening,
@@ -180,32 +180,32 @@ impl Editor {
     /// Reads a content that came from the server; None where it isn't a message for this editor.
     pub fn read(&self, content: &[u8]) -> Result<Option<Message>, AllocError>
         ensures { IfOk result
-            (λ found. option_map message_of found ≡ understood self.now.asked content.now) }
+            (λ found. option_map message_of found ≡ understood self.now.requested content.now) }
     {
-        read_message(self.alloc, self.asked.as_slice(), content)
+        read_message(self.alloc, self.requested.as_slice(), content)
     }
 
     /// Keeps an answer, if it has edits, and says whether it has.
     pub fn keep(&mut self, number: u64, edits: Vec<Edit>) -> Result<bool, AllocError>
         ensures kept { OnOk result (self.new ≡ keeps self.old number (replacements edits.items)) }
         ensures some { IfOk result (λ kept. kept ≡ has_edits (replacements edits.items)) }
-        ensures err { OnErr result (self.new.asked ≡ self.old.asked) }
+        ensures err { OnErr result (self.new.requested ≡ self.old.requested) }
     {
         if edits.is_empty() {
             return Ok(false);
         }
-        self.answers.push(Answer { number, edits })?;
+        self.answers.push(HeldAnswer { number, edits })?;
         Ok(true)
     }
 
-    /// Makes the edits of answer `k`, where the document is the same opening with the same version as when it was asked
+    /// Makes the edits of answer `k`, where the document is the same opening with the same version as when it was requested
     /// about; the content is the notification. Else the answer is dropped.
     pub fn apply(&mut self, k: u64) -> Result<Applying, AllocError>
         requires { AreFew self.old }
         ensures ok { IfOk result (λ applying. ComesOf
             (applies_answer self.old k (kept_answer k self.old.answers)) self.old applying
             self.new) }
-        ensures err { OnErr result (self.new.asked ≡ self.old.asked) }
+        ensures err { OnErr result (self.new.requested ≡ self.old.requested) }
     {
         let Some(edits) = self.drop_document(k) else {
             return Ok(Applying::NotHeld);
@@ -234,27 +234,27 @@ impl Editor {
         Some(answer.edits)
     }
 
-    /// The document that was asked about, with these edits made; None where it isn't the same any more, or the edits can't be made.
+    /// The document of the request, with these edits made; None where it isn't the same any more, or the edits can't be made.
     fn rewritten(&self, k: u64, edits: &[Edit]) -> Result<Option<Rewritten>, AllocError>
         requires { AreFew self.now }
         ensures { IfOk result (λ rewritten. IsRewritten self.now
-            (applies_asked self.now (replacements edits.now) (numbered self.now.asked k))
+            (applies_requested self.now (replacements edits.now) (numbered self.now.requested k))
             rewritten) }
     {
-        let Some(asked) = numbered_ask(self.asked.as_slice(), k) else {
+        let Some(requested) = numbered_ask(self.requested.as_slice(), k) else {
             return Ok(None);
         };
-        let Some(document) = self.documents.get(asked.uri.as_str()) else {
+        let Some(document) = self.documents.get(requested.uri.as_str()) else {
             return Ok(None);
         };
-        if document.opening != asked.opening || document.version != asked.version {
+        if document.opening != requested.opening || document.version != requested.version {
             return Ok(None);
         }
         let Some(after) = patched::<Whole>(self.alloc, self.unit, document.text.as_str(), edits)?
         else {
             return Ok(None);
         };
-        let uri = String::from_str(self.alloc, asked.uri.as_str())?;
+        let uri = String::from_str(self.alloc, requested.uri.as_str())?;
         let before = String::from_str(self.alloc, document.text.as_str())?;
         Ok(Some(Rewritten {
             applied: Applied { uri, before, after },
@@ -267,7 +267,7 @@ impl Editor {
     fn make(&mut self, rewritten: Rewritten) -> Result<Applying, AllocError>
         requires { rewritten.version < 2 ^ 63 }
         ensures ok { IfOk result (λ applying. IsMade self.old rewritten applying self.new) }
-        ensures err { OnErr result (self.new.asked ≡ self.old.asked) }
+        ensures err { OnErr result (self.new.requested ≡ self.old.requested) }
     {
         let applied = rewritten.applied;
         let version = rewritten.version;
@@ -293,7 +293,7 @@ impl Editor {
 }
 
 /// Where the first answer to ask `k` is.
-fn place_of(answers: &[Answer], k: u64) -> Option<usize>
+fn place_of(answers: &[HeldAnswer], k: u64) -> Option<usize>
     ensures { IsPlaceOf answers.now k result }
 {
     for place in 0..answers.len() {

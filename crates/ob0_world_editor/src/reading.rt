@@ -3,8 +3,8 @@ ghost use Rattle.std.specs.Prelude.{◌≡◌, IfOk, codes, option_map, option_a
 ghost use Rattle.serde_json.specs.Data.{Items};
 ghost use Rattle.serde_json.specs.Find.{get, as_str, as_number, as_i64, as_array};
 ghost use Rattle.serde_json.specs.View.{view, items_view};
-ghost use Rattle.ob0_rpc.specs.Members.{text_in as text_of_member, range_in as range_of_member, position_in as position_of_member, position_of as position_told, range_of as range_told, count_in as count_of_member};
-ghost use Rattle.ob0_world_editor.specs.Code.{message_of, ask_of, asked_of};
+ghost use Rattle.ob0_rpc.specs.Members.{text_in as text_of_member, range_in as range_of_member, position_in as position_of_member, position_of as position_reported, range_of as range_reported, count_in as count_of_member};
+ghost use Rattle.ob0_world_editor.specs.Code.{message_of, ask_of, requested_of};
 ghost use Rattle.ob0_world_rules.specs.Edited.{replacement_of, replacements};
 ghost use Rattle.ob0_world_editor.specs.Heard.{number_of};
 ghost use Rattle.ob0_world_editor.specs.Understood.{understood, value_understood, publication_understood, answer_understood, has_none, edit_in, edits_in, workspace_items, is_titled, action_in, action_items, items_for as items_of_answer, edits_for};
@@ -34,14 +34,14 @@ pub enum Message {
 /// Reads a content, where these asks were sent; None where it isn't a message that a server sends for them.
 pub fn read_message(
     alloc: Global,
-    asked: &[SentAsk],
+    requested: &[SentAsk],
     content: &[u8],
 ) -> Result<Option<Message>, AllocError>
     ensures { IfOk result
-        (λ found. option_map message_of found ≡ understood (map asked_of asked.now) content.now) }
+        (λ found. option_map message_of found ≡ understood (map requested_of requested.now) content.now) }
 {
     match Value::from_slice(alloc, content) {
-        Ok(message) => read_value(alloc, asked, &message),
+        Ok(message) => read_value(alloc, requested, &message),
         Err(error) => if error.is_memory() {
             Err(AllocError)
         } else {
@@ -52,14 +52,14 @@ pub fn read_message(
 
 fn read_value(
     alloc: Global,
-    asked: &[SentAsk],
+    requested: &[SentAsk],
     message: &Value,
 ) -> Result<Option<Message>, AllocError>
     ensures { IfOk result (λ found. option_map message_of found
-        ≡ value_understood (map asked_of asked.now) (view message.now)) }
+        ≡ value_understood (map requested_of requested.now) (view message.now)) }
 {
     if message.get("method").is_none() {
-        return read_answer(alloc, asked, message);
+        return read_answer(alloc, requested, message);
     }
     match message.get("params") {
         Some(params) => read_publication(alloc, params),
@@ -116,19 +116,19 @@ fn published_diagnostics(params: &Value) -> Option<&Vec<Value>>
 
 fn read_answer(
     alloc: Global,
-    asked: &[SentAsk],
+    requested: &[SentAsk],
     answer: &Value,
 ) -> Result<Option<Message>, AllocError>
     ensures { IfOk result (λ found. option_map message_of found
-        ≡ answer_understood (map asked_of asked.now) (view answer.now)) }
+        ≡ answer_understood (map requested_of requested.now) (view answer.now)) }
 {
     let Some(number) = answer_number(answer) else {
         return Ok(None);
     };
-    let Some(asked) = numbered_ask(asked, number) else {
+    let Some(requested) = numbered_ask(requested, number) else {
         return Ok(None);
     };
-    let edits = read_edits(alloc, &asked.ask, answer)?;
+    let edits = read_edits(alloc, &requested.ask, answer)?;
     Ok(Some(Message::Answered { number, edits }))
 }
 
@@ -139,15 +139,15 @@ fn answer_number(answer: &Value) -> Option<u64>
 }
 
 /// Ask `number`; the first has number 1.
-pub fn numbered_ask(asked: &[SentAsk], number: u64) -> Option<&SentAsk>
-    ensures { option_map (λ a. asked_of a.now) result ≡ numbered (map asked_of asked.now) number }
+pub fn numbered_ask(requested: &[SentAsk], number: u64) -> Option<&SentAsk>
+    ensures { option_map (λ a. requested_of a.now) result ≡ numbered (map requested_of requested.now) number }
 {
     if number == 0 {
         return None;
     }
     let index = (number - 1) as usize;
-    if index < asked.len() {
-        Some(&asked[index])
+    if index < requested.len() {
+        Some(&requested[index])
     } else {
         None
     }
@@ -268,7 +268,7 @@ fn range_in(value: &Value, name: &str) -> Option<Range>
 }
 
 fn range_of(value: &Value) -> Option<Range>
-    ensures { result ≡ range_told (view value.now) }
+    ensures { result ≡ range_reported (view value.now) }
 {
     let start = position_in(value, "start")?;
     let end = position_in(value, "end")?;
@@ -282,7 +282,7 @@ fn position_in(value: &Value, name: &str) -> Option<Position>
 }
 
 fn position_of(value: &Value) -> Option<Position>
-    ensures { result ≡ position_told (view value.now) }
+    ensures { result ≡ position_reported (view value.now) }
 {
     let line = value.get("line")?.as_u64()?;
     let character = value.get("character")?.as_u64()?;

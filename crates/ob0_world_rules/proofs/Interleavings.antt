@@ -15,8 +15,8 @@ use Rattle.ob0_world_rules.specs.Language.{WellTypedText, SameRun}
 use Rattle.ob0_world_rules.specs.Edited.{Replacement, edited, whole_text, after_changes}
 use Rattle.ob0_world_rules.specs.Asks.{Ask}
 use Rattle.ob0_world_rules.specs.Answers.{IsAnswer}
-use Rattle.ob0_world_rules.specs.Ends.{Open, SentAsk, Answer, Editor, numbered, open_at, ToServer, tells, asks, ToEditor, publishes, answers, Applied, Made, Ends, start, after_message, will_have, as_open}
-use Rattle.ob0_world_rules.specs.Editing.{opens_document, changes_text, changes_document, closes_document, asks_about, keeps, kept_answer, all_but, without_answer, discards, if_same, applies_text, applies_edits, applies_asked, applies_answer, Move, idle, sends, ApplyOutcome, not_held, drops_answer, makes}
+use Rattle.ob0_world_rules.specs.Ends.{Open, SentAsk, Answer, Editor, numbered, open_at, ToServer, notifies, requests, ToEditor, publishes, answers, Applied, Made, Ends, start, after_message, will_have, as_open}
+use Rattle.ob0_world_rules.specs.Editing.{opens_document, changes_text, changes_document, closes_document, asks_about, keeps, kept_answer, all_but, without_answer, discards, if_same, applies_text, applies_edits, applies_requested, applies_answer, Move, idle, sends, ApplyOutcome, not_held, drops_answer, makes}
 use Rattle.ob0_world_rules.specs.Serving.{Publishes, cleared, RepliesToNotification, Replies}
 use Rattle.ob0_world_rules.specs.Events.{Event, open_document, change_document, close_document, ask_about, serve, take_message, apply, discard, Seen, moved, takes, comes_of}
 use Rattle.ob0_world_rules.specs.Happens.{ServerTakes, Happens, Course}
@@ -36,7 +36,7 @@ module _ (unit : Unit) where
   open_kept w uri text None kept =
       let d : Open = record { version = 1; text = text; opening = w.editor.openings + 1 } in
       let e : Editor = record w.editor { documents = map_of.insert w.editor.documents uri d; openings = w.editor.openings + 1 } in
-      sends_kept unit w e (tells (Opened uri (pos 1) text)) kept (later_open w.editor uri d refl)
+      sends_kept unit w e (notifies (Opened uri (pos 1) text)) kept (later_open w.editor uri d refl)
       (λ q x at. found w.editor.documents uri q d x (x.opening ≤ w.editor.openings + 1) at
       (λ same is. subst (λ y. y.opening ≤ w.editor.openings + 1) is (omega arith))
       (λ was. let known : x.opening ≤ w.editor.openings = kept.openings q x was in omega arith))
@@ -54,7 +54,7 @@ module _ (unit : Unit) where
   close_kept w uri None kept = kept
   close_kept w uri (Some d) kept =
       let e : Editor = record w.editor { documents = map_of.remove w.editor.documents uri } in
-      sends_kept unit w e (tells (Closed uri)) kept (later_close w.editor uri)
+      sends_kept unit w e (notifies (Closed uri)) kept (later_close w.editor uri)
       (λ q x at. kept.openings q x (left w.editor.documents uri q x at))
       refl refl (remove_mirrors w uri kept.mirror) tt
 
@@ -62,28 +62,28 @@ module _ (unit : Unit) where
   ask_kept w uri ask None is kept = kept
   ask_kept w uri ask (Some d) is kept =
       let a : SentAsk = record { ask = ask; uri = uri; opening = d.opening; version = d.version } in
-      let e : Editor = record w.editor { asked = w.editor.asked ++ a ∷ [] } in
-      let known : Known e (suc (length w.editor.asked)) (λ x. document_at (will_have w) uri ≡ Some (as_open x)) =
+      let e : Editor = record w.editor { requested = w.editor.requested ++ a ∷ [] } in
+      let known : Known e (suc (length w.editor.requested)) (λ x. document_at (will_have w) uri ≡ Some (as_open x)) =
       record {
-        asked = a;
-        is = slice_get_last w.editor.asked a;
+        requested = a;
+        is = slice_get_last w.editor.requested a;
         past = record {
           known = kept.openings uri d is;
           risen = λ x at opening. subst (λ y. d.version ≤ y.version) (same_Some d x (sym is ∙ at)) (omega arith);
         };
         still = λ x same. kept.mirror uri ∙ ap (option_map as_open) same.at;
       } in
-      sends_kept unit w e (asks (suc (length w.editor.asked)) uri ask) kept (later_ask w.editor (a ∷ []))
+      sends_kept unit w e (requests (suc (length w.editor.requested)) uri ask) kept (later_ask w.editor (a ∷ []))
       kept.openings refl refl kept.mirror (known, tt)
 
   -- a message that the editor has taken is no more in the queue
   rest_kept : (w : Ends) (rest : List ToEditor) → Kept unit w → All (AnswerFits unit w.editor) rest → Kept unit (record w { to_editor = rest })
   rest_kept w rest kept fit =
-      record { counts = kept.counts; holds = kept.holds; mirror = kept.mirror; openings = kept.openings; asked = kept.asked; answered = fit; answers_held = kept.answers_held; applied = kept.applied; made = kept.made }
+      record { counts = kept.counts; holds = kept.holds; mirror = kept.mirror; openings = kept.openings; requested = kept.requested; answered = fit; answers_held = kept.answers_held; applied = kept.applied; made = kept.made }
 
   -- an answer with edits fits the document that was asked about
   with_edits : (e : Editor) (k : ℕ) (edit : Replacement) (edits : List Replacement) → Known e k (Fits unit (edit ∷ edits)) → Known e k (λ d. EditsPreserveRun unit d.text (edit ∷ edits))
-  with_edits e k edit edits known = record { asked = known.asked; is = known.is; past = known.past; still = λ d same. go d (known.still d same) }
+  with_edits e k edit edits known = record { requested = known.requested; is = known.is; past = known.past; still = λ d same. go d (known.still d same) }
     where
       go : (d : Open) → Fits unit (edit ∷ edits) d → EditsPreserveRun unit d.text (edit ∷ edits)
       go d (inl none) = absurd (cc)
@@ -120,7 +120,7 @@ module _ (unit : Unit) where
 
   applied_kept : (w : Ends) (a : Applied) → Kept unit w → KeepsTheRun a → Kept unit (record w { applied = w.applied ++ a ∷ [] })
   applied_kept w a kept keeps =
-      record { counts = kept.counts; holds = kept.holds; mirror = kept.mirror; openings = kept.openings; asked = kept.asked; answered = kept.answered; answers_held = kept.answers_held; applied = All-push KeepsTheRun w.applied a kept.applied keeps; made = kept.made }
+      record { counts = kept.counts; holds = kept.holds; mirror = kept.mirror; openings = kept.openings; requested = kept.requested; answered = kept.answered; answers_held = kept.answers_held; applied = All-push KeepsTheRun w.applied a kept.applied keeps; made = kept.made }
 
   whole : (u : Unit) (old text : List ℕ) → after_changes u (Some old) (whole_text text ∷ []) ≡ Some text
   unfolding changed_text
@@ -144,11 +144,11 @@ module _ (unit : Unit) where
       let same : Same e a d = same_from e a d is in
       text_kept w e k a.uri d edits (edited e.unit d.text edits) (ap (λ u. edited u d.text edits) (sym kept.counts)) same.at kept (keep d same)
 
-  asked_kept : (w : Ends) (e : Editor) (k : ℕ) (edits : List Replacement) (o : Option SentAsk) → numbered e.asked k ≡ o → Kept unit (record w { editor = e }) → Known e k (λ d. EditsPreserveRun unit d.text edits)
-      → Kept unit (comes_of w k (applies_asked e edits o)).after
-  asked_kept w e k edits None is kept known = kept
-  asked_kept w e k edits (Some a) is kept known =
-      let same : known.asked ≡ a = same_Some known.asked a (sym known.is ∙ is) in
+  requested_kept : (w : Ends) (e : Editor) (k : ℕ) (edits : List Replacement) (o : Option SentAsk) → numbered e.requested k ≡ o → Kept unit (record w { editor = e }) → Known e k (λ d. EditsPreserveRun unit d.text edits)
+      → Kept unit (comes_of w k (applies_requested e edits o)).after
+  requested_kept w e k edits None is kept known = kept
+  requested_kept w e k edits (Some a) is kept known =
+      let same : known.requested ≡ a = same_Some known.requested a (sym known.is ∙ is) in
       edits_kept w e k edits a (if_same a (open_at e a.uri)) refl kept (subst (λ x. (d : Open) → Same e x d → EditsPreserveRun unit d.text edits) same known.still)
 
   apply_kept : (w : Ends) (k : ℕ) (o : Option (List Replacement)) → kept_answer k w.editor.answers ≡ o → Kept unit w → Kept unit (comes_of w k (applies_answer w.editor k o)).after
@@ -156,7 +156,7 @@ module _ (unit : Unit) where
   apply_kept w k (Some edits) is kept =
       let e : Editor = without_answer w.editor k in
       let known : Known w.editor k (λ d. EditsPreserveRun unit d.text edits) = held_known unit w.editor k w.editor.answers edits is kept.answers_held in
-      asked_kept w e k edits (numbered w.editor.asked k) refl (without_kept w k kept)
+      requested_kept w e k edits (numbered w.editor.requested k) refl (without_kept w k kept)
       (still_known w.editor e k (λ d. EditsPreserveRun unit d.text edits) (later_answers w.editor e.answers) known)
 
   -- ---- the server's events
@@ -286,7 +286,7 @@ module _ (unit : Unit) where
   ask_fits : (e : Editor) (held : OpenDocuments) (k : ℕ) (uri : List ℕ) (ask : Ask) (edits : List Replacement) → held.unit ≡ unit → Known e k (λ d. document_at held uri ≡ Some (as_open d)) → IsAnswer held.unit (document_at held uri) ask edits
       → Known e k (Fits unit edits)
   ask_fits e held k uri ask edits same_unit known may =
-      record { asked = known.asked; is = known.is; past = known.past; still = λ d same. go (document_at held uri) d (known.still d same) (subst (λ u. IsAnswer u (document_at held uri) ask edits) same_unit may) }
+      record { requested = known.requested; is = known.is; past = known.past; still = λ d same. go (document_at held uri) d (known.still d same) (subst (λ u. IsAnswer u (document_at held uri) ask edits) same_unit may) }
     where
       go : (o : Option Document) (d : Open) → o ≡ Some (as_open d) → IsAnswer unit o ask edits → Fits unit edits d
       go o d is may = answer_keeps unit d.text ask edits (subst (λ x. IsAnswer unit x ask edits) is may)
@@ -296,8 +296,8 @@ module _ (unit : Unit) where
   Meets e held m = AsksSee e held (m ∷ [])
 
   message_sound : (e : Editor) (held : OpenDocuments) (m : ToServer) (said : List ToEditor) (made more : List Made) → held.unit ≡ unit → Meets e held m → AreLatest held made → Replies held m said more → Sound e (after_message held m) said made more
-  message_sound e held (tells note) said made more same_unit meets now h = note_sound e held note said made more now h
-  message_sound e held (asks k uri ask) said made more same_unit meets now (edits, may, is_said, is_made) =
+  message_sound e held (notifies note) said made more same_unit meets now h = note_sound e held note said made more now h
+  message_sound e held (requests k uri ask) said made more same_unit meets now (edits, may, is_said, is_made) =
       let quiet : Sound e held [] made more = silent e held made [] more refl is_made now in
       record {
         fit = subst (All (AnswerFits unit e)) (sym is_said) (All-push (AnswerFits unit e) [] (answers k edits) (All-nil (AnswerFits unit e)) (ask_fits e held k uri ask edits same_unit meets.0 may));
@@ -310,13 +310,13 @@ module _ (unit : Unit) where
 
   -- the first message, and those after it
   sees_first : (e : Editor) (held : OpenDocuments) (m : ToServer) (rest : List ToServer) → AsksSee e held (m ∷ rest) → Meets e held m × AsksSee e (after_message held m) rest
-  sees_first e held (tells note) rest h = (tt, h)
-  sees_first e held (asks k uri ask) rest h = ((h.0, tt), h.1)
+  sees_first e held (notifies note) rest h = (tt, h)
+  sees_first e held (requests k uri ask) rest h = ((h.0, tt), h.1)
 
   serve_kept : (w : Ends) (queue : List ToServer) (seen : Seen) (new : Ends) → w.to_server ≡ queue → Both w → ServerTakes w queue seen new → Both new
   serve_kept w [] seen new is both h = subst Both (sym h.1) both
   serve_kept w (m ∷ rest) seen new is (kept, now) (said, more, may, shown, is_new) =
-      let see : Meets w.editor w.held m × AsksSee w.editor (after_message w.held m) rest = sees_first w.editor w.held m rest (subst (AsksSee w.editor w.held) is kept.asked) in
+      let see : Meets w.editor w.held m × AsksSee w.editor (after_message w.held m) rest = sees_first w.editor w.held m rest (subst (AsksSee w.editor w.held) is kept.requested) in
       let sound : Sound w.editor (after_message w.held m) said w.made more = message_sound w.editor w.held m said w.made more kept.holds see.0 now may in
       subst Both (sym is_new) (
         record {
@@ -324,7 +324,7 @@ module _ (unit : Unit) where
           holds = message_unit w.held m ∙ kept.holds;
           mirror = subst (λ q. (uri : List ℕ) → document_at (fold after_message w.held q) uri ≡ option_map as_open (open_at w.editor uri)) is kept.mirror;
           openings = kept.openings;
-          asked = see.1;
+          requested = see.1;
           answered = All-append (AnswerFits unit w.editor) w.to_editor said kept.answered sound.fit;
           answers_held = kept.answers_held;
           applied = kept.applied;
@@ -396,7 +396,7 @@ module _ (unit : Unit) where
       holds = refl;
       mirror = λ q. map_of.get-empty (slice_cmp nat_cmp) q ∙ sym (ap (option_map as_open) (map_of.get-empty (slice_cmp nat_cmp) q));
       openings = λ uri d at. nothing_at uri d (d.opening ≤ 0) at;
-      asked = tt;
+      requested = tt;
       answered = All-nil (AnswerFits unit (start unit).editor);
       answers_held = All-nil (HeldFits unit (start unit).editor);
       applied = All-nil KeepsTheRun;

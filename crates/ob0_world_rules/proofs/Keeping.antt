@@ -11,7 +11,7 @@ use Rattle.ob0_text.specs.declared.position_types.Unit.{Unit}
 use Rattle.ob0_text.specs.OpenDocuments.{OpenDocuments, document, DocumentEvent, Opened, Changed, Lost, Closed, TextChange, after_event, changed_document, document_at}
 use Rattle.ob0_text.proofs.EntryLaws.{updated-some}
 use Rattle.ob0_world_rules.specs.Edited.{Replacement, after_changes}
-use Rattle.ob0_world_rules.specs.Ends.{Open, Answer, Editor, open_at, ToServer, tells, asks, ToEditor, publishes, answers, Ends, after_message, will_have, as_open, Mirrors}
+use Rattle.ob0_world_rules.specs.Ends.{Open, Answer, Editor, open_at, ToServer, notifies, requests, ToEditor, publishes, answers, Ends, after_message, will_have, as_open, Mirrors}
 use Rattle.ob0_world_rules.specs.Editing.{kept_answer, rewritten, rewrites}
 use Rattle.ob0_world_rules.specs.Headline.{KeepsTheRun, IsRight}
 use Rattle.ob0_world_rules.specs.Laws.{EditsPreserveRun}
@@ -34,8 +34,8 @@ HeldFits unit e a = Known e a.number (λ d. EditsPreserveRun unit d.text a.edits
 -- the server, as it takes an ask, will hold the document that was asked about, where that is still the same
 abbrev pub AsksSee : Editor → OpenDocuments → List ToServer → Type 0
 AsksSee e held [] = ⊤
-AsksSee e held (tells note ∷ rest) = AsksSee e (after_event held note) rest
-AsksSee e held (asks k uri ask ∷ rest) = Known e k (λ d. document_at held uri ≡ Some (as_open d)) × AsksSee e held rest
+AsksSee e held (notifies note ∷ rest) = AsksSee e (after_event held note) rest
+AsksSee e held (requests k uri ask ∷ rest) = Known e k (λ d. document_at held uri ≡ Some (as_open d)) × AsksSee e held rest
 
 abbrev pub KnowsOpenings : Editor → Type 0
 KnowsOpenings e = (uri : List ℕ) (d : Open) → open_at e uri ≡ Some d → d.opening ≤ e.openings
@@ -46,7 +46,7 @@ pub record Kept (unit : Unit) (w : Ends) : Type 0 where
   pub holds : w.held.unit ≡ unit
   pub mirror : Mirrors w
   pub openings : KnowsOpenings w.editor
-  pub asked : AsksSee w.editor w.held w.to_server
+  pub requested : AsksSee w.editor w.held w.to_server
   pub answered : All (AnswerFits unit w.editor) w.to_editor
   pub answers_held : All (HeldFits unit w.editor) w.editor.answers
   pub applied : All KeepsTheRun w.applied
@@ -61,8 +61,8 @@ note_unit held (Lost uri) = refl
 note_unit held (Closed uri) = refl
 
 pub message_unit : (held : OpenDocuments) (m : ToServer) → (after_message held m).unit ≡ held.unit
-message_unit held (tells note) = note_unit held note
-message_unit held (asks k uri ask) = refl
+message_unit held (notifies note) = note_unit held note
+message_unit held (requests k uri ask) = refl
 
 will_unit : (held : OpenDocuments) (q : List ToServer) → (fold after_message held q).unit ≡ held.unit
 will_unit held [] = refl
@@ -83,14 +83,14 @@ held_later unit e e' later list h =
 
 pub asks_later : (e e' : Editor) → Later e e' → (held : OpenDocuments) (q : List ToServer) → AsksSee e held q → AsksSee e' held q
 asks_later e e' later held [] h = h
-asks_later e e' later held (tells note ∷ rest) h = asks_later e e' later (after_event held note) rest h
-asks_later e e' later held (asks k uri ask ∷ rest) h =
+asks_later e e' later held (notifies note ∷ rest) h = asks_later e e' later (after_event held note) rest h
+asks_later e e' later held (requests k uri ask ∷ rest) h =
     (still_known e e' k (λ d. document_at held uri ≡ Some (as_open d)) later h.0, asks_later e e' later held rest h.1)
 
 asks_append : (e : Editor) (held : OpenDocuments) (q more : List ToServer) → AsksSee e held q → AsksSee e (fold after_message held q) more → AsksSee e held (q ++ more)
 asks_append e held [] more h k = k
-asks_append e held (tells note ∷ rest) more h k = asks_append e (after_event held note) rest more h k
-asks_append e held (asks n uri ask ∷ rest) more h k = (h.0, asks_append e held rest more h.1 k)
+asks_append e held (notifies note ∷ rest) more h k = asks_append e (after_event held note) rest more h k
+asks_append e held (requests n uri ask ∷ rest) more h k = (h.0, asks_append e held rest more h.1 k)
 
 -- ---- the editor sends
 
@@ -106,7 +106,7 @@ sends_kept unit w e m kept later openings same_unit same mirror see =
       holds = kept.holds;
       mirror = λ uri. ap (λ held. document_at held uri) (fold_push after_message w.held w.to_server m) ∙ mirror uri;
       openings = openings;
-      asked = asks_append e w.held w.to_server (m ∷ []) (asks_later w.editor e later w.held w.to_server kept.asked) see;
+      requested = asks_append e w.held w.to_server (m ∷ []) (asks_later w.editor e later w.held w.to_server kept.requested) see;
       answered = answers_later unit w.editor e later w.to_editor kept.answered;
       answers_held = subst (λ list. All (HeldFits unit e) list) (sym same) (held_later unit w.editor e later w.editor.answers kept.answers_held);
       applied = kept.applied;
@@ -143,10 +143,10 @@ change_mirrors w uri d new how mirror same_unit was_open is q =
     ∙ put_mirror w uri new mirror q
 
 pub rewrites_kept : (unit : Unit) (w : Ends) (uri : List ℕ) (d : Open) (how : List TextChange) (text : List ℕ) → Kept unit w → open_at w.editor uri ≡ Some d
-    → after_changes w.editor.unit (Some d.text) how ≡ Some text → Kept unit (sent_by w (rewrites w.editor uri d text) (tells (Changed uri (pos (d.version + 1)) how)))
+    → after_changes w.editor.unit (Some d.text) how ≡ Some text → Kept unit (sent_by w (rewrites w.editor uri d text) (notifies (Changed uri (pos (d.version + 1)) how)))
 rewrites_kept unit w uri d how text kept was_open is =
     let new : Open = rewritten d text in
-    sends_kept unit w (rewrites w.editor uri d text) (tells (Changed uri (pos (d.version + 1)) how)) kept (later_rewrite w.editor uri d text was_open)
+    sends_kept unit w (rewrites w.editor uri d text) (notifies (Changed uri (pos (d.version + 1)) how)) kept (later_rewrite w.editor uri d text was_open)
     (λ q x at. found w.editor.documents uri q new x (x.opening ≤ w.editor.openings) at
     (λ same is. subst (λ y. y.opening ≤ w.editor.openings) is (kept.openings uri d was_open))
     (λ was. kept.openings q x was))
@@ -165,7 +165,7 @@ answers_kept unit w list queue kept held fit =
       holds = kept.holds;
       mirror = kept.mirror;
       openings = kept.openings;
-      asked = asks_later w.editor e later w.held w.to_server kept.asked;
+      requested = asks_later w.editor e later w.held w.to_server kept.requested;
       answered = answers_later unit w.editor e later queue fit;
       answers_held = held_later unit w.editor e later list held;
       applied = kept.applied;

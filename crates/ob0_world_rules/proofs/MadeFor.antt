@@ -6,7 +6,7 @@ use Rattle.std.proofs.lemmas.Option.{same_Some, none-some}
 use Rattle.std.proofs.lemmas.List.Elements.{All-nil, All-push, All-append, All-weaker}
 use Rattle.ob0_text.specs.declared.position_types.Unit.{Unit}
 use Rattle.ob0_text.specs.OpenDocuments.{OpenDocuments, Document, InStep, OutOfStep, DocumentEvent, Opened, Changed, Lost, Closed, after_event, document_at}
-use Rattle.ob0_world_rules.specs.Ends.{Open, open_at, ToServer, tells, asks, ToEditor, publishes, answers, Made, Ends, start, after_message, will_have, as_open}
+use Rattle.ob0_world_rules.specs.Ends.{Open, open_at, ToServer, notifies, requests, ToEditor, publishes, answers, Made, Ends, start, after_message, will_have, as_open}
 use Rattle.ob0_world_rules.specs.Editing.{Move, idle, sends, opens_document, changes_document, closes_document, asks_about, kept_answer, ApplyOutcome, not_held, drops_answer, makes, discards, applies_answer}
 use Rattle.ob0_world_rules.specs.Serving.{Publishes, RepliesToNotification, Replies}
 use Rattle.ob0_world_rules.specs.Events.{Event, open_document, change_document, close_document, ask_about, serve, take_message, apply, discard, Seen, EventStep, Is, moved, takes, comes_of}
@@ -31,8 +31,8 @@ module _ (unit : Unit) where
   was_open_more events more uri version text was =
       record {
         before = was.before;
-        behind = was.behind ++ more;
-        parts = ap (λ es. es ++ more) was.parts ∙ append_assoc was.before was.behind more;
+        following = was.following ++ more;
+        parts = ap (λ es. es ++ more) was.parts ∙ append_assoc was.before was.following more;
         moment = was.moment;
         reached = was.reached;
         document = was.document;
@@ -77,7 +77,7 @@ module _ (unit : Unit) where
           let both : InStep (pos d.version) d.text ≡ InStep version text = same_Some (as_open d) (InStep version text) (sym (mirror ∙ ap (option_map as_open) is) ∙ at) in
           record {
             before = events;
-            behind = [];
+            following = [];
             parts = sym (append-nil events);
             moment = w;
             reached = run;
@@ -144,8 +144,8 @@ module _ (unit : Unit) where
   note_open events held (Closed uri) said made were h = subst (All (WasMadeFor unit events)) (sym h.1) (All-nil (WasMadeFor unit events))
 
   sent_open : (events : List Event) (held : OpenDocuments) (m : ToServer) (said : List ToEditor) (made : List Made) → WereOpenIn events (after_message held m) → Replies held m said made → All (WasMadeFor unit events) made
-  sent_open events held (tells note) said made were h = note_open events held note said made were h
-  sent_open events held (asks k uri ask) said made were (edits, answer, is_said, none) = subst (All (WasMadeFor unit events)) (sym none) (All-nil (WasMadeFor unit events))
+  sent_open events held (notifies note) said made were h = note_open events held note said made were h
+  sent_open events held (requests k uri ask) said made were (edits, answer, is_said, none) = subst (All (WasMadeFor unit events)) (sym none) (All-nil (WasMadeFor unit events))
 
   serve_open : (events : List Event) (e : Event) (w : Ends) (queue : List ToServer) (seen : Seen) (new : Ends) → w.to_server ≡ queue → WereOpen events w → Course (start unit) (events ++ e ∷ []) new → ServerTakes w queue seen new → WereOpen (events ++ e ∷ []) new
   serve_open events e w [] seen new is was run h =

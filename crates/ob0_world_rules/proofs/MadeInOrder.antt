@@ -7,10 +7,10 @@ use Rattle.std.proofs.lemmas.List.{map-append}
 use Rattle.std.proofs.lemmas.List.Sums.{fold_push}
 use Rattle.ob0_text.specs.declared.position_types.Unit.{Unit}
 use Rattle.ob0_text.specs.OpenDocuments.{OpenDocuments, TextChange, Opened, Changed, Lost, Closed, after_event, document_at}
-use Rattle.ob0_world_rules.specs.Ends.{Open, Documents, SentAsk, Editor, numbered, open_at, ToServer, tells, asks, ToEditor, publishes, answers, Made, Ends, start, after_message, as_open, Mirrors}
+use Rattle.ob0_world_rules.specs.Ends.{Open, EditorDocuments, SentAsk, Editor, numbered, open_at, ToServer, notifies, requests, ToEditor, publishes, answers, Made, Ends, start, after_message, as_open, Mirrors}
 use Rattle.ob0_world_rules.specs.Edited.{Replacement, edited, after_changes}
 use Rattle.ob0_world_rules.specs.Asks.{Ask}
-use Rattle.ob0_world_rules.specs.Editing.{Move, idle, sends, opens_document, rewritten, changes_text, changes_document, closes_document, asks_about, kept_answer, without_answer, ApplyOutcome, not_held, drops_answer, makes, discards, if_same, applies_text, applies_edits, applies_asked, applies_answer}
+use Rattle.ob0_world_rules.specs.Editing.{Move, idle, sends, opens_document, rewritten, changes_text, changes_document, closes_document, asks_about, kept_answer, without_answer, ApplyOutcome, not_held, drops_answer, makes, discards, if_same, applies_text, applies_edits, applies_requested, applies_answer}
 use Rattle.ob0_world_rules.specs.Serving.{Publishes, Replies}
 use Rattle.ob0_world_rules.specs.Events.{Event, open_document, change_document, close_document, ask_about, serve, take_message, apply, discard, Seen, EventStep, Is, moved, takes, comes_of}
 use Rattle.ob0_world_rules.specs.Happens.{ServerTakes, Happens, Course}
@@ -61,7 +61,7 @@ OutcomeNames not_held = ⊤
 OutcomeNames (drops_answer e) = ⊤
 OutcomeNames (makes e applied m) = Names e m
 
-put_named : (docs : Documents) (uri : List ℕ) (d : Open) → map name_of (announced_at uri (map_of.get (map_of.insert docs uri d) uri)) ≡ (uri, pos d.version) ∷ []
+put_named : (docs : EditorDocuments) (uri : List ℕ) (d : Open) → map name_of (announced_at uri (map_of.get (map_of.insert docs uri d) uri)) ≡ (uri, pos d.version) ∷ []
 put_named docs uri d =
     ap (λ o. map name_of (announced_at uri o)) (get_put docs uri d uri ∙ ap (λ b. cond b (Some d) (map_of.get docs uri)) (uri_itself uri))
 
@@ -93,13 +93,13 @@ edits_names : (e : Editor) (edits : List Replacement) (uri : List ℕ) (o : Opti
 edits_names e edits uri None = tt
 edits_names e edits uri (Some d) = applied_names e uri d (edited e.unit d.text edits)
 
-asked_names : (e : Editor) (edits : List Replacement) (o : Option SentAsk) → OutcomeNames (applies_asked e edits o)
-asked_names e edits None = tt
-asked_names e edits (Some asked) = edits_names e edits asked.uri (if_same asked (open_at e asked.uri))
+requested_names : (e : Editor) (edits : List Replacement) (o : Option SentAsk) → OutcomeNames (applies_requested e edits o)
+requested_names e edits None = tt
+requested_names e edits (Some requested) = edits_names e edits requested.uri (if_same requested (open_at e requested.uri))
 
 applies_names : (e : Editor) (k : ℕ) (o : Option (List Replacement)) → OutcomeNames (applies_answer e k o)
 applies_names e k None = tt
-applies_names e k (Some edits) = asked_names (without_answer e k) edits (numbered e.asked k)
+applies_names e k (Some edits) = requested_names (without_answer e k) edits (numbered e.requested k)
 
 discards_names : (e : Editor) (k : ℕ) (o : Option (List Replacement)) → OutcomeNames (discards e k o)
 discards_names e k None = tt
@@ -112,11 +112,11 @@ AwaitedAt held uri now = (o : Option Open) × (document_at held uri ≡ option_m
 
 -- the documents that will be published for as this message is taken, where these were held before
 abbrev Awaits : OpenDocuments → ToServer → List Announced → Type 0
-Awaits held (tells (Opened uri version text)) now = AwaitedAt (after_event held (Opened uri version text)) uri now
-Awaits held (tells (Changed uri version how)) now = AwaitedAt (after_event held (Changed uri version how)) uri now
-Awaits held (tells (Lost uri)) now = now ≡ []
-Awaits held (tells (Closed uri)) now = now ≡ []
-Awaits held (asks number uri ask) now = now ≡ []
+Awaits held (notifies (Opened uri version text)) now = AwaitedAt (after_event held (Opened uri version text)) uri now
+Awaits held (notifies (Changed uri version how)) now = AwaitedAt (after_event held (Changed uri version how)) uri now
+Awaits held (notifies (Lost uri)) now = now ≡ []
+Awaits held (notifies (Closed uri)) now = now ≡ []
+Awaits held (requests number uri ask) now = now ≡ []
 
 -- and as each message that waits is taken
 abbrev Pending : OpenDocuments → List ToServer → List Announced → Type 0
@@ -131,11 +131,11 @@ pending_push held (x ∷ queue) m waiting now (first, later, is, so, rest) await
 
 -- what the editor has as it sends the message
 sent_awaits : (held : OpenDocuments) (e : Editor) (m : ToServer) → ((uri : List ℕ) → document_at (after_message held m) uri ≡ option_map as_open (open_at e uri)) → Awaits held m (announced_by e m)
-sent_awaits held e (tells (Opened uri version text)) mirror = (open_at e uri, mirror uri, refl)
-sent_awaits held e (tells (Changed uri version how)) mirror = (open_at e uri, mirror uri, refl)
-sent_awaits held e (tells (Lost uri)) mirror = refl
-sent_awaits held e (tells (Closed uri)) mirror = refl
-sent_awaits held e (asks number uri ask) mirror = refl
+sent_awaits held e (notifies (Opened uri version text)) mirror = (open_at e uri, mirror uri, refl)
+sent_awaits held e (notifies (Changed uri version how)) mirror = (open_at e uri, mirror uri, refl)
+sent_awaits held e (notifies (Lost uri)) mirror = refl
+sent_awaits held e (notifies (Closed uri)) mirror = refl
+sent_awaits held e (requests number uri ask) mirror = refl
 
 pending_sent : (held : OpenDocuments) (queue : List ToServer) (e : Editor) (m : ToServer) (waiting : List Announced) → Pending held queue waiting → Names e m
     → ((uri : List ℕ) → document_at (fold after_message held (queue ++ m ∷ [])) uri ≡ option_map as_open (open_at e uri)) → Pending held (queue ++ m ∷ []) (waiting ++ announced_by e m)
@@ -167,11 +167,11 @@ none_made : (made : List Made) (now : List Announced) → made ≡ [] → now �
 none_made made now no_made none_announced = subst (AreMadeOf made) (sym none_announced) (subst (λ ms. AreMadeOf ms []) (sym no_made) tt)
 
 message_made : (held : OpenDocuments) (m : ToServer) (said : List ToEditor) (made : List Made) (now : List Announced) → Replies held m said made → Awaits held m now → AreMadeOf made now
-message_made held (tells (Opened uri version text)) said made now may awaits = awaited (after_event held (Opened uri version text)) uri said made now may awaits
-message_made held (tells (Changed uri version how)) said made now may awaits = awaited (after_event held (Changed uri version how)) uri said made now may awaits
-message_made held (tells (Lost uri)) said made now may awaits = none_made made now may.1 awaits
-message_made held (tells (Closed uri)) said made now may awaits = none_made made now may.1 awaits
-message_made held (asks number uri ask) said made now (edits, answer, is_said, none) awaits = none_made made now none awaits
+message_made held (notifies (Opened uri version text)) said made now may awaits = awaited (after_event held (Opened uri version text)) uri said made now may awaits
+message_made held (notifies (Changed uri version how)) said made now may awaits = awaited (after_event held (Changed uri version how)) uri said made now may awaits
+message_made held (notifies (Lost uri)) said made now may awaits = none_made made now may.1 awaits
+message_made held (notifies (Closed uri)) said made now may awaits = none_made made now may.1 awaits
+message_made held (requests number uri ask) said made now (edits, answer, is_said, none) awaits = none_made made now none awaits
 
 -- ---- every event
 
@@ -219,14 +219,14 @@ module _ (announced waiting : List Announced) where
   serve_next : (w : Ends) (queue : List ToServer) (seen : Seen) (new : Ends) → AreMadeOf w.made announced → Pending w.held queue waiting → w.to_server ≡ queue → ServerTakes w queue seen new → Next announced waiting [] new
   serve_next w [] seen new made_of pending is h =
       subst (Next announced waiting []) (sym h.1) (stays w made_of (subst (λ q. Pending w.held q waiting) (sym is) pending))
-  serve_next w (m ∷ rest) seen new made_of (now, later, parts, awaits, behind) is (said, made, may, is_seen, is_new) =
+  serve_next w (m ∷ rest) seen new made_of (now, later, parts, awaits, following) is (said, made, may, is_seen, is_new) =
       subst (Next announced waiting []) (sym is_new)
       (record {
         done = announced ++ now;
         awaits = later;
         parts = append-nil (announced ++ waiting) ∙ ap (λ ts. announced ++ ts) parts ∙ sym (append_assoc announced now later);
         made_of = made_append w.made made announced now made_of (message_made w.held m said made now may awaits.0);
-        pending = behind;
+        pending = following;
       })
 
   stepped : (now : List Announced) (step : EventStep) (seen : Seen) (new : Ends) → (Mirrors step.after → Next announced waiting now step.after) → Mirrors new → Is step seen new → Next announced waiting now new

@@ -7,7 +7,7 @@ use Rattle.ob0_world_rules.specs.Language.{WellTypedText}
 use Rattle.ob0_world_rules.specs.Edited.{Replacement}
 use Rattle.ob0_world_rules.specs.Asks.{Ask}
 use Rattle.ob0_world_rules.specs.Answers.{IsAnswer}
-use Rattle.ob0_world_rules.specs.Ends.{ToServer, tells, asks, ToEditor, publishes, answers, Made, Ends, after_message}
+use Rattle.ob0_world_rules.specs.Ends.{ToServer, notifies, requests, ToEditor, publishes, answers, Made, Ends, after_message}
 use Rattle.ob0_world_rules.specs.Serving.{Publishes, RepliesToNotification, Replies}
 use Rattle.ob0_world_rules.specs.Events.{Event, open_document, change_document, close_document, ask_about, serve, take_message, apply, discard, Seen, served, EventStep, Is}
 use Rattle.ob0_world_rules.specs.Happens.{ServerTakes, Happens, Course}
@@ -29,11 +29,11 @@ publishes_one uri (Some (InStep version text)) said also made more (e, right, is
 publishes_one uri (Some OutOfStep) said also made more h k = (h.0 ∙ sym k.0, h.1 ∙ sym k.1)
 publishes_one uri None said also made more h k = (h.0 ∙ sym k.0, h.1 ∙ sym k.1)
 
-tells_one : (held : OpenDocuments) (note : DocumentEvent) (said also : List ToEditor) (made more : List Made) → RepliesToNotification held note said made → RepliesToNotification held note also more → (said ≡ also) × (made ≡ more)
-tells_one held (Opened uri version text) said also made more h k = publishes_one uri (document_at (after_event held (Opened uri version text)) uri) said also made more h k
-tells_one held (Changed uri version how) said also made more h k = publishes_one uri (document_at (after_event held (Changed uri version how)) uri) said also made more h k
-tells_one held (Lost uri) said also made more h k = (h.0 ∙ sym k.0, h.1 ∙ sym k.1)
-tells_one held (Closed uri) said also made more h k = (h.0 ∙ sym k.0, h.1 ∙ sym k.1)
+reports_one : (held : OpenDocuments) (note : DocumentEvent) (said also : List ToEditor) (made more : List Made) → RepliesToNotification held note said made → RepliesToNotification held note also more → (said ≡ also) × (made ≡ more)
+reports_one held (Opened uri version text) said also made more h k = publishes_one uri (document_at (after_event held (Opened uri version text)) uri) said also made more h k
+reports_one held (Changed uri version how) said also made more h k = publishes_one uri (document_at (after_event held (Changed uri version how)) uri) said also made more h k
+reports_one held (Lost uri) said also made more h k = (h.0 ∙ sym k.0, h.1 ∙ sym k.1)
+reports_one held (Closed uri) said also made more h k = (h.0 ∙ sym k.0, h.1 ∙ sym k.1)
 
 answers_one : (unit : Unit) (o : Option Document) (ask : Ask) (given other : List Replacement) → IsAnswer unit o ask given → IsAnswer unit o ask other → given ≡ other
 answers_one unit (Some (InStep version text)) ask given other h k = answers_are_one unit text ask given other h k
@@ -41,8 +41,8 @@ answers_one unit (Some OutOfStep) ask given other h k = h ∙ sym k
 answers_one unit None ask given other h k = h ∙ sym k
 
 sends_one : (held : OpenDocuments) (m : ToServer) (said also : List ToEditor) (made more : List Made) → Replies held m said made → Replies held m also more → (said ≡ also) × (made ≡ more)
-sends_one held (tells note) said also made more h k = tells_one held note said also made more h k
-sends_one held (asks number uri ask) said also made more (given, h, is_said, is_made) (other, k, is_also, is_more) =
+sends_one held (notifies note) said also made more h k = reports_one held note said also made more h k
+sends_one held (requests number uri ask) said also made more (given, h, is_said, is_made) (other, k, is_also, is_more) =
     let same : given ≡ other = answers_one held.unit (document_at held uri) ask given other h k in
     (is_said ∙ ap (λ edits. answers number edits ∷ []) same ∙ sym is_also, is_made ∙ sym is_more)
 

@@ -72,7 +72,7 @@ module _ {m n : Parsed} (e : Same m n) (parsed : IsParsed n) (offset : ℕ) (u v
   use_constant = ap (λ (o : Option Named). elim o [ Some x ↦ x.ordinal | None ↦ u.constant ]) same_named
 
   use_value : u.value ≡ v.value
-  use_value = one_scalar u.value v.value (sym at.worth ∙ ((λ i. value_of_constant (one_named_tree e i) (use_constant i)) ∙ also.worth))
+  use_value = one_scalar u.value v.value (sym at.has_value ∙ ((λ i. value_of_constant (one_named_tree e i) (use_constant i)) ∙ also.has_value))
 
   use_occurrence : u.occurrence ≡ v.occurrence
   use_occurrence =
@@ -91,7 +91,7 @@ use_there : {m n : Parsed} → Same m n → (offset : ℕ) (u : Use) → IsUseAt
 use_there e offset u at = record {
   named = sym (one_name e offset) ∙ at.named;
   occurs = ap (λ t. slice_get (occurrences t) u.occurrence) (sym e.tree) ∙ at.occurs;
-  worth = ap (λ t. value_of_constant t u.constant) (sym (one_named_tree e)) ∙ at.worth;
+  has_value = ap (λ t. value_of_constant t u.constant) (sym (one_named_tree e)) ∙ at.has_value;
 }
 
 module _ {m n : Parsed} (e : Same m n) (parsed : IsParsed n) (unit : Unit) (text : List ℕ) (offset : ℕ) (xs : Vec Edit Global) where
@@ -129,7 +129,7 @@ module _ {m n : Parsed} (e : Same m n) (offset : ℕ) (c d : NamedConstant) (at 
   constant_ordinal = ap (λ (o : Option Named). elim o [ Some x ↦ x.ordinal | None ↦ c.ordinal ]) same_constant
 
   constant_value : c.value ≡ d.value
-  constant_value = one_scalar c.value d.value (sym at.is_constant.worth ∙ ((λ i. value_of_constant (one_named_tree e i) (constant_ordinal i)) ∙ also.is_constant.worth))
+  constant_value = one_scalar c.value d.value (sym at.is_constant.has_value ∙ ((λ i. value_of_constant (one_named_tree e i) (constant_ordinal i)) ∙ also.is_constant.has_value))
 
   constant_first : c.first ≡ d.first
   constant_first = some_one (sym at.is_constant.begins ∙ ((λ i. token_declaring (declaring_only (identifiers role.Declaring (e.tree i))) (constant_ordinal i)) ∙ also.is_constant.begins))
@@ -160,7 +160,7 @@ module _ {m n : Parsed} (e : Same m n) (unit : Unit) (text : List ℕ) (offset :
   everywhere_or_refused refusal why (inl (c, at, (free, h))) (inl (d, also, inr memory)) = why memory
   everywhere_or_refused refusal why (inl (c, at, (free, h))) (inr (is, none)) =
       let nothing : value_of_constant (named_tree_of n) c.ordinal ≡ None = none (record { token = at.token; ordinal = c.ordinal }) (sym (one_name e offset) ∙ at.named) in
-      let some : None ≡ Some (scalar_value c.value) = sym nothing ∙ (ap (λ t. value_of_constant t c.ordinal) (sym (one_named_tree e)) ∙ at.is_constant.worth) in
+      let some : None ≡ Some (scalar_value c.value) = sym nothing ∙ (ap (λ t. value_of_constant t c.ordinal) (sym (one_named_tree e)) ∙ at.is_constant.has_value) in
       cc
   everywhere_or_refused refusal why (inr (bad, none)) k = absurd (cc)
 

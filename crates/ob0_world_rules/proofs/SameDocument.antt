@@ -6,7 +6,7 @@ use Rattle.std.specs.Str.{bytes_eq}
 use Rattle.std.specs.FinMap as map_of
 use Rattle.std.proofs.lemmas.Bool.{eqb-true, and_parts}
 use Rattle.std.proofs.lemmas.Option.{cond_some, same_Some, none-some}
-use Rattle.ob0_world_rules.specs.Ends.{Open, Documents, SentAsk, Answer, Editor, numbered, open_at}
+use Rattle.ob0_world_rules.specs.Ends.{Open, EditorDocuments, SentAsk, Answer, Editor, numbered, open_at}
 use Rattle.ob0_world_rules.specs.Editing.{if_same}
 use Rattle.ob0_world_rules.proofs.UriLaws.{get_put, get_removed, same_uri}
 
@@ -37,24 +37,24 @@ same_from e a d h = go (open_at e a.uri) refl h
 
 -- an editor, and what it is later on
 pub record Later (e e' : Editor) : Type 0 where
-  pub asked : (k : ℕ) (a : SentAsk) → numbered e.asked k ≡ Some a → numbered e'.asked k ≡ Some a
+  pub requested : (k : ℕ) (a : SentAsk) → numbered e.requested k ≡ Some a → numbered e'.requested k ≡ Some a
   pub past : (a : SentAsk) → Past e a → Past e' a
   pub same : (a : SentAsk) (d : Open) → Past e a → Same e' a d → Same e a d
 
 -- what holds of the document of ask k, where it is still the same
 pub record Known (e : Editor) (k : ℕ) (P : Open → Type 0) : Type 0 where
-  pub asked : SentAsk
-  pub is : numbered e.asked k ≡ Some asked
-  pub past : Past e asked
-  pub still : (d : Open) → Same e asked d → P d
+  pub requested : SentAsk
+  pub is : numbered e.requested k ≡ Some requested
+  pub past : Past e requested
+  pub still : (d : Open) → Same e requested d → P d
 
 pub still_known : (e e' : Editor) (k : ℕ) (P : Open → Type 0) → Later e e' → Known e k P → Known e' k P
 still_known e e' k P later known =
     record {
-      asked = known.asked;
-      is = later.asked k known.asked known.is;
-      past = later.past known.asked known.past;
-      still = λ d same. known.still d (later.same known.asked d known.past same);
+      requested = known.requested;
+      is = later.requested k known.requested known.is;
+      past = later.past known.requested known.past;
+      still = λ d same. known.still d (later.same known.requested d known.past same);
     }
 
 -- ---- each change of the editor
@@ -62,7 +62,7 @@ still_known e e' k P later known =
 pub later_answers : (e : Editor) (answers : List Answer) → Later e (record e { answers = answers })
 later_answers e answers =
     record {
-      asked = λ k a is. is;
+      requested = λ k a is. is;
       past = λ a past. record { known = past.known; risen = past.risen };
       same = λ a d past same. record { at = same.at; opening = same.opening; version = same.version };
     }
@@ -76,20 +76,20 @@ pub slice_get_last : {A : Type 0} (xs : List A) (x : A) → slice_get (xs ++ x �
 slice_get_last [] x = refl
 slice_get_last (y ∷ xs) x = slice_get_last xs x
 
-pub numbered_push : (asked more : List SentAsk) (k : ℕ) (a : SentAsk) → numbered asked k ≡ Some a → numbered (asked ++ more) k ≡ Some a
-numbered_push asked more zero a h = h
-numbered_push asked more (suc k) a h = slice_get_push asked more k a h
+pub numbered_push : (requested more : List SentAsk) (k : ℕ) (a : SentAsk) → numbered requested k ≡ Some a → numbered (requested ++ more) k ≡ Some a
+numbered_push requested more zero a h = h
+numbered_push requested more (suc k) a h = slice_get_push requested more k a h
 
-pub later_ask : (e : Editor) (more : List SentAsk) → Later e (record e { asked = e.asked ++ more })
+pub later_ask : (e : Editor) (more : List SentAsk) → Later e (record e { requested = e.requested ++ more })
 later_ask e more =
     record {
-      asked = numbered_push e.asked more;
+      requested = numbered_push e.requested more;
       past = λ a past. record { known = past.known; risen = past.risen };
       same = λ a d past same. record { at = same.at; opening = same.opening; version = same.version };
     }
 
 -- a document that is found after one was put in is that one or was there before
-pub found : (docs : Documents) (uri q : List ℕ) (new d : Open) (P : Type 0) → map_of.get (map_of.insert docs uri new) q ≡ Some d
+pub found : (docs : EditorDocuments) (uri q : List ℕ) (new d : Open) (P : Type 0) → map_of.get (map_of.insert docs uri new) q ≡ Some d
     → (q ≡ uri → new ≡ d → P) → (map_of.get docs q ≡ Some d → P) → P
 found docs uri q new d P h this other = go (bytes_eq q uri) refl (sym (get_put docs uri new q) ∙ h)
   where
@@ -98,7 +98,7 @@ found docs uri q new d P h this other = go (bytes_eq q uri) refl (sym (get_put d
     go false is h = other h
 
 -- and one that is found after another was taken out was there before
-pub left : (docs : Documents) (uri q : List ℕ) (d : Open) → map_of.get (map_of.remove docs uri) q ≡ Some d → map_of.get docs q ≡ Some d
+pub left : (docs : EditorDocuments) (uri q : List ℕ) (d : Open) → map_of.get (map_of.remove docs uri) q ≡ Some d → map_of.get docs q ≡ Some d
 left docs uri q d h = go (bytes_eq q uri) (sym (get_removed docs uri q) ∙ h)
   where
     go : (b : Bool) → cond b None (map_of.get docs q) ≡ Some d → map_of.get docs q ≡ Some d
@@ -109,7 +109,7 @@ left docs uri q d h = go (bytes_eq q uri) (sym (get_removed docs uri q) ∙ h)
 pub later_open : (e : Editor) (uri : List ℕ) (new : Open) → new.opening ≡ e.openings + 1 → Later e (record e { documents = map_of.insert e.documents uri new; openings = e.openings + 1 })
 later_open e uri new fresh =
     record {
-      asked = λ k a is. is;
+      requested = λ k a is. is;
       past = λ a past. record {
         known = let known : a.opening ≤ e.openings = past.known in omega arith;
         risen = λ d at opening. found e.documents uri a.uri new d (a.version ≤ d.version) at (λ same is. absurd (not_fresh a past d is opening)) (λ was. past.risen d was opening);
@@ -128,7 +128,7 @@ pub later_rewrite : (e : Editor) (uri : List ℕ) (d : Open) (text : List ℕ) �
     → Later e (record e { documents = map_of.insert e.documents uri (record { version = d.version + 1; text = text; opening = d.opening }) })
 later_rewrite e uri d text was_open =
     record {
-      asked = λ k a is. is;
+      requested = λ k a is. is;
       past = λ a past. record {
         known = past.known;
         risen = λ x at opening. found e.documents uri a.uri new x (a.version ≤ x.version) at
@@ -152,7 +152,7 @@ later_rewrite e uri d text was_open =
 pub later_close : (e : Editor) (uri : List ℕ) → Later e (record e { documents = map_of.remove e.documents uri })
 later_close e uri =
     record {
-      asked = λ k a is. is;
+      requested = λ k a is. is;
       past = λ a past. record { known = past.known; risen = λ d at opening. past.risen d (left e.documents uri a.uri d at) opening };
       same = λ a d past same. record { at = left e.documents uri a.uri d same.at; opening = same.opening; version = same.version };
     }

@@ -5,7 +5,7 @@ use Rattle.std.specs.FinMap as map_of
 use Rattle.ob0_text.specs.OpenDocuments.{TextChange, Opened, Changed, Closed}
 use Rattle.ob0_world_rules.specs.Edited.{Replacement, edited, whole_text, after_changes}
 use Rattle.ob0_world_rules.specs.Asks.{Ask}
-use Rattle.ob0_world_rules.specs.Ends.{Open, SentAsk, Answer, Editor, numbered, open_at, ToServer, tells, asks, Applied}
+use Rattle.ob0_world_rules.specs.Ends.{Open, SentAsk, Answer, Editor, numbered, open_at, ToServer, notifies, requests, Applied}
 
 -- nothing, or the editor becomes this one and sends this message
 pub data Move : Type 0 where
@@ -20,7 +20,7 @@ opens_document e uri text (Some d) = idle
 opens_document e uri text None =
     let d : Open = record { version = 1; text = text; opening = e.openings + 1 } in
     sends (record e { documents = map_of.insert e.documents uri d; openings = e.openings + 1 })
-    (tells (Opened uri (pos 1) text))
+    (notifies (Opened uri (pos 1) text))
 
 -- an open document gets a new text, and its version rises by one
 abbrev pub rewritten : Open → List ℕ → Open
@@ -33,7 +33,7 @@ rewrites e uri d text = record e { documents = map_of.insert e.documents uri (re
 -- the change that makes this text is sent (one change alone overlaps no other, so there is always a text)
 abbrev pub changes_text : Editor → List ℕ → Open → List TextChange → Option (List ℕ) → Move
 changes_text e uri d how (Some text) =
-    sends (rewrites e uri d text) (tells (Changed uri (pos (d.version + 1)) how))
+    sends (rewrites e uri d text) (notifies (Changed uri (pos (d.version + 1)) how))
 changes_text e uri d how None = idle
 
 -- an open document is changed
@@ -45,7 +45,7 @@ changes_document e uri how None = idle
 -- an open document is closed
 abbrev pub closes_document : Editor → List ℕ → Option Open → Move
 closes_document e uri (Some d) =
-    sends (record e { documents = map_of.remove e.documents uri }) (tells (Closed uri))
+    sends (record e { documents = map_of.remove e.documents uri }) (notifies (Closed uri))
 closes_document e uri None = idle
 
 -- ---- asks and answers
@@ -53,9 +53,9 @@ closes_document e uri None = idle
 -- a request about an open document is sent, with the next number
 abbrev pub asks_about : Editor → List ℕ → Ask → Option Open → Move
 asks_about e uri ask (Some d) =
-    let asked : SentAsk
+    let requested : SentAsk
     = record { ask = ask; uri = uri; opening = d.opening; version = d.version } in
-    sends (record e { asked = e.asked ++ asked ∷ [] }) (asks (suc (length e.asked)) uri ask)
+    sends (record e { requested = e.requested ++ requested ∷ [] }) (requests (suc (length e.requested)) uri ask)
 asks_about e uri ask None = idle
 
 -- there is an edit
@@ -98,17 +98,17 @@ abbrev pub discards : Editor → ℕ → Option (List Replacement) → ApplyOutc
 discards e k (Some edits) = drops_answer (without_answer e k)
 discards e k None = not_held
 
--- the document, where it is the same opening with the same version as when it was asked about
+-- the document, where it is the same opening with the same version as when it was requested
 abbrev pub if_same : SentAsk → Option Open → Option Open
-if_same asked (Some d) =
-    if d.opening == asked.opening && d.version == asked.version then Some d else None
-if_same asked None = None
+if_same requested (Some d) =
+    if d.opening == requested.opening && d.version == requested.version then Some d else None
+if_same requested None = None
 
 -- an open document gets the text that edits make; edits that overlap make none, and are dropped
 abbrev pub applies_text : Editor → List ℕ → Open → Option (List ℕ) → ApplyOutcome
 applies_text e uri d (Some text) =
     makes (rewrites e uri d text) (record { uri = uri; before = d.text; after = text })
-    (tells (Changed uri (pos (d.version + 1)) (whole_text text ∷ [])))
+    (notifies (Changed uri (pos (d.version + 1)) (whole_text text ∷ [])))
 applies_text e uri d None = drops_answer e
 
 -- edits are applied to an open document
@@ -117,12 +117,12 @@ applies_edits e edits uri (Some d) = applies_text e uri d (edited e.unit d.text 
 applies_edits e edits uri None = drops_answer e
 
 -- edits are applied where the document is as it was when they were requested
-abbrev pub applies_asked : Editor → List Replacement → Option SentAsk → ApplyOutcome
-applies_asked e edits (Some asked) =
-    applies_edits e edits asked.uri (if_same asked (open_at e asked.uri))
-applies_asked e edits None = drops_answer e
+abbrev pub applies_requested : Editor → List Replacement → Option SentAsk → ApplyOutcome
+applies_requested e edits (Some requested) =
+    applies_edits e edits requested.uri (if_same requested (open_at e requested.uri))
+applies_requested e edits None = drops_answer e
 
--- the edits of answer k are made of the document, where that is the same as when it was asked about; else the answer is dropped
+-- the edits of answer k are made of the document, where that is the same as when it was requested; else the answer is dropped
 abbrev pub applies_answer : Editor → ℕ → Option (List Replacement) → ApplyOutcome
-applies_answer e k (Some edits) = applies_asked (without_answer e k) edits (numbered e.asked k)
+applies_answer e k (Some edits) = applies_requested (without_answer e k) edits (numbered e.requested k)
 applies_answer e k None = not_held

@@ -18,8 +18,8 @@ pub record Open : Type 0 where
   pub opening : ℕ
 
 -- open documents by the bytes of their uris
-abbrev pub Documents : Type 0
-Documents = map_of.FinMap (slice_cmp nat_cmp) Open
+abbrev pub EditorDocuments : Type 0
+EditorDocuments = map_of.FinMap (slice_cmp nat_cmp) Open
 
 -- a request that was sent: what is requested, the document, and its opening and version at that time
 pub record SentAsk : Type 0 where
@@ -37,22 +37,22 @@ pub record Answer : Type 0 where
 pub record Editor : Type 0 where
   -- what positions are counted in
   pub unit : Unit
-  pub documents : Documents
+  pub documents : EditorDocuments
   -- how many documents were opened so far
   pub openings : ℕ
   -- the asks that were sent; the first has number 1
-  pub asked : List SentAsk
+  pub requested : List SentAsk
   pub answers : List Answer
 
 -- an editor with no open document
 abbrev pub new_editor : Unit → Editor
 new_editor unit =
-    record { unit = unit; documents = map_of.empty; openings = 0; asked = []; answers = [] }
+    record { unit = unit; documents = map_of.empty; openings = 0; requested = []; answers = [] }
 
 -- the request of this number, counted from 1
 abbrev pub numbered : List SentAsk → ℕ → Option SentAsk
-numbered asked zero = None
-numbered asked (suc k) = slice_get asked k
+numbered requested zero = None
+numbered requested (suc k) = slice_get requested k
 
 -- the open document of this uri
 abbrev pub open_at : Editor → List ℕ → Option Open
@@ -62,9 +62,9 @@ open_at e uri = map_of.get e.documents uri
 
 -- a message to the server
 pub data ToServer : Type 0 where
-  tells : DocumentEvent → ToServer
-  -- the ask's number, the uri and what is asked
-  asks : ℕ → List ℕ → Ask → ToServer
+  notifies : DocumentEvent → ToServer
+  -- the request's number, the uri and what is requested
+  requests : ℕ → List ℕ → Ask → ToServer
 
 -- a message to the editor
 pub data ToEditor : Type 0 where
@@ -114,8 +114,8 @@ start unit =
 
 -- the documents that the server will hold once it has taken the messages that wait for it
 abbrev pub after_message : OpenDocuments → ToServer → OpenDocuments
-after_message held (tells note) = after_event held note
-after_message held (asks number uri ask) = held
+after_message held (notifies note) = after_event held note
+after_message held (requests number uri ask) = held
 
 -- the server's documents, once it has taken what waits for it
 abbrev pub will_have : Ends → OpenDocuments

@@ -26,8 +26,8 @@ IsRight m = IsEmptyIfCorrect m.text m.empty
 -- after the first of the events the editor has this document open, with this version and this text
 pub record WasOpen (unit : Unit) (events : List Event) (uri : List ℕ) (version : ℤ) (text : List ℕ) : Type 0 where
   pub before : List Event
-  pub behind : List Event
-  pub parts : events ≡ before ++ behind
+  pub following : List Event
+  pub parts : events ≡ before ++ following
   pub moment : Ends
   pub reached : Course (start unit) before moment
   pub document : Open

@@ -2,7 +2,7 @@
 use Rattle.std.specs.Prelude.{◌≡◌, ⊤, ℕ, ℤ, pos, List, [], ◌∷◌, ◌++◌, map, Option, Some, None}
 use Rattle.ob0_text.specs.declared.position_types.Unit.{Unit}
 use Rattle.ob0_text.specs.OpenDocuments.{Opened, Changed, Lost, Closed}
-use Rattle.ob0_world_rules.specs.Ends.{Open, Editor, open_at, ToServer, tells, asks, Made, Ends, start}
+use Rattle.ob0_world_rules.specs.Ends.{Open, Editor, open_at, ToServer, notifies, requests, Made, Ends, start}
 use Rattle.ob0_world_rules.specs.Editing.{Move, idle, sends, opens_document, changes_document, closes_document, asks_about, kept_answer, ApplyOutcome, not_held, drops_answer, makes, discards, applies_answer}
 use Rattle.ob0_world_rules.specs.Events.{Event, open_document, change_document, close_document, ask_about, serve, take_message, apply, discard, Seen}
 use Rattle.ob0_world_rules.specs.Happens.{Happens, Course}
@@ -20,11 +20,11 @@ announced_at uri None = []
 
 -- the document of this editor whose text the message announces
 abbrev pub announced_by : Editor → ToServer → List Announced
-announced_by e (tells (Opened uri version text)) = announced_at uri (open_at e uri)
-announced_by e (tells (Changed uri version how)) = announced_at uri (open_at e uri)
-announced_by e (tells (Lost uri)) = []
-announced_by e (tells (Closed uri)) = []
-announced_by e (asks number uri ask) = []
+announced_by e (notifies (Opened uri version text)) = announced_at uri (open_at e uri)
+announced_by e (notifies (Changed uri version how)) = announced_at uri (open_at e uri)
+announced_by e (notifies (Lost uri)) = []
+announced_by e (notifies (Closed uri)) = []
+announced_by e (requests number uri ask) = []
 
 abbrev pub announced_in_move : Move → List Announced
 announced_in_move idle = []
@@ -77,11 +77,11 @@ AreMadeOf (m ∷ made) [] = ⊥
 
 -- the uri and the version of the document that a message announces
 abbrev pub named_by : ToServer → List (List ℕ × ℤ)
-named_by (tells (Opened uri version text)) = (uri, version) ∷ []
-named_by (tells (Changed uri version how)) = (uri, version) ∷ []
-named_by (tells (Lost uri)) = []
-named_by (tells (Closed uri)) = []
-named_by (asks number uri ask) = []
+named_by (notifies (Opened uri version text)) = (uri, version) ∷ []
+named_by (notifies (Changed uri version how)) = (uri, version) ∷ []
+named_by (notifies (Lost uri)) = []
+named_by (notifies (Closed uri)) = []
+named_by (requests number uri ask) = []
 
 abbrev pub named_in : List ToServer → List (List ℕ × ℤ)
 named_in [] = []

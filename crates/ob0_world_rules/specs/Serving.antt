@@ -4,7 +4,7 @@ use Rattle.std.specs.Prelude.{◌≡◌, ℕ, List, [], ◌∷◌, Bool, true, f
 use Rattle.ob0_text.specs.OpenDocuments.{OpenDocuments, Document, InStep, OutOfStep, DocumentEvent, Opened, Changed, Lost, Closed, document_at, after_event}
 use Rattle.ob0_world_rules.specs.Edited.{Replacement}
 use Rattle.ob0_world_rules.specs.Answers.{IsAnswer, IsEmptyIfCorrect}
-use Rattle.ob0_world_rules.specs.Ends.{ToServer, tells, asks, ToEditor, publishes, answers, Made}
+use Rattle.ob0_world_rules.specs.Ends.{ToServer, notifies, requests, ToEditor, publishes, answers, Made}
 
 -- diagnostics are published of a document in step, with its version
 abbrev pub Publishes : List ℕ → Option Document → List ToEditor → List Made → Type 0
@@ -35,8 +35,8 @@ RepliesToNotification held (Closed uri) sent made =
 
 -- what is sent for a message, and the publications with a version among it
 abbrev pub Replies : OpenDocuments → ToServer → List ToEditor → List Made → Type 0
-Replies held (tells note) sent made = RepliesToNotification held note sent made
-Replies held (asks number uri ask) sent made =
+Replies held (notifies note) sent made = RepliesToNotification held note sent made
+Replies held (requests number uri ask) sent made =
     (edits : List Replacement)
     × IsAnswer held.unit (document_at held uri) ask edits
     × (sent ≡ answers number edits ∷ [])

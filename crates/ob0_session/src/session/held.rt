@@ -1,6 +1,6 @@
 //! The documents of a session.
 ghost use Rattle.std.specs.Prelude.{◌≡◌};
-ghost use Rattle.ob0_session.specs.Answers.{State};
+ghost use Rattle.ob0_session.specs.Answers.{ServerState};
 ghost use Rattle.ob0_session.specs.SessionStates.{serving};
 
 use super::Session;
@@ -9,7 +9,7 @@ use ob0_text::{Documents, TextStore};
 impl<T: TextStore> Session<T> {
     /// The documents that the client has open. Nothing is said of them once an allocation failed.
     pub fn documents(&self) -> &Documents<T>
-        ensures { (s : State) → self.now ≡ serving s → result.now ≡ s.held }
+        ensures { (s : ServerState) → self.now ≡ serving s → result.now ≡ s.held }
     {
         self.server.documents()
     }

@@ -93,7 +93,7 @@ impl<'t> Reporter<'t> {
     fn heading(&mut self, sections: &Option<Vec<Section>>) -> Result<Vec<Formal>, AllocError>
         ensures { IfOk result (λ formals. ReportsAfter self.old.faults.items self.new.faults.items
             (heading_in self.new.supposed formals.items) (reported_sections
-            (record { formals = []; behind = so_far_in self.old.supposed })
+            (record { formals = []; following = so_far_in self.old.supposed })
             (formal_sections (formals_of sections.now)))) }
     {
         let mut formals = Vec::new(self.alloc);

@@ -105,7 +105,7 @@ impl<'t> Supposed<'t> {
         Ok(())
     }
 
-    /// After a target with a fault nothing is required of the right side but what its own parts are asked.
+    /// After a target with a fault only the own faults of the right side are reported.
     fn assignment(&self, faults: &mut Vec<Fault>, a: &Assignment) -> Result<(), AllocError>
         ensures { OnOk result (faults.new.items
             ≡ faults.old.items

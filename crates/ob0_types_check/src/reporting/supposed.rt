@@ -287,7 +287,7 @@ impl<'t> Supposed<'t> {
         entry: TypeEntry,
     ) -> Result<TypeId, AllocError>
         ensures { IfOk result (λ t. ReportsAfter faults.old.items faults.new.items
-            (record { of = t; behind = so_far_in self.new })
+            (record { of = t; following = so_far_in self.new })
             (make (so_far_in self.old) token (made_of entry).ordinal
             (made_of entry).parts (made_of entry).size)) }
     {

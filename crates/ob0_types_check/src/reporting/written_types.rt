@@ -11,7 +11,7 @@ ghost use Rattle.ob0_types_check.specs.Operations.{ReportsAfter};
 ghost use Rattle.ob0_types_check.specs.SoFar.{no_scalar};
 ghost use Rattle.ob0_types_check.specs.SupposedFacts.{Gathers, IsGathered, facts_in, fields_in, operand_of, size_of, so_far_in};
 ghost use Rattle.ob0_types_check.specs.TypeFaults.{length_of, type_meant, type_named};
-ghost use Rattle.ob0_types_check.specs.WrittenTypeFaults.{array_made, nothing_gathered, record_made, record_word, told_fields, told_groups, reported_type, with_name, with_names};
+ghost use Rattle.ob0_types_check.specs.WrittenTypeFaults.{array_made, nothing_gathered, record_made, record_word, reported_fields, reported_groups, reported_type, with_name, with_names};
 ghost use Rattle.ob0_types_check.specs.WrittenTypeFaults as spec;
 
 use crate::reporting::Reporter;
@@ -140,7 +140,7 @@ impl<'t> Reporter<'t> {
     /// The type that is written, with unknown parts where these have faults.
     pub(crate) fn written_type(&mut self, t: &WrittenType) -> Result<TypeId, AllocError>
         ensures { IfOk result (λ of. ReportsAfter self.old.faults.items self.new.faults.items
-            (record { of = of; behind = so_far_in self.new.supposed })
+            (record { of = of; following = so_far_in self.new.supposed })
             (reported_type 0 (so_far_in self.old.supposed) (type_of t.now))) }
     {
         let mut around = Vec::new(self.alloc);
@@ -156,7 +156,7 @@ impl<'t> Reporter<'t> {
     ) -> Result<TypeId, AllocError>
         ensures reports { IfOk result
             (λ of. ReportsAfter self.old.faults.items self.new.faults.items
-            (record { of = of; behind = so_far_in self.new.supposed })
+            (record { of = of; following = so_far_in self.new.supposed })
             (reported_type (length around.old.items) (so_far_in self.old.supposed)
             (type_of t.now))) }
         ensures around { IfOk result (λ of. around.new.items ≡ around.old.items) }
@@ -172,7 +172,7 @@ impl<'t> Reporter<'t> {
     fn array(&mut self, a: &ArrayType, around: &mut Vec<usize>) -> Result<TypeId, AllocError>
         ensures reports { IfOk result
             (λ of. ReportsAfter self.old.faults.items self.new.faults.items
-            (record { of = of; behind = so_far_in self.new.supposed }) (reported_type
+            (record { of = of; following = so_far_in self.new.supposed }) (reported_type
             (length around.old.items) (so_far_in self.old.supposed)
             (array_type (expression_of a.now.size) (type_of a.now.element.value)))) }
         ensures around { IfOk result (λ of. around.new.items ≡ around.old.items) }
@@ -197,9 +197,9 @@ impl<'t> Reporter<'t> {
         element: TypeId,
     ) -> Result<TypeId, AllocError>
         ensures { IfOk result (λ of. ReportsAfter self.old.faults.items self.new.faults.items
-            (record { of = of; behind = so_far_in self.new.supposed }) (array_made ordinal
+            (record { of = of; following = so_far_in self.new.supposed }) (array_made ordinal
             (operand_of size) length
-            (record { of = element; behind = so_far_in self.old.supposed }))) }
+            (record { of = element; following = so_far_in self.old.supposed }))) }
     {
         match length {
             None => Ok(TypeId::Unknown),
@@ -223,7 +223,7 @@ impl<'t> Reporter<'t> {
     fn record(&mut self, r: &RecordType, around: &mut Vec<usize>) -> Result<TypeId, AllocError>
         ensures reports { IfOk result
             (λ of. ReportsAfter self.old.faults.items self.new.faults.items
-            (record { of = of; behind = so_far_in self.new.supposed })
+            (record { of = of; following = so_far_in self.new.supposed })
             (reported_type (length around.old.items) (so_far_in self.old.supposed)
             (record_in r.now))) }
         ensures around { IfOk result (λ of. around.new.items ≡ around.old.items) }
@@ -242,7 +242,7 @@ impl<'t> Reporter<'t> {
     fn groups(&mut self, groups: &[Fields], around: &mut Vec<usize>) -> Result<Gathered, AllocError>
         ensures reports { IfOk result (λ gathered.
             Gathers self.old.faults.items self.new.faults.items self.new.supposed gathered
-            (told_groups (length around.old.items) (nothing_gathered (so_far_in self.old.supposed))
+            (reported_groups (length around.old.items) (nothing_gathered (so_far_in self.old.supposed))
             (items_of further_fields_of_group groups.now))) }
         ensures around { IfOk result (λ gathered. around.new.items ≡ around.old.items) }
     {
@@ -262,7 +262,7 @@ impl<'t> Reporter<'t> {
         ensures { (g : spec.Gathered)
             → IsGathered g self.old.supposed gathered
             → IfOk result (λ of. ReportsAfter self.old.faults.items self.new.faults.items
-            (record { of = of; behind = so_far_in self.new.supposed })
+            (record { of = of; following = so_far_in self.new.supposed })
             (record_made word ordinal g)) }
     {
         let Gathered { fields, size } = gathered;
@@ -288,7 +288,7 @@ impl<'t> Reporter<'t> {
         ensures reports { OnOk result ((g : spec.Gathered)
             → IsGathered g self.old.supposed gathered.old
             → Gathers self.old.faults.items self.new.faults.items self.new.supposed gathered.new
-            (told_fields (length around.old.items) g (fields_of group.now))) }
+            (reported_fields (length around.old.items) g (fields_of group.now))) }
         ensures around { OnOk result (around.new.items ≡ around.old.items) }
     {
         match group {
@@ -307,7 +307,7 @@ impl<'t> Reporter<'t> {
         ensures reports { OnOk result ((g : spec.Gathered)
             → IsGathered g self.old.supposed gathered.old
             → Gathers self.old.faults.items self.new.faults.items self.new.supposed gathered.new
-            (told_fields (length around.old.items) g
+            (reported_fields (length around.old.items) g
             (some_fields (names_of list.now.names) (type_of list.now.written)))) }
         ensures around { OnOk result (around.new.items ≡ around.old.items) }
     {

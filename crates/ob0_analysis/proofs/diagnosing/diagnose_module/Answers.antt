@@ -2,12 +2,12 @@ use Rattle.std.proofs.Common.{map, ap, subst}
 use Rattle.std.proofs.Common.{◌∙◌}
 use Rattle.ob0_scan.specs.Scanned.{IsScan}
 use Rattle.ob0_analysis.specs.Diagnosed.{complaint_in, complaint_of}
-use Rattle.ob0_analysis.proofs.Scanning.{tells_module}
+use Rattle.ob0_analysis.proofs.Scanning.{reports_module}
 use Rattle.ob0_analysis.proofs.diagnosing.diagnose_module.Goals as goal
 
 pub returns : goal.returns
 returns c =
-    let told = map complaint_in c.in_ok-told.told.items in
+    let reported = map complaint_in c.in_ok-reported.reported.items in
     let scan = subst IsScan c.tokens.ensures.source c.text-text.ensures.scan in
-    tells_module (record { names = c.args.parts.now; faults = c.faults.result.now; known = c.faults.ensures.0 }) told c.one_scan.ensures c.one_tree.ensures scan
-    c.faults.ensures.1 c.in_ok-told.ensures
+    reports_module (record { names = c.args.parts.now; faults = c.faults.result.now; known = c.faults.ensures.0 }) reported c.one_scan.ensures c.one_tree.ensures scan
+    c.faults.ensures.1 c.in_ok-reported.ensures

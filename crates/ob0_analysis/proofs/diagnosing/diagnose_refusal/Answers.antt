@@ -4,5 +4,5 @@ use Rattle.ob0_analysis.proofs.diagnosing.diagnose_refusal.Goals as goal
 
 pub returns : goal.returns
 returns c =
-    rw (c.in_ok-push.ensures.items, c.new-told.ensures.items)
+    rw (c.in_ok-push.ensures.items, c.new-reported.ensures.items)
     (inr (finds_parser c.args.tokens.now c.args.refusal.now _ c.one_scan.ensures c.text-text.ensures.scan c.requires c.in_ok-of_refusal.ensures))

@@ -1,6 +1,6 @@
 use Rattle.std.proofs.Common.{◌≡◌, ◌+◌, ◌-◌, ◌≤◌, length, take, drop, subst, arith}
 use Rattle.std.proofs.lemmas.Bool.Decides.{nat_tests}
-use Rattle.ob0_analysis.proofs.Pieces.{behind}
+use Rattle.ob0_analysis.proofs.Pieces.{following}
 use Rattle.ob0_analysis.proofs.differences.longer_suffix.Goals as goal
 
 pub loop-count-preserved : goal.loop-count-preserved
@@ -15,4 +15,4 @@ loop-count-preserved c =
     let in_b : length b - count - size ≡ length b - (count + size) = omega arith in
     let same_at_a = subst (λ k. take size (drop k a) ≡ take size (drop (length b - count - size) b)) in_a piece.same in
     let same = subst (λ k. take size (drop (length a - (count + size)) a) ≡ take size (drop k b)) in_b same_at_a in
-    (room, behind a b count size (omega (arith, room, c.requires.in_a)) (omega (arith, room, c.requires.in_b)) c.loop-count.invariant.1 same)
+    (room, following a b count size (omega (arith, room, c.requires.in_a)) (omega (arith, room, c.requires.in_b)) c.loop-count.invariant.1 same)

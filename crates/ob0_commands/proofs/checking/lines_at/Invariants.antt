@@ -3,4 +3,4 @@ use Rattle.ob0_commands.proofs.Lines.{Gathered}
 use Rattle.ob0_commands.proofs.checking.lines_at.Given as goal
 
 abbrev pub invariant-loop-diagnosis : goal.invariant-loop-diagnosis
-invariant-loop-diagnosis l = Gathered l.told l.positions (length l.yielded) (string_bytes l.lines)
+invariant-loop-diagnosis l = Gathered l.reported l.positions (length l.yielded) (string_bytes l.lines)

@@ -14,8 +14,8 @@ use Rattle.ob0_commands.proofs.checking.lines_of.Goals as goal
 pub returns : goal.returns
 returns c =
     let of_text = map (position_of (width_of Utf16) (chars c.args.text.now)) in
-    let places : c.as_slice-2.result.now ≡ of_text (map (λ (d : Diagnosis). d.span.start) c.args.told.now) =
+    let places : c.as_slice-2.result.now ≡ of_text (map (λ (d : Diagnosis). d.span.start) c.args.reported.now) =
     c.as_slice-2.ensures.value ∙ c.in_ok-positions.ensures
     ∙ ap₂ (λ (u : Unit) (t : List ℕ). map (position_of (width_of u) t) c.as_slice.result.now) c.in_ok-store.ensures.unit c.in_ok-store.ensures.content
     ∙ ap of_text (c.as_slice.ensures.value ∙ c.in_ok-starts.ensures) in
-    IfOk-weaker c.lines_at.result _ _ (λ lines h. h ∙ ap (λ ps. lines_at ps (map complaint_in c.args.told.now)) places ∙ placed c.args.text.now c.args.told.now) c.lines_at.ensures
+    IfOk-weaker c.lines_at.result _ _ (λ lines h. h ∙ ap (λ ps. lines_at ps (map complaint_in c.args.reported.now)) places ∙ placed c.args.text.now c.args.reported.now) c.lines_at.ensures

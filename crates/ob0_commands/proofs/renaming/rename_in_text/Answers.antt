@@ -20,8 +20,8 @@ returns-in-Some-clause-other g c =
 
 pub returns-clause-other : goal.returns-clause-other
 returns-clause-other g c =
-    λ one. inl (ill_typed _ c.args.text.now c.in_ok-told-in-None.told.items c.as_slice.result.now (g.O.Write.contents c.args.out.now) (g.O.Write.contents c.print_diagnoses.new.out)
-    c.in_ok-store.ensures.content c.utf8.text c.as_slice.ensures.value (rw c.in-None.is at c.in_ok-outcome.ensures) (subst (λ (t : List ℕ). Reports t (map complaint_in c.in_ok-told-in-None.told.items)) c.in_ok-analysis.ensures c.in_ok-told-in-None.ensures.told) c.in_ok-print_diagnoses-in-None.ensures.printed)
+    λ one. inl (ill_typed _ c.args.text.now c.in_ok-reported-in-None.reported.items c.as_slice.result.now (g.O.Write.contents c.args.out.now) (g.O.Write.contents c.print_diagnoses.new.out)
+    c.in_ok-store.ensures.content c.utf8.text c.as_slice.ensures.value (rw c.in-None.is at c.in_ok-outcome.ensures) (subst (λ (t : List ℕ). Reports t (map complaint_in c.in_ok-reported-in-None.reported.items)) c.in_ok-analysis.ensures c.in_ok-reported-in-None.ensures.reported) c.in_ok-print_diagnoses-in-None.ensures.printed)
 
 pub returns-in-Some-clause-handed_on : goal.returns-in-Some-clause-handed_on
 returns-in-Some-clause-handed_on g c =

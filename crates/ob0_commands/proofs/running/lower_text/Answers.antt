@@ -5,8 +5,8 @@ use Rattle.ob0_commands.proofs.running.lower_text.Goals as goal
 
 pub returns-clause-found : goal.returns-clause-found
 returns-clause-found g c =
-    let told = c.in_ok-told-in-None.told.items in
-    not_well_typed c.args.text.now told c.as_slice.result.now (g.O.Write.contents c.args.out.now) (g.O.Write.contents c.print_diagnoses.new.out) c.as_slice.ensures.value
+    let reported = c.in_ok-reported-in-None.reported.items in
+    not_well_typed c.args.text.now reported c.as_slice.result.now (g.O.Write.contents c.args.out.now) (g.O.Write.contents c.print_diagnoses.new.out) c.as_slice.ensures.value
     (subst (λ (t : List ℕ). IsWellTypedModule t → ⊥) c.in_ok-analysis.ensures (rw c.in-None.is at c.in_ok-program.ensures.found))
-    (subst (λ (t : List ℕ). Reports t (map complaint_in told)) c.in_ok-analysis.ensures c.in_ok-told-in-None.ensures.told)
+    (subst (λ (t : List ℕ). Reports t (map complaint_in reported)) c.in_ok-analysis.ensures c.in_ok-reported-in-None.ensures.reported)
     c.in_ok-print_diagnoses-in-None.ensures.printed

@@ -15,8 +15,8 @@ returns-in-None-end_of_declaration c =
     (sym c.in-None-end_of_declaration.is
     ∙ (c.end_of_declaration.ensures
     ∙ (ap (λ (ts : List Token). position_from (λ (t : Token). is_semicolon t.kind) first (drop first ts)) tokens
-    ∙ end_known c.args.names.now c.module-module.ensures.resolved c.args.ordinal (scalar_value c.args.value) c.requires.worth first (sym c.in-Some.is ∙ c.declaring_token.ensures))))
+    ∙ end_known c.args.names.now c.module-module.ensures.resolved c.args.ordinal (scalar_value c.args.value) c.requires.has_value first (sym c.in-Some.is ∙ c.declaring_token.ensures))))
 
 pub returns-in-None : goal.returns-in-None
 returns-in-None c =
-    none_some _ (sym c.in-None.is ∙ (c.declaring_token.ensures ∙ token_known c.args.names.now c.module-module.ensures.resolved c.args.ordinal (scalar_value c.args.value) c.requires.worth))
+    none_some _ (sym c.in-None.is ∙ (c.declaring_token.ensures ∙ token_known c.args.names.now c.module-module.ensures.resolved c.args.ordinal (scalar_value c.args.value) c.requires.has_value))

@@ -56,7 +56,7 @@ changed-requires g c =
     (of_source c.tokens-tokens.ensures.source c.in_ok-sites.sites.items c.deref-3.result.now c.deref.result.now _ c.deref-3.ensures.value (c.deref.ensures.value ∙ c.in_ok-standings.ensures) c.in_ok-sites.ensures)
 
 pub returns-then-not-fits-clause-too_long : goal.returns-then-not-fits-clause-too_long
-returns-then-not-fits-clause-too_long g c = λ scan told.
+returns-then-not-fits-clause-too_long g c = λ scan reported.
     let text = c.as_bytes-text.ensures.value ∙ c.text.ensures.value ∙ ap (λ (x : Scanned). x.text) c.tokens-tokens.ensures.source in
     let same = of_source c.tokens-tokens.ensures.source c.in_ok-sites.sites.items c.deref-2.result.now c.deref.result.now (line_roles 0 (tree_of c.args.module.now)) c.deref-2.ensures.value (c.deref.ensures.value ∙ c.in_ok-standings.ensures) c.in_ok-sites.ensures scan in
     subst (λ (n : ℕ). max_text < n) ((λ i. laid_len c.args.indent (length (text i)) 0 (same i)) ∙ counted c.args.module.now c.args.indent scan) (past c.fits.result _ max_text c.fits.ensures.1 c.if-not-fits.true)

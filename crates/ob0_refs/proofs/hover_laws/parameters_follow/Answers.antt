@@ -1,5 +1,5 @@
-use Rattle.ob0_refs.proofs.ParametersBehind.{parameters_are_behind-holds}
+use Rattle.ob0_refs.proofs.ParametersBehind.{parameters_are_following-holds}
 use Rattle.ob0_refs.proofs.hover_laws.parameters_follow.Goals as goal
 
 pub returns : goal.returns
-returns c = parameters_are_behind-holds
+returns c = parameters_are_following-holds

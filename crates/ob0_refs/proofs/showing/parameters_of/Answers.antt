@@ -14,15 +14,15 @@ loop-token-preserved c =
     let name = text_at c.args.tokens.now in
     let formal = formal_in (shapes_of c.args.known.now) in
     let shown = parameter_hover (name c.in-Some.token.now) (formal c.in-Some.formal.now) in
-    let turn = zip_turn c.args.behind.now c.args.formals.now c.loop-token.yielded c.into_iter-token-iterator.result c.loop-token.token-iterator c.next.new.self c.next.result (search rules) (search rules) c.loop-token.yielded_by (c.in-Some.token, c.in-Some.formal) c.in-Some.is c.next.ensures.steps in
-    let step = gathered_further name formal c.args.behind.now c.args.formals.now (length c.loop-token.yielded) (map parameter_in c.loop-token.found.items) c.in-Some.token.now c.in-Some.formal.now c.loop-token.invariant turn.0 turn.1 turn.2 turn.3 in
+    let turn = zip_turn c.args.following.now c.args.formals.now c.loop-token.yielded c.into_iter-token-iterator.result c.loop-token.token-iterator c.next.new.self c.next.result (search rules) (search rules) c.loop-token.yielded_by (c.in-Some.token, c.in-Some.formal) c.in-Some.is c.next.ensures.steps in
+    let step = gathered_further name formal c.args.following.now c.args.formals.now (length c.loop-token.yielded) (map parameter_in c.loop-token.found.items) c.in-Some.token.now c.in-Some.formal.now c.loop-token.invariant turn.0 turn.1 turn.2 turn.3 in
     let here : parameter_in c.in_ok-parameter_of.field-0 ≡ shown = c.in_ok-parameter_of.ensures ∙ ap (λ x. parameter_hover x (formal c.in-Some.formal.now)) c.text_at.ensures in
     let grown : map parameter_in c.push.new.self.items ≡ map parameter_in c.loop-token.found.items ++ shown ∷ [] =
     ap (map parameter_in) c.in_ok-push.ensures.items ∙ map-append parameter_in c.loop-token.found.items (c.in_ok-parameter_of.field-0 ∷ []) ∙ ap (λ z. map parameter_in c.loop-token.found.items ++ z ∷ []) here in
     let size : length (c.loop-token.yielded ++ (c.in-Some.token, c.in-Some.formal) ∷ []) ≡ suc (length c.loop-token.yielded) = length-append c.loop-token.yielded ((c.in-Some.token, c.in-Some.formal) ∷ []) ∙ omega arith in
-    subst (λ n. Gathered name formal c.args.behind.now c.args.formals.now n (map parameter_in c.push.new.self.items)) (sym size) (subst (Gathered name formal c.args.behind.now c.args.formals.now (suc (length c.loop-token.yielded))) (sym grown) step)
+    subst (λ n. Gathered name formal c.args.following.now c.args.formals.now n (map parameter_in c.push.new.self.items)) (sym size) (subst (Gathered name formal c.args.following.now c.args.formals.now (suc (length c.loop-token.yielded))) (sym grown) step)
 
 pub returns : goal.returns
 returns c =
-    gathered_all (text_at c.args.tokens.now) (formal_in (shapes_of c.args.known.now)) c.args.behind.now c.args.formals.now (length c.loop-token.yielded) (map parameter_in c.loop-token.found.items) c.loop-token.invariant
-    (zip_end c.args.behind.now c.args.formals.now c.loop-token.yielded c.into_iter-token-iterator.result c.loop-token.token-iterator c.next.new.self c.next.result (search rules) (search rules) c.loop-token.yielded_by c.in-None.is c.next.ensures.steps)
+    gathered_all (text_at c.args.tokens.now) (formal_in (shapes_of c.args.known.now)) c.args.following.now c.args.formals.now (length c.loop-token.yielded) (map parameter_in c.loop-token.found.items) c.loop-token.invariant
+    (zip_end c.args.following.now c.args.formals.now c.loop-token.yielded c.into_iter-token-iterator.result c.loop-token.token-iterator c.next.new.self c.next.result (search rules) (search rules) c.loop-token.yielded_by c.in-None.is c.next.ensures.steps)

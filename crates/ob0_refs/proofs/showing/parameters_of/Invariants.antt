@@ -8,4 +8,4 @@ use Rattle.ob0_refs.proofs.showing.parameters_of.Given as goal
 
 abbrev pub invariant-loop-token : goal.invariant-loop-token
 invariant-loop-token l =
-    Gathered (text_at l.tokens) (formal_in (shapes_of l.known)) l.behind l.formals (length l.yielded) (map parameter_in l.found.items)
+    Gathered (text_at l.tokens) (formal_in (shapes_of l.known)) l.following l.formals (length l.yielded) (map parameter_in l.found.items)

@@ -12,8 +12,8 @@ returns c =
     let m = c.args.names.now.module_read in
     let signature = signature_in c.args.known.now c.args.formals.now in
     let name : c.text_at.result.now ≡ text_at m.source c.args.name.token = c.text_at.ensures ∙ ap (λ s. text_at s c.args.name.token) c.tokens-2.ensures in
-    let behind : map (text_at c.tokens.result.now) c.declared_after-behind.result.now ≡ names_after m c.args.name.ordinal =
-    ap (λ s. map (text_at s) c.declared_after-behind.result.now) c.tokens.ensures ∙ ap (map (text_at m.source)) c.declared_after-behind.ensures in
+    let following : map (text_at c.tokens.result.now) c.declared_after-following.result.now ≡ names_after m c.args.name.ordinal =
+    ap (λ s. map (text_at s) c.declared_after-following.result.now) c.tokens.ensures ∙ ap (map (text_at m.source)) c.declared_after-following.ensures in
     let list : map parameter_in c.as_slice.result.now ≡ parameters_hover (names_after m c.args.name.ordinal) signature =
-    ap (map parameter_in) c.as_slice.ensures.value ∙ c.in_ok-parameters.ensures ∙ ap (λ xs. parameters_hover xs signature) behind in
+    ap (map parameter_in) c.as_slice.ensures.value ∙ c.in_ok-parameters.ensures ∙ ap (λ xs. parameters_hover xs signature) following in
     IfOk-weaker c.procedure_text.result _ _ (λ text h. h ∙ ap₂ procedure_text name list) c.procedure_text.ensures

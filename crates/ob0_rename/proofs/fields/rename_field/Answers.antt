@@ -14,7 +14,7 @@ use Rattle.ob0_types_fields.specs.Identifiers.{declaring_field}
 use Rattle.ob0_rename.specs.Answers.{AnswersForField, IsRefusedToField}
 use Rattle.ob0_rename.specs.Renaming.{field_tokens_to_rename}
 use Rattle.ob0_rename.proofs.Outcomes.{Edited}
-use Rattle.ob0_rename.proofs.FieldOutcomes.{asked_field, duplicated, field_answered, other_none, own_field_answered}
+use Rattle.ob0_rename.proofs.FieldOutcomes.{requested_field, duplicated, field_answered, other_none, own_field_answered}
 use Rattle.ob0_rename.proofs.fields.rename_field.Goals as goal
 
 pub returns-then-not-is_identifier-clause-own_name : goal.returns-then-not-is_identifier-clause-own_name
@@ -34,7 +34,7 @@ returns-in-Some-clause-answers g c = λ place.
     (λ i. if same_name new (sym old i) then None else declaring_field (c.resolved-names.ensures.value i).module_read c.args.field.1 new) ∙ (sym c.other_field.ensures ∙ c.in-Some.is) in
     let range = c.token_range.ensures c.in-Some.token refl ∙ ap (λ (s : Scanned). range_of (width_of unit) text (span_at s c.in-Some.token)) c.tokens-in-Some.ensures in
     let refused = duplicated unit text place new c.args.field.1 f names id c.duplicate_by_token.ensures c.in-Some.token (refusal.Duplicate c.token_range.result) other (ap (λ r. refusal.Duplicate r) range) in
-    inr (subst (λ (x : Resolution). IsRefusedToField (asked_field unit text place new c.args.field.1 (text_at x.module_read.source c.args.field.0) x) c.args.field.1 (text_at x.module_read.source c.args.field.0) (refusal.Duplicate c.token_range.result)) c.resolved-names.ensures.value refused)
+    inr (subst (λ (x : Resolution). IsRefusedToField (requested_field unit text place new c.args.field.1 (text_at x.module_read.source c.args.field.0) x) c.args.field.1 (text_at x.module_read.source c.args.field.0) (refusal.Duplicate c.token_range.result)) c.resolved-names.ensures.value refused)
 
 pub returns-in_ok-tokens-in-None-clause-answers : goal.returns-in_ok-tokens-in-None-clause-answers
 returns-in_ok-tokens-in-None-clause-answers g c = λ place.
@@ -58,7 +58,7 @@ returns-in_ok-tokens-in-None-clause-answers g c = λ place.
     (subst (λ (s : Scanned). Edited unit text new s c.deref.result.now c.edits_for.result) c.tokens-in-None.ensures made) in
     let found = subst (λ (x : Resolution). AreNames x.module_read.source.tokens 0 c.in_ok-tokens-in-None.tokens.items) (sym c.resolved-names.ensures.value) c.in_ok-tokens-in-None.ensures.names in
     let are = subst (AreNames names.module_read.source.tokens 0) value found in
-    subst (λ (x : Resolution). AnswersForField (asked_field unit text place new k (text_at x.module_read.source c.args.field.0) x) k (text_at x.module_read.source c.args.field.0) c.edits_for.result) c.resolved-names.ensures.value
+    subst (λ (x : Resolution). AnswersForField (requested_field unit text place new k (text_at x.module_read.source c.args.field.0) x) k (text_at x.module_read.source c.args.field.0) c.edits_for.result) c.resolved-names.ensures.value
     (field_answered unit text place new k f names well id free c.free_field_keeps_modules.ensures c.renamed_at_tokens.ensures c.renamed_words_spell.ensures c.names_replace_names.ensures are c.edits_for.result there)
 
 pub returns-in_ok-tokens-in-None-clause-own_name : goal.returns-in_ok-tokens-in-None-clause-own_name

@@ -7,7 +7,7 @@ use Rattle.ob0_analysis.specs.CheckedModules.{IsWellTyped}
 use Rattle.ob0_edits.specs.Replaced.{AreNames}
 use Rattle.ob0_rename.specs.Answers.{AnswersDeclaration, IsRefusedTo}
 use Rattle.ob0_rename.specs.Renaming.{is_declared_as}
-use Rattle.ob0_rename.proofs.Outcomes.{Edited, answered, asked, captured, once_of, own_answered}
+use Rattle.ob0_rename.proofs.Outcomes.{Edited, answered, requested, captured, once_of, own_answered}
 use Rattle.ob0_rename.proofs.Owned.{own_free}
 use Rattle.ob0_rename.proofs.Spelled.{own_identifier}
 use Rattle.ob0_rename.proofs.renaming.rename_declaration.Goals as goal
@@ -31,7 +31,7 @@ returns-in-Some-clause-answers g c = λ place.
     let id = c.is_identifier.ensures.0 c.if-not-is_identifier.false in
     let first = sym (ap (option_map place_of) c.in-Some.is) ∙ c.in_ok-capture.ensures.first in
     let other = sym (ap other_of c.in-Some.is) ∙ c.in_ok-capture.ensures.other in
-    inr (subst (λ (x : Resolution). IsRefusedTo (asked unit text place c.args.new.now c.args.declaration x) c.args.declaration c.refusal_of.result) c.resolved-names.ensures.value
+    inr (subst (λ (x : Resolution). IsRefusedTo (requested unit text place c.args.new.now c.args.declaration x) c.args.declaration c.refusal_of.result) c.resolved-names.ensures.value
     (captured unit text place c.args.new.now c.args.declaration names well.resolved id c.in-Some.capture c.refusal_of.result first other c.refusal_of.ensures.duplicate c.refusal_of.ensures.occurrence))
 
 pub returns-in-Some-clause-own_name : goal.returns-in-Some-clause-own_name
@@ -59,7 +59,7 @@ returns-in_ok-tokens-in-None-clause-answers g c = λ place.
     let there = subst (λ places. Edited unit text new names.module_read.source places c.edits_for.result) places
     (subst (λ (s : Scanned). Edited unit text new s c.deref.result.now c.edits_for.result) c.tokens-in-None.ensures made) in
     let are = subst (AreNames names.module_read.source.tokens 0) c.in_ok-tokens-in-None.ensures.value c.in_ok-tokens-in-None.ensures.names in
-    subst (λ (x : Resolution). AnswersDeclaration (asked unit text place new d x) d c.edits_for.result) c.resolved-names.ensures.value
+    subst (λ (x : Resolution). AnswersDeclaration (requested unit text place new d x) d c.edits_for.result) c.resolved-names.ensures.value
     (answered unit text place new d names well id free c.free_keeps_modules.ensures c.renamed_words_spell.ensures c.names_replace_names.ensures are c.edits_for.result there)
 
 pub returns-in_ok-tokens-in-None-clause-own_name : goal.returns-in_ok-tokens-in-None-clause-own_name

@@ -11,5 +11,5 @@ returns c =
     let whole = take_all (160 - at) (drop at room) (omega (arith, length-drop at room)) in
     on_ok_weaker c.write_piece.result (λ is.
     range_written c.args.start c.args.end _ _ _ _ _ _ _ _ c.position_before-at_start.ensures.reads c.position_before-at_end.ensures.reads refl
-    c.piece_before-behind_start.ensures.text c.position_before-at_start.ensures.text c.piece_before-behind_end.ensures.text c.position_before-at_end.ensures.text
+    c.piece_before-following_start.ensures.text c.position_before-at_start.ensures.text c.piece_before-following_end.ensures.text c.position_before-at_end.ensures.text
     c.piece_before-at.ensures.text (is ∙ ap (λ t. c.args.out.now.items ++ t) whole)) c.write_piece.ensures

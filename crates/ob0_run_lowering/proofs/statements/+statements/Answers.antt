@@ -13,9 +13,9 @@ use Rattle.ob0_run_machine.specs.Lowered as lowered
 use Rattle.ob0_run_machine.specs.View as code
 use Rattle.ob0_run_machine.specs.View.{all_branches, sequence_of, truth_of}
 use Rattle.ob0_run_machine.specs.declared.code.Branch.{Branch}
-use Rattle.ob0_run_machine.specs.declared.code.Repeat.{Repeat}
-use Rattle.ob0_run_machine.specs.declared.code.Statement.{Statement}
-use Rattle.ob0_run_machine.specs.declared.code.While.{While}
+use Rattle.ob0_run_machine.specs.declared.code.RepeatLoop.{RepeatLoop}
+use Rattle.ob0_run_machine.specs.declared.code.Instruction.{Instruction}
+use Rattle.ob0_run_machine.specs.declared.code.WhileLoop.{WhileLoop}
 use Rattle.ob0_run_lowering.specs.LoweredBodies.{SequenceLowers, StatementLowers}
 use Rattle.ob0_run_lowering.proofs.InScene.{condition-lowers, repeat-lowers, while-lowers}
 use Rattle.ob0_run_lowering.proofs.Made.{BranchesMade, SequenceMade, branches_begin, branches_end, branches_go_on, if_rolled, none_otherwise, sequence_begins, sequence_ends, sequence_goes_on, some_otherwise}
@@ -53,7 +53,7 @@ branches-returns-in-None t c =
     let whole = branches_end (sequence_of c.new.result.items) last c.loop-part.invariant c.loop-part-test.false (none_otherwise scene r i.otherwise c.new.result.items c.in-None.is c.new.ensures.items) in
     let P : List Elsif → Type 0 = λ parts. StatementLowers scene made (branches (in_labels r (expression_of i.condition)) (in_labels r (sequence_listed i.then.items)) (in_labels r (items_of elsif_of parts)) last) in
     let Q : Tree Label sort.statement → Type 0 = λ a. StatementLowers scene made a in
-    let R : lowered.Statement → Type 0 = λ code. StatementLowers scene code (in_labels r (statement_of (written.If c.args.i.now))) in
+    let R : lowered.Instruction → Type 0 = λ code. StatementLowers scene code (in_labels r (statement_of (written.If c.args.i.now))) in
     subst R (sym (if_rolled (record { branches = c.loop-part.branches; otherwise = c.new.result }))) (subst Q (sym (ap (in_labels r) (tree.if_parts c.args.i.now))) (subst P c.deref-part-items.ensures.value whole))
 
 pub branches-returns-in_ok-otherwise-in-Some : goal.branches-returns-in_ok-otherwise-in-Some
@@ -67,19 +67,19 @@ branches-returns-in_ok-otherwise-in-Some t c =
     let whole = branches_end (sequence_of otherwise.items) last c.loop-part.invariant c.loop-part-test.false (some_otherwise scene r i.otherwise c.in-Some.statements otherwise.items c.in-Some.is c.in_ok-otherwise-in-Some.ensures) in
     let P : List Elsif → Type 0 = λ parts. StatementLowers scene made (branches (in_labels r (expression_of i.condition)) (in_labels r (sequence_listed i.then.items)) (in_labels r (items_of elsif_of parts)) last) in
     let Q : Tree Label sort.statement → Type 0 = λ a. StatementLowers scene made a in
-    let R : lowered.Statement → Type 0 = λ code. StatementLowers scene code (in_labels r (statement_of (written.If c.args.i.now))) in
+    let R : lowered.Instruction → Type 0 = λ code. StatementLowers scene code (in_labels r (statement_of (written.If c.args.i.now))) in
     subst R (sym (if_rolled (record { branches = c.loop-part.branches; otherwise = otherwise }))) (subst Q (sym (ap (in_labels r) (tree.if_parts c.args.i.now))) (subst P c.deref-part-items.ensures.value whole))
 
 pub sequence-loop-s-init : goal.sequence-loop-s-init
 sequence-loop-s-init t c =
     let scene = c.args.scene.now in
-    let P : List Statement → Type 0 = λ made. SequenceMade scene scene.resolved.now c.deref-s-items.result.now 0 made in
+    let P : List Instruction → Type 0 = λ made. SequenceMade scene scene.resolved.now c.deref-s-items.result.now 0 made in
     subst P (sym c.new-made.ensures.items) (sequence_begins scene scene.resolved.now c.deref-s-items.result.now)
 
 pub sequence-loop-s-preserved : goal.sequence-loop-s-preserved
 sequence-loop-s-preserved t c =
     let scene = c.args.scene.now in
-    let P : List Statement → Type 0 = λ made. SequenceMade scene scene.resolved.now c.deref-s-items.result.now (c.loop-s.s-index + 1) made in
+    let P : List Instruction → Type 0 = λ made. SequenceMade scene scene.resolved.now c.deref-s-items.result.now (c.loop-s.s-index + 1) made in
     subst P (sym c.in_ok-add.ensures) (sequence_goes_on c.s-item.result c.in_ok-next.next c.loop-s.invariant c.loop-s-test.true c.s-item.is c.in_ok-next.ensures)
 
 pub sequence-returns : goal.sequence-returns
@@ -111,10 +111,10 @@ statement-returns-in_ok-body-in-While t c =
     let scene = c.args.scene.now in
     let r = scene.resolved.now in
     let loop = c.in-While.w in
-    let made : While = record { condition = c.in_ok-condition-in-While.condition; body = c.in_ok-body-in-While.body } in
+    let made : WhileLoop = record { condition = c.in_ok-condition-in-While.condition; body = c.in_ok-body-in-While.body } in
     let whole = while-lowers scene (in_labels r (expression_of loop.condition)) (in_labels r (sequence_listed loop.body.items)) (truth_of made.condition) (sequence_of made.body.items) (condition-lowers scene loop.condition made.condition c.in_ok-condition-in-While.ensures) c.in_ok-body-in-While.ensures in
     let P : Tree Label sort.statement → Type 0 = λ a. StatementLowers scene (lowered.while_loop (truth_of made.condition) (sequence_of made.body.items)) a in
-    let R : lowered.Statement → Type 0 = λ code. StatementLowers scene code (in_labels r (statement_of c.args.s.now)) in
+    let R : lowered.Instruction → Type 0 = λ code. StatementLowers scene code (in_labels r (statement_of c.args.s.now)) in
     subst R (sym (while_made made)) (subst P (sym (ap (λ s. in_labels r (statement_of s)) c.in-While.is ∙ ap (in_labels r) (tree.while_made loop))) whole)
 
 pub statement-returns-in_ok-condition-in-Repeat : goal.statement-returns-in_ok-condition-in-Repeat
@@ -122,8 +122,8 @@ statement-returns-in_ok-condition-in-Repeat t c =
     let scene = c.args.scene.now in
     let r = scene.resolved.now in
     let loop = c.in-Repeat.r in
-    let made : Repeat = record { body = c.in_ok-body-in-Repeat.body; condition = c.in_ok-condition-in-Repeat.condition } in
+    let made : RepeatLoop = record { body = c.in_ok-body-in-Repeat.body; condition = c.in_ok-condition-in-Repeat.condition } in
     let whole = repeat-lowers scene (in_labels r (expression_of loop.condition)) (in_labels r (sequence_listed loop.body.items)) (truth_of made.condition) (sequence_of made.body.items) (condition-lowers scene loop.condition made.condition c.in_ok-condition-in-Repeat.ensures) c.in_ok-body-in-Repeat.ensures in
     let P : Tree Label sort.statement → Type 0 = λ a. StatementLowers scene (lowered.repeat_loop (sequence_of made.body.items) (truth_of made.condition)) a in
-    let R : lowered.Statement → Type 0 = λ code. StatementLowers scene code (in_labels r (statement_of c.args.s.now)) in
+    let R : lowered.Instruction → Type 0 = λ code. StatementLowers scene code (in_labels r (statement_of c.args.s.now)) in
     subst R (sym (repeat_made made)) (subst P (sym (ap (λ s. in_labels r (statement_of s)) c.in-Repeat.is ∙ ap (in_labels r) (tree.repeat_made loop))) whole)

@@ -10,11 +10,11 @@ use Rattle.ob0_run_machine.specs.View.{chained_in, first_of, number_of}
 use Rattle.ob0_run_machine.specs.declared.code.Operation.{out-Operation}
 use Rattle.ob0_run_machine.specs.Answers.{linked}
 use Rattle.ob0_run_machine.proofs.Chains.{applied_to, chain_begins, chain_fails, chain_made}
-use Rattle.ob0_run_machine.proofs.Exits.{told_exit}
+use Rattle.ob0_run_machine.proofs.Exits.{reported_exit}
 use Rattle.ob0_run_machine.proofs.evaluating.+evaluation.Goals as goal
 
 pub operations-returns-in_err-left : goal.operations-returns-in_err-left
-operations-returns-in_err-left t c = told_exit c.from_residual.result c.in_err-left.field-0.0 _ (err_from_is_err_and c.from_residual.result c.from_residual.ensures.1)
+operations-returns-in_err-left t c = reported_exit c.from_residual.result c.in_err-left.field-0.0 _ (err_from_is_err_and c.from_residual.result c.from_residual.ensures.1)
     (chain_fails (levels_of c.args.level.now) c.args.cells.now (first_of (out-Chain c.args.c.now).first) (out-Chain c.args.c.now).rest.items (ends (end_of c.in_err-left.field-0.0)) c.in_err-left.ensures)
 
 pub operations-loop-link-init : goal.operations-loop-link-init

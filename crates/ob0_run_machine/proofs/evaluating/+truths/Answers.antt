@@ -6,15 +6,15 @@ use Rattle.ob0_run_machine.specs.Evaluation.{ends, gives, truth}
 use Rattle.ob0_run_machine.specs.Levels.{levels_of}
 use Rattle.ob0_run_machine.specs.View.{all_in, any_in, truth_of}
 use Rattle.ob0_run_machine.proofs.Several.{all_fails, all_made, any_fails, any_made}
-use Rattle.ob0_run_machine.proofs.Exits.{told_exit}
+use Rattle.ob0_run_machine.proofs.Exits.{reported_exit}
 use Rattle.ob0_run_machine.proofs.evaluating.+truths.Goals as goal
 
 pub all-returns-in_err-left : goal.all-returns-in_err-left
-all-returns-in_err-left t c = told_exit c.from_residual.result c.in_err-left.field-0.0 _ (err_from_is_err_and c.from_residual.result c.from_residual.ensures.1)
+all-returns-in_err-left t c = reported_exit c.from_residual.result c.in_err-left.field-0.0 _ (err_from_is_err_and c.from_residual.result c.from_residual.ensures.1)
     (all_fails (levels_of c.args.level.now) c.args.cells.now (truth_of (out-Several c.args.several.now).first) (out-Several c.args.several.now).rest.items (ends (end_of c.in_err-left.field-0.0)) c.in_err-left.ensures)
 
 pub any-returns-in_err-left : goal.any-returns-in_err-left
-any-returns-in_err-left t c = told_exit c.from_residual.result c.in_err-left.field-0.0 _ (err_from_is_err_and c.from_residual.result c.from_residual.ensures.1)
+any-returns-in_err-left t c = reported_exit c.from_residual.result c.in_err-left.field-0.0 _ (err_from_is_err_and c.from_residual.result c.from_residual.ensures.1)
     (any_fails (levels_of c.args.level.now) c.args.cells.now (truth_of (out-Several c.args.several.now).first) (out-Several c.args.several.now).rest.items (ends (end_of c.in_err-left.field-0.0)) c.in_err-left.ensures)
 
 pub all-loop-t-init : goal.all-loop-t-init

@@ -1,5 +1,5 @@
-use Rattle.ob0_scan.proofs.Telling.{one_told}
+use Rattle.ob0_scan.proofs.Telling.{one_reported}
 use Rattle.ob0_scan.proofs.laws.one_report.Goals as goal
 
 pub returns : goal.returns
-returns c = one_told
+returns c = one_reported

@@ -9,6 +9,6 @@ pub returns-in_ok-tokens-in-Ok-clause-alike : goal.returns-in_ok-tokens-in-Ok-cl
 returns-in_ok-tokens-in-Ok-clause-alike c =
     let b = c.in-Ok.between in
     λ alike. ap (λ (s : Scanned). kinds s.tokens) c.in_ok-tokens-in-Ok.ensures
-    ∙ kinds_stay c.args.old.tokens b.tokens.items b.front.tokens b.behind.tokens c.args.removed c.args.added c.in-Ok.ensures.ok.tokens_ordered
+    ∙ kinds_stay c.args.old.tokens b.tokens.items b.front.tokens b.following.tokens c.args.removed c.args.added c.in-Ok.ensures.ok.tokens_ordered
     (c.is_alike-alike.ensures alike
-    ∙ ap (λ (l : List Token). kinds (take (b.behind.tokens - b.front.tokens) (drop b.front.tokens l))) c.tokens.ensures)
+    ∙ ap (λ (l : List Token). kinds (take (b.following.tokens - b.front.tokens) (drop b.front.tokens l))) c.tokens.ensures)

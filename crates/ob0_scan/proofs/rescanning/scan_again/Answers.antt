@@ -17,15 +17,15 @@ pub returns-then-new_text-gt-MAX_TEXT-clause-err : goal.returns-then-new_text-gt
 returns-then-new_text-gt-MAX_TEXT-clause-err c =
     too_long_refused c.args.new_text.now c.in_ok-too_long.field-0.items c.utf8.new_text c.if-new_text-gt-MAX_TEXT.true c.in_ok-too_long.ensures
 
-pub behind-scanner-requires-clause-inside : goal.behind-scanner-requires-clause-inside
-behind-scanner-requires-clause-inside c =
+pub scanner_after-scanner-requires-clause-inside : goal.scanner_after-scanner-requires-clause-inside
+scanner_after-scanner-requires-clause-inside c =
     let cut = front_cut c.args.old.now c.pieces-all.ensures.scan c.args.new_text.now c.args.change.from c.args.change.removed c.args.change.added c.requires in
     let tokens = c.ending_before-front.ensures.tokens ∙ ap (tokens_before_change c.args.change.from) c.pieces-all.ensures.tokens in
     let comments = c.ending_before-front.ensures.comments ∙ ap (comments_before_change c.args.change.from) c.pieces-all.ensures.comments in
     subst (λ n. n ≤ length c.args.new_text.now) (sym (ap₂ last_end tokens comments)) cut.0
 
-pub behind-scanner-requires-clause-cut : goal.behind-scanner-requires-clause-cut
-behind-scanner-requires-clause-cut c =
+pub scanner_after-scanner-requires-clause-cut : goal.scanner_after-scanner-requires-clause-cut
+scanner_after-scanner-requires-clause-cut c =
     let new = c.args.new_text.now in
     let cut = front_cut c.args.old.now c.pieces-all.ensures.scan new c.args.change.from c.args.change.removed c.args.change.added c.requires in
     let tokens = c.ending_before-front.ensures.tokens ∙ ap (tokens_before_change c.args.change.from) c.pieces-all.ensures.tokens in
@@ -36,7 +36,7 @@ behind-scanner-requires-clause-cut c =
 pub returns-then-not-is_empty-clause-err : goal.returns-then-not-is_empty-clause-err
 returns-then-not-is_empty-clause-err c =
     let t = c.scan_on.new.scanner in
-    let text : t.text.now ≡ c.args.new_text.now = ap (λ (x : Bor (List ℕ)). x.now) c.in_ok-rest.ensures.text ∙ c.behind-scanner.ensures.text in
+    let text : t.text.now ≡ c.args.new_text.now = ap (λ (x : Bor (List ℕ)). x.now) c.in_ok-rest.ensures.text ∙ c.scanner_after-scanner.ensures.text in
     let some : 0 < length t.faults.items = omega (arith, false-eqb _ 0 c.if-not-is_empty.ensures, t.faults.ok) in
     subst (λ x. (IsScannable x → ⊥) × AreFaults x t.faults.items) text
     (scan_refused t.text.now t.at (t.front.tokens.now ++ t.tokens.items) (t.front.comments.now ++ t.comments.items) t.faults.items c.in_ok-rest.ensures.under_way (c.in_ok-rest.ensures.end some) (omega (arith, c.if-new_text-gt-MAX_TEXT.false, ap length text)) some)
@@ -48,19 +48,19 @@ returns-clause-ok c =
     let from = c.args.change.from in
     let removed = c.args.change.removed in
     let added = c.args.change.added in
-    let s = c.behind-scanner.result in
+    let s = c.scanner_after-scanner.result in
     let t = c.scan_on.new.scanner in
     let rest = c.in_ok-rest.rest in
     let front = c.ending_before-front.result in
-    let text : t.text.now ≡ new = ap (λ (x : Bor (List ℕ)). x.now) c.in_ok-rest.ensures.text ∙ c.behind-scanner.ensures.text in
+    let text : t.text.now ≡ new = ap (λ (x : Bor (List ℕ)). x.now) c.in_ok-rest.ensures.text ∙ c.scanner_after-scanner.ensures.text in
     let none : length t.faults.items ≡ 0 = omega (arith, eqb-true _ 0 (sym c.if-not-is_empty.ensures), t.faults.ok) in
     let end = settled old c.pieces-all.ensures.scan new from removed added c.requires t rest.tokens.now rest.comments.now text c.in_ok-rest.ensures.under_way none c.if-new_text-gt-MAX_TEXT.false c.in_ok-rest.ensures.met in
-    let same = c.in_ok-rest.ensures.front ∙ c.behind-scanner.ensures.front in
+    let same = c.in_ok-rest.ensures.front ∙ c.scanner_after-scanner.ensures.front in
     lies_between old c.pieces-all.ensures.scan new from removed added s t front.tokens.now rest.tokens.now front.comments.now rest.comments.now _
     (c.ending_before-front.ensures.tokens ∙ ap (tokens_before_change from) c.pieces-all.ensures.tokens)
     (c.ending_before-front.ensures.comments ∙ ap (comments_before_change from) c.pieces-all.ensures.comments)
     (ap (λ (p : Pieces). p.tokens.now) same) (ap (λ (p : Pieces). p.comments.now) same)
-    c.behind-scanner.ensures.tokens c.behind-scanner.ensures.comments (c.in_ok-rest.ensures.reads none) end
+    c.scanner_after-scanner.ensures.tokens c.scanner_after-scanner.ensures.comments (c.in_ok-rest.ensures.reads none) end
     refl (ap (λ (x : List Token). length x - length rest.tokens.now) c.pieces-all.ensures.tokens)
     refl (ap (λ (x : List Span). length x - length rest.comments.now) c.pieces-all.ensures.comments)
     refl refl

@@ -1,7 +1,7 @@
 use Rattle.std.proofs.Common.{Some, sym, ◌∙◌}
 use Rattle.std.proofs.lemmas.Result.{MatchResult-weaker}
 use Rattle.ob0_tree.specs.Parsed.{named_tree_of}
-use Rattle.ob0_scope.specs.declared.capturing.FirstCapture.TheVariants as tells
+use Rattle.ob0_scope.specs.declared.capturing.FirstCapture.TheVariants as reports
 use Rattle.ob0_scope.proofs.Captured.{captured_later, captured_there, free_where_none}
 use Rattle.ob0_scope.proofs.capturing.captures.Goals as goal
 
@@ -12,7 +12,7 @@ returns-in-Some-clause-first c =
 pub returns-in-Some-clause-free : goal.returns-in-Some-clause-free
 returns-in-Some-clause-free c =
     let m = named_tree_of c.args.names.now.module_read in
-    free_where_none m c.args.declaration c.args.new.now (Some (tells.Duplicate c.in-Some.other))
+    free_where_none m c.args.declaration c.args.new.now (Some (reports.Duplicate c.in-Some.other))
     (captured_there m c.args.declaration c.args.new.now c.in-Some.other (sym c.in-Some.is ∙ c.in_ok-other.ensures))
 
 pub returns-in-None-clause-first : goal.returns-in-None-clause-first

@@ -10,6 +10,6 @@ returns g c =
     let text = g.T.TextStore.content c.args.store.now in
     IfOk-weaker c.all_diagnostics.result _ _ (λ list h. (
       _,
-      diagnosed (g.T.TextStore.unit_of c.args.store.now) c.args.analysis.now text (map complaint_in c.in_ok-told.told.items) c.in_ok-told.ensures.utf8 (sym c.requires) c.in_ok-told.ensures.told,
+      diagnosed (g.T.TextStore.unit_of c.args.store.now) c.args.analysis.now text (map complaint_in c.in_ok-reported.reported.items) c.in_ok-reported.ensures.utf8 (sym c.requires) c.in_ok-reported.ensures.reported,
       diagnostics_of_all _ _ _ (rw c.as_slice.ensures.value at h),
     )) c.all_diagnostics.ensures

@@ -12,5 +12,5 @@ loop-diagnosis-preserved g c =
     let shown = λ (d : Diagnosis). diagnostic_of unit text (complaint_in d) in
     let this = complaint_in c.diagnosis-item.result in
     rw c.in_ok-push.ensures.items
-    (diagnostics_next shown c.args.told.now c.loop-diagnosis.diagnosis-index c.diagnosis-item.result c.loop-diagnosis.list.items c.in_ok-diagnostic.field-0 (omega arith) c.loop-diagnosis.invariant
+    (diagnostics_next shown c.args.reported.now c.loop-diagnosis.diagnosis-index c.diagnosis-item.result c.loop-diagnosis.list.items c.in_ok-diagnostic.field-0 (omega arith) c.loop-diagnosis.invariant
     (c.in_ok-diagnostic.ensures ∙ ((λ i. record { code = this.code; said = this.said; start = c.position_at-start.ensures i; end = c.position_at-end.ensures i }) ∙ ap shown c.diagnosis-item.is)))

@@ -5,4 +5,4 @@ use Rattle.ob0_session_edits.specs.Diagnostics.{diagnostic_of}
 use Rattle.ob0_session_edits.proofs.diagnostics.list_diagnostics.Given as goal
 
 abbrev pub invariant-loop-diagnosis : goal.invariant-loop-diagnosis
-invariant-loop-diagnosis g l = DiagnosticsAre (map (λ d. diagnostic_of (g.T.TextStore.unit_of l.store) (g.T.TextStore.content l.store) (complaint_in d)) (take l.diagnosis-index l.told)) l.list.items
+invariant-loop-diagnosis g l = DiagnosticsAre (map (λ d. diagnostic_of (g.T.TextStore.unit_of l.store) (g.T.TextStore.content l.store) (complaint_in d)) (take l.diagnosis-index l.reported)) l.list.items

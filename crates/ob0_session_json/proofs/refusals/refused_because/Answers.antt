@@ -7,5 +7,5 @@ use Rattle.ob0_session_json.proofs.refusals.refused_because.Goals as goal
 
 pub returns : goal.returns
 returns c =
-    let told = c.as_str.ensures.value ∙ c.in_ok-text.ensures in
-    IfOk-weaker c.refused.result _ _ (λ bytes sent. subst (λ (said : List ℕ). Writes (edit_refused (id_data c.args.id.now) said) bytes.items) told sent) c.refused.ensures
+    let reported = c.as_str.ensures.value ∙ c.in_ok-text.ensures in
+    IfOk-weaker c.refused.result _ _ (λ bytes sent. subst (λ (said : List ℕ). Writes (edit_refused (id_data c.args.id.now) said) bytes.items) reported sent) c.refused.ensures

@@ -19,8 +19,8 @@ returns-clause-place c =
     let place = c.line_place in
     λ unit. counts (width_of unit) (narrow unit) c.args.text.now c.args.table.now.starts _ place.result c.utf8.text c.requires.starts place.ensures.offset place.ensures.line place.ensures.character
 
-pub returns-clause-behind : goal.returns-clause-behind
-returns-clause-behind c =
+pub returns-clause-following : goal.returns-clause-following
+returns-clause-following c =
     let place = c.line_place in
     let found = searched c.args.text.now c.args.table.now.starts c.min.result _ _ c.utf8.text c.requires.starts (omega arith) (omega arith) c.starts_before-started.ensures.count in
     let line : place.result.line ≡ c.starts_before-started.result - 1 = omega (arith, place.ensures.line, found.0, found.1) in

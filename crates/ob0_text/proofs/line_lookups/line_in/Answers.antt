@@ -31,7 +31,7 @@ returns c =
     let found = found_line c.args.text.now c.args.table.now.starts c.utf8.text c.requires.starts c.args.k c.end_of-end.result (omega (arith, c.count.ensures, c.if-k-count.false)) c.end_of-end.ensures.next c.end_of-end.ensures.last in
     let start : length found.front ≡ c.at.result = omega (arith, found.here, c.at.ensures) in
     let long : length (encode_utf8_all (with_ending found.line)) ≡ c.end_of-end.result - c.at.result = omega (arith, found.there, c.at.ensures) in
-    let behind : drop c.at.result c.args.text.now ≡ encode_utf8_all (with_ending found.line) ++ found.rest = ap (drop c.at.result) found.split ∙ drop_at found.front _ _ start in
-    let bytes : c.range.result.now ≡ encode_utf8_all (with_ending found.line) = c.range.ensures.value ∙ ap (take (c.end_of-end.result - c.at.result)) behind ∙ take_at _ found.rest _ long in
+    let following : drop c.at.result c.args.text.now ≡ encode_utf8_all (with_ending found.line) ++ found.rest = ap (drop c.at.result) found.split ∙ drop_at found.front _ _ start in
+    let bytes : c.range.result.now ≡ encode_utf8_all (with_ending found.line) = c.range.ensures.value ∙ ap (take (c.end_of-end.result - c.at.result)) following ∙ take_at _ found.rest _ long in
     ap Some (sym (chars_from_encodes (with_ending found.line) c.range.result.now c.range.utf8 (sym bytes)))
     ∙ ap (option_map with_ending) (sym found.is_line)

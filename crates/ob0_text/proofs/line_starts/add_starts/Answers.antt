@@ -14,27 +14,27 @@ loop-byte-preserved c =
       | then-parts_lines+in_ok-push w ↦
           record {
             here = omega arith;
-            found = rw (w.starts-is, w.in_ok-push.ensures.items) (start_pushed v.starts.items c.args.bytes.now c.args.behind.now v.at v.last v.byte-index c.loop-byte-test.true (sym c.parts_lines.ensures ∙ w.if-parts_lines.true) ∙ v.invariant.found);
+            found = rw (w.starts-is, w.in_ok-push.ensures.items) (start_pushed v.starts.items c.args.bytes.now c.args.following.now v.at v.last v.byte-index c.loop-byte-test.true (sym c.parts_lines.ensures ∙ w.if-parts_lines.true) ∙ v.invariant.found);
           }
       | else-parts_lines w ↦
           record {
             here = omega arith;
-            found = rw w.starts-is (start_passed v.starts.items c.args.bytes.now c.args.behind.now v.at v.last v.byte-index c.loop-byte-test.true (sym c.parts_lines.ensures ∙ w.if-parts_lines.false) ∙ v.invariant.found);
+            found = rw w.starts-is (start_passed v.starts.items c.args.bytes.now c.args.following.now v.at v.last v.byte-index c.loop-byte-test.true (sym c.parts_lines.ensures ∙ w.if-parts_lines.false) ∙ v.invariant.found);
           }
     ]
 
 pub returns-in_ok-push-2 : goal.returns-in_ok-push-2
 returns-in_ok-push-2 c =
     let v = c.loop-byte in
-    let test = sym (last_test v.last c.args.behind.now) ∙ ap (λ o. ends_line v.last (option_to_list o)) (sym (c.copied.ensures ∙ c.first.ensures.value)) ∙ sym c.parts_lines-2.ensures ∙ c.if-parts_lines-2.true in
-    c.in_ok-push-2.ensures.items ∙ start_last v.starts.items c.args.behind.now v.at v.last test
-    ∙ ap (λ t. v.starts.items ++ starts_after v.at (v.last ∷ t) c.args.behind.now) (sym (drop_all v.byte-index c.args.bytes.now c.loop-byte-test.false))
+    let test = sym (last_test v.last c.args.following.now) ∙ ap (λ o. ends_line v.last (option_to_list o)) (sym (c.copied.ensures ∙ c.first.ensures.value)) ∙ sym c.parts_lines-2.ensures ∙ c.if-parts_lines-2.true in
+    c.in_ok-push-2.ensures.items ∙ start_last v.starts.items c.args.following.now v.at v.last test
+    ∙ ap (λ t. v.starts.items ++ starts_after v.at (v.last ∷ t) c.args.following.now) (sym (drop_all v.byte-index c.args.bytes.now c.loop-byte-test.false))
     ∙ v.invariant.found
 
 pub returns-else-parts_lines-2 : goal.returns-else-parts_lines-2
 returns-else-parts_lines-2 c =
     let v = c.loop-byte in
-    let test = sym (last_test v.last c.args.behind.now) ∙ ap (λ o. ends_line v.last (option_to_list o)) (sym (c.copied.ensures ∙ c.first.ensures.value)) ∙ sym c.parts_lines-2.ensures ∙ c.if-parts_lines-2.false in
-    no_start_last v.starts.items c.args.behind.now v.at v.last test
-    ∙ ap (λ t. v.starts.items ++ starts_after v.at (v.last ∷ t) c.args.behind.now) (sym (drop_all v.byte-index c.args.bytes.now c.loop-byte-test.false))
+    let test = sym (last_test v.last c.args.following.now) ∙ ap (λ o. ends_line v.last (option_to_list o)) (sym (c.copied.ensures ∙ c.first.ensures.value)) ∙ sym c.parts_lines-2.ensures ∙ c.if-parts_lines-2.false in
+    no_start_last v.starts.items c.args.following.now v.at v.last test
+    ∙ ap (λ t. v.starts.items ++ starts_after v.at (v.last ∷ t) c.args.following.now) (sym (drop_all v.byte-index c.args.bytes.now c.loop-byte-test.false))
     ∙ v.invariant.found

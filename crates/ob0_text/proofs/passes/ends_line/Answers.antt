@@ -12,8 +12,8 @@ pub returns-then-c-eq13 : goal.returns-then-c-eq13
 unfolding ends_line
 returns-then-c-eq13 c =
     let first = starts_with_lf-chars c.args.rest.now c.utf8.rest in
-    let told = c.starts_with.ensures.byte (omega arith) (omega arith) (λ w o h. h) in
-    rw c.if-c-eq13.true (ap not (told ∙ sym first))
+    let reported = c.starts_with.ensures.byte (omega arith) (omega arith) (λ w o h. h) in
+    rw c.if-c-eq13.true (ap not (reported ∙ sym first))
 
 pub returns-else-c-eq13 : goal.returns-else-c-eq13
 unfolding ends_line

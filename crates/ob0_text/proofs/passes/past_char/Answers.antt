@@ -15,19 +15,19 @@ range_from-requires c = λ _. rest_border c.args.text.now _ c.args.place.offset 
 
 pub returns-then-offset-place-clause-last : goal.returns-then-offset-place-clause-last
 returns-then-offset-place-clause-last c =
-    let here : c.args.place.offset ≡ c.args.offset = omega (arith, c.if-offset-place.true, c.requires.behind) in
+    let here : c.args.place.offset ≡ c.args.offset = omega (arith, c.if-offset-place.true, c.requires.following) in
     λ _. counted_here_at (width_of c.args.unit) c.args.text.now _ _ _ _ c.requires.place ∙ ap (position_of (width_of c.args.unit) (chars c.args.text.now)) here
 
 pub returns-in_default-clause-last : goal.returns-in_default-clause-last
 returns-in_default-clause-last c =
     let none = ap length (sym c.range_from.ensures.value ∙ sym c.chars-chars.ensures.rest) ∙ c.in_default.ensures.steps.0.0 in
-    λ _. counted_at_end (width_of c.args.unit) _ _ _ _ _ c.requires.place none c.args.offset c.requires.behind
+    λ _. counted_at_end (width_of c.args.unit) _ _ _ _ _ c.requires.place none c.args.offset c.requires.following
 
 pub returns-then-offset-place-2-clause-last : goal.returns-then-offset-place-2-clause-last
 returns-then-offset-place-2-clause-last c =
     let less : c.args.offset - c.args.place.offset < len_utf8 c.in-Some.c = subst (λ k. c.args.offset - c.args.place.offset < k) c.len_utf8.ensures.value c.if-offset-place-2.true in
     let begins = sym c.range_from.ensures.value ∙ sym c.chars-chars.ensures.rest ∙ c.in-Some.ensures.steps.0 in
-    λ _. counted_at_stop (width_of c.args.unit) _ _ _ _ _ c.requires.place c.in-Some.c (chars_rest c.next.new.self) begins c.args.offset c.requires.behind less
+    λ _. counted_at_stop (width_of c.args.unit) _ _ _ _ _ c.requires.place c.in-Some.c (chars_rest c.next.new.self) begins c.args.offset c.requires.following less
 
 pub returns-then-ends_line-clause-next : goal.returns-then-ends_line-clause-next
 returns-then-ends_line-clause-next c =

@@ -3,7 +3,7 @@ use Rattle.std.specs.List.{filter}
 use Rattle.ob0_scope_rules.specs.Resolution.{is_of_declarations}
 use Rattle.ob0_types.specs.CheckedModules.{CheckedModule}
 use Rattle.ob0_types.specs.FaultOrder.{AreFirstOf}
-use Rattle.ob0_types.proofs.AllTold.{checked_told}
+use Rattle.ob0_types.proofs.AllTold.{checked_reported}
 use Rattle.ob0_types.proofs.FieldsKept.{fields_kept}
 use Rattle.ob0_types.proofs.checked.types_of.Goals as goal
 
@@ -12,7 +12,7 @@ returns c =
     let r = c.args.resolved.now in
     let faults = c.in_ok-faults.faults.items in
     let found = ap (λ fs. fs ++ filter is_of_declarations r.faults) c.in_ok-report.ensures.faults in
-    let is = checked_told r faults c.modules_fit.ensures c.no_fault_in_modules.ensures c.module-module.ensures.resolved (subst (λ fs. (faults ≡ []) ↔ (fs ≡ [])) found c.in_ok-faults.ensures.none) c.in_ok-report.report.known c.in_ok-report.ensures.known c.in_ok-faults.ensures.few
+    let is = checked_reported r faults c.modules_fit.ensures c.no_fault_in_modules.ensures c.module-module.ensures.resolved (subst (λ fs. (faults ≡ []) ↔ (fs ≡ [])) found c.in_ok-faults.ensures.none) c.in_ok-report.report.known c.in_ok-report.ensures.known c.in_ok-faults.ensures.few
     (subst (λ fs. AreFirstOf fs faults) found c.in_ok-faults.ensures.first) in
     let m : CheckedModule = record { names = r; faults = faults; known = c.in_ok-report.report.known } in
     record { checked = is; fields = fields_kept m is c.in_ok-fields.fields c.in_ok-fields.ensures }

@@ -6,7 +6,7 @@ use Rattle.ob0_rpc.specs.Messages.{ReadsContent}
 use Rattle.ob0_rpc.specs.Shapes.{notification_message}
 use Rattle.ob0_world_editor.specs.Shapes.{close_params}
 use Rattle.ob0_world_editor.proofs.Hearing.{if_ok}
-use Rattle.ob0_world_editor.proofs.Shallow.{closing_told}
+use Rattle.ob0_world_editor.proofs.Shallow.{closing_reported}
 use Rattle.ob0_world_editor.proofs.writing.did_close.Goals as goal
 
 pub returns : goal.returns
@@ -14,6 +14,6 @@ returns c =
     let is : view c.in_ok-params.params ≡ close_params c.args.uri.now = c.in_ok-params.ensures in
     let small : depth (view c.in_ok-params.params) ≤ 126 = subst (λ d. depth d ≤ 126) (sym is) (omega arith) in
     if_ok c.notification.result
-    (λ content reads. closing_told content.items c.args.uri.now
+    (λ content reads. closing_reported content.items c.args.uri.now
     (subst (λ d. ReadsContent content.items (Some (notification_message (codes "textDocument/didClose") d))) is (reads small)))
     c.notification.ensures

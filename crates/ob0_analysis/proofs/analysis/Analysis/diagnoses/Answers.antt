@@ -8,8 +8,8 @@ use Rattle.ob0_analysis.proofs.analysis.Analysis.diagnoses.Goals as goal
 pub diagnose_refusal-requires : goal.diagnose_refusal-requires
 diagnose_refusal-requires c = (subst IsFound c.in-NoTree.is c.self.invariant).0
 
-pub returns-in-NoLexemes-clause-told : goal.returns-in-NoLexemes-clause-told
-returns-in-NoLexemes-clause-told c =
+pub returns-in-NoLexemes-clause-reported : goal.returns-in-NoLexemes-clause-reported
+returns-in-NoLexemes-clause-reported c =
     let by = subst IsFound c.in-NoLexemes.is c.self.invariant in
     IfOk-weaker c.of_faults.result _ _ (λ list is.
     subst (λ (t : List ℕ). Reports t (map complaint_in list.items)) (sym (ap text_of c.in-NoLexemes.is) ∙ c.self.view_is) (inr (finds_lexemes _ _ _ by.0 by.1 (is ∙ ap (map complaint_of) c.as_slice.ensures.value)))) c.of_faults.ensures

@@ -3,7 +3,7 @@ use Rattle.ob0_tree.specs.View.{block_of, items_of, procedure_of}
 use Rattle.ob0_tree.specs.declared.tree.Procedure.{out-Procedure}
 use Rattle.ob0_types_rules.specs.InLabels.{in_labels}
 use Rattle.ob0_run_lowering.specs.declared.scene.Scene.{Scene}
-use Rattle.ob0_run_machine.specs.declared.code.Procedure.{Procedure}
+use Rattle.ob0_run_machine.specs.declared.code.Routine.{Routine}
 use Rattle.ob0_run_lowering.specs.Blocks.{LowersBlock}
 use Rattle.ob0_run_lowering.specs.Placed.{IsRestored}
 use Rattle.ob0_run_lowering.specs.declared.visible_sites.Frame.{Frame}
@@ -28,7 +28,7 @@ block-returns t c =
     let r = c.args.ground.now.resolved.now in
     let own = c.in_ok-own.own in
     let scene : Scene = record { resolved = c.args.ground.now.resolved; types = c.args.ground.now.types; sites = c.as_slice.result; depth = own.depth } in
-    let entry : Procedure = record { cells = own.cells - c.args.frame.cells; body = c.in_ok-body.body } in
+    let entry : Routine = record { cells = own.cells - c.args.frame.cells; body = c.in_ok-body.body } in
     block_means c.args.ground.now.types.now c.args.self.now c.loop-p.self c.variables.new.self c.args.b.now c.deref-p-items.result.now c.loop-p.p-index c.args.frame own scene entry r c.in_ok-own.ensures c.greater-self.result c.greater-self.ensures.left c.greater-self.ensures.right c.loop-p.invariant.goes c.loop-p-test.false
     c.deref-p-items.ensures.value refl c.as_slice.ensures.value refl c.in_ok-body.ensures refl
 
@@ -36,7 +36,7 @@ pub procedure-returns : goal.procedure-returns
 procedure-returns t c = λ rest.
     let r = c.args.ground.now.resolved.now in
     let deep : c.in-Some.inside ≡ suc c.args.depth = omega (arith, c.in-Some.ensures) in
-    let first : Frame = record { depth = c.in-Some.inside; cells = 0; lent = 0 } in
+    let first : Frame = record { depth = c.in-Some.inside; cells = 0; references = 0 } in
     let lowers : LowersBlock c.args.ground.now.types.now (record { sight = c.parameters.new.self; procedures = c.announce.new.self.procedures; most = c.announce.new.self.most }) c.block.new.self c.in_ok-frame.frame (in_labels r (block_of (out-Procedure c.args.p.now).block)) c.in_ok-entry.entry = c.in_ok-entry.ensures in
     procedure_means c.args.ground.now.types.now c.args.self.now c.announce.new.self c.block.new.self c.keep.new.self c.args.depth c.in_ok-index.index c.args.p.now r first c.in_ok-frame.frame c.in_ok-entry.entry rest
     record {
@@ -44,7 +44,7 @@ procedure-returns t c = λ rest.
       sites = c.in_ok-index.ensures.sites;
       announced = c.in_ok-index.ensures.follows;
       pushed = c.in_ok-index.ensures.pushed;
-      first_is = ap (λ n. record { depth = n; cells = 0; lent = 0 }) deep;
+      first_is = ap (λ n. record { depth = n; cells = 0; references = 0 }) deep;
       placed = (c.parameters.new.self, c.in_ok-frame.ensures, lowers);
       back = subst (IsRestored c.announce.new.self.sight c.block.new.self.sight) (sym c.keep.ensures.sight)
           (c.back_to.ensures c.announce.new.self.sight (follows_then c.announce.new.self.sight c.parameters.new.self c.block.new.self.sight c.in_ok-frame.ensures.follows lowers.follows) c.mark-outside.ensures);

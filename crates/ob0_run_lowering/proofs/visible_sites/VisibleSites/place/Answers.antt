@@ -6,7 +6,7 @@ use Rattle.ob0_types_table.specs.Tables.{mode_of}
 use Rattle.ob0_run_lowering.specs.Scenes.{site_at}
 use Rattle.ob0_run_lowering.specs.declared.scene.Site.TheVariants as site
 use Rattle.ob0_run_lowering.specs.Placed.{Places, declared_size, place_one, put_at, slots_at}
-use Rattle.ob0_run_lowering.proofs.Sights.{place-held, place-lent}
+use Rattle.ob0_run_lowering.proofs.Sights.{place-held, place-by_reference}
 use Rattle.ob0_run_lowering.proofs.visible_sites.VisibleSites.place.Goals as goal
 
 pub returns-then-by_place : goal.returns-then-by_place
@@ -14,11 +14,11 @@ returns-then-by_place c =
     let f = c.args.frame in
     let r = c.args.ground.now.resolved.now in
     let size_of = declared_size c.args.ground.now.types.now in
-    let next : c.in-Some.lent ≡ f.lent + 1 = omega (arith, c.in-Some.ensures) in
-    subst (λ b. Places c.args.self.now c.bind.new.self f (place_one (slots_at f.depth) size_of (mode_of b) (label_in r c.args.name)) (record { depth = f.depth; cells = f.cells; lent = c.in-Some.lent })) (sym c.if-by_place.true)
-    (place-lent c.args.self.now c.bind.new.self f (record { depth = f.depth; cells = f.cells; lent = c.in-Some.lent }) size_of (ordinal_in r.ordinals c.args.name) (text_at r.module_read.source c.args.name)
-    (λ k. c.in_ok-bind.ensures.sites k ∙ ap (λ o. put_at o (site.Lent f.depth f.lent) (site_at c.args.self.now.sites.items) k) c.ordinal_at-ordinal.ensures)
-    c.in_ok-bind.ensures.follows (ap (λ n. record f { lent = n }) next))
+    let next : c.in-Some.references ≡ f.references + 1 = omega (arith, c.in-Some.ensures) in
+    subst (λ b. Places c.args.self.now c.bind.new.self f (place_one (slots_at f.depth) size_of (mode_of b) (label_in r c.args.name)) (record { depth = f.depth; cells = f.cells; references = c.in-Some.references })) (sym c.if-by_place.true)
+    (place-by_reference c.args.self.now c.bind.new.self f (record { depth = f.depth; cells = f.cells; references = c.in-Some.references }) size_of (ordinal_in r.ordinals c.args.name) (text_at r.module_read.source c.args.name)
+    (λ k. c.in_ok-bind.ensures.sites k ∙ ap (λ o. put_at o (site.Lent f.depth f.references) (site_at c.args.self.now.sites.items) k) c.ordinal_at-ordinal.ensures)
+    c.in_ok-bind.ensures.follows (ap (λ n. record f { references = n }) next))
 
 pub returns : goal.returns
 returns c =

@@ -3,7 +3,7 @@ use Rattle.ob0_tree.specs.View.{further_fields_of_group, items_of, type_of}
 use Rattle.ob0_tree.proofs.Viewed.{record_made}
 use Rattle.ob0_scope_rules.specs.DeclaredOnce.{groups_fields}
 use Rattle.ob0_scope_rules.specs.DeclaredTwice.{again, fields_twice, groups_twice}
-use Rattle.ob0_scope.proofs.Checking.{gathered, record_told}
+use Rattle.ob0_scope.proofs.Checking.{gathered, record_reported}
 use Rattle.ob0_scope.proofs.checks.Checks.+types.Goals as goal
 
 pub record-returns : goal.record-returns
@@ -15,7 +15,7 @@ record-returns t c =
     let named = c.in_ok-distinct.ensures ∙ ap (λ xs. c.args.self.now ++ again src [] xs) c.deref.ensures.value in
     let rest = gathered (λ xs. groups_twice src (items_of further_fields_of_group xs)) refl c.loop-group-2.invariant c.loop-group-2-test.false
     ∙ ap (λ xs. c.distinct.new.self ++ groups_twice src (items_of further_fields_of_group xs)) c.deref-group-items-2.ensures.value in
-    record_told src c.args.self.now c.distinct.new.self c.loop-group-2.self gs c.loop-group.names.items found named rest
+    record_reported src c.args.self.now c.distinct.new.self c.loop-group-2.self gs c.loop-group.names.items found named rest
 
 pub written-returns-in-Record : goal.written-returns-in-Record
 written-returns-in-Record t c =

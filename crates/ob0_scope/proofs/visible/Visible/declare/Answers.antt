@@ -2,7 +2,7 @@ use Rattle.std.proofs.Common.{◌≡◌, ◌++◌, List, [], ◌∷◌, Some, le
 use Rattle.ob0_scope.specs.declared.visible.Binding.{Binding}
 use Rattle.ob0_scope.specs.NewestNames.{IsRenewed}
 use Rattle.ob0_scope.specs.Shadowing.{ArePlaced, IsNewest}
-use Rattle.ob0_scope.proofs.Shadows.{bound_anew, one_more_placed, still_newest, still_placed}
+use Rattle.ob0_scope.proofs.Shadows.{bound_again, one_more_placed, still_newest, still_placed}
 use Rattle.ob0_scope.proofs.visible.Visible.declare.Goals as goal
 
 pub invariant_of-self-2 : goal.invariant_of-self-2
@@ -19,7 +19,7 @@ invariant_of-self-2 c =
     let there = still_placed c.place.new.self c.renew.new.self items c.renew.ensures.places (still_placed c.self.inside.newest c.place.new.self items c.in_ok-place.ensures.places c.self.invariant.placed) in
     let own = c.renew.ensures.places c.args.name.now c.in_ok-place.place c.in_ok-place.ensures.placed in
     record {
-      is = subst (IsNewest c.renew.new.self) (sym all) (bound_anew c.place.new.self c.renew.new.self items b was hidden renewed);
+      is = subst (IsNewest c.renew.new.self) (sym all) (bound_again c.place.new.self c.renew.new.self items b was hidden renewed);
       placed = subst (ArePlaced c.renew.new.self) (sym all) (one_more_placed c.renew.new.self items b there own);
       first = c.renew.ensures.places c.self.inside.new_name.now 0 first;
     }

@@ -3,7 +3,7 @@ use Rattle.std.proofs.lemmas.Result.{IfOk-weaker}
 use Rattle.ob0_rpc.specs.Seen.{at_seen, id_data}
 use Rattle.ob0_text.specs.OpenDocuments.{OpenDocuments, InStep, OutOfStep, document_at}
 use Rattle.ob0_text.specs.declared.position_types.Unit.{Unit}
-use Rattle.ob0_session.specs.Answers.{State, answers_name, requests_name}
+use Rattle.ob0_session.specs.Answers.{ServerState, answers_name, requests_name}
 use Rattle.ob0_session_queries.specs.Questions.{AnswersName}
 use Rattle.ob0_session.specs.Seen.{Reacts}
 use Rattle.ob0_session.proofs.Answering.{of_held}
@@ -14,7 +14,7 @@ returns-in_ok-keep-in-Some-InStep g c =
     let s = c.args.self.now in
     let id = id_data c.args.id.now in
     let place = at_seen c.args.place.now in
-    let is = ap (λ (t : State). t.held) c.self.view_is in
+    let is = ap (λ (t : ServerState). t.held) c.self.view_is in
     let there = (rw c.in-Some-InStep.field-0-is at c.in-Some-InStep.ensures.held) ∙ ap (document_at c.self.inside.documents) c.as_str-uri.ensures.value in
     let unit = (rw c.in-Some-InStep.field-0-is at c.in-Some-InStep.ensures.unit) ∙ ap (λ (h : OpenDocuments). h.unit) is in
     let text = g.T.TextStore.content c.in-Some-InStep.text.now in
@@ -28,7 +28,7 @@ returns-in-Some-OutOfStep g c =
     let s = c.args.self.now in
     let id = id_data c.args.id.now in
     let place = at_seen c.args.place.now in
-    let is = ap (λ (t : State). t.held) c.self.view_is in
+    let is = ap (λ (t : ServerState). t.held) c.self.view_is in
     let there = (rw c.in-Some-OutOfStep.field-0-is at c.in-Some-OutOfStep.ensures.held) ∙ ap (document_at c.self.inside.documents) c.as_str-uri.ensures.value in
     IfOk-weaker c.refuse_document.result _ _ (λ sent said.
     of_held s id _ place.uri (Some OutOfStep) (λ version. answers_name s.held.unit id place c.args.question) _ is there said) c.refuse_document.ensures

@@ -2,7 +2,7 @@ use Rattle.std.proofs.Common.{◌∙◌, Some, ap, refl, subst, sym}
 use Rattle.ob0_rpc.specs.Seen.{id_data}
 use Rattle.ob0_text.specs.OpenDocuments.{OpenDocuments, InStep, OutOfStep}
 use Rattle.ob0_text.specs.declared.position_types.Unit.{Unit}
-use Rattle.ob0_session.specs.Answers.{State, requests_layout, lays_out}
+use Rattle.ob0_session.specs.Answers.{ServerState, requests_layout, lays_out}
 use Rattle.ob0_session_edits.specs.Formatted.{AnswersFormatting}
 use Rattle.ob0_session.specs.Seen.{Reacts}
 use Rattle.ob0_session.proofs.Answering.{of_held}
@@ -12,7 +12,7 @@ pub returns-in_ok-keep-in-Some-InStep : goal.returns-in_ok-keep-in-Some-InStep
 returns-in_ok-keep-in-Some-InStep g c =
     let s = c.args.self.now in
     let id = id_data c.args.id.now in
-    let is = ap (λ (t : State). t.held) c.self.view_is in
+    let is = ap (λ (t : ServerState). t.held) c.self.view_is in
     let there = rw c.in-Some-InStep.field-0-is at c.in-Some-InStep.ensures.held in
     let unit = (rw c.in-Some-InStep.field-0-is at c.in-Some-InStep.ensures.unit) ∙ ap (λ (h : OpenDocuments). h.unit) is in
     let text = g.T.TextStore.content c.in-Some-InStep.text.now in
@@ -25,6 +25,6 @@ pub returns-in_ok-refused-in-Some-OutOfStep : goal.returns-in_ok-refused-in-Some
 returns-in_ok-refused-in-Some-OutOfStep g c =
     let s = c.args.self.now in
     let id = id_data c.args.id.now in
-    let is = ap (λ (t : State). t.held) c.self.view_is in
+    let is = ap (λ (t : ServerState). t.held) c.self.view_is in
     let there = rw c.in-Some-OutOfStep.field-0-is at c.in-Some-OutOfStep.ensures.held in
     of_held s id _ c.args.uri.now (Some OutOfStep) (λ version. lays_out s.held.unit id c.args.indent) _ is there (refl, (_, refl, c.in_ok-refused-in-Some-OutOfStep.ensures))

@@ -1,14 +1,14 @@
 use Rattle.std.proofs.Common.{◌≡◌, ◌∙◌, [], ◌∷◌, Option, Some, ap, refl, rules, subst, w64, to_z, of_z}
 use Rattle.ob0_text.specs.OpenDocuments.{Document, OpenDocuments, InStep, document_at}
 use Rattle.ob0_text.specs.declared.position_types.Unit.{Unit}
-use Rattle.ob0_session.specs.Answers.{State, Says, published}
+use Rattle.ob0_session.specs.Answers.{ServerState, Says, published}
 use Rattle.ob0_session_edits.specs.Diagnostics.{Diagnoses}
 use Rattle.ob0_session.proofs.server.Server.publish.Goals as goal
 
 pub returns-in_ok-publication-in-Some-InStep-clause-says : goal.returns-in_ok-publication-in-Some-InStep-clause-says
 returns-in_ok-publication-in-Some-InStep-clause-says g c =
     let s = c.args.self.now in
-    let is = ap (λ (t : State). t.held) c.self.view_is in
+    let is = ap (λ (t : ServerState). t.held) c.self.view_is in
     let there = rw c.in-Some-InStep.field-0-is at c.in-Some-InStep.ensures.held in
     let unit = (rw c.in-Some-InStep.field-0-is at c.in-Some-InStep.ensures.unit) ∙ ap (λ (h : OpenDocuments). h.unit) is in
     let text = g.T.TextStore.content c.in-Some-InStep.text.now in

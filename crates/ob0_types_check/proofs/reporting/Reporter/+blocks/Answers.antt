@@ -8,8 +8,8 @@ use Rattle.ob0_scope_rules.specs.Parts.{section_types, section_variables}
 use Rattle.ob0_types_check.specs.DeclarationFaults.{after_heading, reported_block, reported_body, reported_procedures, reported_types, reported_variables}
 use Rattle.ob0_types_check.specs.Operations.{◌>>=◌}
 use Rattle.ob0_types_check.specs.SupposedFacts.{so_far_in}
-use Rattle.ob0_types_check.proofs.Chains.{chain_ends, chain_goes_on, steps, tells_same}
-use Rattle.ob0_types_check.proofs.ToldDeclarations.{block_told, procedure_told, procedures_chain}
+use Rattle.ob0_types_check.proofs.Chains.{chain_ends, chain_goes_on, steps, reports_same}
+use Rattle.ob0_types_check.proofs.ToldDeclarations.{block_reported, procedure_reported, procedures_chain}
 use Rattle.ob0_types_check.proofs.reporting.Reporter.+blocks.Goals as goal
 
 pub block-returns : goal.block-returns
@@ -20,19 +20,19 @@ block-returns t c =
     let variables = section_variables (variables_of b.variables) in
     let procedures = items_of procedure_of b.procedures.items in
     let body = body_of b.body in
-    on_ok_weaker c.body.result (λ h. tells_same
+    on_ok_weaker c.body.result (λ h. reports_same
     (steps (λ q. reported_types q types >>= (λ r. reported_variables r variables >>= (λ s. reported_procedures s procedures >>= (λ o. reported_body o body)))) c.in_ok-constants_of.ensures
     (steps (λ r. reported_variables r variables >>= (λ s. reported_procedures s procedures >>= (λ o. reported_body o body))) c.in_ok-types_of.ensures
     (steps (λ s. reported_procedures s procedures >>= (λ o. reported_body o body)) c.in_ok-variables_of.ensures
     (steps (λ o. reported_body o body) c.in_ok-procedures.ensures h))))
-    (sym (ap (reported_block p) (block_parts c.args.b.now) ∙ block_told p (constants_of b.constants) (types_of b.types) (variables_of b.variables) procedures body))) c.body.ensures
+    (sym (ap (reported_block p) (block_parts c.args.b.now) ∙ block_reported p (constants_of b.constants) (types_of b.types) (variables_of b.variables) procedures body))) c.body.ensures
 
 pub procedures-loop-p-preserved : goal.procedures-loop-p-preserved
 procedures-loop-p-preserved t c = chain_goes_on c.p-item.result procedures_chain c.loop-p.invariant c.loop-p-test.true c.p-item.is c.in_ok-procedure.ensures
 
 pub procedures-returns : goal.procedures-returns
 procedures-returns t c =
-    tells_same (chain_ends procedures_chain c.loop-p.invariant c.loop-p-test.false)
+    reports_same (chain_ends procedures_chain c.loop-p.invariant c.loop-p-test.false)
     (ap (λ ps. reported_procedures (so_far_in c.args.self.now.supposed) (items_of procedure_of ps)) c.deref-p-items.ensures.value)
 
 pub procedure-returns : goal.procedure-returns
@@ -40,6 +40,6 @@ procedure-returns t c =
     let d = c.args.p.now in
     let x = (out-Procedure d).name in
     let b = block_of (out-Procedure d).block in
-    on_ok_weaker c.block.result (λ h. tells_same
-    (steps (λ g. reported_block (after_heading x g) b) c.in_ok-formals.ensures (tells_same h (ap (λ q. reported_block q b) c.define.ensures)))
-    (sym (procedure_told (so_far_in c.args.self.now.supposed) d))) c.block.ensures
+    on_ok_weaker c.block.result (λ h. reports_same
+    (steps (λ g. reported_block (after_heading x g) b) c.in_ok-formals.ensures (reports_same h (ap (λ q. reported_block q b) c.define.ensures)))
+    (sym (procedure_reported (so_far_in c.args.self.now.supposed) d))) c.block.ensures

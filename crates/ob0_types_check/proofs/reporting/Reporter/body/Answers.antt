@@ -4,15 +4,15 @@ use Rattle.ob0_tree.specs.View.{body_of, sequence_listed}
 use Rattle.ob0_types_check.specs.DeclarationFaults.{reported_body}
 use Rattle.ob0_types_check.specs.StatementFaults.{reported_sequence}
 use Rattle.ob0_types_check.specs.SupposedFacts.{so_far_in}
-use Rattle.ob0_types_check.proofs.Chains.{tells_nothing, tells_same}
+use Rattle.ob0_types_check.proofs.Chains.{reports_nothing, reports_same}
 use Rattle.ob0_types_check.proofs.SameFacts.{facts_same}
-use Rattle.ob0_types_check.proofs.ToldDeclarations.{body_told, no_body_told}
+use Rattle.ob0_types_check.proofs.ToldDeclarations.{body_reported, no_body_reported}
 use Rattle.ob0_types_check.proofs.reporting.Reporter.body.Goals as goal
 
 pub returns-in-None : goal.returns-in-None
 returns-in-None c =
     let p = so_far_in c.args.self.now.supposed in
-    tells_same (tells_nothing c.args.self.now.faults.items p) (sym (ap (λ z. reported_body p (body_of z)) c.in-None.is ∙ no_body_told p))
+    reports_same (reports_nothing c.args.self.now.faults.items p) (sym (ap (λ z. reported_body p (body_of z)) c.in-None.is ∙ no_body_reported p))
 
 pub returns-in-Some : goal.returns-in-Some
 returns-in-Some c =
@@ -20,6 +20,6 @@ returns-in-Some c =
     let p = so_far_in s in
     let before = c.args.self.now.faults.items in
     let a = sequence_listed c.in-Some.statements.items in
-    on_ok_weaker c.sequence.result (λ h. tells_same
-    (record { known = refl; told = h ∙ ap (λ facts. before ++ reported_sequence facts a) (facts_same s false) })
-    (sym (ap (λ z. reported_body p (body_of z)) c.in-Some.is ∙ body_told p a))) c.sequence.ensures
+    on_ok_weaker c.sequence.result (λ h. reports_same
+    (record { known = refl; reported = h ∙ ap (λ facts. before ++ reported_sequence facts a) (facts_same s false) })
+    (sym (ap (λ z. reported_body p (body_of z)) c.in-Some.is ∙ body_reported p a))) c.sequence.ensures

@@ -5,9 +5,9 @@ use Rattle.ob0_types_check.specs.Operations.{right}
 use Rattle.ob0_types_check.specs.SoFar.{define}
 use Rattle.ob0_types_check.specs.SupposedFacts.{so_far_in}
 use Rattle.ob0_types_check.specs.TypeFaults.{reported_constant}
-use Rattle.ob0_types_check.proofs.Chains.{steps, tells_known, tells_same}
+use Rattle.ob0_types_check.proofs.Chains.{steps, reports_known, reports_same}
 use Rattle.ob0_types_check.proofs.SameFacts.{facts_same}
-use Rattle.ob0_types_check.proofs.ToldDeclarations.{constant_told}
+use Rattle.ob0_types_check.proofs.ToldDeclarations.{constant_reported}
 use Rattle.ob0_types_check.proofs.reporting.Reporter.constant.Goals as goal
 
 pub returns : goal.returns
@@ -15,6 +15,6 @@ returns c =
     let s = c.args.self.now.supposed in
     let x = c.args.c.now.name in
     let e = expression_of c.args.c.now.value in
-    tells_same
-    (steps (λ v. right (define (so_far_in s) (a_constant v) x)) (tells_same c.in_ok-value.ensures (ap (λ facts. reported_constant facts e) (facts_same s true))) (tells_known c.constant_value.new.faults.items c.define.ensures))
-    (sym (constant_told (so_far_in s) x e))
+    reports_same
+    (steps (λ v. right (define (so_far_in s) (a_constant v) x)) (reports_same c.in_ok-value.ensures (ap (λ facts. reported_constant facts e) (facts_same s true))) (reports_known c.constant_value.new.faults.items c.define.ensures))
+    (sym (constant_reported (so_far_in s) x e))

@@ -4,8 +4,8 @@ use Rattle.ob0_tree.specs.View.{type_of}
 use Rattle.ob0_types_check.specs.DeclarationFaults.{with_parameters}
 use Rattle.ob0_types_check.specs.Operations.{right}
 use Rattle.ob0_types_check.specs.SupposedFacts.{formal_of, heading_in, so_far_in}
-use Rattle.ob0_types_check.proofs.Chains.{steps, tells_known, tells_same}
-use Rattle.ob0_types_check.proofs.ToldDeclarations.{parameters_added, section_told}
+use Rattle.ob0_types_check.proofs.Chains.{steps, reports_known, reports_same}
+use Rattle.ob0_types_check.proofs.ToldDeclarations.{parameters_added, section_reported}
 use Rattle.ob0_types_check.proofs.reporting.Reporter.section.Goals as goal
 
 pub returns : goal.returns
@@ -16,8 +16,8 @@ returns c =
     let h = heading_in c.args.self.now.supposed old in
     let of = c.in_ok-of.of in
     let formal : formal.Formal = record { by_place = s.by_reference; of = of } in
-    let behind : heading_in c.define_all.new.self c.add_formals.new.formals.items ≡ with_parameters h s.by_reference xs (record { of = of; behind = so_far_in c.written_type.new.self.supposed }) =
-    λ i. record { formals = (ap (map formal_of) c.in_ok-add_formals.ensures ∙ parameters_added old formal xs) i; behind = c.define_all.ensures i } in
-    tells_same
-    (steps (λ u. right (with_parameters h s.by_reference xs u)) c.in_ok-of.ensures (tells_known c.written_type.new.self.faults.items behind))
-    (sym (section_told h s.by_reference s.names (type_of s.written)))
+    let following : heading_in c.define_all.new.self c.add_formals.new.formals.items ≡ with_parameters h s.by_reference xs (record { of = of; following = so_far_in c.written_type.new.self.supposed }) =
+    λ i. record { formals = (ap (map formal_of) c.in_ok-add_formals.ensures ∙ parameters_added old formal xs) i; following = c.define_all.ensures i } in
+    reports_same
+    (steps (λ u. right (with_parameters h s.by_reference xs u)) c.in_ok-of.ensures (reports_known c.written_type.new.self.faults.items following))
+    (sym (section_reported h s.by_reference s.names (type_of s.written)))

@@ -3,11 +3,11 @@ use Rattle.ob0_scope_rules.specs.Parts.{section_types}
 use Rattle.ob0_tree.specs.View.{types_of}
 use Rattle.ob0_types_check.specs.DeclarationFaults.{reported_types}
 use Rattle.ob0_types_check.specs.SupposedFacts.{so_far_in}
-use Rattle.ob0_types_check.proofs.Chains.{tells_nothing, tells_same}
+use Rattle.ob0_types_check.proofs.Chains.{reports_nothing, reports_same}
 use Rattle.ob0_types_check.proofs.ToldDeclarations.{types_ended}
 use Rattle.ob0_types_check.proofs.reporting.Reporter.types_of.Goals as goal
 
 pub returns-in-None : goal.returns-in-None
 returns-in-None c =
     let p = so_far_in c.args.self.now.supposed in
-    tells_same (tells_nothing c.args.self.now.faults.items p) (sym (ap (λ z. reported_types p (section_types (types_of z))) c.in-None.is ∙ types_ended p))
+    reports_same (reports_nothing c.args.self.now.faults.items p) (sym (ap (λ z. reported_types p (section_types (types_of z))) c.in-None.is ∙ types_ended p))

@@ -31,4 +31,4 @@ term-returns t c =
     ∙ ap (λ t. c.args.found.now.items ++ marked (meaning_in c.args.self.now) t) (sym (term_parts c.args.t.now))
 
 pub designator-loop-s-preserved : goal.designator-loop-s-preserved
-designator-loop-s-preserved t c = path_goes_on _ _ _ c.loop-s.invariant c.loop-s-test.true c.s-item.is c.in_ok-at.ensures.found c.in_ok-at.ensures.behind
+designator-loop-s-preserved t c = path_goes_on _ _ _ c.loop-s.invariant c.loop-s-test.true c.s-item.is c.in_ok-at.ensures.found c.in_ok-at.ensures.following

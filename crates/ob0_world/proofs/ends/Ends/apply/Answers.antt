@@ -23,7 +23,7 @@ invariant_of-self-in-Dropped g c =
 
 pub invariant_of-self-in_err-push_back-in-Made : goal.invariant_of-self-in_err-push_back-in-Made
 invariant_of-self-in_err-push_back-in-Made g c =
-    maybe_pushed c.apply.new.self.asked c.self.inside.to_server.items c.push_back.new.self.items c.self.inside.to_editor.items c.self.inside.session c.in-Made.content (is_ok c.push_back.result) c.push_back.ensures.items
+    maybe_pushed c.apply.new.self.requested c.self.inside.to_server.items c.push_back.new.self.items c.self.inside.to_editor.items c.self.inside.session c.in-Made.content (is_ok c.push_back.result) c.push_back.ensures.items
     (made_says c.self.inside.editor c.apply.new.self (applies_answer c.self.inside.editor c.args.k (kept_answer c.args.k c.self.inside.editor.answers)) c.in-Made.applied c.in-Made.content
     (subst (λ x. ComesOf (applies_answer c.self.inside.editor c.args.k (kept_answer c.args.k c.self.inside.editor.answers)) c.self.inside.editor x c.apply.new.self) c.in-Made.is c.in_ok-apply.ensures.ok))
     (same_sound c.self.inside.editor c.apply.new.self c.self.inside.to_server.items c.self.inside.to_editor.items c.self.inside.session
@@ -32,7 +32,7 @@ invariant_of-self-in_err-push_back-in-Made g c =
 
 pub invariant_of-self-in_err-push-in-Made : goal.invariant_of-self-in_err-push-in-Made
 invariant_of-self-in_err-push-in-Made g c =
-    maybe_pushed c.apply.new.self.asked c.self.inside.to_server.items c.push_back.new.self.items c.self.inside.to_editor.items c.self.inside.session c.in-Made.content (is_ok c.push_back.result) c.push_back.ensures.items
+    maybe_pushed c.apply.new.self.requested c.self.inside.to_server.items c.push_back.new.self.items c.self.inside.to_editor.items c.self.inside.session c.in-Made.content (is_ok c.push_back.result) c.push_back.ensures.items
     (made_says c.self.inside.editor c.apply.new.self (applies_answer c.self.inside.editor c.args.k (kept_answer c.args.k c.self.inside.editor.answers)) c.in-Made.applied c.in-Made.content
     (subst (λ x. ComesOf (applies_answer c.self.inside.editor c.args.k (kept_answer c.args.k c.self.inside.editor.answers)) c.self.inside.editor x c.apply.new.self) c.in-Made.is c.in_ok-apply.ensures.ok))
     (same_sound c.self.inside.editor c.apply.new.self c.self.inside.to_server.items c.self.inside.to_editor.items c.self.inside.session
@@ -41,7 +41,7 @@ invariant_of-self-in_err-push-in-Made g c =
 
 pub invariant_of-self-in-Made : goal.invariant_of-self-in-Made
 invariant_of-self-in-Made g c =
-    maybe_pushed c.apply.new.self.asked c.self.inside.to_server.items c.push_back.new.self.items c.self.inside.to_editor.items c.self.inside.session c.in-Made.content (is_ok c.push_back.result) c.push_back.ensures.items
+    maybe_pushed c.apply.new.self.requested c.self.inside.to_server.items c.push_back.new.self.items c.self.inside.to_editor.items c.self.inside.session c.in-Made.content (is_ok c.push_back.result) c.push_back.ensures.items
     (made_says c.self.inside.editor c.apply.new.self (applies_answer c.self.inside.editor c.args.k (kept_answer c.args.k c.self.inside.editor.answers)) c.in-Made.applied c.in-Made.content
     (subst (λ x. ComesOf (applies_answer c.self.inside.editor c.args.k (kept_answer c.args.k c.self.inside.editor.answers)) c.self.inside.editor x c.apply.new.self) c.in-Made.is c.in_ok-apply.ensures.ok))
     (same_sound c.self.inside.editor c.apply.new.self c.self.inside.to_server.items c.self.inside.to_editor.items c.self.inside.session

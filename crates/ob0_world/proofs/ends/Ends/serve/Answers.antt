@@ -13,11 +13,11 @@ use Rattle.ob0_world.proofs.ends.Ends.serve.Goals.{in-Some-made+in_ok-push, in_d
 
 pub invariant_of-self-in_err-sent : goal.invariant_of-self-in_err-sent
 invariant_of-self-in_err-sent g c =
-    rest_sound c.self.inside.editor.asked c.self.inside.to_server.items c.pop_front.new.self.items c.self.inside.to_editor.items c.self.inside.session c.answer.new.session c.in-Some.content c.in-Some.ensures.items c.self.invariant (subst IsRunningOrFailed (sym c.in_err-sent.ensures.err) tt)
+    rest_sound c.self.inside.editor.requested c.self.inside.to_server.items c.pop_front.new.self.items c.self.inside.to_editor.items c.self.inside.session c.answer.new.session c.in-Some.content c.in-Some.ensures.items c.self.invariant (subst IsRunningOrFailed (sym c.in_err-sent.ensures.err) tt)
 
 pub invariant_of-self-in_err-made : goal.invariant_of-self-in_err-made
 invariant_of-self-in_err-made g c =
-    rest_sound c.self.inside.editor.asked c.self.inside.to_server.items c.pop_front.new.self.items c.self.inside.to_editor.items c.self.inside.session c.answer.new.session c.in-Some.content c.in-Some.ensures.items c.self.invariant
+    rest_sound c.self.inside.editor.requested c.self.inside.to_server.items c.pop_front.new.self.items c.self.inside.to_editor.items c.self.inside.session c.answer.new.session c.in-Some.content c.in-Some.ensures.items c.self.invariant
     (turn_stands c.self.inside.editor c.self.inside.to_server.items c.pop_front.new.self.items c.self.inside.session c.answer.new.session c.in-Some.content c.in_ok-sent.sent.items
     (turn c.self.inside.editor c.self.inside.to_server.items c.pop_front.new.self.items c.self.inside.to_editor.items c.self.inside.session c.answer.new.session c.in-Some.content c.in_ok-sent.sent.items c.in-Some.ensures.items c.self.invariant
     (subst (λ x. IsAnswered c.self.inside.session x (bytes c.in_ok-sent.sent.items) c.answer.new.session) c.as_slice.ensures.value c.in_ok-sent.ensures.ok)))
@@ -59,7 +59,7 @@ returns-clause-ok g c =
           (turn_happens c.self.inside.editor c.self.inside.to_server.items c.pop_front.new.self.items c.self.inside.to_editor.items c.append.new.self.items c.self.inside.session c.answer.new.session c.self.inside.applied.items c.self.inside.made.items w.push.new.self.items c.in-Some.content c.in_ok-sent.sent.items c.documents.result.now c.in_ok-made.made c.len-count.result c.in-Some.ensures.items
           (turn c.self.inside.editor c.self.inside.to_server.items c.pop_front.new.self.items c.self.inside.to_editor.items c.self.inside.session c.answer.new.session c.in-Some.content c.in_ok-sent.sent.items c.in-Some.ensures.items c.self.invariant
           (subst (λ x. IsAnswered c.self.inside.session x (bytes c.in_ok-sent.sent.items) c.answer.new.session) c.as_slice.ensures.value c.in_ok-sent.ensures.ok))
-          c.documents.ensures (c.in_ok-made.ensures ∙ ap (made_sent c.documents.result.now c.self.inside.editor.asked) c.as_slice-2.ensures.value) (c.in_ok-append.ensures.items ∙ ap (λ x. c.self.inside.to_editor.items ++ x) c.from_vec.ensures.items)
+          c.documents.ensures (c.in_ok-made.ensures ∙ ap (made_sent c.documents.result.now c.self.inside.editor.requested) c.as_slice-2.ensures.value) (c.in_ok-append.ensures.items ∙ ap (λ x. c.self.inside.to_editor.items ++ x) c.from_vec.ensures.items)
           (w.in_ok-push.ensures.items ∙ ap (λ o. c.self.inside.made.items ++ option_to_list o) (sym w.in-Some-made.is)) (c.len-count.ensures ∙ c.in_ok-sent.sent.ok.0)))
       | in_default-made w ↦
           subst (λ (x : Both). ServerTakes c.args.self.now.ends c.args.self.now.ends.to_server (events.served c.len-count.result) x.ends) (sym w.self-is)
@@ -67,7 +67,7 @@ returns-clause-ok g c =
           (turn_happens c.self.inside.editor c.self.inside.to_server.items c.pop_front.new.self.items c.self.inside.to_editor.items c.append.new.self.items c.self.inside.session c.answer.new.session c.self.inside.applied.items c.self.inside.made.items c.self.inside.made.items c.in-Some.content c.in_ok-sent.sent.items c.documents.result.now c.in_ok-made.made c.len-count.result c.in-Some.ensures.items
           (turn c.self.inside.editor c.self.inside.to_server.items c.pop_front.new.self.items c.self.inside.to_editor.items c.self.inside.session c.answer.new.session c.in-Some.content c.in_ok-sent.sent.items c.in-Some.ensures.items c.self.invariant
           (subst (λ x. IsAnswered c.self.inside.session x (bytes c.in_ok-sent.sent.items) c.answer.new.session) c.as_slice.ensures.value c.in_ok-sent.ensures.ok))
-          c.documents.ensures (c.in_ok-made.ensures ∙ ap (made_sent c.documents.result.now c.self.inside.editor.asked) c.as_slice-2.ensures.value) (c.in_ok-append.ensures.items ∙ ap (λ x. c.self.inside.to_editor.items ++ x) c.from_vec.ensures.items)
+          c.documents.ensures (c.in_ok-made.ensures ∙ ap (made_sent c.documents.result.now c.self.inside.editor.requested) c.as_slice-2.ensures.value) (c.in_ok-append.ensures.items ∙ ap (λ x. c.self.inside.to_editor.items ++ x) c.from_vec.ensures.items)
           (sym (ap (λ o. c.self.inside.made.items ++ option_to_list o) w.in_default-made.is ∙ append-nil c.self.inside.made.items)) (c.len-count.ensures ∙ c.in_ok-sent.sent.ok.0)))
     ]
 

@@ -8,24 +8,24 @@ use Rattle.ob0_world.proofs.ends.Ends.take.Goals as goal
 
 pub invariant_of-self-in_err-message : goal.invariant_of-self-in_err-message
 invariant_of-self-in_err-message g c =
-    taken_sound c.self.inside.editor.asked c.self.inside.to_server.items c.self.inside.to_editor.items c.pop_front.new.self.items c.self.inside.session c.in-Some.content c.in-Some.ensures.items c.self.invariant
+    taken_sound c.self.inside.editor.requested c.self.inside.to_server.items c.self.inside.to_editor.items c.pop_front.new.self.items c.self.inside.session c.in-Some.content c.in-Some.ensures.items c.self.invariant
 
 pub invariant_of-self-in-Published : goal.invariant_of-self-in-Published
 invariant_of-self-in-Published g c =
-    taken_sound c.self.inside.editor.asked c.self.inside.to_server.items c.self.inside.to_editor.items c.pop_front.new.self.items c.self.inside.session c.in-Some.content c.in-Some.ensures.items c.self.invariant
+    taken_sound c.self.inside.editor.requested c.self.inside.to_server.items c.self.inside.to_editor.items c.pop_front.new.self.items c.self.inside.session c.in-Some.content c.in-Some.ensures.items c.self.invariant
 
 pub invariant_of-self-in_err-edits-in-Answered : goal.invariant_of-self-in_err-edits-in-Answered
 invariant_of-self-in_err-edits-in-Answered g c =
     same_sound c.self.inside.editor c.keep.new.self c.self.inside.to_server.items c.pop_front.new.self.items c.self.inside.session c.in_err-edits-in-Answered.ensures.err
-    (taken_sound c.self.inside.editor.asked c.self.inside.to_server.items c.self.inside.to_editor.items c.pop_front.new.self.items c.self.inside.session c.in-Some.content c.in-Some.ensures.items c.self.invariant)
+    (taken_sound c.self.inside.editor.requested c.self.inside.to_server.items c.self.inside.to_editor.items c.pop_front.new.self.items c.self.inside.session c.in-Some.content c.in-Some.ensures.items c.self.invariant)
 
 pub invariant_of-self-in-Answered : goal.invariant_of-self-in-Answered
 invariant_of-self-in-Answered g c =
     same_sound c.self.inside.editor c.keep.new.self c.self.inside.to_server.items c.pop_front.new.self.items c.self.inside.session
-    (ap (λ (e : Editor). e.asked) c.in_ok-edits-in-Answered.ensures.kept ∙ keep_asks c.self.inside.editor c.in-Answered.number (replacements c.in-Answered.edits.items))
-    (taken_sound c.self.inside.editor.asked c.self.inside.to_server.items c.self.inside.to_editor.items c.pop_front.new.self.items c.self.inside.session c.in-Some.content c.in-Some.ensures.items c.self.invariant)
+    (ap (λ (e : Editor). e.requested) c.in_ok-edits-in-Answered.ensures.kept ∙ keep_asks c.self.inside.editor c.in-Answered.number (replacements c.in-Answered.edits.items))
+    (taken_sound c.self.inside.editor.requested c.self.inside.to_server.items c.self.inside.to_editor.items c.pop_front.new.self.items c.self.inside.session c.in-Some.content c.in-Some.ensures.items c.self.invariant)
 
 pub unreachable-requires : goal.unreachable-requires
 unreachable-requires g c =
-    taken_says c.self.inside.editor.asked c.self.inside.to_server.items c.self.inside.to_editor.items c.pop_front.new.self.items c.self.inside.session c.in-Some.content c.in-Some.ensures.items c.self.invariant
-    (sym (ap (understood c.self.inside.editor.asked) c.as_slice.ensures.value) ∙ sym c.in_ok-message.ensures ∙ ap (option_map message_of) c.in_default-2.is)
+    taken_says c.self.inside.editor.requested c.self.inside.to_server.items c.self.inside.to_editor.items c.pop_front.new.self.items c.self.inside.session c.in-Some.content c.in-Some.ensures.items c.self.invariant
+    (sym (ap (understood c.self.inside.editor.requested) c.as_slice.ensures.value) ∙ sym c.in_ok-message.ensures ∙ ap (option_map message_of) c.in_default-2.is)

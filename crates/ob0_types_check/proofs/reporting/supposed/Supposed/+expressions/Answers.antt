@@ -12,14 +12,14 @@ use Rattle.ob0_types_rules.proofs.TreeParts.{addend_parts, expression_alone, exp
 use Rattle.ob0_types_check.specs.ExpressionFaults.{reported_addends, reported_expression, reported_factor, reported_multipliers, reported_selector, reported_selectors, reported_simple, reported_term}
 use Rattle.ob0_types_check.specs.Operations.{add_operands, complement_operand, element_selected, enclosed, multiply_operands, relate_operands, right, sign_operand, ◌>>=◌}
 use Rattle.ob0_types_check.specs.SupposedFacts.{facts_in, operand_of}
-use Rattle.ob0_types_check.proofs.Chains.{chain_ends, chain_goes_on, steps, tells_nothing, tells_same}
-use Rattle.ob0_types_check.proofs.ToldParts.{added_chain, alone_told, designator_told, field_told, index_told, integer_told, multiplied_chain, negation_told, parentheses_told, related_told, selected_chain, simple_told, term_told, told_added}
+use Rattle.ob0_types_check.proofs.Chains.{chain_ends, chain_goes_on, steps, reports_nothing, reports_same}
+use Rattle.ob0_types_check.proofs.ToldParts.{added_chain, alone_reported, designator_reported, field_reported, index_reported, integer_reported, multiplied_chain, negation_reported, parentheses_reported, related_reported, selected_chain, simple_reported, term_reported, reported_added}
 use Rattle.ob0_types_check.proofs.reporting.supposed.Supposed.+expressions.Goals as goal
 
 pub expression-returns-in-None : goal.expression-returns-in-None
 expression-returns-in-None t c =
     let facts = facts_in c.args.self.now c.args.only_constants in
-    tells_same c.in_ok-left.ensures (sym (ap (reported_expression facts) (expression_alone c.args.e.now c.in-None.is) ∙ alone_told facts (simple_of (out-Expression c.args.e.now).left)))
+    reports_same c.in_ok-left.ensures (sym (ap (reported_expression facts) (expression_alone c.args.e.now c.in-None.is) ∙ alone_reported facts (simple_of (out-Expression c.args.e.now).left)))
 
 pub expression-returns-in_ok-right-in-Some : goal.expression-returns-in_ok-right-in-Some
 expression-returns-in_ok-right-in-Some t c =
@@ -27,49 +27,49 @@ expression-returns-in_ok-right-in-Some t c =
     let compared = out-Comparison c.deref-compared.result.now in
     let left = simple_of (out-Expression c.args.e.now).left in
     let right = simple_of compared.right in
-    IfOk-weaker c.relate.result _ _ (λ o h. tells_same (steps (λ x. reported_simple facts right >>= relate_operands facts compared.relation x) c.in_ok-left.ensures (steps (relate_operands facts compared.relation (operand_of c.in_ok-left.left)) c.in_ok-right-in-Some.ensures h))
+    IfOk-weaker c.relate.result _ _ (λ o h. reports_same (steps (λ x. reported_simple facts right >>= relate_operands facts compared.relation x) c.in_ok-left.ensures (steps (relate_operands facts compared.relation (operand_of c.in_ok-left.left)) c.in_ok-right-in-Some.ensures h))
     (sym (ap (reported_expression facts) (expression_related c.args.e.now c.in-Some.compared c.in-Some.is)
     ∙ sym (ap (λ k. reported_expression facts (compares left (one (relates (out-Comparison k).relation (simple_of (out-Comparison k).right))))) c.deref-compared.ensures)
-    ∙ related_told facts compared.relation left right))) c.relate.ensures
+    ∙ related_reported facts compared.relation left right))) c.relate.ensures
 
 pub factor-returns-in_ok-base-in-Designator : goal.factor-returns-in_ok-base-in-Designator
 factor-returns-in_ok-base-in-Designator t c =
     let facts = facts_in c.args.self.now c.args.only_constants in
     let d = c.in-Designator.d in
     let path = items_of selector_of d.selectors.items in
-    IfOk-weaker c.selected.result _ _ (λ o h. tells_same (steps (λ x. reported_selectors facts x path) c.in_ok-base-in-Designator.ensures h)
-    (sym (ap (λ f. reported_factor facts (factor_of f)) c.in-Designator.is ∙ ap (reported_factor facts) (designator_made d) ∙ designator_told facts d.name path))) c.selected.ensures
+    IfOk-weaker c.selected.result _ _ (λ o h. reports_same (steps (λ x. reported_selectors facts x path) c.in_ok-base-in-Designator.ensures h)
+    (sym (ap (λ f. reported_factor facts (factor_of f)) c.in-Designator.is ∙ ap (reported_factor facts) (designator_made d) ∙ designator_reported facts d.name path))) c.selected.ensures
 
 pub factor-returns-in-Integer : goal.factor-returns-in-Integer
 factor-returns-in-Integer t c =
     let facts = facts_in c.args.self.now c.args.only_constants in
-    tells_same (tells_nothing c.args.faults.now.items (operand_of c.integer.result))
-    (ap right c.integer.ensures ∙ sym (ap (λ f. reported_factor facts (factor_of f)) c.in-Integer.is ∙ integer_told facts c.in-Integer.token))
+    reports_same (reports_nothing c.args.faults.now.items (operand_of c.integer.result))
+    (ap right c.integer.ensures ∙ sym (ap (λ f. reported_factor facts (factor_of f)) c.in-Integer.is ∙ integer_reported facts c.in-Integer.token))
 
 pub factor-returns-in_ok-inside-in-Parenthesised : goal.factor-returns-in_ok-inside-in-Parenthesised
 factor-returns-in_ok-inside-in-Parenthesised t c =
     let facts = facts_in c.args.self.now c.args.only_constants in
-    tells_same (steps (λ x. right (enclosed facts x)) c.in_ok-inside-in-Parenthesised.ensures (tells_same (tells_nothing c.expression.new.faults.items (operand_of c.in_parentheses.result)) (ap right c.in_parentheses.ensures)))
-    (ap (λ e. reported_expression facts e >>= (λ x. right (enclosed facts x))) (ap expression_of c.deref.ensures) ∙ sym (ap (λ f. reported_factor facts (factor_of f)) c.in-Parenthesised.is ∙ parentheses_told facts (expression_of c.in-Parenthesised.e.value)))
+    reports_same (steps (λ x. right (enclosed facts x)) c.in_ok-inside-in-Parenthesised.ensures (reports_same (reports_nothing c.expression.new.faults.items (operand_of c.in_parentheses.result)) (ap right c.in_parentheses.ensures)))
+    (ap (λ e. reported_expression facts e >>= (λ x. right (enclosed facts x))) (ap expression_of c.deref.ensures) ∙ sym (ap (λ f. reported_factor facts (factor_of f)) c.in-Parenthesised.is ∙ parentheses_reported facts (expression_of c.in-Parenthesised.e.value)))
 
 pub factor-returns-in_ok-operand-in-Not : goal.factor-returns-in_ok-operand-in-Not
 factor-returns-in_ok-operand-in-Not t c =
     let facts = facts_in c.args.self.now c.args.only_constants in
-    IfOk-weaker c.complement.result _ _ (λ o h. tells_same (steps (complement_operand facts) c.in_ok-operand-in-Not.ensures h)
-    (ap (λ f. reported_factor facts f >>= complement_operand facts) (ap factor_of c.deref-in-Not.ensures) ∙ sym (ap (λ f. reported_factor facts (factor_of f)) c.in-Not.is ∙ negation_told facts (factor_of c.in-Not.f.value)))) c.complement.ensures
+    IfOk-weaker c.complement.result _ _ (λ o h. reports_same (steps (complement_operand facts) c.in_ok-operand-in-Not.ensures h)
+    (ap (λ f. reported_factor facts f >>= complement_operand facts) (ap factor_of c.deref-in-Not.ensures) ∙ sym (ap (λ f. reported_factor facts (factor_of f)) c.in-Not.is ∙ negation_reported facts (factor_of c.in-Not.f.value)))) c.complement.ensures
 
 pub select-returns-in-Field : goal.select-returns-in-Field
 select-returns-in-Field t c =
     let facts = facts_in c.args.self.now c.args.only_constants in
     let x = operand_of c.args.base in
-    IfOk-weaker c.select_field.result _ _ (λ o h. tells_same h (sym (ap (λ s. reported_selector facts x (selector_of s)) c.in-Field.is ∙ field_told facts x c.in-Field.name))) c.select_field.ensures
+    IfOk-weaker c.select_field.result _ _ (λ o h. reports_same h (sym (ap (λ s. reported_selector facts x (selector_of s)) c.in-Field.is ∙ field_reported facts x c.in-Field.name))) c.select_field.ensures
 
 pub select-returns-in_ok-index-in-Index : goal.select-returns-in_ok-index-in-Index
 select-returns-in_ok-index-in-Index t c =
     let facts = facts_in c.args.self.now c.args.only_constants in
     let x = operand_of c.args.base in
-    IfOk-weaker c.select_element.result _ _ (λ o h. tells_same (steps (element_selected facts x) c.in_ok-index-in-Index.ensures h)
-    (sym (ap (λ s. reported_selector facts x (selector_of s)) c.in-Index.is ∙ index_told facts x (expression_of c.in-Index.e)))) c.select_element.ensures
+    IfOk-weaker c.select_element.result _ _ (λ o h. reports_same (steps (element_selected facts x) c.in_ok-index-in-Index.ensures h)
+    (sym (ap (λ s. reported_selector facts x (selector_of s)) c.in-Index.is ∙ index_reported facts x (expression_of c.in-Index.e)))) c.select_element.ensures
 
 pub selected-loop-selector-preserved : goal.selected-loop-selector-preserved
 selected-loop-selector-preserved t c =
@@ -79,7 +79,7 @@ selected-loop-selector-preserved t c =
 pub selected-returns : goal.selected-returns
 selected-returns t c =
     let facts = facts_in c.args.self.now c.args.only_constants in
-    tells_same (chain_ends (selected_chain facts) c.loop-selector.invariant c.loop-selector-test.false)
+    reports_same (chain_ends (selected_chain facts) c.loop-selector.invariant c.loop-selector-test.false)
     (ap (λ xs. reported_selectors facts (operand_of c.args.base) (items_of selector_of xs)) c.deref-selector-items.ensures.value)
 
 pub simple-loop-addend-preserved : goal.simple-loop-addend-preserved
@@ -88,17 +88,17 @@ simple-loop-addend-preserved t c =
     let a = c.addend-item.result in
     let out = operand_of c.loop-addend.so_far in
     chain_goes_on a (added_chain facts) c.loop-addend.invariant c.loop-addend-test.true c.addend-item.is
-    (tells_same (steps (add_operands facts (out-Addend a).operator out) c.in_ok-right.ensures c.in_ok-so_far-2.ensures) (ap (told_added facts out) (sym (addend_parts a))))
+    (reports_same (steps (add_operands facts (out-Addend a).operator out) c.in_ok-right.ensures c.in_ok-so_far-2.ensures) (ap (reported_added facts out) (sym (addend_parts a))))
 
 pub simple-returns : goal.simple-returns
 simple-returns t c =
     let facts = facts_in c.args.self.now c.args.only_constants in
     let s = out-Simple c.args.s.now in
     let rest = items_of addend_of s.more.items in
-    let chain = tells_same (chain_ends (added_chain facts) c.loop-addend.invariant c.loop-addend-test.false)
+    let chain = reports_same (chain_ends (added_chain facts) c.loop-addend.invariant c.loop-addend-test.false)
     (ap (λ xs. reported_addends facts (operand_of c.in_ok-so_far.so_far) (items_of addend_of xs)) c.deref-addend-items.ensures.value) in
-    tells_same (steps (λ x. sign_operand facts s.sign x >>= (λ y. reported_addends facts y rest)) c.in_ok-first.ensures (steps (λ y. reported_addends facts y rest) c.in_ok-so_far.ensures chain))
-    (sym (ap (reported_simple facts) (simple_parts c.args.s.now) ∙ simple_told facts s.sign (term_of s.first) rest))
+    reports_same (steps (λ x. sign_operand facts s.sign x >>= (λ y. reported_addends facts y rest)) c.in_ok-first.ensures (steps (λ y. reported_addends facts y rest) c.in_ok-so_far.ensures chain))
+    (sym (ap (reported_simple facts) (simple_parts c.args.s.now) ∙ simple_reported facts s.sign (term_of s.first) rest))
 
 pub term-loop-multiplier-preserved : goal.term-loop-multiplier-preserved
 term-loop-multiplier-preserved t c =
@@ -112,7 +112,7 @@ term-returns t c =
     let facts = facts_in c.args.self.now c.args.only_constants in
     let s = out-Term c.args.t.now in
     let rest = items_of multiplier_of s.more.items in
-    let chain = tells_same (chain_ends (multiplied_chain facts) c.loop-multiplier.invariant c.loop-multiplier-test.false)
+    let chain = reports_same (chain_ends (multiplied_chain facts) c.loop-multiplier.invariant c.loop-multiplier-test.false)
     (ap (λ xs. reported_multipliers facts (operand_of c.in_ok-so_far.so_far) (items_of multiplier_of xs)) c.deref-multiplier-items.ensures.value) in
-    tells_same (steps (λ x. reported_multipliers facts x rest) c.in_ok-so_far.ensures chain)
-    (sym (ap (reported_term facts) (term_parts c.args.t.now) ∙ term_told facts (factor_of s.first) rest))
+    reports_same (steps (λ x. reported_multipliers facts x rest) c.in_ok-so_far.ensures chain)
+    (sym (ap (reported_term facts) (term_parts c.args.t.now) ∙ term_reported facts (factor_of s.first) rest))

@@ -3,12 +3,12 @@ use Rattle.ob0_tree.specs.View.{expression_of}
 use Rattle.ob0_types_check.specs.SupposedFacts.{facts_in, formal_of}
 use Rattle.ob0_types_check.specs.StatementFaults.{passed}
 use Rattle.ob0_types_check.proofs.Chains.{steps}
-use Rattle.ob0_types_check.proofs.ToldStatements.{argument_told}
+use Rattle.ob0_types_check.proofs.ToldStatements.{argument_reported}
 use Rattle.ob0_types_check.proofs.reporting.supposed.Supposed.argument.Goals as goal
 
 pub returns : goal.returns
 returns c =
     let facts = facts_in c.args.self.now false in
     let f = formal_of c.args.formal.now in
-    (steps (passed facts f) c.in_ok-operand.ensures c.in_ok-pass.ensures).told
-    ∙ sym (ap (λ g. c.args.faults.now.items ++ g) (argument_told facts f (expression_of c.args.e.now)))
+    (steps (passed facts f) c.in_ok-operand.ensures c.in_ok-pass.ensures).reported
+    ∙ sym (ap (λ g. c.args.faults.now.items ++ g) (argument_reported facts f (expression_of c.args.e.now)))

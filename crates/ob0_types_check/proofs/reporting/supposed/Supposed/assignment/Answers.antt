@@ -5,9 +5,9 @@ use Rattle.ob0_types_check.specs.Operations.{a_name}
 use Rattle.ob0_types_check.specs.ExpressionFaults.{reported_selectors}
 use Rattle.ob0_types_check.specs.StatementFaults.{reported_required}
 use Rattle.ob0_types_check.specs.SupposedFacts.{facts_in}
-use Rattle.ob0_types_check.proofs.Chains.{steps, tells_same}
-use Rattle.ob0_types_check.proofs.Listed.{told_behind}
-use Rattle.ob0_types_check.proofs.ToldStatements.{assigned_told, target_told}
+use Rattle.ob0_types_check.proofs.Chains.{steps, reports_same}
+use Rattle.ob0_types_check.proofs.Listed.{reported_following}
+use Rattle.ob0_types_check.proofs.ToldStatements.{assigned_reported, target_reported}
 use Rattle.ob0_types_check.proofs.reporting.supposed.Supposed.assignment.Goals as goal
 
 pub returns : goal.returns
@@ -18,5 +18,5 @@ returns c =
     let x = a.target.name in
     let path = items_of selector_of a.target.selectors.items in
     let e = expression_of a.value in
-    let target = tells_same (steps (λ t. reported_selectors facts (a_name t x) path) c.in_ok-target_type.ensures c.in_ok-target.ensures) (sym (target_told facts x path)) in
-    on_ok_weaker c.right_side.result (λ h. told_behind (λ o. reported_required facts o.of e) target h ∙ sym (ap (λ f. before ++ f) (assigned_told facts x path e))) c.right_side.ensures
+    let target = reports_same (steps (λ t. reported_selectors facts (a_name t x) path) c.in_ok-target_type.ensures c.in_ok-target.ensures) (sym (target_reported facts x path)) in
+    on_ok_weaker c.right_side.result (λ h. reported_following (λ o. reported_required facts o.of e) target h ∙ sym (ap (λ f. before ++ f) (assigned_reported facts x path e))) c.right_side.ensures

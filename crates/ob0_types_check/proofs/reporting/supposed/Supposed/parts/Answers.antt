@@ -6,7 +6,7 @@ use Rattle.ob0_types_check.proofs.reporting.supposed.Supposed.parts.Goals as goa
 
 pub loop-e-preserved : goal.loop-e-preserved
 loop-e-preserved c =
-    each_goes_on c.e-item.result (parts_each (facts_in c.args.self.now false)) c.loop-e.invariant c.loop-e-test.true c.e-item.is c.in_ok-expression.ensures.told
+    each_goes_on c.e-item.result (parts_each (facts_in c.args.self.now false)) c.loop-e.invariant c.loop-e-test.true c.e-item.is c.in_ok-expression.ensures.reported
 
 pub returns : goal.returns
 returns c = each_ends (parts_each (facts_in c.args.self.now false)) c.loop-e.invariant c.loop-e-test.false

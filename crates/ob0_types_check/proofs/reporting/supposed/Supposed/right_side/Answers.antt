@@ -3,11 +3,11 @@ use Rattle.ob0_tree.specs.View.{expression_of}
 use Rattle.ob0_types_check.specs.Operations.{required}
 use Rattle.ob0_types_check.specs.SupposedFacts.{facts_in}
 use Rattle.ob0_types_check.proofs.Chains.{steps}
-use Rattle.ob0_types_check.proofs.ToldStatements.{asked_told}
+use Rattle.ob0_types_check.proofs.ToldStatements.{requested_reported}
 use Rattle.ob0_types_check.proofs.reporting.supposed.Supposed.right_side.Goals as goal
 
 pub returns : goal.returns
 returns c =
     let facts = facts_in c.args.self.now false in
-    (steps (required facts c.args.wanted) c.in_ok-operand.ensures c.in_ok-require.ensures).told
-    ∙ sym (ap (λ g. c.args.faults.now.items ++ g) (asked_told facts c.args.wanted (expression_of c.args.e.now)))
+    (steps (required facts c.args.wanted) c.in_ok-operand.ensures c.in_ok-require.ensures).reported
+    ∙ sym (ap (λ g. c.args.faults.now.items ++ g) (requested_reported facts c.args.wanted (expression_of c.args.e.now)))

@@ -1,6 +1,6 @@
 use Rattle.std.proofs.lemmas.Result.{on_ok_weaker}
 use Rattle.ob0_rpc.proofs.Appending.{object_named}
-use Rattle.ob0_rpc.proofs.objects.EntryWritten.write.Goals as goal
+use Rattle.ob0_rpc.proofs.objects.OneMemberWritten.write.Goals as goal
 
 pub returns : goal.returns
 returns g c =

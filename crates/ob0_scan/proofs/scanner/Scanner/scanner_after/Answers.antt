@@ -2,8 +2,8 @@ use Rattle.std.proofs.Common.{[], ◌∙◌, ◌++◌, ℕ, ap, append-nil, sym,
 use Rattle.ob0_scan.specs.Progress.{ScanProgress}
 use Rattle.ob0_scan.specs.Rescanning.{last_end}
 use Rattle.ob0_scan.proofs.Steps.{progress_same}
-use Rattle.ob0_scan.proofs.Reusing.{progress_behind}
-use Rattle.ob0_scan.proofs.scanner.Scanner.behind.Goals as goal
+use Rattle.ob0_scan.proofs.Reusing.{progress_following}
+use Rattle.ob0_scan.proofs.scanner.Scanner.scanner_after.Goals as goal
 
 pub returns-clause-under_way : goal.returns-clause-under_way
 returns-clause-under_way c =
@@ -16,4 +16,4 @@ returns-clause-under_way c =
     let end = last_end tokens comments in
     subst (λ (n : ℕ). ScanProgress text n (tokens ++ us) (comments ++ ds) gs) (sym c.end.ensures)
     (progress_same text end tokens (tokens ++ us) comments (comments ++ ds) [] gs (ap (λ x. tokens ++ x) c.new.ensures.items ∙ append-nil tokens) (ap (λ x. comments ++ x) c.new-2.ensures.items ∙ append-nil comments) c.new-3.ensures.items
-    (progress_behind text end tokens comments c.utf8.text c.requires.inside c.requires.cut))
+    (progress_following text end tokens comments c.utf8.text c.requires.inside c.requires.cut))
