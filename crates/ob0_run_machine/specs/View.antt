@@ -210,7 +210,7 @@ abbrev mutual
   statement_of (statement.Call c) = call_of c
 
   pub if_of : if_statement.Conditional → lowered.Instruction
-  if_of (if_statement.If' shape branches shape' otherwise) =
+  if_of (if_statement.Conditional' shape branches shape' otherwise) =
       lowered.chooses (branches_of branches) (statements_of otherwise)
 
   pub statements_of : {n : _} → statement.Row_of-Instruction n → lowered.Instructions

@@ -153,7 +153,7 @@ static ROWS: &[(&str, usize, &str)] = &[
 ];
 
 #[test]
-fn names_and_fields_are_reported_of(rt: HostRuntime) -> Result<(), Fail> {
+fn names_and_fields_are_found(rt: HostRuntime) -> Result<(), Fail> {
     for row in ROWS {
         let (text, offset, wanted) = *row;
         let found = said(rt.alloc(), text, &NameAt { offset })?;

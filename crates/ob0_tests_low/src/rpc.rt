@@ -43,7 +43,7 @@ static CONTENTS: &[(&str, &str)] = &[
 ];
 
 #[test]
-fn contents_are_reported_apart(rt: HostRuntime) {
+fn contents_are_distinguished(rt: HostRuntime) {
     for row in CONTENTS {
         let (content, kind) = *row;
         assert!(rt; kind_of(rt.alloc(), content) == kind, "{content}");
@@ -241,7 +241,7 @@ static REQUESTS: &[(&str, &str, &str)] = &[
 ];
 
 #[test]
-fn requests_are_reported_apart(rt: HostRuntime) {
+fn requests_are_distinguished(rt: HostRuntime) {
     for row in REQUESTS {
         let (method, params, word) = *row;
         assert!(rt;

@@ -14,16 +14,16 @@ fn leaves_all(alloc: Global, story: &Story) -> bool {
     }
 }
 
-fn goes_as_reported(alloc: Global, story: &Story) -> bool {
+fn plays_as_written(alloc: Global, story: &Story) -> bool {
     way_of::<Lines>(alloc, story) == Way::AsTold
         && way_of::<Whole>(alloc, story) == Way::AsTold
         && leaves_all(alloc, story)
 }
 
-/// The name of the first story that doesn't go as it is reported; of none the empty one.
-fn first_untold(alloc: Global) -> &'static str {
+/// The name of the first story that is not played as written; of none the empty one.
+fn first_unplayed(alloc: Global) -> &'static str {
     for story in stories() {
-        if !goes_as_reported(alloc, story) {
+        if !plays_as_written(alloc, story) {
             return story.name;
         }
     }
@@ -31,8 +31,8 @@ fn first_untold(alloc: Global) -> &'static str {
 }
 
 #[test]
-fn worlds_go_as_they_are_reported(rt: HostRuntime) {
-    let name = first_untold(rt.alloc());
+fn worlds_play_as_written(rt: HostRuntime) {
+    let name = first_unplayed(rt.alloc());
     assert!(rt; name.is_empty(), "{name}");
 }
 
