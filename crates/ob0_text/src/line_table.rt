@@ -23,7 +23,10 @@ impl Model for LineTable {
 
     ghost Value = { Table };
 
-    ghost view = { λ t. record { starts = starts_in t.len t.front.items t.back.items; len = t.len } };
+    ghost view = { λ t. record {
+      starts = starts_in t.len t.front.items t.back.items;
+      len = t.len;
+    } };
 }
 
 impl LineTable {
