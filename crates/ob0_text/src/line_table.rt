@@ -113,7 +113,7 @@ impl LineTable {
     }
 }
 
-/// Moves starts from the front to the back, until so many are left.
+/// Moves starts from the front to the back, until `count` are left.
 fn move_left(
     front: &mut Vec<usize>,
     back: &mut Vec<usize>,
@@ -136,7 +136,7 @@ fn move_left(
     Ok(())
 }
 
-/// Moves starts from the back to the front, until there are so many.
+/// Moves starts from the back to the front, until there are `count`.
 fn move_right(
     front: &mut Vec<usize>,
     back: &mut Vec<usize>,
