@@ -46,8 +46,8 @@ pub fn format<T: TextStore>(
 {
     let tokens = module.tokens();
     let text = tokens.text().as_bytes();
-    let standings = line_roles(alloc, module)?;
-    let sites = all_sites(alloc, tokens, &standings)?;
+    let roles = line_roles(alloc, module)?;
+    let sites = all_sites(alloc, tokens, &roles)?;
     if !fits(&sites, text.len(), indent) {
         return Err(EditRefusal::TooLong);
     }
