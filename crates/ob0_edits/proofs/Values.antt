@@ -47,7 +47,7 @@ writes n h = decimal_by_steps Writes one_digit more_digits n h
 digits_lexeme : (n : ℕ) → n ≤ 2147483647 → IsInteger n (decimal n)
 digits_lexeme n h =
     let w = writes n (omega arith) in
-    record { digits = record { nonempty = w.some; all = w.all }; object_for = sym w.value; fits = h }
+    record { digits = record { nonempty = w.some; all = w.all }; value_of_digits = sym w.value; fits = h }
 
 -- a number that isn't negative
 pub a_number : (n : ℕ) → n ≤ 2147483647 → ReplacesName (decimal n) (integer_word n ∷ [])
@@ -99,10 +99,10 @@ the_least = record {
     one_space = record { nonempty = omega arith; all = All-cons (λ b. is_space b ≡ true) 32 [] refl (All-nil (λ b. is_space b ≡ true)) }
 
     most : IsInteger 2147483647 (codes "2147483647")
-    most = record { digits = record { nonempty = omega arith; all = AllPass-from_list_all is_ascii_digit (codes "2147483647") refl }; object_for = refl; fits = omega arith }
+    most = record { digits = record { nonempty = omega arith; all = AllPass-from_list_all is_ascii_digit (codes "2147483647") refl }; value_of_digits = refl; fits = omega arith }
 
     unit : IsInteger 1 (codes "1")
-    unit = record { digits = record { nonempty = omega arith; all = AllPass-from_list_all is_ascii_digit (codes "1") refl }; object_for = refl; fits = omega arith }
+    unit = record { digits = record { nonempty = omega arith; all = AllPass-from_list_all is_ascii_digit (codes "1") refl }; value_of_digits = refl; fits = omega arith }
 
 -- the value of a constant: any number of 32 bits
 pub a_value : (z : ℤ) → IsInt32 z → ReplacesName (number_text z) (number_words z)
