@@ -19,7 +19,7 @@ status_of fault.Memory = 5
 abbrev pub StopsPrinting : FileFault → Type 0
 StopsPrinting f = (f ≡ fault.Write) ⊎ (f ≡ fault.Memory)
 
--- why nothing is reported of a file: its bytes are no UTF-8, or what is wrong with it can't be printed
+-- why nothing is reported of a file: its bytes aren't UTF-8, or what is wrong with it can't be printed
 abbrev pub StopsPrintingFaults : List ℕ → FileFault → Type 0
 StopsPrintingFaults file f = ((f ≡ fault.Utf8) × ¬ (IsUtf8 file)) ⊎ StopsPrinting f
 
@@ -41,7 +41,7 @@ status_at end.TurnBound = 1
 abbrev pub IsStatus : ℕ → Type 0
 IsStatus status = (status ≤ 1) ⊎ ((status ≡ 4) ⊎ (status ≡ 5))
 
--- what is wrong where nothing is reported of a file: its bytes are no UTF-8, or the output has failed
+-- what is wrong where nothing is reported of a file: its bytes aren't UTF-8, or the output has failed
 abbrev pub CanNotReport : List ℕ → Bool → Type 0
 CanNotReport file failed = ¬ (IsUtf8 file) ⊎ (failed ≡ true)
 

@@ -21,7 +21,8 @@ use std::alloc::{AllocError, Global};
 pub fn check_text<O: Output, E: Output>(alloc: Global, file: &[u8], out: &mut O, err: &mut E) -> u8
     ensures nothing { result ≡ 0 → Reports file.now [] }
     ensures quiet { result ≡ 0 → out.new ≡ out.old }
-    ensures reported { result ≡ 1 → PrintsFaults file.now (O.contents out.old) (O.contents out.new) }
+    ensures reported { result ≡ 1 → PrintsFaults file.now (O.contents out.old)
+        (O.contents out.new) }
     ensures flushed { result ≡ 1 → O.is_flushed out.new ≡ true }
     ensures statuses { IsStatus result }
     ensures unreported { result ≡ 4 → CanNotReport file.now (O.has_failed out.new) }

@@ -38,7 +38,7 @@ impl Question for LoweringQuestion {
 /// each execution of a loop, and prints what it outputs to `out`, an end other than Done to `err` as `fault: NAME`. A file
 /// that isn't a module is reported as by `check_text`, before the input is read. Answers the status with which the program
 /// ends: 0 for Done, 1 for another end and for diagnostics, 4 and 5 as `check_text`, 4 also for an input that can't be read,
-/// is too long or is no list of numbers.
+/// is too long or isn't a list of numbers.
 pub fn run_text<R: Read, O: Output, E: Output>(
     alloc: Global,
     file: &[u8],

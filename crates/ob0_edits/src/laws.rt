@@ -31,18 +31,28 @@ pub fn values_replace_names()
 
 /// Edits at the places of identifiers leave the words of the new text there and all others as they are.
 pub fn edits_leave_words()
-    ensures { (s : Scanned) → IsScan s → (places new : List ℕ) (ws : List Word) → AreNames s.tokens 0 places → IsUtf8 new → ReplacesName new ws
-        → (unit : Unit) (edits : List Edit) → map parts edits ≡ map (edit_at unit (chars s.text) s.tokens new) places → length (with_text_at s places new) ≤ max_text
+    ensures { (s : Scanned) → IsScan s → (places new : List ℕ) (ws : List Word)
+        → AreNames s.tokens 0 places → IsUtf8 new → ReplacesName new ws
+        → (unit : Unit) (edits : List Edit)
+        → map parts edits ≡ map (edit_at unit (chars s.text) s.tokens new) places
+        → length (with_text_at s places new) ≤ max_text
         → LeavesWords unit (chars s.text) edits (changed (at_each places ws) 0 (words_of s)) }
 {}
 
 /// So do edits that also take out the declaration of a constant before these places, which leave no word of it.
 pub fn edits_leave_other_words()
-    ensures { (s : Scanned) → IsScan s → (first last : ℕ) → IsDeclaration s.tokens first last → (places new : List ℕ) (ws : List Word) → AreNames s.tokens (suc last) places
+    ensures { (s : Scanned) → IsScan s → (first last : ℕ) → IsDeclaration s.tokens first last
+        → (places new : List ℕ) (ws : List Word) → AreNames s.tokens (suc last) places
         → IsUtf8 new → ReplacesName new ws
-        → (unit : Unit) (edits : List Edit) → map parts edits ≡ (range_of (width_of unit) (chars s.text) (span_over s.tokens first last), []) ∷ map (edit_at unit (chars s.text) s.tokens new) places
+        → (unit : Unit) (edits : List Edit)
+        → map parts edits ≡ (
+          range_of (width_of unit) (chars s.text)
+              (span_over s.tokens first last),
+          [],
+        ) ∷ map (edit_at unit (chars s.text) s.tokens new) places
         → length (without_text s first last places new) ≤ max_text
-        → LeavesWords unit (chars s.text) edits (changed (without first last (at_each places ws)) 0 (words_of s)) }
+        → LeavesWords unit (chars s.text) edits (changed (without first last (at_each places ws)) 0
+        (words_of s)) }
 {}
 
 /// Words with a name at some places are spelled by the tree with that name there.
@@ -57,7 +67,8 @@ pub fn inlined_words_spell()
 
 /// A factor makes the tree deeper by no more than its own nesting.
 pub fn inlined_nesting()
-    ensures { (sort : Sort) (t : Tree ℕ sort) (places : List ℕ) (v : Tree (List ℕ) factor) (f : ℕ → List ℕ) (g : ℕ → ℕ)
+    ensures { (sort : Sort) (t : Tree ℕ sort) (places : List ℕ) (v : Tree (List ℕ) factor)
+        (f : ℕ → List ℕ) (g : ℕ → ℕ)
         → nesting (inlined (factor_at places v) f g t) ≤ nesting t + nesting v }
 {}
 

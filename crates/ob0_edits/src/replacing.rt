@@ -32,7 +32,8 @@ pub fn edits_for<T: TextStore>(
     ensures short { IfOk result
         (λ edits. length (with_text_at tokens.now places.now new.now) ≤ max_text) }
     ensures words { (ws : List Word) → ReplacesName new.now ws
-        → IfOk result (λ edits. LeavesWords (T.unit_of store.now) (T.content store.now) edits.items (changed (at_each places.now ws) 0 (words_of tokens.now))) }
+        → IfOk result (λ edits. LeavesWords (T.unit_of store.now) (T.content store.now) edits.items
+        (changed (at_each places.now ws) 0 (words_of tokens.now))) }
     ensures too_long { IsErrOf result TooLong
         → max_text < length (with_text_at tokens.now places.now new.now) }
     ensures refusals { IfErr result (λ refusal. (refusal ≡ TooLong) ⊎ (refusal ≡ Memory)) }
@@ -61,11 +62,17 @@ pub fn edits_without<T: TextStore>(
     requires declaration { IsDeclaration tokens.now.tokens first last }
     requires names { AreNames tokens.now.tokens (suc last) places.now }
     ensures edits { IfOk result (λ edits. map parts edits.items
-        ≡ (range_of (width_of (T.unit_of store.now)) (T.content store.now) (span_over tokens.now.tokens first last), []) ∷ map (edit_at (T.unit_of store.now) (T.content store.now) tokens.now.tokens new.now) places.now) }
+        ≡ (
+          range_of (width_of (T.unit_of store.now)) (T.content store.now)
+              (span_over tokens.now.tokens first last),
+          [],
+        ) ∷ map (edit_at (T.unit_of store.now)
+        (T.content store.now) tokens.now.tokens new.now) places.now) }
     ensures short { IfOk result
         (λ edits. length (without_text tokens.now first last places.now new.now) ≤ max_text) }
     ensures words { (ws : List Word) → ReplacesName new.now ws
-        → IfOk result (λ edits. LeavesWords (T.unit_of store.now) (T.content store.now) edits.items (changed (without first last (at_each places.now ws)) 0 (words_of tokens.now))) }
+        → IfOk result (λ edits. LeavesWords (T.unit_of store.now) (T.content store.now) edits.items
+        (changed (without first last (at_each places.now ws)) 0 (words_of tokens.now))) }
     ensures too_long { IsErrOf result TooLong
         → max_text < length (without_text tokens.now first last places.now new.now) }
     ensures refusals { IfErr result (λ refusal. (refusal ≡ TooLong) ⊎ (refusal ≡ Memory)) }

@@ -23,7 +23,9 @@ pub(crate) fn is_too_deep<T: TextStore>(
     read: &Module,
     edits: &[Edit],
 ) -> Result<bool, EditRefusal>
-    ensures deep { (ws : List Word) (t : Tree (List ℕ) module_text) → LeavesWords (T.unit_of store.now) (T.content store.now) edits.now ws → map word_lexeme ws ≡ spell t → nesting t ≤ nesting (tree_of read.now) + 1
+    ensures deep { (ws : List Word) (t : Tree (List ℕ) module_text)
+        → LeavesWords (T.unit_of store.now) (T.content store.now) edits.now ws
+        → map word_lexeme ws ≡ spell t → nesting t ≤ nesting (tree_of read.now) + 1
         → IfOk result (λ deep. deep ≡ nat_lt max_nesting (nesting t)) }
     ensures memory { IfErr result (λ refusal. refusal ≡ Memory) }
 {
@@ -39,7 +41,9 @@ fn is_parsed_too_deep<T: TextStore>(
     store: &T,
     edits: &[Edit],
 ) -> Result<bool, EditRefusal>
-    ensures deep { (ws : List Word) (t : Tree (List ℕ) module_text) → LeavesWords (T.unit_of store.now) (T.content store.now) edits.now ws → map word_lexeme ws ≡ spell t
+    ensures deep { (ws : List Word) (t : Tree (List ℕ) module_text)
+        → LeavesWords (T.unit_of store.now) (T.content store.now) edits.now ws
+        → map word_lexeme ws ≡ spell t
         → IfOk result (λ deep. deep ≡ nat_lt max_nesting (nesting t)) }
     ensures memory { IfErr result (λ refusal. refusal ≡ Memory) }
 {
@@ -57,7 +61,8 @@ fn is_parsed_too_deep<T: TextStore>(
 
 /// Whether a text that has the tokens of a tree is a module: then the tree is nested no deeper than a module may be.
 fn is_module(alloc: Global, text: &str) -> Result<bool, EditRefusal>
-    ensures shallow { (s : Scanned) (t : Tree (List ℕ) module_text) → IsScan s → s.text ≡ text.now → text_lexemes s ≡ spell t
+    ensures shallow { (s : Scanned) (t : Tree (List ℕ) module_text) → IsScan s → s.text ≡ text.now
+        → text_lexemes s ≡ spell t
         → IfOk result (λ shallow. shallow ≡ nat_le (nesting t) max_nesting) }
     ensures memory { IfErr result (λ refusal. refusal ≡ Memory) }
 {

@@ -88,8 +88,14 @@ fn edits_everywhere<T: TextStore>(
     requires content { T.content store.now ≡ chars names.now.module_read.source.text }
     requires is_constant { IsConstant names.now.module_read constant }
     ensures edits { IfOk result (λ edits. map parts edits.items
-        ≡ (range_of (width_of (T.unit_of store.now)) (T.content store.now) (span_over names.now.module_read.source.tokens constant.first constant.last), [])
-        ∷ map (edit_at (T.unit_of store.now) (T.content store.now) names.now.module_read.source.tokens (value_text constant.value)) (uses_of names.now.module_read constant.ordinal)) }
+        ≡ (
+          range_of (width_of (T.unit_of store.now)) (T.content store.now)
+              (span_over names.now.module_read.source.tokens constant.first constant.last),
+          [],
+        )
+        ∷ map (edit_at (T.unit_of store.now)
+        (T.content store.now) names.now.module_read.source.tokens (value_text constant.value))
+        (uses_of names.now.module_read constant.ordinal)) }
     ensures inlined { IsAlone names.now.module_read constant.ordinal
         → IfOk result (λ edits. LeavesModule (T.unit_of store.now) (T.content store.now) edits.items
         (inlined_all names.now.module_read constant)) }

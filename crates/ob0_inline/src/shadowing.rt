@@ -97,7 +97,9 @@ fn is_hidden(
     name: &str,
     ordinal: usize,
 ) -> Result<bool, AllocError>
-    ensures { IfOk result (λ hidden. hidden ≡ list_any (λ k. same_ordinal (binds (named_tree_of names.now.module_read) k) constant && not (same_ordinal (sees (named_tree_of names.now.module_read) k name.now) ordinal))
+    ensures { IfOk result (λ hidden.
+        hidden ≡ list_any (λ k. same_ordinal (binds (named_tree_of names.now.module_read) k) constant
+        && not (same_ordinal (sees (named_tree_of names.now.module_read) k name.now) ordinal))
         (range_with_len 0 (length (bindings (named_tree_of names.now.module_read))))) }
 {
     // For the proof: what the contract of this call says.

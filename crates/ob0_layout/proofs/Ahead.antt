@@ -69,7 +69,7 @@ abbrev pub make_site : ℕ → ℕ → Gap → GapSite
 make_site start end gap = record { start = start; end = end; gap = gap }
 
 abbrev pub make_solid : LexemeKind → LineRole → Solid
-make_solid kind standing = record { kind = kind; standing = standing }
+make_solid kind role = record { kind = kind; role = role }
 
 module _ (text : List ℕ) (before : Option Solid) (level : ℕ) (ss : List LineRole) (from : ℕ) where
   -- nothing but white space
@@ -93,12 +93,12 @@ module _ (text : List ℕ) (before : Option Solid) (level : ℕ) (ss : List Line
     pub gaps : sites before level broken ss from at rest
         ≡ make_site from place (gap_before before (lexeme.Token kind) (next_role ss)) ∷ sites (Some (make_solid (lexeme.Token kind) (next_role ss))) (next_line level ss) false (drop 1 ss) (place + size) (place + size) ls
 
-  abbrev standing_of : ℕ → Bool → ℕ → LineRole
-  standing_of at broken place = comment_role (broken || has_break (slice_range text at place)) (next_line level ss)
+  abbrev role_of : ℕ → Bool → ℕ → LineRole
+  role_of at broken place = comment_role (broken || has_break (slice_range text at place)) (next_line level ss)
 
   abbrev with_comment : LineRole → ℕ → ℕ → List Lexeme → List GapSite
-  with_comment standing place size ls =
-      make_site from place (gap_before before lexeme.Comment standing) ∷ sites (Some (make_solid lexeme.Comment standing)) level false ss (place + size) (place + size) ls
+  with_comment role place size ls =
+      make_site from place (gap_before before lexeme.Comment role) ∷ sites (Some (make_solid lexeme.Comment role)) level false ss (place + size) (place + size) ls
 
   -- a comment, after white space
   pub record CommentAhead (at : ℕ) (broken : Bool) (rest : List Lexeme) : Type 0 where
@@ -110,7 +110,7 @@ module _ (text : List ℕ) (before : Option Solid) (level : ℕ) (ss : List Line
     pub stand : StandFrom text (place + size) ls []
     pub tokens : tokens_from at rest ≡ tokens_from (place + size) ls
     pub comments : comments_from at rest ≡ span_from place size ∷ comments_from (place + size) ls
-    pub gaps : sites before level broken ss from at rest ≡ with_comment (standing_of at broken place) place size ls
+    pub gaps : sites before level broken ss from at rest ≡ with_comment (role_of at broken place) place size ls
 
   abbrev pub Ahead : ℕ → Bool → List Lexeme → Type 0
   Ahead at broken rest = NoMore at broken rest ⊎ (TokenAhead at broken rest ⊎ CommentAhead at broken rest)
@@ -268,8 +268,8 @@ module _ (text : List ℕ) (whole : List GapSite) (left : List Token) (comments 
     pub ordered : span.start ≤ span.end
     pub within : span.end ≤ length text
     pub some : 0 < length comments
-    pub after : let standing = comment_role (is_none before || has_break (slice_range text start span.start)) (next_line level ss) in
-        Sited text whole left (drop 1 comments) ss (Some (make_solid lexeme.Comment standing)) level span.end (out ++ (make_site start span.start (gap_before before lexeme.Comment standing) ∷ []))
+    pub after : let role = comment_role (is_none before || has_break (slice_range text start span.start)) (next_line level ss) in
+        Sited text whole left (drop 1 comments) ss (Some (make_solid lexeme.Comment role)) level span.end (out ++ (make_site start span.start (gap_before before lexeme.Comment role) ∷ []))
 
   pub record TokenStep (token : Token) : Type 0 where
     pub up : start ≤ token.span.start

@@ -89,69 +89,69 @@ differ : false ≡ true → ⊥
 differ e = cc
 
 -- what follows directly goes on with nothing
-quiet_symbol : (s : Symbol) (standing : LineRole) → follows_directly (lexeme.Token (token.Symbol s)) standing ≡ true → Quiet (get_or (symbol_text s) 0 0)
-quiet_symbol symbol.And standing h = absurd (differ h)
-quiet_symbol symbol.Times standing h = absurd (differ h)
-quiet_symbol symbol.Plus standing h = absurd (differ h)
-quiet_symbol symbol.Minus standing h = absurd (differ h)
-quiet_symbol symbol.Equal standing h = absurd (differ h)
-quiet_symbol symbol.NotEqual standing h = absurd (differ h)
-quiet_symbol symbol.Less standing h = absurd (differ h)
-quiet_symbol symbol.LessEqual standing h = absurd (differ h)
-quiet_symbol symbol.Greater standing h = absurd (differ h)
-quiet_symbol symbol.GreaterEqual standing h = absurd (differ h)
-quiet_symbol symbol.Not standing h = absurd (differ h)
-quiet_symbol symbol.Dot standing h = record { alone = refl; unequal = refl; starless = refl }
-quiet_symbol symbol.Comma standing h = record { alone = refl; unequal = refl; starless = refl }
-quiet_symbol symbol.Semicolon standing h = record { alone = refl; unequal = refl; starless = refl }
-quiet_symbol symbol.Colon standing h = record { alone = refl; unequal = refl; starless = refl }
-quiet_symbol symbol.Becomes standing h = absurd (differ h)
-quiet_symbol symbol.LeftParen standing h = record { alone = refl; unequal = refl; starless = refl }
-quiet_symbol symbol.RightParen standing h = record { alone = refl; unequal = refl; starless = refl }
-quiet_symbol symbol.LeftBracket standing h = record { alone = refl; unequal = refl; starless = refl }
-quiet_symbol symbol.RightBracket standing h = record { alone = refl; unequal = refl; starless = refl }
+quiet_symbol : (s : Symbol) (role : LineRole) → follows_directly (lexeme.Token (token.Symbol s)) role ≡ true → Quiet (get_or (symbol_text s) 0 0)
+quiet_symbol symbol.And role h = absurd (differ h)
+quiet_symbol symbol.Times role h = absurd (differ h)
+quiet_symbol symbol.Plus role h = absurd (differ h)
+quiet_symbol symbol.Minus role h = absurd (differ h)
+quiet_symbol symbol.Equal role h = absurd (differ h)
+quiet_symbol symbol.NotEqual role h = absurd (differ h)
+quiet_symbol symbol.Less role h = absurd (differ h)
+quiet_symbol symbol.LessEqual role h = absurd (differ h)
+quiet_symbol symbol.Greater role h = absurd (differ h)
+quiet_symbol symbol.GreaterEqual role h = absurd (differ h)
+quiet_symbol symbol.Not role h = absurd (differ h)
+quiet_symbol symbol.Dot role h = record { alone = refl; unequal = refl; starless = refl }
+quiet_symbol symbol.Comma role h = record { alone = refl; unequal = refl; starless = refl }
+quiet_symbol symbol.Semicolon role h = record { alone = refl; unequal = refl; starless = refl }
+quiet_symbol symbol.Colon role h = record { alone = refl; unequal = refl; starless = refl }
+quiet_symbol symbol.Becomes role h = absurd (differ h)
+quiet_symbol symbol.LeftParen role h = record { alone = refl; unequal = refl; starless = refl }
+quiet_symbol symbol.RightParen role h = record { alone = refl; unequal = refl; starless = refl }
+quiet_symbol symbol.LeftBracket role h = record { alone = refl; unequal = refl; starless = refl }
+quiet_symbol symbol.RightBracket role h = record { alone = refl; unequal = refl; starless = refl }
 
-quiet_first : (k : LexemeKind) (text : List ℕ) (standing : LineRole) → Belongs k text → follows_directly k standing ≡ true → Quiet (get_or text 0 0)
-quiet_first lexeme.Space text standing b h = absurd (differ h)
-quiet_first lexeme.Comment text standing b h = absurd (differ h)
-quiet_first (lexeme.Token token.Identifier) text standing b h = absurd (differ h)
-quiet_first (lexeme.Token (token.Reserved r)) text standing b h = absurd (differ h)
-quiet_first (lexeme.Token (token.Integer n)) text standing b h = absurd (differ h)
-quiet_first (lexeme.Token (token.Symbol s)) text standing b h = subst (λ t. Quiet (get_or t 0 0)) (sym b) (quiet_symbol s standing h)
+quiet_first : (k : LexemeKind) (text : List ℕ) (role : LineRole) → Belongs k text → follows_directly k role ≡ true → Quiet (get_or text 0 0)
+quiet_first lexeme.Space text role b h = absurd (differ h)
+quiet_first lexeme.Comment text role b h = absurd (differ h)
+quiet_first (lexeme.Token token.Identifier) text role b h = absurd (differ h)
+quiet_first (lexeme.Token (token.Reserved r)) text role b h = absurd (differ h)
+quiet_first (lexeme.Token (token.Integer n)) text role b h = absurd (differ h)
+quiet_first (lexeme.Token (token.Symbol s)) text role b h = subst (λ t. Quiet (get_or t 0 0)) (sym b) (quiet_symbol s role h)
 
 -- what follows directly is continued at most by a `*` after a `(`
 abbrev left_paren : LexemeKind
 left_paren = lexeme.Token (token.Symbol symbol.LeftParen)
 
-direct_symbol : (s : Symbol) (standing : LineRole) (x : ℕ) → precedes_directly (lexeme.Token (token.Symbol s)) standing ≡ true → (lexeme.Token (token.Symbol s) ≡ left_paren → (x == 42) ≡ false) → joins s x ≡ false
-direct_symbol symbol.And standing x h star = refl
-direct_symbol symbol.Times standing x h star = refl
-direct_symbol symbol.Plus standing x h star = refl
-direct_symbol symbol.Minus standing x h star = refl
-direct_symbol symbol.Equal standing x h star = refl
-direct_symbol symbol.NotEqual standing x h star = refl
-direct_symbol symbol.Less standing x h star = absurd (differ h)
-direct_symbol symbol.LessEqual standing x h star = refl
-direct_symbol symbol.Greater standing x h star = absurd (differ h)
-direct_symbol symbol.GreaterEqual standing x h star = refl
-direct_symbol symbol.Not standing x h star = refl
-direct_symbol symbol.Dot standing x h star = refl
-direct_symbol symbol.Comma standing x h star = refl
-direct_symbol symbol.Semicolon standing x h star = refl
-direct_symbol symbol.Colon standing x h star = absurd (differ h)
-direct_symbol symbol.Becomes standing x h star = refl
-direct_symbol symbol.LeftParen standing x h star = star refl
-direct_symbol symbol.RightParen standing x h star = refl
-direct_symbol symbol.LeftBracket standing x h star = refl
-direct_symbol symbol.RightBracket standing x h star = refl
+direct_symbol : (s : Symbol) (role : LineRole) (x : ℕ) → precedes_directly (lexeme.Token (token.Symbol s)) role ≡ true → (lexeme.Token (token.Symbol s) ≡ left_paren → (x == 42) ≡ false) → joins s x ≡ false
+direct_symbol symbol.And role x h star = refl
+direct_symbol symbol.Times role x h star = refl
+direct_symbol symbol.Plus role x h star = refl
+direct_symbol symbol.Minus role x h star = refl
+direct_symbol symbol.Equal role x h star = refl
+direct_symbol symbol.NotEqual role x h star = refl
+direct_symbol symbol.Less role x h star = absurd (differ h)
+direct_symbol symbol.LessEqual role x h star = refl
+direct_symbol symbol.Greater role x h star = absurd (differ h)
+direct_symbol symbol.GreaterEqual role x h star = refl
+direct_symbol symbol.Not role x h star = refl
+direct_symbol symbol.Dot role x h star = refl
+direct_symbol symbol.Comma role x h star = refl
+direct_symbol symbol.Semicolon role x h star = refl
+direct_symbol symbol.Colon role x h star = absurd (differ h)
+direct_symbol symbol.Becomes role x h star = refl
+direct_symbol symbol.LeftParen role x h star = star refl
+direct_symbol symbol.RightParen role x h star = refl
+direct_symbol symbol.LeftBracket role x h star = refl
+direct_symbol symbol.RightBracket role x h star = refl
 
-direct_ends : (k : LexemeKind) (standing : LineRole) (x : ℕ) → precedes_directly k standing ≡ true → (k ≡ left_paren → (x == 42) ≡ false) → continues k x ≡ false
-direct_ends lexeme.Space standing x h star = absurd (differ h)
-direct_ends lexeme.Comment standing x h star = absurd (differ h)
-direct_ends (lexeme.Token token.Identifier) standing x h star = absurd (differ h)
-direct_ends (lexeme.Token (token.Reserved r)) standing x h star = absurd (differ h)
-direct_ends (lexeme.Token (token.Integer n)) standing x h star = absurd (differ h)
-direct_ends (lexeme.Token (token.Symbol s)) standing x h star = direct_symbol s standing x h star
+direct_ends : (k : LexemeKind) (role : LineRole) (x : ℕ) → precedes_directly k role ≡ true → (k ≡ left_paren → (x == 42) ≡ false) → continues k x ≡ false
+direct_ends lexeme.Space role x h star = absurd (differ h)
+direct_ends lexeme.Comment role x h star = absurd (differ h)
+direct_ends (lexeme.Token token.Identifier) role x h star = absurd (differ h)
+direct_ends (lexeme.Token (token.Reserved r)) role x h star = absurd (differ h)
+direct_ends (lexeme.Token (token.Integer n)) role x h star = absurd (differ h)
+direct_ends (lexeme.Token (token.Symbol s)) role x h star = direct_symbol s role x h star
 
 -- only the token `*` begins with `*`
 other_family : (text : List ℕ) (f : Family) → family (get_or text 0 0) ≡ f → (families.Mark ≡ f → ⊥) → (get_or text 0 0 == 42) ≡ false
@@ -216,33 +216,33 @@ record Neighbours (a b : PlacedLexeme) : Type 0 where
   starless : a.lexeme.kind ≡ left_paren → is_comment b.lexeme.kind ≡ false → (get_or b.lexeme.text 0 0 == 42) ≡ false
 
 joined_fits : (a b : PlacedLexeme) → Neighbours a b → is_comment b.lexeme.kind ≡ false
-    → (follows_directly b.lexeme.kind b.standing || precedes_directly a.lexeme.kind a.standing) ≡ true → Fits a.lexeme.kind (get_or b.lexeme.text 0 0) []
+    → (follows_directly b.lexeme.kind b.role || precedes_directly a.lexeme.kind a.role) ≡ true → Fits a.lexeme.kind (get_or b.lexeme.text 0 0) []
 joined_fits a b n uncommented h = directly (⊎_elim
-    (λ f. quiet_ends a.lexeme.kind (get_or b.lexeme.text 0 0) n.left (quiet_first b.lexeme.kind b.lexeme.text b.standing n.right_belongs f))
-    (λ p. direct_ends a.lexeme.kind a.standing (get_or b.lexeme.text 0 0) p (λ paren. n.starless paren uncommented))
-    (either_true (follows_directly b.lexeme.kind b.standing) (precedes_directly a.lexeme.kind a.standing) h))
+    (λ f. quiet_ends a.lexeme.kind (get_or b.lexeme.text 0 0) n.left (quiet_first b.lexeme.kind b.lexeme.text b.role n.right_belongs f))
+    (λ p. direct_ends a.lexeme.kind a.role (get_or b.lexeme.text 0 0) p (λ paren. n.starless paren uncommented))
+    (either_true (follows_directly b.lexeme.kind b.role) (precedes_directly a.lexeme.kind a.role) h))
 
 in_line_fits : (indent : Indent) (a b : PlacedLexeme) → Neighbours a b → (c d : Bool) → (is_comment a.lexeme.kind || is_comment b.lexeme.kind) ≡ c
-    → (follows_directly b.lexeme.kind b.standing || precedes_directly a.lexeme.kind a.standing) ≡ d
+    → (follows_directly b.lexeme.kind b.role || precedes_directly a.lexeme.kind a.role) ≡ d
     → Fits a.lexeme.kind (get_or b.lexeme.text 0 0) (gap_text indent (cond c Space (cond d Nothing Space)))
 in_line_fits indent a b n true d e f = space_fits a.lexeme.kind (get_or b.lexeme.text 0 0)
 in_line_fits indent a b n false true e f = joined_fits a b n (both_false (is_comment a.lexeme.kind) (is_comment b.lexeme.kind) e) f
 in_line_fits indent a b n false false e f = space_fits a.lexeme.kind (get_or b.lexeme.text 0 0)
 
 gap_in_line_fits : (indent : Indent) (a b : PlacedLexeme) → Neighbours a b
-    → Fits a.lexeme.kind (get_or b.lexeme.text 0 0) (gap_text indent (gap_in_line a.lexeme.kind a.standing b.lexeme.kind b.standing))
+    → Fits a.lexeme.kind (get_or b.lexeme.text 0 0) (gap_text indent (gap_in_line a.lexeme.kind a.role b.lexeme.kind b.role))
 gap_in_line_fits indent a b n = in_line_fits indent a b n _ _ refl refl
 
-gap_between_fits : (indent : Indent) (a : PlacedLexeme) (l : Lexeme) (s : LineRole) → Neighbours a (record { lexeme = l; standing = s })
-    → Fits a.lexeme.kind (get_or l.text 0 0) (gap_text indent (gap_between a.lexeme.kind a.standing l.kind s))
+gap_between_fits : (indent : Indent) (a : PlacedLexeme) (l : Lexeme) (s : LineRole) → Neighbours a (record { lexeme = l; role = s })
+    → Fits a.lexeme.kind (get_or l.text 0 0) (gap_text indent (gap_between a.lexeme.kind a.role l.kind s))
 gap_between_fits indent a l (Begins level) n = line_fits a.lexeme.kind (get_or l.text 0 0) indent level
-gap_between_fits indent a l Opening n = gap_in_line_fits indent a (record { lexeme = l; standing = Opening }) n
-gap_between_fits indent a l Joining n = gap_in_line_fits indent a (record { lexeme = l; standing = Joining }) n
-gap_between_fits indent a l Plain n = gap_in_line_fits indent a (record { lexeme = l; standing = Plain }) n
+gap_between_fits indent a l Opening n = gap_in_line_fits indent a (record { lexeme = l; role = Opening }) n
+gap_between_fits indent a l Joining n = gap_in_line_fits indent a (record { lexeme = l; role = Joining }) n
+gap_between_fits indent a l Plain n = gap_in_line_fits indent a (record { lexeme = l; role = Plain }) n
 
 gap_fits : (indent : Indent) (a b : PlacedLexeme) → Neighbours a b → Fits a.lexeme.kind (get_or b.lexeme.text 0 0) (gap indent a b)
 unfolding gap
-gap_fits indent a b n = gap_between_fits indent a b.lexeme b.standing n
+gap_fits indent a b n = gap_between_fits indent a b.lexeme b.role n
 
 first_of : (l : Lexeme) (ls : List Lexeme) → Belongs l.kind l.text → get_or (joined (l ∷ ls)) 0 0 ≡ get_or l.text 0 0
 first_of l ls h = get_or_append_left l.text (joined ls) 0 0 (nonempty l.kind l.text h)
@@ -282,14 +282,14 @@ Spread indent ls = (level : ℕ) (broken : Bool) (ss : List LineRole) (a : Place
 
 comment_spread : (indent : Indent) (text : List ℕ) (ls : List Lexeme) → Spread indent ls → Spread indent (record { kind = lexeme.Comment; text = text } ∷ ls)
 comment_spread indent text ls rest level broken ss a solid h after calm apart =
-    let c : PlacedLexeme = record { lexeme = record { kind = lexeme.Comment; text = text }; standing = comment_role broken (next_line level ss) } in
+    let c : PlacedLexeme = record { lexeme = record { kind = lexeme.Comment; text = text }; role = comment_role broken (next_line level ss) } in
     let n : Neighbours a c = record { left = solid; right = tt; right_belongs = apart.0.belongs; starless = λ paren uncommented. absurd (differ (sym uncommented)) } in
     fits_apart a c (laid_after indent c (placed level false ss ls)) (gap indent a c) n h (gap_fits indent a c n)
     (rest level false ss c tt apart.0.belongs (λ e. cc) calm apart.1)
 
 token_spread : (indent : Indent) (k : TokenKind) (text : List ℕ) (ls : List Lexeme) → Spread indent ls → Spread indent (record { kind = lexeme.Token k; text = text } ∷ ls)
 token_spread indent k text ls rest level broken ss a solid h after calm apart =
-    let t : PlacedLexeme = record { lexeme = record { kind = lexeme.Token k; text = text }; standing = next_role ss } in
+    let t : PlacedLexeme = record { lexeme = record { kind = lexeme.Token k; text = text }; role = next_role ss } in
     let n : Neighbours a t = record { left = solid; right = tt; right_belongs = apart.0.belongs; starless = λ paren uncommented. token_first k text apart.0.belongs (after paren) } in
     fits_apart a t (laid_after indent t (placed (next_line level ss) false (drop 1 ss) ls)) (gap indent a t) n h (gap_fits indent a t n)
     (rest (next_line level ss) false (drop 1 ss) t tt apart.0.belongs (λ e. calm_first calm (paren_of k text e)) (calm_following calm) apart.1)
@@ -315,10 +315,10 @@ FirstSpread indent ls = (level : ℕ) (broken : Bool) (ss : List LineRole) → C
 kind_first_spread : (indent : Indent) (k : LexemeKind) (text : List ℕ) (ls : List Lexeme) → FirstSpread indent ls → FirstSpread indent (record { kind = k; text = text } ∷ ls)
 kind_first_spread indent lexeme.Space text ls rest = λ level broken ss calm apart. rest level (broken || has_break text) ss calm apart.1
 kind_first_spread indent lexeme.Comment text ls rest = λ level broken ss calm apart.
-    let c : PlacedLexeme = record { lexeme = record { kind = lexeme.Comment; text = text }; standing = comment_role broken (next_line level ss) } in
+    let c : PlacedLexeme = record { lexeme = record { kind = lexeme.Comment; text = text }; role = comment_role broken (next_line level ss) } in
     following_spread indent ls level false ss c tt apart.0.belongs (λ e. cc) calm apart.1
 kind_first_spread indent (lexeme.Token k) text ls rest = λ level broken ss calm apart.
-    let t : PlacedLexeme = record { lexeme = record { kind = lexeme.Token k; text = text }; standing = next_role ss } in
+    let t : PlacedLexeme = record { lexeme = record { kind = lexeme.Token k; text = text }; role = next_role ss } in
     following_spread indent ls (next_line level ss) false (drop 1 ss) t tt apart.0.belongs (λ e. calm_first calm (paren_of k text e)) (calm_following calm) apart.1
 
 first_spread : (indent : Indent) (ls : List Lexeme) → FirstSpread indent ls

@@ -64,7 +64,7 @@ no_indent indent_by.Tab = refl
 no_indent (indent_by.Spaces n) = let none : 0 * n ≡ 0 = omega arith in ap (λ k. replicate k 32) none
 
 abbrev solid_of : PlacedLexeme → Solid
-solid_of a = record { kind = a.lexeme.kind; standing = a.standing }
+solid_of a = record { kind = a.lexeme.kind; role = a.role }
 
 -- the gaps from a place on are in order
 chain_kind : (indent : Indent) (k : LexemeKind) (t : List ℕ) (ls : List Lexeme) (before : Option Solid) (level : ℕ) (broken : Bool) (ss : List LineRole) (from at : ℕ) → from ≤ at
@@ -107,9 +107,9 @@ module _ (indent : Indent) (text : List ℕ) where
   unfolding gap
   laid_kind lexeme.Space at t ls here more a level broken ss from up = more a level (broken || has_break t) ss from (omega arith)
   laid_kind lexeme.Comment at t ls here more a level broken ss from up =
-      laid_solid at t ls here more a (record { lexeme = record { kind = lexeme.Comment; text = t }; standing = comment_role broken (next_line level ss) }) level ss from refl
+      laid_solid at t ls here more a (record { lexeme = record { kind = lexeme.Comment; text = t }; role = comment_role broken (next_line level ss) }) level ss from refl
   laid_kind (lexeme.Token k) at t ls here more a level broken ss from up =
-      laid_solid at t ls here more a (record { lexeme = record { kind = lexeme.Token k; text = t }; standing = next_role ss }) (next_line level ss) (drop 1 ss) from refl
+      laid_solid at t ls here more a (record { lexeme = record { kind = lexeme.Token k; text = t }; role = next_role ss }) (next_line level ss) (drop 1 ss) from refl
 
   pub laid_from : (rest : List Lexeme) (at : ℕ) → StandFrom text at rest [] → Laid at rest
   unfolding pieced
@@ -136,9 +136,9 @@ module _ (indent : Indent) (text : List ℕ) where
   first_kind : (k : LexemeKind) (at : ℕ) (t : List ℕ) (ls : List Lexeme) → drop at text ≡ t ++ joined ls → Laid (at + length t) ls → FirstLaid (at + length t) ls → FirstLaid at (record { kind = k; text = t } ∷ ls)
   first_kind lexeme.Space at t ls here following more level broken ss from up = more level (broken || has_break t) ss from (omega arith)
   first_kind lexeme.Comment at t ls here following more level broken ss from up =
-      first_solid at t ls here following (record { lexeme = record { kind = lexeme.Comment; text = t }; standing = comment_role broken (next_line level ss) }) level ss from refl
+      first_solid at t ls here following (record { lexeme = record { kind = lexeme.Comment; text = t }; role = comment_role broken (next_line level ss) }) level ss from refl
   first_kind (lexeme.Token k) at t ls here following more level broken ss from up =
-      first_solid at t ls here following (record { lexeme = record { kind = lexeme.Token k; text = t }; standing = next_role ss }) (next_line level ss) (drop 1 ss) from refl
+      first_solid at t ls here following (record { lexeme = record { kind = lexeme.Token k; text = t }; role = next_role ss }) (next_line level ss) (drop 1 ss) from refl
 
   first_laid : (rest : List Lexeme) (at : ℕ) → StandFrom text at rest [] → FirstLaid at rest
   unfolding pieced

@@ -23,8 +23,8 @@ use Rattle.ob0_layout.specs.Layout.{next_line, next_role, has_break, comment_rol
 
 -- the gap before a token or comment, and the one after the last: nothing at the text's start
 abbrev pub gap_before : Option Solid → LexemeKind → LineRole → Gap
-gap_before None kind standing = Nothing
-gap_before (Some b) kind standing = gap_between b.kind b.standing kind standing
+gap_before None kind role = Nothing
+gap_before (Some b) kind role = gap_between b.kind b.role kind role
 
 -- the gap after the last token or comment: a line feed
 abbrev pub last_gap : Option Solid → Gap
@@ -39,13 +39,13 @@ sites before level broken ss from at [] =
 sites before level broken ss from at (l ∷ ls) = elim (l.kind) [
   | lexeme.Space ↦ sites before level (broken || has_break l.text) ss from (at + length l.text) ls
   | lexeme.Comment ↦
-      let standing = comment_role broken (next_line level ss) in
-      record { start = from; end = at; gap = gap_before before lexeme.Comment standing }
-      ∷ sites (Some (record { kind = lexeme.Comment; standing = standing })) level false ss
+      let role = comment_role broken (next_line level ss) in
+      record { start = from; end = at; gap = gap_before before lexeme.Comment role }
+      ∷ sites (Some (record { kind = lexeme.Comment; role = role })) level false ss
       (at + length l.text) (at + length l.text) ls
   | lexeme.Token k ↦
       record { start = from; end = at; gap = gap_before before (lexeme.Token k) (next_role ss) }
-      ∷ sites (Some (record { kind = lexeme.Token k; standing = next_role ss }))
+      ∷ sites (Some (record { kind = lexeme.Token k; role = next_role ss }))
       (next_line level ss) false (drop 1 ss) (at + length l.text) (at + length l.text) ls
 ]
 

@@ -27,22 +27,27 @@ pub fn format<T: TextStore>(
     module: &Module,
     indent: Indent,
 ) -> Result<Vec<Edit>, EditRefusal>
-    ensures edits { (scan : IsScan module.now.source) → IfOk result (λ edits. map edit_text edits.items ≡
-        map (edit_of indent (width_of (T.unit_of store.now)) (T.content store.now)) (changed_sites indent module.now.source.text (all_sites (line_roles 0 (named_tree_of module.now)) scan.lexemes))) }
+    ensures edits { (scan : IsScan module.now.source)
+        → IfOk result (λ edits. map edit_text edits.items ≡
+        map (edit_of indent (width_of (T.unit_of store.now)) (T.content store.now))
+        (changed_sites indent module.now.source.text
+        (all_sites (line_roles 0 (named_tree_of module.now)) scan.lexemes))) }
     ensures fits { (scan : IsScan module.now.source)
         → IfOk result
         (λ _. length (layout indent (named_tree_of module.now) scan.lexemes) ≤ max_text) }
     ensures too_long { (scan : IsScan module.now.source)
         → IsErrOf result TooLong
         → max_text < length (layout indent (named_tree_of module.now) scan.lexemes) }
-    ensures patched { (scan : IsScan module.now.source) → T.content store.now ≡ chars module.now.source.text → IfOk result (λ edits.
-        patched (width_of (T.unit_of store.now)) (T.content store.now) edits.items ≡ Some (chars (layout indent (named_tree_of module.now) scan.lexemes))) }
+    ensures patched { (scan : IsScan module.now.source)
+        → T.content store.now ≡ chars module.now.source.text → IfOk result (λ edits.
+        patched (width_of (T.unit_of store.now)) (T.content store.now) edits.items
+        ≡ Some (chars (layout indent (named_tree_of module.now) scan.lexemes))) }
     ensures refusals { IfErr result (λ refusal. (refusal ≡ TooLong) ⊎ (refusal ≡ Memory)) }
 {
     let tokens = module.tokens();
     let text = tokens.text().as_bytes();
-    let standings = line_roles(alloc, module)?;
-    let sites = all_sites(alloc, tokens, &standings)?;
+    let roles = line_roles(alloc, module)?;
+    let sites = all_sites(alloc, tokens, &roles)?;
     if !fits(&sites, text.len(), indent) {
         return Err(EditRefusal::TooLong);
     }

@@ -29,14 +29,17 @@ pub fn lexemes_stay()
 
 /// So it is a text of the same module, where it is scanned.
 pub fn module_stays()
-    ensures { (indent : Indent) (s : Scanned) (scan : IsScan s) (tree : Tree (List ℕ) module_text) → ModuleOf s tree
+    ensures { (indent : Indent) (s : Scanned) (scan : IsScan s) (tree : Tree (List ℕ) module_text)
+        → ModuleOf s tree
         → (t : Scanned) → IsScan t → t.text ≡ layout indent tree scan.lexemes → ModuleOf t tree }
 {}
 
 /// The layout of the layout is the layout.
 pub fn laid_out_once()
-    ensures { (indent : Indent) (s : Scanned) (scan : IsScan s) (tree : Tree (List ℕ) module_text) → ModuleOf s tree
-        → (t : Scanned) (again : IsScan t) → t.text ≡ layout indent tree scan.lexemes → layout indent tree again.lexemes ≡ layout indent tree scan.lexemes }
+    ensures { (indent : Indent) (s : Scanned) (scan : IsScan s) (tree : Tree (List ℕ) module_text)
+        → ModuleOf s tree
+        → (t : Scanned) (again : IsScan t) → t.text ≡ layout indent tree scan.lexemes
+        → layout indent tree again.lexemes ≡ layout indent tree scan.lexemes }
 {}
 
 /// What is to be in the gaps that change makes of the text its layout, which is UTF-8, and the length that is counted is the layout's.
@@ -44,10 +47,15 @@ pub fn gaps_make_the_layout()
     ensures utf8 { (indent : Indent) (s : Scanned) (scan : IsScan s)
         (tree : Tree (List ℕ) module_text)
         → IsUtf8 (layout indent tree scan.lexemes) }
-    ensures made { (indent : Indent) (s : Scanned) (scan : IsScan s) (tree : Tree (List ℕ) module_text)
-        → made_of indent s.text (changed_sites indent s.text (all_sites (line_roles 0 tree) scan.lexemes)) ≡ layout indent tree scan.lexemes }
-    ensures length { (indent : Indent) (s : Scanned) (scan : IsScan s) (tree : Tree (List ℕ) module_text)
-        → laid_len indent (length s.text) 0 (all_sites (line_roles 0 tree) scan.lexemes) ≡ length (layout indent tree scan.lexemes) }
+    ensures made { (indent : Indent) (s : Scanned) (scan : IsScan s)
+        (tree : Tree (List ℕ) module_text)
+        → made_of indent s.text
+        (changed_sites indent s.text (all_sites (line_roles 0 tree) scan.lexemes))
+        ≡ layout indent tree scan.lexemes }
+    ensures length { (indent : Indent) (s : Scanned) (scan : IsScan s)
+        (tree : Tree (List ℕ) module_text)
+        → laid_len indent (length s.text) 0 (all_sites (line_roles 0 tree) scan.lexemes)
+        ≡ length (layout indent tree scan.lexemes) }
 {}
 
 /// The edits of a layout touch white space alone: nothing else is in the gaps of a text, and nothing else is put there.

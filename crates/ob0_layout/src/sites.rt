@@ -22,7 +22,7 @@ pub struct GapSite {
 #[derive(Clone, Copy)]
 pub struct Solid {
     pub kind: LexemeKind,
-    pub standing: LineRole,
+    pub role: LineRole,
 }
 
 /// What comes next in a text, white space aside.
@@ -36,15 +36,15 @@ pub enum NextLexeme {
 pub fn all_sites(
     alloc: Global,
     tokens: &Tokens,
-    standings: &[LineRole],
+    roles: &[LineRole],
 ) -> Result<Vec<GapSite>, AllocError>
     ensures { (scan : IsScan tokens.now)
-        → IfOk result (λ sites. sites.items ≡ all_sites standings.now scan.lexemes) }
+        → IfOk result (λ sites. sites.items ≡ all_sites roles.now scan.lexemes) }
 {
     let text = tokens.text().as_bytes();
     let mut left = tokens.tokens();
     let mut comments = tokens.comments();
-    let mut standings = standings;
+    let mut roles = roles;
     let mut sites = Vec::new(alloc);
     let mut before: Option<Solid> = None;
     let mut level = 0;
@@ -53,24 +53,24 @@ pub fn all_sites(
         match next {
             NextLexeme::Comment(span) => {
                 let broken = begins_line(before, &text[start..span.start]);
-                let standing = comment_role(broken, next_line(level, standings));
+                let role = comment_role(broken, next_line(level, roles));
                 let kind = LexemeKind::Comment;
-                let gap = gap_before(before, kind, standing);
+                let gap = gap_before(before, kind, role);
                 let end = span.start;
                 sites.push(GapSite { start, end, gap })?;
-                before = Some(Solid { kind, standing });
+                before = Some(Solid { kind, role });
                 start = span.end;
                 comments = after_first(comments);
             }
             NextLexeme::Token(token) => {
-                let standing = next_role(standings);
+                let role = next_role(roles);
                 let kind = LexemeKind::Token(token.kind);
-                let gap = gap_before(before, kind, standing);
+                let gap = gap_before(before, kind, role);
                 let end = token.span.start;
                 sites.push(GapSite { start, end, gap })?;
-                before = Some(Solid { kind, standing });
-                level = next_line(level, standings);
-                standings = after_first(standings);
+                before = Some(Solid { kind, role });
+                level = next_line(level, roles);
+                roles = after_first(roles);
                 start = token.span.end;
                 left = after_first(left);
             }
@@ -103,12 +103,12 @@ fn next_of(left: &[Token], comments: &[Span]) -> Option<NextLexeme>
 }
 
 /// The gap before a token or comment.
-fn gap_before(before: Option<Solid>, kind: LexemeKind, standing: LineRole) -> Gap
-    ensures { result ≡ gap_before before kind standing }
+fn gap_before(before: Option<Solid>, kind: LexemeKind, role: LineRole) -> Gap
+    ensures { result ≡ gap_before before kind role }
 {
     match before {
         None => Gap::Nothing,
-        Some(b) => gap_between(b.kind, b.standing, kind, standing),
+        Some(b) => gap_between(b.kind, b.role, kind, role),
     }
 }
 
@@ -123,13 +123,13 @@ fn last_gap(before: Option<Solid>) -> Gap
 }
 
 /// The level of the line in which the next token is.
-fn next_line(level: u32, standings: &[LineRole]) -> u32
-    ensures { result ≡ next_line level standings.now }
+fn next_line(level: u32, roles: &[LineRole]) -> u32
+    ensures { result ≡ next_line level roles.now }
 {
-    if standings.is_empty() {
+    if roles.is_empty() {
         return 0;
     }
-    match standings[0] {
+    match roles[0] {
         LineRole::Begins(begun) => begun,
         LineRole::Opening => level,
         LineRole::Joining => level,
@@ -137,13 +137,13 @@ fn next_line(level: u32, standings: &[LineRole]) -> u32
     }
 }
 
-fn next_role(standings: &[LineRole]) -> LineRole
-    ensures { result ≡ next_role standings.now }
+fn next_role(roles: &[LineRole]) -> LineRole
+    ensures { result ≡ next_role roles.now }
 {
-    if standings.is_empty() {
+    if roles.is_empty() {
         return LineRole::Plain;
     }
-    standings[0]
+    roles[0]
 }
 
 /// All of a list but the first.

@@ -25,7 +25,7 @@ pub(crate) fn array_text(alloc: Global, length: usize, element: &str) -> Result<
     format!(in alloc; "ARRAY {length} OF {element}")
 }
 
-/// The text of a record type with so many fields.
+/// The text of a record type with this number of fields.
 pub(crate) fn record_text(alloc: Global, fields: usize) -> Result<String, AllocError>
     ensures { IfOk result (λ text. (k : ℕ) (fs : FieldShapes)
         → fields ≡ fields_count fs

@@ -120,10 +120,14 @@ fn rename_declaration<T: TextStore>(
 
 /// Why a name that isn't free is refused.
 fn refusal_of<T: TextStore>(store: &T, names: &Resolved, capture: FirstCapture) -> EditRefusal
-    ensures duplicate { (other token : ℕ) → capture ≡ Duplicate other → declaring_token names.now.module_read other ≡ Some token
-        → result ≡ refused.Duplicate (range_of (width_of (T.unit_of store.now)) (T.content store.now) (span_at names.now.module_read.source token)) }
-    ensures occurrence { (k token : ℕ) → capture ≡ Occurrence k → slice_get (occurrences (tree_of names.now.module_read)) k ≡ Some token
-        → result ≡ refused.Captures (range_of (width_of (T.unit_of store.now)) (T.content store.now) (span_at names.now.module_read.source token)) }
+    ensures duplicate { (other token : ℕ) → capture ≡ Duplicate other
+        → declaring_token names.now.module_read other ≡ Some token
+        → result ≡ refused.Duplicate (range_of (width_of (T.unit_of store.now))
+        (T.content store.now) (span_at names.now.module_read.source token)) }
+    ensures occurrence { (k token : ℕ) → capture ≡ Occurrence k
+        → slice_get (occurrences (tree_of names.now.module_read)) k ≡ Some token
+        → result ≡ refused.Captures (range_of (width_of (T.unit_of store.now))
+        (T.content store.now) (span_at names.now.module_read.source token)) }
 {
     // For the proof: what the contract of this call says.
     let _module = names.module();

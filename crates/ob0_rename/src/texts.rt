@@ -22,7 +22,8 @@ impl<'a, T: TextStore> Question for NewName<'a, T> {
 
     ghost is_about = { λ q text. T.content q.store.now ≡ chars text };
 
-    ghost answers = { λ q names outcome. Settles (renaming_of (T.unit_of q.store.now) (T.content q.store.now) names q.place q.new.now) outcome };
+    ghost answers = { λ q names outcome. Settles (renaming_of (T.unit_of q.store.now)
+        (T.content q.store.now) names q.place q.new.now) outcome };
 
     fn answer(
         &self,

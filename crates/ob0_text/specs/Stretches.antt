@@ -15,7 +15,7 @@ abbrev pub utf16_units_at : ℕ → ℕ
 utf16_units_at b =
     (if nat_lt b 0x80 || nat_le 0xC0 b then 1 else 0) + (if nat_le 0xF0 b then 1 else 0)
 
--- characters that end no line, and have so many units
+-- characters that end no line, and have this number of units
 pub record AreOfALine (width : ℕ → ℕ) (cs : List ℕ) (units : ℕ) : Type 0 where
   pub of_one : All EndsNoLine cs
   pub counted : sum_by width cs ≡ units

@@ -65,7 +65,8 @@ fn add_starts(
 ) -> Result<(), AllocError>
     requires { from + length bytes.now < 2 ^ 64 }
     ensures { OnOk result
-        (starts.new.items ≡ starts.old.items ++ starts_after from (before ∷ bytes.now) following.now) }
+        (starts.new.items ≡ starts.old.items
+        ++ starts_after from (before ∷ bytes.now) following.now) }
 {
     let mut last = before;
     let mut at = from;

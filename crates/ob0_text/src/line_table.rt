@@ -23,7 +23,10 @@ impl Model for LineTable {
 
     ghost Value = { Table };
 
-    ghost view = { λ t. record { starts = starts_in t.len t.front.items t.back.items; len = t.len } };
+    ghost view = { λ t. record {
+      starts = starts_in t.len t.front.items t.back.items;
+      len = t.len;
+    } };
 }
 
 impl LineTable {
@@ -110,7 +113,7 @@ impl LineTable {
     }
 }
 
-/// Moves starts from the front to the back, until so many are left.
+/// Moves starts from the front to the back, until `count` are left.
 fn move_left(
     front: &mut Vec<usize>,
     back: &mut Vec<usize>,
@@ -133,7 +136,7 @@ fn move_left(
     Ok(())
 }
 
-/// Moves starts from the back to the front, until there are so many.
+/// Moves starts from the back to the front, until there are `count`.
 fn move_right(
     front: &mut Vec<usize>,
     back: &mut Vec<usize>,

@@ -334,7 +334,7 @@ impl<'t> Shape<'t> {
     ghost use Rattle.ob0_types_table.specs.Parts.{PartsAreCounted, has_parts, is_known_type, parts_shape};
     ghost use Rattle.ob0_types.specs.DeclaredShapes.{shape_of};
 
-    /// What the type is made of; the types of its parts are in the same table. Nothing exactly where it is no type of the
+    /// What the type is made of; the types of its parts are in the same table. Nothing exactly where it isn't a type of the
     /// module.
     pub fn parts(&self) -> Parts<'t>
         ensures shape { parts_shape (shapes_of self.now.known.now) result ≡ shape_of self.now }

@@ -59,7 +59,8 @@ impl<'a, 't> Owning<'a, 't> {
             ≡ found.old.items
             ++ mark name (owner (option_map (type_shape (shapes_of self.now.known.now)) base)
             ((meaning_in self.now).written name))) }
-        ensures following { IfOk result (λ t. option_map (type_shape (shapes_of self.now.known.now)) t
+        ensures following { IfOk result (λ t.
+            option_map (type_shape (shapes_of self.now.known.now)) t
             ≡ option_and_then (λ z. field_type z ((meaning_in self.now).written name))
             (option_map (type_shape (shapes_of self.now.known.now)) base)) }
     {
@@ -159,7 +160,8 @@ impl<'a, 't> Owning<'a, 't> {
             ≡ found.old.items
             ++ marked_at (meaning_in self.now)
             (option_map (type_shape (shapes_of self.now.known.now)) base) (selector_of s.now)) }
-        ensures following { IfOk result (λ t. option_map (type_shape (shapes_of self.now.known.now)) t
+        ensures following { IfOk result (λ t.
+            option_map (type_shape (shapes_of self.now.known.now)) t
             ≡ passed (meaning_in self.now)
             (option_map (type_shape (shapes_of self.now.known.now)) base) (selector_of s.now)) }
     {

@@ -41,7 +41,7 @@ value_among known d k (more (declares_constant x e) cs) = do
   v ← constant_value (meanings as_names known) e
   if k == d then Some v else value_among ((x, a_constant v) ∷ known) d (suc k) cs
 
--- in a block, its first declaration of ordinal k; None where d is no constant of a CONST section
+-- in a block, its first declaration of ordinal k; None where d isn't a constant of a CONST section
 unfoldable mutual
   unfolding value_among declare_constants
 
@@ -69,7 +69,7 @@ unfoldable mutual
       else value_in_block (bind_names (formal_names (formal_sections fs)) no_constant known) d
       (after_names k (formal_names (formal_sections fs))) b
 
--- the value of the constant of ordinal d, None where d is no constant that a CONST section declares
+-- the value of the constant of ordinal d, None where d isn't a constant that a CONST section declares
 unfoldable pub value_of_constant : Tree Name module_text → ℕ → Option Value
 unfolding value_in_block
 value_of_constant m d =

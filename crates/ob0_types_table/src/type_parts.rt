@@ -19,7 +19,7 @@ pub enum Parts<'k> {
 }
 
 impl Known {
-    /// A type with its parts. It has none exactly where it is no type of the module.
+    /// A type with its parts. It has none exactly where it isn't a type of the module.
     pub fn parts(&self, of: TypeId) -> Parts<'_>
         ensures shape { parts_shape (shapes_of self.now) result
             ≡ type_shape (shapes_of self.now) of }

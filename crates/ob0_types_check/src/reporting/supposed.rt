@@ -75,7 +75,7 @@ const SCALAR: Size = Size {
 };
 
 impl Size {
-    /// An array of so many of these.
+    /// An array of `count` of these.
     pub(crate) fn array(self, count: usize) -> Size
         ensures { size_of result ≡ counted (array_size count (size_of self)) }
     {

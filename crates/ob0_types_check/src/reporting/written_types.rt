@@ -242,7 +242,8 @@ impl<'t> Reporter<'t> {
     fn groups(&mut self, groups: &[Fields], around: &mut Vec<usize>) -> Result<Gathered, AllocError>
         ensures reports { IfOk result (λ gathered.
             Gathers self.old.faults.items self.new.faults.items self.new.supposed gathered
-            (reported_groups (length around.old.items) (nothing_gathered (so_far_in self.old.supposed))
+            (reported_groups (length around.old.items) (nothing_gathered
+            (so_far_in self.old.supposed))
             (items_of further_fields_of_group groups.now))) }
         ensures around { IfOk result (λ gathered. around.new.items ≡ around.old.items) }
     {

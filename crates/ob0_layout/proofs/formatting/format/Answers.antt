@@ -12,7 +12,7 @@ use Rattle.ob0_layout.specs.Layout.{laid_out, layout}
 use Rattle.ob0_text.specs.Patches.{patched}
 use Rattle.ob0_layout.proofs.Patched.{gaps_patched}
 use Rattle.ob0_layout.proofs.Pieced.{all_length}
-use Rattle.ob0_layout.proofs.Unnamed.{standings_mapped}
+use Rattle.ob0_layout.proofs.Unnamed.{roles_mapped}
 use Rattle.ob0_layout.specs.declared.sites.GapSite.{GapSite}
 use Rattle.ob0_layout.specs.declared.line_role.LineRole.{LineRole}
 use Rattle.ob0_layout.specs.LineRoles.{line_roles}
@@ -33,7 +33,7 @@ lie_in_source {t = t} e bytes read is scan b h =
 counted : (m : Parsed) (indent : Indent) (scan : IsScan m.source) → laid_len indent (length m.source.text) 0 (all_sites (line_roles 0 (tree_of m)) scan.lexemes) ≡ length (layout indent (named_tree_of m) scan.lexemes)
 unfolding laid_out
 counted m indent scan =
-    ap (λ (ss : List LineRole). laid_len indent (length m.source.text) 0 (all_sites ss scan.lexemes)) (sym (standings_mapped (text_at m.source) (value_at m.source) 0 (tree_of m)))
+    ap (λ (ss : List LineRole). laid_len indent (length m.source.text) 0 (all_sites ss scan.lexemes)) (sym (roles_mapped (text_at m.source) (value_at m.source) 0 (tree_of m)))
     ∙ all_length indent m.source scan (line_roles 0 (named_tree_of m))
 
 past : (b : Bool) (n m : ℕ) → (n ≤ m → IsTrue b) → b ≡ false → m < n
@@ -47,33 +47,33 @@ pub fits-requires-clause-within : goal.fits-requires-clause-within
 fits-requires-clause-within g c =
     lie_in_source c.tokens-tokens.ensures.source c.as_bytes-text.result.now c.deref-2.result.now (line_roles 0 (tree_of c.args.module.now)) c.text.ensures.scan
     (c.as_bytes-text.ensures.value ∙ c.text.ensures.value ∙ ap (λ (x : Scanned). x.text) c.tokens-tokens.ensures.source)
-    (of_source c.tokens-tokens.ensures.source c.in_ok-sites.sites.items c.deref-2.result.now c.deref.result.now _ c.deref-2.ensures.value (c.deref.ensures.value ∙ c.in_ok-standings.ensures) c.in_ok-sites.ensures)
+    (of_source c.tokens-tokens.ensures.source c.in_ok-sites.sites.items c.deref-2.result.now c.deref.result.now _ c.deref-2.ensures.value (c.deref.ensures.value ∙ c.in_ok-roles.ensures) c.in_ok-sites.ensures)
 
 pub changed-requires : goal.changed-requires
 changed-requires g c =
     lie_in_source c.tokens-tokens.ensures.source c.as_bytes-text.result.now c.deref-3.result.now (line_roles 0 (tree_of c.args.module.now)) c.text.ensures.scan
     (c.as_bytes-text.ensures.value ∙ c.text.ensures.value ∙ ap (λ (x : Scanned). x.text) c.tokens-tokens.ensures.source)
-    (of_source c.tokens-tokens.ensures.source c.in_ok-sites.sites.items c.deref-3.result.now c.deref.result.now _ c.deref-3.ensures.value (c.deref.ensures.value ∙ c.in_ok-standings.ensures) c.in_ok-sites.ensures)
+    (of_source c.tokens-tokens.ensures.source c.in_ok-sites.sites.items c.deref-3.result.now c.deref.result.now _ c.deref-3.ensures.value (c.deref.ensures.value ∙ c.in_ok-roles.ensures) c.in_ok-sites.ensures)
 
 pub returns-then-not-fits-clause-too_long : goal.returns-then-not-fits-clause-too_long
 returns-then-not-fits-clause-too_long g c = λ scan reported.
     let text = c.as_bytes-text.ensures.value ∙ c.text.ensures.value ∙ ap (λ (x : Scanned). x.text) c.tokens-tokens.ensures.source in
-    let same = of_source c.tokens-tokens.ensures.source c.in_ok-sites.sites.items c.deref-2.result.now c.deref.result.now (line_roles 0 (tree_of c.args.module.now)) c.deref-2.ensures.value (c.deref.ensures.value ∙ c.in_ok-standings.ensures) c.in_ok-sites.ensures scan in
+    let same = of_source c.tokens-tokens.ensures.source c.in_ok-sites.sites.items c.deref-2.result.now c.deref.result.now (line_roles 0 (tree_of c.args.module.now)) c.deref-2.ensures.value (c.deref.ensures.value ∙ c.in_ok-roles.ensures) c.in_ok-sites.ensures scan in
     subst (λ (n : ℕ). max_text < n) ((λ i. laid_len c.args.indent (length (text i)) 0 (same i)) ∙ counted c.args.module.now c.args.indent scan) (past c.fits.result _ max_text c.fits.ensures.1 c.if-not-fits.true)
 
 pub returns-clause-edits : goal.returns-clause-edits
 returns-clause-edits g c = λ scan.
     let text = c.as_bytes-text.ensures.value ∙ c.text.ensures.value ∙ ap (λ (x : Scanned). x.text) c.tokens-tokens.ensures.source in
-    let same = of_source c.tokens-tokens.ensures.source c.in_ok-sites.sites.items c.deref-3.result.now c.deref.result.now (line_roles 0 (tree_of c.args.module.now)) c.deref-3.ensures.value (c.deref.ensures.value ∙ c.in_ok-standings.ensures) c.in_ok-sites.ensures scan in
+    let same = of_source c.tokens-tokens.ensures.source c.in_ok-sites.sites.items c.deref-3.result.now c.deref.result.now (line_roles 0 (tree_of c.args.module.now)) c.deref-3.ensures.value (c.deref.ensures.value ∙ c.in_ok-roles.ensures) c.in_ok-sites.ensures scan in
     c.in_ok-edits.ensures
     ∙ ap (map (edit_of c.args.indent (width_of (g.T.TextStore.unit_of c.args.store.now)) (g.T.TextStore.content c.args.store.now)))
     (c.deref-4.ensures.value ∙ c.in_ok-changed.ensures ∙ (λ i. changed_sites c.args.indent (text i) (same i))
-    ∙ ap (λ (ss : List LineRole). changed_sites c.args.indent c.args.module.now.source.text (all_sites ss scan.lexemes)) (sym (standings_mapped (text_at c.args.module.now.source) (value_at c.args.module.now.source) 0 (tree_of c.args.module.now))))
+    ∙ ap (λ (ss : List LineRole). changed_sites c.args.indent c.args.module.now.source.text (all_sites ss scan.lexemes)) (sym (roles_mapped (text_at c.args.module.now.source) (value_at c.args.module.now.source) 0 (tree_of c.args.module.now))))
 
 pub returns-clause-fits : goal.returns-clause-fits
 returns-clause-fits g c = λ scan.
     let text = c.as_bytes-text.ensures.value ∙ c.text.ensures.value ∙ ap (λ (x : Scanned). x.text) c.tokens-tokens.ensures.source in
-    let same = of_source c.tokens-tokens.ensures.source c.in_ok-sites.sites.items c.deref-2.result.now c.deref.result.now (line_roles 0 (tree_of c.args.module.now)) c.deref-2.ensures.value (c.deref.ensures.value ∙ c.in_ok-standings.ensures) c.in_ok-sites.ensures scan in
+    let same = of_source c.tokens-tokens.ensures.source c.in_ok-sites.sites.items c.deref-2.result.now c.deref.result.now (line_roles 0 (tree_of c.args.module.now)) c.deref-2.ensures.value (c.deref.ensures.value ∙ c.in_ok-roles.ensures) c.in_ok-sites.ensures scan in
     subst (λ (n : ℕ). n ≤ max_text) ((λ i. laid_len c.args.indent (length (text i)) 0 (same i)) ∙ counted c.args.module.now c.args.indent scan) (c.fits.ensures.0 c.if-not-fits.false)
 
 pub returns-clause-patched : goal.returns-clause-patched

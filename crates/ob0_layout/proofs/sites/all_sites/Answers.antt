@@ -11,12 +11,12 @@ use Rattle.ob0_layout.proofs.sites.all_sites.Goals as goal
 
 pub loop-next-init : goal.loop-next-init
 loop-next-init c = λ scan.
-    let h = sited_at_start c.args.tokens.now scan c.args.standings.now in
+    let h = sited_at_start c.args.tokens.now scan c.args.roles.now in
     let text = c.as_bytes-text.ensures.value ∙ c.text.ensures.value in
-    subst (λ (out : List GapSite). Sited c.as_bytes-text.result.now (all_sites c.args.standings.now scan.lexemes) c.tokens-left.result.now c.comments-comments.result.now c.args.standings.now None 0 0 out) (sym c.new-sites.ensures.items)
-    (subst (λ (cs : List Span). Sited c.as_bytes-text.result.now (all_sites c.args.standings.now scan.lexemes) c.tokens-left.result.now cs c.args.standings.now None 0 0 []) (sym c.comments-comments.ensures)
-    (subst (λ (ts : List Token). Sited c.as_bytes-text.result.now (all_sites c.args.standings.now scan.lexemes) ts c.args.tokens.now.comments c.args.standings.now None 0 0 []) (sym c.tokens-left.ensures)
-    (subst (λ (t : List ℕ). Sited t (all_sites c.args.standings.now scan.lexemes) c.args.tokens.now.tokens c.args.tokens.now.comments c.args.standings.now None 0 0 []) (sym text) h)))
+    subst (λ (out : List GapSite). Sited c.as_bytes-text.result.now (all_sites c.args.roles.now scan.lexemes) c.tokens-left.result.now c.comments-comments.result.now c.args.roles.now None 0 0 out) (sym c.new-sites.ensures.items)
+    (subst (λ (cs : List Span). Sited c.as_bytes-text.result.now (all_sites c.args.roles.now scan.lexemes) c.tokens-left.result.now cs c.args.roles.now None 0 0 []) (sym c.comments-comments.ensures)
+    (subst (λ (ts : List Token). Sited c.as_bytes-text.result.now (all_sites c.args.roles.now scan.lexemes) ts c.args.tokens.now.comments c.args.roles.now None 0 0 []) (sym c.tokens-left.ensures)
+    (subst (λ (t : List ℕ). Sited t (all_sites c.args.roles.now scan.lexemes) c.args.tokens.now.tokens c.args.tokens.now.comments c.args.roles.now None 0 0 []) (sym text) h)))
 
 pub slice_bounds-begins_line-count : goal.slice_bounds-begins_line-count
 slice_bounds-begins_line-count c =
@@ -39,7 +39,7 @@ loop-next-preserved-in-Comment c = λ scan.
     let before = c.loop-next.before in
     let span = c.in-Comment.span in
     let next = comment_step _ _ _ _ _ _ _ _ _ (c.loop-next.invariant scan) span (sym c.next_of.ensures ∙ c.in-Some.is ∙ ap Some c.in-Comment.is) in
-    let stands = c.comment_role-standing.ensures ∙ (λ i. comment_role (c.begins_line-broken.ensures i) (c.next_line.ensures i)) in
+    let stands = c.comment_role-role.ensures ∙ (λ i. comment_role (c.begins_line-broken.ensures i) (c.next_line.ensures i)) in
     let written = c.in_ok-push-in-Comment.ensures.items ∙ ap (λ g. c.loop-next.sites.items ++ (make_site c.loop-next.start span.start g ∷ [])) c.gap_before-gap.ensures
     ∙ ap (λ (st : LineRole). c.loop-next.sites.items ++ (make_site c.loop-next.start span.start (gap_before before lexeme.Comment st) ∷ [])) stands in
     sited_moved next.after refl c.after_first-comments.ensures refl (ap (λ (st : LineRole). Some (make_solid lexeme.Comment st)) stands) refl written
@@ -49,10 +49,10 @@ loop-next-preserved c = λ scan.
     let before = c.loop-next.before in
     let token = c.in-Token.token in
     let next = token_step _ _ _ _ _ _ _ _ _ (c.loop-next.invariant scan) token (sym c.next_of.ensures ∙ c.in-Some.is ∙ ap Some c.in-Token.is) in
-    let stands = c.next_role-standing.ensures in
+    let stands = c.next_role-role.ensures in
     let written = c.in_ok-push-in-Token.ensures.items ∙ ap (λ g. c.loop-next.sites.items ++ (make_site c.loop-next.start token.span.start g ∷ [])) c.gap_before-gap-in-Token.ensures
     ∙ ap (λ (st : LineRole). c.loop-next.sites.items ++ (make_site c.loop-next.start token.span.start (gap_before before (lexeme.Token token.kind) st) ∷ [])) stands in
-    sited_moved next.after c.after_first-left.ensures refl c.after_first-standings.ensures (ap (λ (st : LineRole). Some (make_solid (lexeme.Token token.kind) st)) stands) c.next_line-level.ensures written
+    sited_moved next.after c.after_first-left.ensures refl c.after_first-roles.ensures (ap (λ (st : LineRole). Some (make_solid (lexeme.Token token.kind) st)) stands) c.next_line-level.ensures written
 
 pub returns : goal.returns
 returns c = λ scan.
