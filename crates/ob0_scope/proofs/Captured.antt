@@ -61,3 +61,11 @@ free_where_none m d new found e = (
     nothing : (o : Option reported.FirstCapture) → option_map place_of o ≡ None → o ≡ None
     nothing None h = refl
     nothing (Some c) h = absurd (cc)
+
+-- where no other declaration of the block has the name, there is none that has it
+pub no_namesake : (m : Tree Name module_text) (d : ℕ) (new : Name) → is_duplicate m d new ≡ false → None ≡ namesake m d new
+no_namesake m d new e = nothing (namesake m d new) (sym (duplicate_is m d new (namesake m d new) refl) ∙ e)
+  where
+    nothing : (o : Option ℕ) → is_some o ≡ false → None ≡ o
+    nothing None h = refl
+    nothing (Some k) h = absurd (cc)

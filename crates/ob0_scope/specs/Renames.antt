@@ -4,7 +4,8 @@ use Rattle.std.specs.Prelude.{◌≡◌, ℕ, Bool, true, false, not, ◌&&◌, 
 use Rattle.std.specs.Option.{option_or}
 use Rattle.ob0_tree.specs.Tree.{Tree, mapped, module_text}
 use Rattle.ob0_tree.specs.Parsed.{named_tree_of, tree_of}
-use Rattle.ob0_tree.specs.Places.{value_at}
+use Rattle.ob0_scan.specs.Scanned.{Scanned}
+use Rattle.ob0_tree.specs.Places.{text_at, value_at}
 use Rattle.ob0_scope.specs.declared.capturing.FirstCapture as reported
 use Rattle.ob0_scope.specs.declared.capturing.FirstCapture.TheVariants as reports
 use Rattle.ob0_scope_rules.specs.Names.{Name, as_names, same_name}
@@ -53,6 +54,10 @@ is_bound_alike (Some j) (Some k) = j == k
 abbrev pub renamed_in : Resolution → ℕ → Name → Writing
 renamed_in r d new =
     record { source = r.module_read.source; ordinals = r.ordinals; declaration = Some d; new = new }
+
+-- no token of a text is written like this name
+abbrev pub IsNowhere : Scanned → Name → Type 0
+IsNowhere source x = (i : ℕ) → same_name (text_at source i) x ≡ false
 
 -- The table of ordinals gives the numbered tree of the module in which d has the new name.
 abbrev pub IsRenumbering : Resolution → ℕ → Name → List (Option ℕ) → Type 0

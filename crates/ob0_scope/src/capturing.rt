@@ -1,13 +1,13 @@
 //! What conflicts with another name for a declaration.
 
-ghost use Rattle.std.specs.Prelude.{◌≡◌, ◌↔◌, ◌++◌, IfOk, None, not, option_map};
+ghost use Rattle.std.specs.Prelude.{◌≡◌, ◌↔◌, ◌++◌, IfOk, None, not, option_map, true};
 ghost use Rattle.std.specs.List.{position_from};
 ghost use Rattle.ob0_tree.specs.Parsed.{named_tree_of};
 ghost use Rattle.ob0_tree.specs.View.{block_of, procedure_of};
 ghost use Rattle.ob0_scope_rules.specs.DeclaredOnce.{block_names};
 ghost use Rattle.ob0_scope_rules.specs.Occurrences.{Free, bindings, first_captured, first_difference};
 ghost use Rattle.ob0_scope.specs.declared.capturing.FirstCapture.TheVariants.{Occurrence};
-ghost use Rattle.ob0_scope.specs.Renames.{is_bound_alike, namesake, other_of, place_of};
+ghost use Rattle.ob0_scope.specs.Renames.{IsNowhere, is_bound_alike, namesake, other_of, place_of};
 ghost use Rattle.ob0_scope_rules.specs.Resolution.{ordinal_in};
 ghost use Rattle.ob0_scope_rules.specs.Scopes.{renamed};
 ghost use Rattle.ob0_scope.specs.Searching.{found_in_block, found_in_procedure, is_other, is_sought, other_among};
@@ -16,7 +16,7 @@ use crate::checks::{add_block, add_formals};
 use crate::renamed::renumber;
 use crate::writing::token_text;
 use ob0_scan::Tokens;
-use ob0_scope_rules::{Resolved, ordinal_at};
+use ob0_scope_rules::{PREDECLARED, Resolved, ordinal_at};
 use ob0_tree::{Block, Procedure};
 use std::alloc::{AllocError, Global};
 use std::marker::Model;
@@ -45,10 +45,28 @@ pub fn captures(
     ensures free { IfOk result
         (λ found. found ≡ None ↔ Free (named_tree_of names.now.module_read) declaration new.now) }
 {
+    if declaration >= PREDECLARED && is_nowhere(names.tokens(), new) {
+        return Ok(None);
+    }
     match namesake(alloc, names, declaration, new)? {
         Some(other) => Ok(Some(FirstCapture::Duplicate(other))),
         None => first_capture(alloc, names, declaration, new),
     }
+}
+
+/// Whether a name is new: no token of a text is written like it.
+fn is_nowhere(tokens: &Tokens, name: &str) -> bool
+    ensures { result ≡ true → IsNowhere tokens.now name.now }
+{
+    if name.is_empty() {
+        return false;
+    }
+    for index in 0..tokens.tokens().len() {
+        if token_text(tokens, index) == name {
+            return false;
+        }
+    }
+    true
 }
 
 /// The first occurrence that would be bound to another declaration.

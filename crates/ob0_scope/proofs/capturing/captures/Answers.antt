@@ -1,8 +1,9 @@
-use Rattle.std.proofs.Common.{Some, sym, ◌∙◌}
+use Rattle.std.proofs.Common.{None, Some, sym, ◌∙◌}
 use Rattle.std.proofs.lemmas.Result.{MatchResult-weaker}
 use Rattle.ob0_tree.specs.Parsed.{named_tree_of}
 use Rattle.ob0_scope.specs.declared.capturing.FirstCapture.TheVariants as reports
 use Rattle.ob0_scope.proofs.Captured.{captured_later, captured_there, free_where_none}
+use Rattle.ob0_scope.proofs.Nowhere.{free_nowhere, nowhere_captured, nowhere_namesake}
 use Rattle.ob0_scope.proofs.capturing.captures.Goals as goal
 
 pub returns-in-Some-clause-first : goal.returns-in-Some-clause-first
@@ -26,3 +27,18 @@ returns-in-None-clause-free c =
     let m = named_tree_of c.args.names.now.module_read in
     MatchResult-weaker c.first_capture.result c.first_capture.ensures
     (λ found e. free_where_none m c.args.declaration c.args.new.now found (captured_later m c.args.declaration c.args.new.now found (sym c.in-None.is ∙ c.in_ok-other.ensures) e)) (λ y h. h)
+
+pub returns-then-is_nowhere-clause-first : goal.returns-then-is_nowhere-clause-first
+returns-then-is_nowhere-clause-first c =
+    nowhere_captured c.args.names.now.module_read c.tokens.result.now c.args.declaration c.args.new.now c.if-declaration-ge-PREDECLARED.true c.tokens.ensures
+    (c.is_nowhere.ensures c.if-is_nowhere.true)
+
+pub returns-then-is_nowhere-clause-other : goal.returns-then-is_nowhere-clause-other
+returns-then-is_nowhere-clause-other c =
+    nowhere_namesake c.args.names.now.module_read c.tokens.result.now c.args.declaration c.args.new.now c.if-declaration-ge-PREDECLARED.true c.tokens.ensures
+    (c.is_nowhere.ensures c.if-is_nowhere.true)
+
+pub returns-then-is_nowhere-clause-free : goal.returns-then-is_nowhere-clause-free
+returns-then-is_nowhere-clause-free c =
+    free_nowhere c.args.names.now.module_read c.tokens.result.now c.args.declaration c.args.new.now c.if-declaration-ge-PREDECLARED.true c.tokens.ensures
+    (c.is_nowhere.ensures c.if-is_nowhere.true)
