@@ -7,9 +7,9 @@ use Rattle.std.proofs.lemmas.Slice.Eq.{bytes_eq-Decides}
 use Rattle.ob0_tree.specs.Tree.{Sort, Tree, mapped, occurrences, block, constant, constants, formals, further_name, further_section, item, items, maybe, module_text, names, procedure, section, type_name, type_names, variable, variables, adds, array_type, assigns, begins, branches, calls, compares, declares, declares_constant, declares_constants, declares_procedure, declares_type, declares_types, declares_variable, declares_variables, designator, else_branch, elsif_branch, empty, end, field, has_body, index, integer, is_module, listed, more, multiplies, named_type, negation, no_arguments, no_fields, no_formals, none, one, parenthesised, product, record_type, relates, repeat_loop, runs, some_arguments, some_fields, some_formals, sum, then_argument, then_fields, then_name, then_section, then_statement, value_section, variable_section, while_loop}
 use Rattle.ob0_scope_rules.specs.Mapping.{with_names}
 use Rattle.ob0_scope_rules.specs.Names.{Label, Name, as_names, as_written, declared, same_name}
-use Rattle.ob0_scope_rules.specs.Occurrences.{Free, bindings, blocks_in, blocks_in_procedure, blocks_in_procedures, declares_ordinal, is_duplicate, names_another}
-use Rattle.ob0_scope_rules.specs.Parts.{constant_names, formal_names, formal_sections, further_names, module_block, named_types, names_listed, procedure_name, section_constants, section_names, section_types, section_variables, variable_names}
-use Rattle.ob0_scope_rules.specs.Scopes.{Labels, Scope, after_names, after_procedure, as_label, body_scope, declare_names, declare_procedure_names, first_procedure, first_type, first_variable, label_names, label_of, numbered, ordinal_of, predeclared_scope, procedures_scope, relabel_block, relabel_constant_section, relabel_constants, relabel_formals, relabel_names, relabel_procedure, relabel_procedures, relabel_section, relabel_sections, relabel_type_section, relabel_types, relabel_uses, relabel_variable_section, relabel_variables, renamed, same_ordinal, types_scope, variables_scope}
+use Rattle.ob0_scope_rules.specs.Occurrences.{Free, bindings, blocks_in, blocks_in_procedure, blocks_in_procedures, declares_ordinal, names_another}
+use Rattle.ob0_scope_rules.specs.Parts.{constant_names, formal_names, formal_sections, further_names, named_types, names_listed, procedure_name, section_constants, section_names, section_types, section_variables, variable_names}
+use Rattle.ob0_scope_rules.specs.Scopes.{Labels, Scope, after_names, after_procedure, as_label, body_scope, declare_names, declare_procedure_names, first_procedure, first_type, first_variable, label_names, label_of, ordinal_of, predeclared_scope, procedures_scope, relabel_block, relabel_constant_section, relabel_constants, relabel_formals, relabel_names, relabel_procedure, relabel_procedures, relabel_section, relabel_sections, relabel_type_section, relabel_types, relabel_uses, relabel_variable_section, relabel_variables, renamed, same_ordinal, types_scope, variables_scope}
 use Rattle.ob0_scope_rules.proofs.DistinctNames.{new_name}
 use Rattle.ob0_scope_rules.proofs.Relabelled.{constants-section, formals-section, names-relabel, section_names-relabel, types-section, variables-section}
 use Rattle.ob0_scope_rules.proofs.RenamedDeclarations.{constants-labels, sections-labels, types-labels, variables-labels}
@@ -352,7 +352,7 @@ module _ (d : ℕ) (new : Name) (f : ℕ → Name) (g : ℕ → ℕ) (fresh : (i
         let own' : List Name = formal_names (formal_sections fs') in
         let labelled : own' ≡ label_names ren (suc k) own = ap formal_names (formals-section as_names ren here (suc k) fs₁) ∙ sections-labels as_names ren here (suc k) (formal_sections fs₁) in
         let after : after_names (suc j) own' ≡ after_names (suc k) own =
-            ap (λ l. after_names (suc j) (formal_names l)) (formals-section as_names ren here (suc k) fs₁) ∙ after_sections as_names ren here (suc j) (suc k) (formal_sections fs₁) (ap suc jk) in λ i.
+        ap (λ l. after_names (suc j) (formal_names l)) (formals-section as_names ren here (suc k) fs₁) ∙ after_sections as_names ren here (suc j) (suc k) (formal_sections fs₁) (ap suc jk) in λ i.
         declares_procedure (declared (jk i)) (formals_same there here (suc j) (suc k) (ap suc jk) agrees fs i)
         (block_same (declare_names (suc j) own' ((ren (Some k) (f x), j) ∷ there)) (declare_names (suc k) own ((f x, k) ∷ here)) (after_names (suc j) own') (after_names (suc k) own) after
         (agrees_listed (suc j) (suc k) (ap suc jk) _ _ labelled (new_formals fs) ((ren (Some k) (f x), j) ∷ there) ((f x, k) ∷ here) (agrees_one there here (f x) j k (fresh x) jk agrees)) b i)
@@ -413,10 +413,10 @@ module _ (d : ℕ) (new : Name) (f : ℕ → Name) (g : ℕ → ℕ) (fresh : (i
     no_clash-block k own others (has_body (declares cs ts vs ps) statements) =
         let b : Tree Name block = mapped f g (has_body (declares cs ts vs ps) statements) in
         let mine : NewScope (body_scope k b own) =
-            new_procedures (first_procedure k b) ps (procedures_scope k b own)
-            (new_names (first_variable k b) (variable_names (section_variables (mapped f g vs))) (variables_scope k b own) (new_variable_section vs)
-            (new_names (first_type k b) (named_types (section_types (mapped f g ts))) (types_scope k b own) (new_type_section ts)
-            (new_names k (constant_names (section_constants (mapped f g cs))) own (new_constant_section cs) others))) in λ i.
+        new_procedures (first_procedure k b) ps (procedures_scope k b own)
+        (new_names (first_variable k b) (variable_names (section_variables (mapped f g vs))) (variables_scope k b own) (new_variable_section vs)
+        (new_names (first_type k b) (named_types (section_types (mapped f g ts))) (types_scope k b own) (new_type_section ts)
+        (new_names k (constant_names (section_constants (mapped f g cs))) own (new_constant_section cs) others))) in λ i.
         and-false (declares_ordinal (body_scope k b own) d) _ (none_named (body_scope k b own) mine) i || no_clash-procedures (first_procedure k b) ps i
 
     no_clash-procedures : (k : ℕ) (ps : Tree ℕ (items procedure)) → list_any clashes (blocks_in_procedures k (mapped f g ps)) ≡ false

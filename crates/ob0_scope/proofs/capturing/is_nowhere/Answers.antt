@@ -1,4 +1,4 @@
-use Rattle.std.proofs.Common.{◌≡◌, ℕ, ◌<◌, ◌≤◌, List, true, false, length, arith, ap, sym, subst, ◌∙◌}
+use Rattle.std.proofs.Common.{◌≤◌, List, length, arith, ap, sym, subst, ◌∙◌}
 use Rattle.ob0_scan.specs.declared.lexeme.Token.{Token}
 use Rattle.ob0_scope_rules.specs.Names.{Name, same_name}
 use Rattle.ob0_scope.proofs.Nowhere.{nowhere, one_more}
