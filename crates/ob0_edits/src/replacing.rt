@@ -122,7 +122,8 @@ fn add_edits<T: TextStore>(
     Ok(())
 }
 
-fn range_of<T: TextStore>(store: &T, span: Span) -> Range
+/// The range of a span.
+pub fn range_of<T: TextStore>(store: &T, span: Span) -> Range
     ensures { result ≡ range_of (width_of (T.unit_of store.now)) (T.content store.now) span }
 {
     Range {

@@ -19,21 +19,21 @@ use Rattle.ob0_types_fields.proofs.TypedFields.{fields_typed-holds}
 use Rattle.ob0_refs.specs.Laws.{FieldsAreDefined, FieldsAreRenamedThere, FieldsHaveHovers, IsOnField}
 use Rattle.ob0_refs.specs.Questions.{at_field, declared, field_hover, name_or_field, named_at, or_else, references_at, row_hover}
 use Rattle.ob0_refs.specs.Shown.{name_hover_at}
-use Rattle.ob0_refs.specs.declared.answers.At as reported
+use Rattle.ob0_refs.specs.declared.answers.At as answer
 use Rattle.ob0_refs.specs.declared.answers.Of as of
-use Rattle.ob0_refs.specs.declared.answers.Of.TheVariants as reports
+use Rattle.ob0_refs.specs.declared.answers.Of.TheVariants as answer_of
 
-abbrev reports_field : of.Of → Bool
-reports_field reports.Predeclared = false
-reports_field (reports.Declared ordinal) = false
-reports_field (reports.Field k index) = true
+abbrev answers_field : of.Of → Bool
+answers_field answer_of.Predeclared = false
+answers_field (answer_of.Declared ordinal) = false
+answers_field (answer_of.Field k index) = true
 
-abbrev owner_reported : of.Of → ℕ
-owner_reported reports.Predeclared = 0
-owner_reported (reports.Declared ordinal) = 0
-owner_reported (reports.Field k index) = k
+abbrev owner_answered : of.Of → ℕ
+owner_answered answer_of.Predeclared = 0
+owner_answered (answer_of.Declared ordinal) = 0
+owner_answered (answer_of.Field k index) = k
 
-no_field : (b : Bool) (ordinal : ℕ) → reports_field (if b then reports.Predeclared else reports.Declared ordinal) ≡ false
+no_field : (b : Bool) (ordinal : ℕ) → answers_field (if b then answer_of.Predeclared else answer_of.Declared ordinal) ≡ false
 no_field true ordinal = refl
 no_field false ordinal = refl
 
@@ -47,16 +47,16 @@ record OnField (r : Resolution) (offset : ℕ) (span : Span) (k : ℕ) : Type 0 
 on_field : (r : Resolution) (offset k index : ℕ) (span : Span) → IsOnField r offset span k index → OnField r offset span k
 on_field r offset k index span h = go (name_on r.module_read offset) refl (field_at r offset) refl h
   where
-    go : (n : Option named.Named) → name_on r.module_read offset ≡ n → (f : Option (ℕ × ℕ)) → field_at r offset ≡ f → name_or_field r.module_read n f ≡ Some (record { span = span; of = reports.Field k index }) → OnField r offset span k
-    go (Some n) e f g same = absurd (true≢false (sym (ap (λ (a : reported.At). reports_field a.of) (some_inverse same)) ∙ no_field (nat_lt n.ordinal 7) n.ordinal))
+    go : (n : Option named.Named) → name_on r.module_read offset ≡ n → (f : Option (ℕ × ℕ)) → field_at r offset ≡ f → name_or_field r.module_read n f ≡ Some (record { span = span; of = answer_of.Field k index }) → OnField r offset span k
+    go (Some n) e f g same = absurd (true≢false (sym (ap (λ (a : answer.At). answers_field a.of) (some_inverse same)) ∙ no_field (nat_lt n.ordinal 7) n.ordinal))
     go None e None g same = absurd (cc)
     go None e (Some (token, owner)) g same =
-        let here : at_field r.module_read (token, owner) ≡ record { span = span; of = reports.Field k index } = some_inverse same in
+        let here : at_field r.module_read (token, owner) ≡ record { span = span; of = answer_of.Field k index } = some_inverse same in
         record {
           token = token;
           no_name = e;
-          field = g ∙ ap (λ o. Some (token, o)) (ap (λ (a : reported.At). owner_reported a.of) here);
-          place = ap (λ (a : reported.At). a.span) here;
+          field = g ∙ ap (λ o. Some (token, o)) (ap (λ (a : answer.At). owner_answered a.of) here);
+          place = ap (λ (a : answer.At). a.span) here;
         }
 
 -- ---- definition

@@ -4,14 +4,14 @@ use Rattle.std.specs.Prelude.{ℕ, nat_lt, if◌then◌else◌}
 use Rattle.ob0_tree.specs.Parsed.{Parsed}
 use Rattle.ob0_scope_rules.specs.Resolution.{span_at}
 use Rattle.ob0_scope.specs.declared.naming.Named as named
-use Rattle.ob0_refs.specs.declared.answers.At as reported
+use Rattle.ob0_refs.specs.declared.answers.At as answer
 use Rattle.ob0_refs.specs.declared.answers.Of as of
-use Rattle.ob0_refs.specs.declared.answers.Of.TheVariants as reports
+use Rattle.ob0_refs.specs.declared.answers.Of.TheVariants as answer_of
 
 -- the declarations of the text come after the predeclared names
 abbrev pub of_ordinal : ℕ → of.Of
-of_ordinal ordinal = if nat_lt ordinal 7 then reports.Predeclared else reports.Declared ordinal
+of_ordinal ordinal = if nat_lt ordinal 7 then answer_of.Predeclared else answer_of.Declared ordinal
 
 -- a name at a place: where it is, and which declaration it has
-abbrev pub at_name : Parsed → named.Named → reported.At
+abbrev pub at_name : Parsed → named.Named → answer.At
 at_name m n = record { span = span_at m.source n.token; of = of_ordinal n.ordinal }

@@ -9,12 +9,12 @@ use Rattle.ob0_scope.specs.NamesAtPlaces.{name_on}
 use Rattle.ob0_types_fields.specs.Identifiers.{field_at, field_tokens}
 use Rattle.ob0_types.specs.CheckedModules.{IsWellTyped}
 use Rattle.ob0_refs.specs.Questions.{hover_at_place, definition_at, references_at, identified_at}
-use Rattle.ob0_refs.specs.declared.answers.Of.TheVariants as reports
+use Rattle.ob0_refs.specs.declared.answers.Of.TheVariants as answer_of
 
 -- the place is on a field: the identifier there has this span, and this is the field of the record
 abbrev pub IsOnField : Resolution → ℕ → Span → ℕ → ℕ → Type 0
 IsOnField r offset span k index =
-    identified_at r offset ≡ Some record { span = span; of = reports.Field k index }
+    identified_at r offset ≡ Some record { span = span; of = answer_of.Field k index }
 
 -- In a well-typed module a field has a definition, where it is declared and where it is selected.
 abbrev pub FieldsAreDefined : Type 0

@@ -2,7 +2,7 @@
 -- Rule: none; for contracts: what values of the code mean.
 use Rattle.std.specs.Prelude.{string_bytes}
 use Rattle.ob0_scan.specs.declared.lexeme.Span.{Span}
-use Rattle.ob0_refs.specs.declared.answers.Capture as reported
+use Rattle.ob0_refs.specs.declared.answers.Capture as capture_answer
 use Rattle.ob0_refs.specs.declared.answers.Hover as answer
 use Rattle.ob0_refs.specs.Shown.{HoverText}
 
@@ -11,5 +11,5 @@ abbrev pub hover_in : answer.Hover → HoverText
 hover_in h = record { span = h.span; text = string_bytes h.text }
 
 -- where a capture of the code is
-abbrev pub capture_at : reported.Capture → Span
+abbrev pub capture_at : capture_answer.Capture → Span
 capture_at c = c.span

@@ -14,8 +14,8 @@ use Rattle.ob0_refs.specs.Places.{declared_at, references_to}
 use Rattle.ob0_types.specs.RowsOfFields.{FieldRow, field_row_at}
 use Rattle.ob0_refs.specs.Hovers.{field_text, type_text}
 use Rattle.ob0_refs.specs.Shown.{HoverText, name_hover_at}
-use Rattle.ob0_refs.specs.declared.answers.At as reported
-use Rattle.ob0_refs.specs.declared.answers.Of.TheVariants as reports
+use Rattle.ob0_refs.specs.declared.answers.At as answer
+use Rattle.ob0_refs.specs.declared.answers.Of.TheVariants as answer_of
 
 -- the identifier of a field: its token, and the ordinal of the field's record
 abbrev pub Identified : Type 0
@@ -26,16 +26,16 @@ abbrev pub index_of : Parsed → Identified → ℕ
 index_of m x = unwrap_or (field_place m x.1 (text_at m.source x.0)) 0
 
 -- a field at a place: where it is, its record and its place in that record
-abbrev pub at_field : Parsed → Identified → reported.At
-at_field m x = record { span = span_at m.source x.0; of = reports.Field x.1 (index_of m x) }
+abbrev pub at_field : Parsed → Identified → answer.At
+at_field m x = record { span = span_at m.source x.0; of = answer_of.Field x.1 (index_of m x) }
 
 -- the name at a place, or else the field
-abbrev pub name_or_field : Parsed → Option named.Named → Option Identified → Option reported.At
+abbrev pub name_or_field : Parsed → Option named.Named → Option Identified → Option answer.At
 name_or_field m (Some n) f = Some (at_name m n)
 name_or_field m None f = option_map (at_field m) f
 
 -- what is at a place
-abbrev pub identified_at : Resolution → ℕ → Option reported.At
+abbrev pub identified_at : Resolution → ℕ → Option answer.At
 identified_at r offset =
     name_or_field r.module_read (name_on r.module_read offset) (field_at r offset)
 

@@ -11,9 +11,10 @@ ghost use Rattle.ob0_edits.specs.Replaced.{AreNames};
 ghost use Rattle.ob0_scope.specs.NamesAtPlaces.{IsRenamedAt, tokens_bound};
 ghost use Rattle.ob0_rename.specs.Renaming.{is_declared_as, tokens_to_rename};
 
+use ob0_edits::range_of;
 use ob0_scan::{Span, Tokens};
 use ob0_scope::renamed_tokens;
-use ob0_scope_rules::Resolved;
+use ob0_scope_rules::{Resolved, token_span};
 use ob0_text::{Range, TextStore};
 use std::alloc::{AllocError, Global};
 
@@ -66,26 +67,7 @@ pub(crate) fn token_range<T: TextStore>(store: &T, tokens: &Tokens, token: Optio
         (span_at tokens.now index) }
 {
     match token {
-        Some(index) => span_range(store, span_of(tokens, index)),
-        None => span_range(store, Span { start: 0, end: 0 }),
-    }
-}
-
-fn span_range<T: TextStore>(store: &T, span: Span) -> Range
-    ensures { result ≡ range_of (width_of (T.unit_of store.now)) (T.content store.now) span }
-{
-    Range {
-        start: store.position(span.start),
-        end: store.position(span.end),
-    }
-}
-
-/// Where a token is; the text's start where there is no such token.
-pub(crate) fn span_of(tokens: &Tokens, token: usize) -> Span
-    ensures { result ≡ span_at tokens.now token }
-{
-    match tokens.tokens().get(token) {
-        Some(found) => found.span,
-        None => Span { start: 0, end: 0 },
+        Some(index) => range_of(store, token_span(tokens, index)),
+        None => range_of(store, Span { start: 0, end: 0 }),
     }
 }

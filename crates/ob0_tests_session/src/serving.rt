@@ -15,7 +15,7 @@ const BAD_HEAD: &[u8] =
 
 /// A conversation that ends somehow: its bytes up to a length, by pieces of a size, read so often, with room for so many bytes
 /// and with so many flushes.
-struct Ending {
+struct ServeEnd {
     bytes: &'static [u8],
     len: usize,
     given: usize,
@@ -25,8 +25,8 @@ struct Ending {
     result: Result<u8, ServeFault>,
 }
 
-static ENDS: &[Ending] = &[
-    Ending {
+static ENDS: &[ServeEnd] = &[
+    ServeEnd {
         bytes: INPUT,
         len: 412,
         given: 8192,
@@ -35,7 +35,7 @@ static ENDS: &[Ending] = &[
         flushes: 1,
         result: Ok(0),
     },
-    Ending {
+    ServeEnd {
         bytes: INPUT,
         len: 412,
         given: 40,
@@ -44,7 +44,7 @@ static ENDS: &[Ending] = &[
         flushes: 11,
         result: Ok(0),
     },
-    Ending {
+    ServeEnd {
         bytes: INPUT,
         len: 291,
         given: 40,
@@ -53,7 +53,7 @@ static ENDS: &[Ending] = &[
         flushes: 8,
         result: Ok(1),
     },
-    Ending {
+    ServeEnd {
         bytes: INPUT,
         len: 300,
         given: 8192,
@@ -62,7 +62,7 @@ static ENDS: &[Ending] = &[
         flushes: 1,
         result: Err(ServeFault::Truncated),
     },
-    Ending {
+    ServeEnd {
         bytes: INPUT,
         len: 412,
         given: 40,
@@ -71,7 +71,7 @@ static ENDS: &[Ending] = &[
         flushes: 5,
         result: Err(ServeFault::Read),
     },
-    Ending {
+    ServeEnd {
         bytes: INPUT,
         len: 412,
         given: 8192,
@@ -80,7 +80,7 @@ static ENDS: &[Ending] = &[
         flushes: 1,
         result: Err(ServeFault::Write),
     },
-    Ending {
+    ServeEnd {
         bytes: BAD_HEAD,
         len: 118,
         given: 8192,
@@ -89,7 +89,7 @@ static ENDS: &[Ending] = &[
         flushes: 1,
         result: Err(ServeFault::BadHead),
     },
-    Ending {
+    ServeEnd {
         bytes: BAD_HEAD,
         len: 118,
         given: 40,
@@ -102,7 +102,7 @@ static ENDS: &[Ending] = &[
 
 /// How a conversation ends over this writer, and whether the devices know afterwards that all was flushed and which of them
 /// failed.
-fn conversed(alloc: Global, end: &Ending, count: &mut Count) -> (Result<u8, ServeFault>, bool) {
+fn conversed(alloc: Global, end: &ServeEnd, count: &mut Count) -> (Result<u8, ServeFault>, bool) {
     let mut reader = Noted::new(Source {
         bytes: &end.bytes[..end.len.min(end.bytes.len())],
         most: end.given,
@@ -116,20 +116,20 @@ fn conversed(alloc: Global, end: &Ending, count: &mut Count) -> (Result<u8, Serv
 }
 
 /// Whether a conversation ends by a write that failed, where only so many flushes succeed.
-fn breaks_off(alloc: Global, end: &Ending, flushes: u32) -> bool {
+fn breaks_off(alloc: Global, end: &ServeEnd, flushes: u32) -> bool {
     let mut count = Count::new(end.room, flushes);
     let (result, _flushed) = conversed(alloc, end, &mut count);
     result == Err(ServeFault::Write)
 }
 
 /// Whether a conversation ends as it is to end, with all that was written handed on, where just so many flushes succeed.
-fn ends_flushed(alloc: Global, end: &Ending) -> bool {
+fn ends_flushed(alloc: Global, end: &ServeEnd) -> bool {
     let mut count = Count::new(end.room, end.flushes);
     conversed(alloc, end, &mut count) == (end.result, true) && count.handed_on == count.written
 }
 
 /// Whether a conversation needs each of its flushes.
-fn needs_each_flush(alloc: Global, end: &Ending) -> bool {
+fn needs_each_flush(alloc: Global, end: &ServeEnd) -> bool {
     for flushes in 0..end.flushes {
         if !breaks_off(alloc, end, flushes) {
             return false;
