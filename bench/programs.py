@@ -400,3 +400,18 @@ BEGIN
   Write(made); WriteLn
 END Deep.
 """
+
+
+def numbers_out(count):
+    """A program of Oberon-0 that writes so many numbers (a multiple of 1,000), of one digit each."""
+    return f"""MODULE Out;
+VAR i, j: INTEGER;
+BEGIN
+  i := 0;
+  WHILE i < {count // 1000} DO
+    j := 0;
+    WHILE j < 1000 DO Write(j MOD 10); j := j + 1 END;
+    i := i + 1
+  END
+END Out.
+"""

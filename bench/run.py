@@ -564,6 +564,25 @@ def flat():
         said(f"{depth} open at a time, 64 KiB each, {depth * turns:,} in all", f"{found.processor:.3f} s  {megabytes(found.memory)}")
 
 
+@measure("run: memory by the numbers that are written")
+def numbers():
+    """Nothing is written before a run's end: so its output is stored."""
+    import programs
+
+    def of(count):
+        found = on_file(["run"], programs.numbers_out(count), times=3)
+        if found.status or len(found.out) != 2 * count:
+            said("NOTE: another output was expected", f"status {found.status}, {len(found.out):,} bytes")
+        return found
+
+    least = of(1000)
+    half, whole = (of(count) for count in (4_000_000, 8_000_000))
+    for count, found in ((4_000_000, half), (8_000_000, whole)):
+        each = (found.memory - least.memory) / count
+        said(f"{count:,} numbers of one digit", f"{found.processor:.3f} s  {megabytes(found.memory)}, {each:.1f} bytes each")
+    said("time and peak memory of the second, by the first", f"ratio {whole.processor / half.processor / 2:.2f}, {whole.memory / half.memory / 2:.2f}")
+
+
 def main(words):
     if not os.access(BINARY, os.X_OK):
         print("bin/ob0 is missing: make it with `make build`", file=sys.stderr)

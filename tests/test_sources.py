@@ -16,6 +16,16 @@ def mutants_fit():
     same([f"{it.crate}/{it.name}: {it.why}" for it in found if it.why], [], "mutants that don't fit their sources")
 
 
+@test("sources: each mutant of the gate says what it does and which clause refuses it; README says how many there are")
+def mutants_explained():
+    found = [it for crate in common.listed() for it in edits.edits_of(crate)]
+    of_gate = [it for it in found if it.name.startswith("must-fail/")]
+    lines = {f"{it.crate}/{it.name}": text_of(it.file).partition("\n")[0] for it in of_gate}
+    same([name for name, line in lines.items() if not re.match("# .*refused by ", line)], [], "those without such a line")
+    counts = re.search(r"every proof, (\d+) wrong versions.*?tries all (\d+) mutants", text_of("README.md"), re.S)
+    same([int(it) for it in counts.groups()], [len(of_gate), len(found)], "the mutants of the gate, and all of them")
+
+
 @test("sources: no file of tests imports another")
 def tests_apart():
     for path in glob.glob(os.path.join(TOP, "tests", "**", "*.py"), recursive=True):

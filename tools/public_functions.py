@@ -38,11 +38,24 @@ def reasons():
 OF_STD = set("get len new next position read write flush replace to_string push insert find as_slice count".split())
 
 
+def holder_of(words, at):
+    """What a path has before the name at a place: `World` of `World::step` and of `World::<Lines>::step`."""
+    at -= 3
+    if at >= 0 and words[at].text == ">":
+        depth = 0
+        while at >= 0 and (depth or words[at].text == ">"):
+            depth += (words[at].text == ">") - (words[at].text == "<")
+            at -= 1
+        while at >= 0 and words[at].text == ":":
+            at -= 1
+    return words[at].text if at >= 0 else ""
+
+
 def is_use(words, at, function):
     """Whether the word at a place, a function's name, calls it by a path or as a method."""
     before = words[at - 1].text if at else ""
     behind = words[at + 1].text if at + 1 < len(words) else ""
-    holder = words[at - 3].text if before == ":" and at > 2 else ""
+    holder = holder_of(words, at) if before == ":" else ""
     if not function.owner:
         return holder in (function.crate, *function.module[-1:]) and behind != ":"
     if before == "." and function.takes_self:

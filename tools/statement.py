@@ -9,6 +9,7 @@ where the page isn't of these sources."""
 import os
 import re
 import sys
+import textwrap
 
 import common
 from common import TOP
@@ -18,6 +19,27 @@ CRATES = os.path.join(TOP, "crates")
 ROOT = ("ob0_world", "world", ("play", "play_in"))
 # (where the second part begins)
 EDITS = [("ob0_world_rules", "Answers", name) for name in ("GivesEdits", "Refuses")]
+# (what a reader has to know of the notation, an item each)
+READING = (
+    "`name : type`, and then equations, by cases; `_` is any other case. `data` lists the cases of a type; a `record` is a value with "
+    "named parts, or a list of facts that all hold. `record { a = x; b = y }` is one with these parts, `record e { a = x }` is `e` with "
+    "that part replaced.",
+    "`(x : A) → B` is 'for all x', `A → B` 'if A then B', `A × B` 'A and B', `(x : A) × B` 'some x with B', `A ⊎ B` 'A or B', `¬ A` "
+    "'not A', `A ↔ B` 'A exactly if B', `≡` equality; `⊤` and `Unit {0}` always hold, `⊥` never. `IsTrue b` is `b ≡ true`.",
+    "`λ x. y` is the function that gives y for x; `let x = y in z` gives y a name in z; `elim x [ p ↦ y | q ↦ z ]` is y or z, by what x "
+    "is, and `if b then y else z` by a truth value. In a `do`, `x ← o` takes the value out of `o`; where `o` has none, the whole has "
+    "none. An argument in braces is left out where it is clear.",
+    "`List`, `Option`, `Bool`, ℕ and ℤ are lists, optional values, truth values and numbers. `x ∷ xs` is a list with a first element, "
+    "`xs ++ ys` joins two, `p.0` and `p.1` are the parts of a pair. `pos n` is the number n of ℤ, `negsuc n` is -(n + 1). In ℕ `n - m` is "
+    "0 where m is the larger. `==`, `&&`, `||`, `not`, `nat_lt` and `nat_le` give truth values. `fold f a xs` goes over a list from its "
+    "beginning; `slice_get xs n` is the element with index n, if there is one; `take` and `drop` cut after n elements.",
+    "`codes` gives the bytes of a text, `string_bytes` those of a string of the code, `chars` the characters of bytes. A text is the "
+    "list of its bytes or of its characters, as the comments say.",
+    "In `reserved.Module` the word before the dot stands for the type whose case it is, of the same name. `abbrev`, `unfoldable`, "
+    "`unfolding`, `pub` and the 0 of `Type 0` matter to the checker alone; `mutual` comes before definitions that name one another.",
+    "In the contracts `result` is what is returned and `x.now` what an argument is; `IfOk result f` says f of the value of an `Ok`, "
+    "`IfErr result f` says f of the error of an `Err`. What `requires` says is for the caller to see to.",
+)
 WORD = re.compile(r"[^\W\d][\w'-]*(?:\.[^\W\d][\w'-]*)*")
 OPERATOR = re.compile(r"[^\w\s(){}\[\];,.\"◌]+")
 
@@ -161,7 +183,23 @@ class Declared:
         while not (text[last].startswith("}") or text[last].endswith(";") and last == at or re.search(r"\{.*\}$", text[last]) and last == at):
             last += 1
         self.code = [it for it in text[first : last + 1] if not it.lstrip().startswith("#[")]
-        self.uses = "\n".join(it for it in text if it.startswith("use ") or it.startswith("    ") is False and "::" in it)
+
+    def named_types(self):
+        """The names of the types of its fields."""
+        text = "\n".join(re.sub(r"//.*$", "", it) for it in self.code[1:])
+        fields = re.findall(r":\s*([^,{}]+)|\(([^()]*)\)", text)
+        return re.findall(r"\b[A-Z]\w*", " ".join(a or b for a, b in fields))
+
+
+def module_with(crate, name):
+    """The module of a crate that declares a public type, if it has one of this name."""
+    folder = os.path.join(CRATES, crate, "src")
+    for at, _, files in os.walk(folder):
+        for file in sorted(it for it in files if it.endswith(".rt")):
+            path = os.path.join(at, file)
+            if any(re.match(rf"pub (struct|enum) {name}\b", line) for line in lines_of(path)):
+                return os.path.relpath(path, folder)[: -len(".rt")].split(os.sep)
+    return None
 
 
 # ---- looking up
@@ -221,6 +259,11 @@ class Statement:
             block.needs = found
         return block.needs
 
+    def types_in(self, declared):
+        """The types of the same crate that are in the fields of one."""
+        modules = [(module_with(declared.crate, name), name) for name in declared.named_types() if name != declared.name]
+        return [self.type_of(declared.crate, module, name) for module, name in modules if module]
+
     def look_up(self, file, word):
         if word in file.named:
             return file.named[word]
@@ -247,9 +290,8 @@ class Statement:
             if id(it) in done or it in without:
                 return
             done.add(id(it))
-            if isinstance(it, Block):
-                for other in self.needs(it):
-                    go(other)
+            for other in self.needs(it) if isinstance(it, Block) else self.types_in(it):
+                go(other)
             order.append(it)
 
         for root in roots:
@@ -392,6 +434,13 @@ def layers():
     return order
 
 
+def wrapped(item):
+    """The lines of an item of a list; what is between backquotes stays in one line."""
+    kept = re.sub(r"`[^`]*`", lambda it: it[0].replace(" ", "\N{NO-BREAK SPACE}"), f"- {item}")
+    lines = textwrap.wrap(kept, 120, subsequent_indent="  ", break_on_hyphens=False)
+    return [it.replace("\N{NO-BREAK SPACE}", " ") for it in lines]
+
+
 def page():
     statement = Statement()
     edits = [statement.files[crate, file].named[name] for crate, file, name in EDITS]
@@ -404,25 +453,24 @@ def page():
     out = [
         "# The statement",
         "",
-        "Made by `make statement` from the sources: all definitions that the headline is made of, each once and before it is used,",
-        "with its comment. Whoever believes that these say what they are meant to say knows what is proved; proofs and code",
-        "needn't be read. The contracts at the end of the first part are those of the functions that carry the headline.",
+        "Made by `make statement` from the sources: all definitions that the headline is made of, each once and before it is",
+        "used, with its comment. Whoever believes that these say what they are meant to say knows what is proved; proofs and",
+        "code needn't be read. The contracts at the end of the first part are those of the functions that carry the headline.",
         "",
         "| Part | Definitions | Lines without comments |",
         "|---|---|---|",
         f"| [What the headline says](#what-the-headline-says) | {count_one[0]} | {count_one[1]:,} |",
         f"| [Which edits answer an ask](#which-edits-answer-an-ask) | {count_two[0]} | {count_two[1]:,} |",
         "",
-        "The first part says that an applied edit keeps the run and that diagnostics are right. The second says which edits answer an",
-        "ask, and when there are none: so it is needed only to know that the server returns exactly these, and refuses nothing else.",
+        "The first part says that an applied edit keeps the run and that diagnostics are right. The second says which edits",
+        "answer an ask, and when there are none (`GivesEdits` and `Refuses`, with which it ends; the first part names them): it is",
+        "needed only to know that the server returns exactly these, and refuses nothing else.",
         "",
-        "How to read them: `name : type` and then equations, by cases. `data` lists the cases of a type; a `record` is a value with",
-        "named parts, or a list of facts that all hold. `(x : A) → B` is 'for all x', `A → B` 'if A then B', `A × B` 'A and B',",
-        "`(x : A) × B` 'some x with B', `A ⊎ B` 'A or B', `¬ A` 'not A', `A ↔ B` 'A exactly if B', `≡` is equality; `⊤` and `Unit {0}`",
-        "always hold, `⊥` never. `List`, `Option`, `Bool`, ℕ and ℤ are lists, optional values, truth values and numbers; `x ∷ xs` is a",
-        "list with a first element, `xs ++ ys` joins two, `codes` gives the bytes of a text. In `reserved.Module` the word before the",
-        "dot stands for the type whose case it is, of the same name. A text is the list of its bytes or of its characters, as the",
-        "comments say. Names of the standard library are listed at the end.",
+        "How to read them:",
+        "",
+        *[line for it in READING for line in wrapped(it)],
+        "",
+        "Names of the standard library are listed at the end.",
         "",
         "## What the headline says",
         "",

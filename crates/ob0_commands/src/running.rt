@@ -7,7 +7,7 @@ ghost use Rattle.ob0_run.specs.Outcomes.{run_of};
 ghost use Rattle.ob0_run.specs.Programs as lowered;
 ghost use Rattle.ob0_run.specs.States.{item_of, items_out};
 ghost use Rattle.ob0_commands.specs.Printed.{IsWrittenBut, PrintsFaults, end_line, output_text, written_text};
-ghost use Rattle.ob0_commands.specs.Statuses.{StopsPrinting, status_at};
+ghost use Rattle.ob0_commands.specs.Statuses.{IsStatus, StopsPrinting, status_at};
 ghost use Rattle.ob0_commands.specs.TextRuns.{IsLoweredTo, PrintsDone, PrintsOther, TextRunsAs};
 
 use crate::checking::{print_diagnoses, text_of};
@@ -55,6 +55,7 @@ pub fn run_text<R: Read, O: Output, E: Output>(
         → PrintsOther file.now (R.remaining input.old) calls turns (O.contents out.old)
         (O.contents out.new) }
     ensures flushed { result ≤ 1 → O.is_flushed out.new ≡ true }
+    ensures statuses { IsStatus result }
 {
     match run_file(alloc, file, input, calls, turns, out, err) {
         Ok(status) => status,
@@ -78,6 +79,7 @@ fn run_file<R: Read, O: Output, E: Output>(
         → PrintsOther file.now (R.remaining input.old) calls turns (O.contents out.old)
         (O.contents out.new)) }
     ensures flushed { OnOk result (O.is_flushed out.new ≡ true) }
+    ensures ends { IfOk result (λ status. status ≤ 1) }
 {
     let Some(text) = text_of(file, out)? else {
         return Ok(1);
@@ -155,6 +157,7 @@ pub fn print_outcome<O: Output, E: Output>(
         (Appends (O.contents out.old) (O.contents out.new) (output_text (items_out output.now))) }
     ensures flushed { OnOk result (O.is_flushed out.new ≡ true) }
     ensures status { IfOk result (λ status. status ≡ status_at end) }
+    ensures ends { IfOk result (λ status. status ≤ 1) }
     ensures fault { IfErr result StopsPrinting }
 {
     print_items(alloc, output, out)?;

@@ -18,7 +18,7 @@ use Rattle.ob0_text.specs.Patches.{Cut, pieced, patched}
 use Rattle.ob0_edits.specs.Changed.{words_of}
 use Rattle.ob0_edits.specs.Ranges.{range_of}
 
--- the token with a number, and its span
+-- the token with this index; where there is none, one without text at the text's start
 abbrev pub token_at : List Token → ℕ → Token
 token_at tokens p =
     slice_index_or tokens p

@@ -29,7 +29,8 @@ type_after s (field x) = option_and_then (λ t. field_type t x) s
 type_after s (index e) = option_and_then (λ t. element_type t integer_shape) s
 type_after s _ = s
 
--- a part of a statement, each field selector by the type before it; s is the type before the selectors
+-- a part of a statement with its fields under other names, each by the record that the type before its selector is; s is the type
+-- before the first of the selectors
 abbrev pub refield : {s : Sort} → FieldNames → Typed Name → Option Shape → Tree Name s → Tree Name s
 refield l meaning s (more t ts) =
     more (refield l meaning s t) (refield l meaning (type_after s t) ts)

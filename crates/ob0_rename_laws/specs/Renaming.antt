@@ -60,6 +60,7 @@ records_in_sections k end = []
 records_in_sections k (more (then_section f) fs) =
     records_in_type k (section_type f) ++ records_in_sections (k + constructors (section_type f)) fs
 
+-- the records of a block, of its procedures and of a procedure; k is the ordinal of the first ARRAY or RECORD
 abbrev mutual
   pub records_in_block : ℕ → Tree Name block → List RecordFields
   records_in_block k (has_body (declares cs ts vs ps) statements) =

@@ -135,7 +135,7 @@ abbrev mutual
 abbrev pub module_without : ℕ → Tree Name module_text → Tree Name module_text
 module_without d (is_module x b closing) = is_module x (block_without d 7 b) closing
 
--- one use, or all that are bound to the constant d
+-- the occurrence with this number alone
 abbrev pub only : ℕ → Uses
 only occurrence k = k == occurrence
 

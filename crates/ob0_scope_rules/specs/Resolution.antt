@@ -82,7 +82,7 @@ abbrev pub IsNumbering : Parsed → List (Option ℕ) → Type 0
 IsNumbering m ordinals =
     numbered (named_tree_of m) ≡ mapped (label_at m.source ordinals) (value_at m.source) (tree_of m)
 
--- The same for any labels: each identifier with its declaration's ordinal and its name.
+-- the label that says all: the ordinal of the declaration, where there is one, and the name as written
 abbrev pub with_ordinal : Labels Name (Option ℕ × Name)
 with_ordinal ordinal x = (ordinal, x)
 

@@ -31,6 +31,7 @@ abbrev pub after_names : {N : Type 0} → ℕ → List N → ℕ
 after_names k [] = k
 after_names k (x ∷ xs) = after_names (suc k) xs
 
+-- the first ordinal after those of a block, of some procedures, and of a procedure's parameters and block
 abbrev mutual
   pub after_block : {N : Type 0} → ℕ → Tree N block → ℕ
   after_block k (has_body (declares cs ts vs ps) statements) =
@@ -238,6 +239,7 @@ abbrev pub body_scope : {N : Type 0} → ℕ → Tree N block → Scope N → Sc
 body_scope k b scope =
     declare_procedure_names (first_procedure k b) (block_procedures b) (procedures_scope k b scope)
 
+-- a block, its procedures and a procedure with labels, in the scope around them; k is the ordinal of the first declaration
 abbrev mutual
   pub relabel_block : {N M : Type 0}
       → Naming N

@@ -1,6 +1,9 @@
 //! A module through the layers one by one, each call by its own path.
 
 use ob0_parse::parse;
+use ob0_run::laws::{
+    free_field_keeps_modules, never_stuck, runs_by_ordinal, runs_by_shape, well_typed_by_shape,
+};
 use ob0_scan::scan;
 use ob0_scope::resolve;
 use ob0_tree::Module;
@@ -83,4 +86,13 @@ fn goes_through(alloc: Global) -> bool {
 #[test]
 fn a_module_goes_through_the_layers(rt: HostRuntime) {
     assert!(rt; goes_through(rt.alloc()));
+}
+
+#[test]
+fn the_laws_of_runs_have_their_names(_rt: HostRuntime) {
+    runs_by_ordinal();
+    runs_by_shape();
+    well_typed_by_shape();
+    free_field_keeps_modules();
+    never_stuck();
 }

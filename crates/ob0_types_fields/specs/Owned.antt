@@ -138,6 +138,7 @@ owned_formals k (one no_formals) = []
 owned_formals k (one (some_formals f fs)) =
     owned_section k f ++ owned_sections (k + constructors (section_type f)) fs
 
+-- the identifiers of a block, of its procedures and of a procedure; k is the ordinal of the first ARRAY or RECORD
 abbrev mutual
   pub owned_block : {P : Type 0} → Meanings ℕ Shape P → ℕ → Tree ℕ block → List (ℕ × Option ℕ)
   owned_block m k (has_body (declares cs ts vs ps) statements) =

@@ -13,11 +13,11 @@ use Rattle.ob0_types_rules.specs.Typing.{value_type}
 use Rattle.ob0_types_rules.specs.WellTyped.{Signature, TypeEnvironment, bind_typed, heading, typed_parameters}
 use Rattle.ob0_values.specs.Values.{Shape}
 
--- what an environment has before the one before
+-- what an environment binds that an earlier one didn't: its first bindings, since the newest come first
 abbrev pub since : {A : Type 0} → List A → List A → List A
 since before now = take (length now - length before) now
 
--- nothing where there is none
+-- the list that is made of a value; an empty one where there is none
 abbrev pub for_some : {A B : Type 0} → Option A → (A → List B) → List B
 for_some None list = []
 for_some (Some a) list = list a

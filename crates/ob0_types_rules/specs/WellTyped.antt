@@ -203,7 +203,7 @@ abbrev pub bind_typed : {N : Type 0}
 bind_typed [] env = env
 bind_typed (p ∷ ps) env = bind_typed ps ((p.name, a_variable p.formal.shape) ∷ env)
 
--- a procedure becomes visible, and then its parameters
+-- a procedure becomes visible, with the modes and types of its parameters
 abbrev pub heading : {N : Type 0}
     → N
     → List (TypedParameter N)

@@ -135,7 +135,8 @@ HasCome w p = (all_applied p ≡ w.applied) × (all_made p ≡ w.made)
 abbrev pub Plays : Unit → List event.Event → played.Played → Type 0
 Plays unit events p = Headline unit (map event_of events) (all_applied p) (all_made p)
 
--- The headline of the events before the one at which an allocation failed, which the fault counts; none of an empty list.
+-- An allocation failed: the fault says how many events were made before that, fewer than there are (or none), and the headline holds
+-- of these events and what came of them.
 abbrev pub PlaysBefore : Unit → List event.Event → PlayFault → Type 0
 PlaysBefore unit events fault =
     ((fault.steps < length events) ⊎ (fault.steps ≡ 0))

@@ -74,6 +74,6 @@ comes_of w k (makes e applied message) =
           };
     }
 
--- this is the step
+-- what is seen and what comes after are those of this step
 abbrev pub Is : EventStep → Seen → Ends → Type 0
 Is step seen new = (seen ≡ step.seen) × (new ≡ step.after)

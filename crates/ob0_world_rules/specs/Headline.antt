@@ -23,7 +23,8 @@ pub record KeepsTheRun (a : Applied) : Type 0 where
 abbrev pub IsRight : Made → Type 0
 IsRight m = IsEmptyIfCorrect m.text m.empty
 
--- after the first of the events the editor has this document open, with this version and this text
+-- at some moment, when the first of the events have happened and the others haven't, the editor has this document open, with this
+-- version and this text
 pub record WasOpen (unit : Unit) (events : List Event) (uri : List ℕ) (version : ℤ) (text : List ℕ) : Type 0 where
   pub before : List Event
   pub following : List Event
