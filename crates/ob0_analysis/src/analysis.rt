@@ -134,13 +134,12 @@ impl Analysis {
         ensures { IfOk result (λ a. a ≡ found.rescan.tokens.text) }
     {
         let RescanInPlace { rescan, alike } = found;
-        if alike {
-            Ok(Analysis {
-                found: Found::NoTree(rescan.tokens, refusal),
-            })
-        } else {
-            Analysis::of_tokens(alloc, rescan.tokens)
+        if !alike {
+            return Analysis::of_tokens(alloc, rescan.tokens);
         }
+        Ok(Analysis {
+            found: Found::NoTree(rescan.tokens, refusal),
+        })
     }
 
     fn after_module(alloc: Global, old: ModuleParts, text: &str) -> Result<Analysis, AllocError>
