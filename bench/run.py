@@ -516,6 +516,44 @@ def lacks(command):
     return None if shutil.which(command) else f"{command} is missing (on Debian: apt-get install {command})"
 
 
+def instructions(program, given):
+    """How many instructions a conversation takes: the same on each run, where times vary."""
+    with tempfile.TemporaryFile() as file:
+        file.write(given)
+        file.seek(0)
+        words = ["valgrind", "--tool=callgrind", "--callgrind-out-file=/dev/null", program, "serve"]
+        done = subprocess.run(words, stdin=file, stdout=subprocess.DEVNULL, stderr=subprocess.PIPE, check=False)
+    return int(re.search(rb"Collected : (\d+)", done.stderr)[1])
+
+
+@measure("keys: what an editor does while one types: instructions, and time on a processor")
+def keys_typed():
+    """Where BESIDE names another program, its instructions stand behind."""
+    import keys
+
+    programs = [it for it in (BINARY, os.environ.get("BESIDE")) if it]
+    counts = lacks("valgrind") is None
+    if not counts:
+        said("instructions", f"not counted: {lacks('valgrind')}")
+    for name, short, long, count in keys.rows():
+        less, more = (frames(keys.conversation(it)) for it in (short, long))
+        one, other = (best(3, lambda given=given: Timed([BINARY, "serve"], given)).processor for given in (less, more))
+        told = f"{max(other - one, 1e-5) / count * 1000:9.3f} ms"
+        if counts:
+            taken = [(instructions(it, more) - instructions(it, less)) / count for it in programs]
+            told += "".join(f"  {it:14,.0f}" for it in taken) + (f"  ratio {taken[0] / taken[1]:.2f}" if taken[1:] else "")
+        said(name, told)
+
+
+@measure("keys: eight documents that grow and shrink between 100 bytes and 1 MB: peak memory")
+def grown_and_shrunk():
+    import keys
+
+    for count in (20, 200, 400):
+        found = Timed([BINARY, "serve"], frames(keys.conversation(keys.shrinking(count))))
+        said(f"{count} changes", f"{megabytes(found.memory)}  status {found.status}")
+
+
 @measure("run: loops, arrays and calls, against Lua and Python")
 def ran():
     import programs

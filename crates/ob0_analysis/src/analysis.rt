@@ -6,7 +6,8 @@ ghost use Rattle.ob0_scan.specs.Refused.{AreFaults};
 ghost use Rattle.ob0_scan.specs.Reused.{kinds};
 ghost use Rattle.ob0_scan.specs.Scanned.{IsScannable, IsScanOf};
 ghost use Rattle.ob0_tree.specs.Parsed.{IsParsed};
-ghost use Rattle.ob0_analysis.specs.Found.{IsRefusalOf};
+ghost use Rattle.ob0_analysis.specs.Found.{IsFound, IsRefusalOf};
+ghost use Rattle.ob0_analysis.specs.declared.analysis.Found.TheVariants.{NoTree};
 ghost use Rattle.ob0_analysis.specs.Parts.{parsed_by};
 ghost use Rattle.ob0_analysis.specs.Diagnosed.{IsWellTypedModule, Reports, complaint_in};
 
@@ -70,15 +71,17 @@ impl Analysis {
         }
     }
 
-    /// The analysis of another text. What it has in common with the text before is taken over from it: tokens, and the tree
-    /// where all tokens are of the kinds that they were.
+    /// The analysis of another text. What it has in common with the text before is taken over from it: tokens, and where all
+    /// tokens are of the kinds that they were the tree, or where the parser stops.
     pub fn after(self, alloc: Global, text: &str) -> Result<Analysis, AllocError>
         ensures { IfOk result (λ a. a ≡ text.now) }
     {
         let Analysis { found } = self;
         match found {
             Findings::NoLexemes(ill) => Analysis::after_faults(alloc, ill, text),
-            Findings::NoTree(tokens, _) => Analysis::after_tokens(alloc, tokens, text),
+            Findings::NoTree(tokens, refusal) => {
+                Analysis::after_refusal(alloc, tokens, refusal, text)
+            }
             Findings::Module(parts) => Analysis::after_module(alloc, parts, text),
         }
     }
@@ -104,6 +107,39 @@ impl Analysis {
             Ok(found) => Analysis::of_tokens(alloc, found.rescan.tokens),
             Err(refusal) => Analysis::not_scanned(alloc, text, refusal),
         }
+    }
+
+    fn after_refusal(
+        alloc: Global,
+        old: Tokens,
+        refusal: ParseRefusal,
+        text: &str,
+    ) -> Result<Analysis, AllocError>
+        requires { IsFound (NoTree old refusal) }
+        ensures { IfOk result (λ a. a ≡ text.now) }
+    {
+        match scan_changed(alloc, old, text) {
+            Ok(found) => Analysis::of_refused_scan(alloc, found, refusal),
+            Err(refusal) => Analysis::not_scanned(alloc, text, refusal),
+        }
+    }
+
+    /// The analysis of a text by the refusal of the text before, which is its own where the tokens are alike.
+    fn of_refused_scan(
+        alloc: Global,
+        found: RescanInPlace,
+        refusal: ParseRefusal,
+    ) -> Result<Analysis, AllocError>
+        requires { found.alike ≡ true → IsFound (NoTree found.rescan.tokens refusal) }
+        ensures { IfOk result (λ a. a ≡ found.rescan.tokens.text) }
+    {
+        let RescanInPlace { rescan, alike } = found;
+        if !alike {
+            return Analysis::of_tokens(alloc, rescan.tokens);
+        }
+        Ok(Analysis {
+            found: Found::NoTree(rescan.tokens, refusal),
+        })
     }
 
     fn after_module(alloc: Global, old: ModuleParts, text: &str) -> Result<Analysis, AllocError>

@@ -1,17 +1,24 @@
--- A text whose tokens are of the same kinds as those before, one after the other, has the same tree over their indexes.
-use Rattle.std.proofs.Common.{◌≡◌, ℕ, ◌+◌, ◌≤◌, List, [], ◌∷◌, ◌++◌, map, length, refl, sym, ap, ◌∙◌, subst}
+-- A text whose tokens are of the same kinds as those before, one after the other, has the same tree over their indexes, or is
+-- refused at the same token.
+use Rattle.std.proofs.Common.{◌≡◌, ℕ, ◌+◌, ◌≤◌, List, [], ◌∷◌, ◌++◌, map, take, length, refl, sym, ap, ◌∙◌, subst}
+use Rattle.std.proofs.lemmas.List.{map-append, length-map, take-map}
 use Rattle.ob0_scan.specs.declared.lexeme.TokenKind.{TokenKind}
 use Rattle.ob0_scan.specs.declared.lexeme.TokenKind.TheVariants as kind
 use Rattle.ob0_scan.specs.declared.lexeme.Token.{Token}
 use Rattle.ob0_scan.specs.Scanned.{Scanned, max_text}
 use Rattle.ob0_scan.specs.Reused.{valueless, kinds}
-use Rattle.ob0_tree.specs.Lexeme.{Terminal, EndOfText}
-use Rattle.ob0_tree.specs.Tree.{Tree, module_text, nesting, spell}
-use Rattle.ob0_tree.specs.Module.{ModuleOf, max_nesting}
+use Rattle.ob0_tree.specs.Lexeme.{Terminal, EndOfText, relabelled}
+use Rattle.ob0_tree.specs.Tree.{Tree, module_text, nesting, spell, mapped}
+use Rattle.ob0_tree.specs.Module.{ModuleOf, max_nesting, text_lexemes}
 use Rattle.ob0_tree.specs.Parsed.{Parsed, IsParsed, tree_of}
 use Rattle.ob0_tree.specs.Places.{lexeme_of, lexemes_from, lexemes, text_at, value_at}
-use Rattle.ob0_tree.proofs.Mapped.{nesting_mapped}
-use Rattle.ob0_parse.proofs.Whole.{module_spelled}
+use Rattle.ob0_tree.proofs.Mapped.{nesting_mapped, spell_mapped}
+use Rattle.ob0_tree.proofs.Indexed.{reindexed, reindexed-append, indexed, spell_indexed, nesting_indexed}
+use Rattle.ob0_parse.specs.Descent.{DescendsText, Expects, Deep}
+use Rattle.ob0_parse.specs.RefusedBy.{NoneBegins, RefusedBy}
+use Rattle.ob0_parse.specs.declared.refusal.ParseRefusal.{ParseRefusal}
+use Rattle.ob0_parse.specs.declared.refusal.ParseRefusal.TheVariants.{Syntax, TooDeep, Memory}
+use Rattle.ob0_parse.proofs.Whole.{module_spelled, texts, indexes_again, reindexed-take}
 
 -- a token by its index is the same whatever its value
 by_kind : (i : ℕ) (k : TokenKind) → lexeme_of i (valueless k) ≡ lexeme_of i k
@@ -45,3 +52,45 @@ tree_stays old new parsed tree short same =
           places;
       places = places;
     }
+
+-- the tokens by their indexes are those of the text, indexed
+indexed_again : (s : Scanned) → reindexed 0 (text_lexemes s ++ (EndOfText ∷ [])) ≡ lexemes s.tokens
+indexed_again s = ap (reindexed 0) (sym (texts s)) ∙ indexes_again (text_at s) (value_at s) s.tokens 0
+
+-- A tree that begins with the new tokens begins with the old ones, once its names and numbers are theirs.
+none_begins : (old new : Scanned) (i : ℕ) → kinds new.tokens ≡ kinds old.tokens → NoneBegins old i → NoneBegins new i
+none_begins old new i same none t more shallow begins =
+    let r = relabelled (text_at old) (value_at old) in
+    let front = take (i + 1) (text_lexemes new ++ (EndOfText ∷ [])) in
+    let unseen : List (Terminal ℕ) = reindexed (0 + length front) more in
+    let seen : reindexed 0 front ≡ take (i + 1) (lexemes old.tokens) =
+    reindexed-take (i + 1) 0 (text_lexemes new ++ (EndOfText ∷ [])) ∙ ap (take (i + 1)) (indexed_again new ∙ same_lexemes _ _ same) in
+    let left : reindexed 0 (spell t ++ (EndOfText ∷ [])) ≡ spell (indexed 0 t) ++ (EndOfText ∷ []) =
+    reindexed-append 0 (spell t) (EndOfText ∷ []) ∙ ap (λ z. z ++ (EndOfText ∷ [])) (sym (spell_indexed 0 t)) in
+    let whole : spell (indexed 0 t) ++ (EndOfText ∷ []) ≡ take (i + 1) (lexemes old.tokens) ++ unseen =
+    sym left ∙ (ap (reindexed 0) begins ∙ (reindexed-append 0 front more ∙ ap (λ z. z ++ unseen) seen)) in
+    let cut : map r (take (i + 1) (lexemes old.tokens)) ≡ take (i + 1) (text_lexemes old ++ (EndOfText ∷ [])) =
+    sym (take-map r (i + 1) (lexemes old.tokens)) ∙ ap (take (i + 1)) (texts old) in
+    let under : spell (mapped (text_at old) (value_at old) (indexed 0 t)) ++ (EndOfText ∷ []) ≡ map r (spell (indexed 0 t) ++ (EndOfText ∷ [])) =
+    ap (λ z. z ++ (EndOfText ∷ [])) (spell_mapped (text_at old) (value_at old) (indexed 0 t)) ∙ sym (map-append r (spell (indexed 0 t)) (EndOfText ∷ [])) in
+    none (mapped (text_at old) (value_at old) (indexed 0 t)) (map r unseen)
+    (subst (λ n. n ≤ max_nesting) (sym (nesting_mapped (text_at old) (value_at old) (indexed 0 t))) (subst (λ n. n ≤ max_nesting) (sym (nesting_indexed 0 t)) shallow))
+    (under ∙ (ap (map r) whole ∙ (map-append r (take (i + 1) (lexemes old.tokens)) unseen ∙ ap (λ z. z ++ map r unseen) cut)))
+
+as_many : (a b : List Token) → kinds a ≡ kinds b → length a ≡ length b
+as_many a b same = sym (length-map a (λ (t : Token). valueless t.kind)) ∙ (ap length same ∙ length-map b (λ (t : Token). valueless t.kind))
+
+pub refusal_stays : (old new : Scanned) (e : ParseRefusal) → kinds new.tokens ≡ kinds old.tokens → RefusedBy old e → RefusedBy new e
+refusal_stays old new (Syntax i expected) same by =
+    (
+      subst (λ n. i ≤ n) (sym (as_many _ _ same)) by.0,
+      none_begins old new i same by.1,
+      subst (λ w. DescendsText w (Expects i expected)) (sym (same_lexemes _ _ same)) by.2,
+    )
+refusal_stays old new (TooDeep i) same by =
+    (
+      subst (λ n. i ≤ n) (sym (as_many _ _ same)) by.0,
+      none_begins old new i same by.1,
+      subst (λ w. DescendsText w (Deep i)) (sym (same_lexemes _ _ same)) by.2,
+    )
+refusal_stays old new Memory same by = tt

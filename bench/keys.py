@@ -1,0 +1,89 @@
+"""What an editor does while one types, as pairs of conversations: the second does some things more often than the first, so what
+these cost is the difference of both, by how often."""
+import random
+import re
+
+import corpus
+from harness import did_change, did_open, extent, initialize, place, request
+
+URI = "file:///m"
+LITERALS = {"textDocument": {"codeAction": {"codeActionLiteralSupport": {}}}}
+MIB = 1 << 20
+SIZES = [10000, 100000, MIB - 1000]
+TYPED = "\n  IF 1 > (0 + 12) * 3 THEN Write(7); WriteLn END;"
+
+
+def place_of(text, at):
+    return text.count("\n", 0, at), at - (text.rfind("\n", 0, at) + 1)
+
+
+def behind(text, pattern):
+    """The line and the column behind the first match in the text's second half."""
+    return place_of(text, re.compile(pattern).search(text, len(text) // 2).end())
+
+
+def replaced(line, column, end, new, version):
+    return did_change([{"range": extent(f"{line}:{column}-{line}:{end}"), "text": new}], version=version)
+
+
+def in_and_out(text, pattern, letter):
+    """Changes of one letter behind a place: it is put in and taken out in turn."""
+    line, column = behind(text, pattern)
+
+    def changes(count):
+        return [replaced(line, column, column + at % 2, "" if at % 2 else letter, 2 + at) for at in range(count)]
+
+    return [did_open(text), *changes(2)], [did_open(text), *changes(6)], 4
+
+
+def typed(text):
+    """A statement typed letter by letter, after each letter three questions, and taken out again."""
+    line, column = first = behind(text, r":= [^;\n]*;")
+    talk, ident = [], 10
+    for letter in TYPED:
+        talk.append(replaced(line, column, column, letter, 2 + len(talk)))
+        line, column = (line + 1, 0) if letter == "\n" else (line, column + 1)
+        here = place(line, column)
+        about = {"textDocument": {"uri": URI}, "position": here}
+        action = {"textDocument": {"uri": URI}, "range": {"start": here, "end": here}, "context": {"diagnostics": []}}
+        for method, params in (("codeAction", action), ("hover", about), ("definition", about)):
+            ident += 1
+            talk.append(request(ident, f"textDocument/{method}", params))
+    whole = {"start": place(*first), "end": place(line, column)}
+    talk.append(did_change([{"range": whole, "text": ""}], version=2 + len(talk)))
+    return [did_open(text)], [did_open(text), *talk], len(TYPED)
+
+
+def asked(text, method, params):
+    question = request(5, f"textDocument/{method}", {"textDocument": {"uri": URI}, **params})
+    return [did_open(text)], [did_open(text), question], 1
+
+
+def shrinking(count, seed=0):
+    """Eight documents that are opened and then changed so often, each time to a text of between 100 bytes and 1 MB."""
+    chance = random.Random(seed)
+    texts = [corpus.module(int(100 * 10000 ** (it / 15)), it) for it in range(16)]
+    uri = lambda it: f"file:///{it}"
+    talk = [did_open(texts[0], uri(it)) for it in range(8)]
+    return talk + [did_change(chance.choice(texts), uri(chance.randrange(8)), version) for version in range(2, 2 + count)]
+
+
+def rows():
+    """Names, and two conversations of which the second is so many things longer."""
+    for size in SIZES:
+        text = corpus.module(size)
+        yield f"a module of {size:,} is opened", [], [did_open(text)], 1
+        yield "  a digit more in a number, or less", *in_and_out(text, r":= [^;\n]*[0-9]", "1")
+        yield "  a blank more or less", *in_and_out(text, r":= [^;\n]*[0-9]", " ")
+        yield "  a statement more or less", *in_and_out(text, r":= [^;\n]*;", ";")
+        yield "  a key typed, with three questions", *typed(text)
+    uses = corpus.uses(100000, False)
+    yield "references, 100,000 places", *asked(uses, "references", {"context": {"includeDeclaration": True}, "position": place(0, 18)})
+    yield "rename, 100,000 places", *asked(uses, "rename", {"newName": "y", "position": place(0, 18)})
+    spread = uses.replace("x", "  x  ")
+    yield "formatting, 100,000 places", *asked(spread, "formatting", {"options": {"tabSize": 2, "insertSpaces": True}})
+
+
+def conversation(messages):
+    """A conversation that begins and ends as it has to."""
+    return [initialize(**LITERALS), *messages, request(9999, "shutdown"), {"jsonrpc": "2.0", "method": "exit"}]

@@ -1,0 +1,161 @@
+"""Random changes of one document, at borders of every kind and with faults between. After each the server, which keeps what it
+found of the text before, says the same as another server that has never seen the text."""
+import concurrent.futures
+import json
+import random
+
+import corpus
+import faulty_modules
+from harness import Server, did_change, did_close, did_open, holds, same
+from long_conversation import LITERALS, position_of
+from random_texts import LEXEME
+
+URI = "file:///m"
+STEPS = 100  # the changes of one conversation
+
+# What is put in, beside pieces of the text itself. Each joins, cuts, opens or closes something at some border.
+PIECES = [
+    *["a", "Z", "0", "7", " ", "\n", "\r\n", "\r", "\t", ";", ".", ",", ":", "=", "<", ">", "(", ")", "*", "+", "-", "~", "&", "#"],
+    *["(*", "*)", "(* x *)", "(* é 😀 *)", "(**)", ":=", "<=", ">=", "[", "]", "$", "é", "😀", "\0"],
+    *["IF", "END", "ELSE", "BEGIN", "VAR", "x", "INTEGER", "TRUE", "2147483648", "1a", "x.y", "x[1]"],
+    *["; x := x + 1", "VAR q: INTEGER;", "PROCEDURE P; BEGIN END P;", "IF TRUE THEN END;", "REPEAT UNTIL TRUE;"],
+]
+
+
+def is_border(text, at):
+    """Whether a position can be at a place: none is between CR and LF."""
+    return text[at - 1 : at + 1] != "\r\n"
+
+
+def at_random(text, chance):
+    """A range at a border of lexemes, inside of one, around one, or anywhere."""
+    found = list(LEXEME.finditer(text))
+    way = chance.random()
+    if not found or way < 0.15:
+        start = chance.randrange(len(text) + 1)
+        return start, min(len(text), start + chance.choice([0, 0, 1, 2, 8]))
+    lexeme = chance.choice(found)
+    if way < 0.35:  # where a lexeme begins or ends
+        start = chance.choice([lexeme.start(), lexeme.end()])
+        return start, start
+    if way < 0.55:  # inside of a lexeme
+        start = chance.randrange(lexeme.start(), lexeme.end() + 1)
+        return start, chance.randrange(start, lexeme.end() + 1)
+    if way < 0.7:  # the white space between two
+        behind = chance.choice(found)
+        before = max((it.end() for it in found if it.end() <= behind.start()), default=0)
+        return before, behind.start()
+    if way < 0.9:  # a whole lexeme
+        return lexeme.start(), lexeme.end()
+    behind = found[min(len(found) - 1, found.index(lexeme) + chance.choice([1, 2, 5, 30]))]
+    return lexeme.start(), behind.end()
+
+
+def replacement(text, chance):
+    """What is put in: nothing, a piece, or a lexeme or a part of the text."""
+    way = chance.random()
+    if way < 0.2:
+        return ""
+    if way < 0.65:
+        return chance.choice(PIECES)
+    found = list(LEXEME.finditer(text))
+    if not found:
+        return "MODULE M; END M."
+    lexeme = chance.choice(found)
+    if way < 0.9:
+        return lexeme[0]
+    return text[lexeme.start() : lexeme.end() + chance.randrange(40)]
+
+
+class Edited:
+    """A document, from the client's side. What was changed can be taken back, so that a text is without faults now and then."""
+
+    def __init__(self, text, chance):
+        self.text, self.chance, self.undo = text, chance, []
+
+    def put(self, start, end, new):
+        """Changes the text, and gives the change."""
+        found = {"range": {"start": position_of(self.text, start), "end": position_of(self.text, end)}, "text": new}
+        self.text = self.text[:start] + new + self.text[end:]
+        return found
+
+    def change(self):
+        """A change, or None where the last one is to be taken back and there is none."""
+        if self.undo and (self.chance.random() < 0.57 or len(self.text) > 6000):
+            start, new, old = self.undo.pop()
+            return self.put(start, start + len(new), old)
+        start, end = at_random(self.text, self.chance)
+        new = replacement(self.text, self.chance)
+        old = self.text[start:end]
+        whole = self.text[:start] + new + self.text[end:]
+        # (no position is between CR and LF, before the change or when it is taken back)
+        if not all(is_border(self.text, it) for it in (start, end)) or not all(is_border(whole, it) for it in (start, start + len(new))):
+            return None
+        self.undo.append((start, new, old))
+        return self.put(start, end, new)
+
+
+def asked(server, uri, method, where):
+    """What a server answers to a question about a document, as text in which it has one name for each server."""
+    params = {"position": where, "textDocument": {"uri": uri}, "context": {"includeDeclaration": True}, "newName": "k"}
+    if method == "codeAction":
+        params = {"context": {}, "range": {"end": where, "start": where}, "textDocument": {"uri": uri}}
+    if method == "formatting":
+        params = {"options": {"insertSpaces": True, "tabSize": 2}, "textDocument": {"uri": uri}}
+    found = server.ask(f"textDocument/{method}", params)
+    return json.dumps({key: it for key, it in found.items() if key != "id"}, sort_keys=True).replace(uri, URI)
+
+
+QUESTIONS = ["hover", "definition", "references", "rename", "codeAction", "formatting"]
+
+
+def same_as_new(keeping, fresh, edited, told, uri, where):
+    """Holds what the server that keeps says of the present text to what one says that reads it for the first time."""
+    same(told, fresh.tell(did_open(edited.text, uri)), f"{where}: diagnostics of\n{edited.text}\n")
+    if not told or edited.chance.random() < 0.1:
+        for method in edited.chance.sample(QUESTIONS, 2):
+            at = position_of(edited.text, edited.chance.randrange(len(edited.text) + 1))
+            got, wanted = asked(keeping, URI, method, at), asked(fresh, uri, method, at)
+            same(got, wanted, f"{where}: {method} at {at} of\n{edited.text}\n")
+    fresh.tell(did_close(uri))
+
+
+def converse(seed):
+    """One conversation. Returns of how many of its texts nothing was reported, and how many had a fault of lexemes."""
+    chance = random.Random(f"changes {seed}")
+    text = faulty_modules.records(seed) if chance.random() < 0.2 else corpus.module(chance.choice([300, 900, 2000]), seed, chance.random() < 0.2)
+    edited, clean, ill_lexed = Edited(text, chance), 0, 0
+    with Server(capabilities=LITERALS) as keeping, Server(capabilities=LITERALS) as fresh:
+        keeping.tell(did_open(edited.text, URI))
+        for step in range(STEPS):
+            while (change := edited.change()) is None:
+                pass
+            told = keeping.tell(did_change([change], URI, step + 2))
+            clean += not told
+            ill_lexed += any(it["code"] in ("BadChar", "OpenComment", "NumberTooLarge", "NumberJoinsLetter") for it in told)
+            same_as_new(keeping, fresh, edited, told, f"file:///n{step}", f"seed {seed}, step {step}")
+        for it in (keeping, fresh):
+            same(it.end(), 0, "the status")
+    return clean, ill_lexed
+
+
+def figures(found):
+    """What conversations gave, as a line."""
+    clean, ill_lexed = (sum(it) for it in zip(*found))
+    holds(clean and ill_lexed, f"{clean} texts without a fault, {ill_lexed} with a fault of lexemes")
+    return f"{len(found) * STEPS:,} changes, after each what a new server says: {clean:,} texts without a fault, {ill_lexed:,} with faults of lexemes"
+
+
+def seeds_of(count, first):
+    return range(first, first + max(1, count // STEPS))
+
+
+def some_changes(count, first):
+    """So many changes, one conversation after the other. Returns a line with figures."""
+    return figures([converse(it) for it in seeds_of(count, first)])
+
+
+def many_changes(count, first, processes):
+    """So many changes, by some processes. Returns a line with figures."""
+    with concurrent.futures.ProcessPoolExecutor(processes) as pool:
+        return figures(list(pool.map(converse, seeds_of(count, first))))
