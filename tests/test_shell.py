@@ -156,6 +156,18 @@ def transcripts():
             same(said, block)
 
 
+@test("shell: the lines of README's first module make it, find nothing wrong and run it")
+def first_module():
+    page = text_of("README.md").partition("\n## A first module\n")[2].partition("\n\n")[2]
+    lines = [it[4:] for it in page.partition("\n\n")[0].splitlines()]
+    same(len(lines), 3, "the lines")
+    printed = re.search(r"The last line prints `([^`]*)`", page)[1]
+    with tempfile.TemporaryDirectory() as room:
+        own, work = at_home(room, "kate"), os.path.join(room, "work")
+        os.mkdir(work)
+        same(run_plainly(["sh", "-e", "-c", "\n".join(lines)], own, work), (0, printed + "\n"), "what they print")
+
+
 @test("shell: the links between pages lead somewhere")
 def links():
     pages = [it for at, _, files in os.walk(TOP) for it in (os.path.relpath(os.path.join(at, name), TOP) for name in files)]

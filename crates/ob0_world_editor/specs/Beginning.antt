@@ -7,17 +7,21 @@ use Rattle.ob0_text.specs.declared.position_types.Unit.TheVariants.{Utf16, Utf8}
 use Rattle.ob0_text.specs.Units.{is_utf8}
 use Rattle.ob0_rpc.specs.declared.clients.Client.{Client}
 
+-- {"codeActionLiteralSupport":{}}
+abbrev pub actions_supported : Data
+actions_supported = object (member (codes "codeActionLiteralSupport") (object no_members) no_members)
+
 -- {"codeAction":{"codeActionLiteralSupport":{}}}
 abbrev pub actions_taken : Data
-actions_taken =
-    object (member (codes "codeAction")
-    (object (member (codes "codeActionLiteralSupport") (object no_members) no_members)) no_members)
+actions_taken = object (member (codes "codeAction") actions_supported no_members)
+
+-- {"documentChanges":true}
+abbrev pub versions_supported : Data
+versions_supported = object (member (codes "documentChanges") (boolean true) no_members)
 
 -- {"workspaceEdit":{"documentChanges":true}}
 abbrev pub versions_taken : Data
-versions_taken =
-    object (member (codes "workspaceEdit")
-    (object (member (codes "documentChanges") (boolean true) no_members)) no_members)
+versions_taken = object (member (codes "workspaceEdit") versions_supported no_members)
 
 -- {"positionEncodings":["utf-8"]}
 abbrev pub utf8_offered : Data

@@ -8,7 +8,7 @@ use Rattle.ob0_text.specs.declared.position_types.Range.{Range}
 use Rattle.ob0_text.specs.declared.edits.Change.{Change}
 use Rattle.ob0_text.specs.declared.edits.Indent.{Indent}
 use Rattle.ob0_text.specs.declared.edits.Indent.TheVariants.{Tab, Spaces}
-use Rattle.ob0_rpc.specs.Shapes.{text, json_rpc}
+use Rattle.ob0_rpc.specs.Shapes.{text, json_rpc, position_value, range_value}
 use Rattle.ob0_world_rules.specs.Asks.{Ask, rename, inline_here, inline_all, format}
 
 -- {"id":k,"jsonrpc":"2.0","method":M,"params":P}
@@ -17,42 +17,41 @@ request_message k method params =
     object (member (codes "id") (number (unsigned k)) (member (codes "jsonrpc") json_rpc
     (member (codes "method") (text method) (member (codes "params") params no_members))))
 
--- {"character":c,"line":l}
-abbrev pub position_value : Position → Data
-position_value p =
-    object (member (codes "character") (number (unsigned p.character))
-    (member (codes "line") (number (unsigned p.line)) no_members))
-
--- {"end":P,"start":P}
-abbrev pub range_value : Range → Data
-range_value r =
-    object (member (codes "end") (position_value r.end)
-    (member (codes "start") (position_value r.start) no_members))
-
 -- ---- notes
 
--- {"languageId":"oberon-0","text":t,"uri":u,"version":v} in the member `textDocument`
+-- {"languageId":"oberon-0","text":t,"uri":u,"version":v}
+abbrev pub opened_value : List ℕ → ℕ → List ℕ → Data
+opened_value uri version contents =
+    object (member (codes "languageId") (text (codes "oberon-0")) (member (codes "text") (text contents)
+    (member (codes "uri") (text uri) (member (codes "version") (number (unsigned version)) no_members))))
+
+-- {"textDocument":{..}} of an opened document
 abbrev pub open_params : List ℕ → ℕ → List ℕ → Data
 open_params uri version contents =
-    object (member (codes "textDocument") (object (member (codes "languageId") (text (codes "oberon-0")) (member (codes "text") (text contents)
-    (member (codes "uri") (text uri) (member (codes "version") (number (unsigned version)) no_members))))) no_members)
+    object (member (codes "textDocument") (opened_value uri version contents) no_members)
 
 -- {"range":R,"text":t}, without `range` for the whole text
 abbrev pub change_by : Option Range → List ℕ → Data
 change_by (Some range) new =
     object
-    (member (codes "range") (range_value range) (member (codes "text") (text new) no_members))
+    (member (codes "range") (range_value range.start range.end) (member (codes "text") (text new) no_members))
 change_by None new = object (member (codes "text") (text new) no_members)
 
 -- a change as JSON
 abbrev pub change_value : Change → Data
 change_value c = change_by c.range (string_bytes c.text)
 
+-- {"uri":u,"version":v}
+abbrev pub versioned_value : List ℕ → ℕ → Data
+versioned_value uri version =
+    object
+    (member (codes "uri") (text uri) (member (codes "version") (number (unsigned version)) no_members))
+
 -- {"contentChanges":[C,..],"textDocument":{"uri":u,"version":v}}
 abbrev pub change_params : List ℕ → ℕ → List Data → Data
 change_params uri version changes =
     object (member (codes "contentChanges") (array (items_of changes))
-    (member (codes "textDocument") (object (member (codes "uri") (text uri) (member (codes "version") (number (unsigned version)) no_members))) no_members))
+    (member (codes "textDocument") (versioned_value uri version) no_members))
 
 -- {"uri":u}
 abbrev pub document_value : List ℕ → Data
@@ -74,11 +73,15 @@ rename_params uri position name =
 abbrev pub empty_at : Position → Range
 empty_at position = record { start = position; end = position }
 
+-- {"diagnostics":[]}
+abbrev pub diagnostics_of_none : Data
+diagnostics_of_none = object (member (codes "diagnostics") (array no_items) no_members)
+
 -- {"context":{"diagnostics":[]},"range":R,"textDocument":{"uri":u}}
 abbrev pub actions_params : List ℕ → Position → Data
 actions_params uri position =
-    object (member (codes "context") (object (member (codes "diagnostics") (array no_items) no_members))
-    (member (codes "range") (range_value (empty_at position)) (member (codes "textDocument") (document_value uri) no_members)))
+    object (member (codes "context") diagnostics_of_none (member (codes "range") (range_value position position)
+    (member (codes "textDocument") (document_value uri) no_members)))
 
 -- {"insertSpaces":b,"tabSize":n}
 abbrev pub options_by : Bool → ℕ → Data

@@ -1,15 +1,12 @@
 //! How an editor begins.
-ghost use Rattle.std.specs.Prelude.{◌≡◌, Some, IfOk, OnOk, codes};
-ghost use Rattle.serde_json.specs.View.{view, members_view};
-ghost use Rattle.ob0_text.specs.declared.position_types.Unit.TheVariants.{Utf16, Utf8};
+ghost use Rattle.std.specs.Prelude.{◌≡◌, [], ◌∷◌, ◌++◌, Some, IfOk, OnOk, codes};
+ghost use Rattle.serde_json.specs.Data.{member, no_members, object};
 ghost use Rattle.ob0_rpc.specs.Messages.{ReadsContent};
-ghost use Rattle.ob0_world_editor.specs.Beginning.{actions_taken, versions_taken, utf8_offered, capabilities_for, initialize_message};
-ghost use Rattle.serde_json.specs.Data.{object, member, no_members, put as with_member};
+ghost use Rattle.ob0_world_editor.specs.Beginning.{actions_supported, actions_taken, capabilities_for, initialize_message, utf8_offered, versions_supported, versions_taken};
 
-use crate::members::{put_method, put_text};
-use crate::writing::content_of;
+use crate::params::Request;
+use ob0_rpc::{Written, content_of, end_object, first_member, next_member};
 use ob0_text::Unit;
-use serde_json::{Map, Value, json, put};
 use std::alloc::{AllocError, Global};
 
 /// The request that begins a conversation, of an editor that takes edits of versioned documents and code actions that
@@ -17,82 +14,133 @@ use std::alloc::{AllocError, Global};
 pub fn initialize(alloc: Global, unit: Unit) -> Result<Vec<u8>, AllocError>
     ensures { IfOk result (λ content. ReadsContent content.items (Some (initialize_message unit))) }
 {
-    let message = initialize_value(alloc, unit)?;
-    content_of(alloc, &message)
+    let capabilities = ClientCapabilities { unit };
+    let params = &InitializeParams { capabilities };
+    let (id, method) = ("initialize", "initialize");
+    content_of(alloc, &Request { id, method, params })
 }
 
-fn initialize_value(alloc: Global, unit: Unit) -> Result<Value, AllocError>
-    ensures { IfOk result (λ v. view v ≡ initialize_message unit) }
-{
-    let params = capabilities_offered(alloc, unit)?;
-    let mut members = Map::new(alloc);
-    put(&mut members, alloc, "params", params)?;
-    put_text(&mut members, alloc, "id", "initialize")?;
-    put_method(&mut members, alloc, "initialize")?;
-    Ok(Value::Object(members))
+/// What an editor says of itself.
+#[derive(Drop)]
+struct InitializeParams {
+    capabilities: ClientCapabilities,
 }
 
-fn capabilities_offered(alloc: Global, unit: Unit) -> Result<Value, AllocError>
-    ensures { IfOk result (λ v. view v
-        ≡ object (member (codes "capabilities") (object (capabilities_for unit)) no_members)) }
-{
-    let capabilities = capabilities(alloc, unit)?;
-    let mut members = Map::new(alloc);
-    put(&mut members, alloc, "capabilities", capabilities)?;
-    Ok(Value::Object(members))
-}
+impl Written for InitializeParams {
+    ghost value = { λ p. object (member (codes "capabilities") (object (capabilities_for p.capabilities.unit)) no_members) };
 
-fn capabilities(alloc: Global, unit: Unit) -> Result<Value, AllocError>
-    ensures { IfOk result (λ v. view v ≡ object (capabilities_for unit)) }
-{
-    match unit {
-        Unit::Utf16 => capabilities_in_utf16(alloc),
-        Unit::Utf8 => capabilities_in_utf8(alloc),
+    fn write(&self, out: &mut Vec<u8>) -> Result<(), AllocError> {
+        first_member(out, "capabilities", &self.capabilities)?;
+        end_object(out)
     }
 }
 
-fn capabilities_in_utf16(alloc: Global) -> Result<Value, AllocError>
-    ensures { IfOk result (λ v. view v ≡ object (capabilities_for Utf16)) }
-{
-    let mut members = Map::new(alloc);
-    put_supports(&mut members, alloc)?;
-    Ok(Value::Object(members))
+/// What an editor can do.
+#[derive(Drop)]
+struct ClientCapabilities {
+    unit: Unit,
 }
 
-fn capabilities_in_utf8(alloc: Global) -> Result<Value, AllocError>
-    ensures { IfOk result (λ v. view v ≡ object (capabilities_for Utf8)) }
-{
-    let general = general_support(alloc)?;
-    let mut members = Map::new(alloc);
-    put(&mut members, alloc, "general", general)?;
-    put_supports(&mut members, alloc)?;
-    Ok(Value::Object(members))
+impl Written for ClientCapabilities {
+    ghost value = { λ c. object (capabilities_for c.unit) };
+
+    fn write(&self, out: &mut Vec<u8>) -> Result<(), AllocError> {
+        match self.unit {
+            Unit::Utf16 => {
+                first_member(out, "textDocument", &DocumentSupport {})?;
+                next_member(out, "workspace", &WorkspaceSupport {})?;
+                end_object(out)
+            }
+            Unit::Utf8 => {
+                first_member(out, "general", &GeneralSupport {})?;
+                next_member(out, "textDocument", &DocumentSupport {})?;
+                next_member(out, "workspace", &WorkspaceSupport {})?;
+                end_object(out)
+            }
+        }
+    }
 }
 
-fn put_supports(members: &mut Map<String, Value>, alloc: Global) -> Result<(), AllocError>
-    ensures { OnOk result (members_view members.new.entries ≡ with_member (codes "workspace") versions_taken
-        (with_member (codes "textDocument") actions_taken (members_view members.old.entries))) }
-{
-    let document = document_support(alloc)?;
-    put(members, alloc, "textDocument", document)?;
-    let workspace = workspace_support(alloc)?;
-    put(members, alloc, "workspace", workspace)
+/// It offers bytes of UTF-8.
+#[derive(Drop)]
+struct GeneralSupport {}
+
+impl Written for GeneralSupport {
+    ghost value = { λ _. utf8_offered };
+
+    fn write(&self, out: &mut Vec<u8>) -> Result<(), AllocError> {
+        let encodings = ["utf-8"];
+        first_member(out, "positionEncodings", &encodings.as_slice())?;
+        end_object(out)
+    }
 }
 
-fn document_support(alloc: Global) -> Result<Value, AllocError>
-    ensures { IfOk result (λ v. view v ≡ actions_taken) }
-{
-    json!(in alloc; {"codeAction": {"codeActionLiteralSupport": {}}})
+/// It takes code actions that are no commands.
+#[derive(Drop)]
+struct DocumentSupport {}
+
+impl Written for DocumentSupport {
+    ghost value = { λ _. actions_taken };
+
+    fn write(&self, out: &mut Vec<u8>) -> Result<(), AllocError> {
+        first_member(out, "codeAction", &CodeActionSupport {})?;
+        end_object(out)
+    }
 }
 
-fn workspace_support(alloc: Global) -> Result<Value, AllocError>
-    ensures { IfOk result (λ v. view v ≡ versions_taken) }
-{
-    json!(in alloc; {"workspaceEdit": {"documentChanges": true}})
+/// It takes code actions that are no commands, of whatever kind.
+#[derive(Drop)]
+struct CodeActionSupport {}
+
+impl Written for CodeActionSupport {
+    ghost value = { λ _. actions_supported };
+
+    fn write(&self, out: &mut Vec<u8>) -> Result<(), AllocError> {
+        first_member(out, "codeActionLiteralSupport", &Nothing {})?;
+        end_object(out)
+    }
 }
 
-fn general_support(alloc: Global) -> Result<Value, AllocError>
-    ensures { IfOk result (λ v. view v ≡ utf8_offered) }
+/// An object without members.
+#[derive(Drop)]
+struct Nothing {}
+
+impl Written for Nothing {
+    ghost value = { λ _. object no_members };
+
+    fn write(&self, out: &mut Vec<u8>) -> Result<(), AllocError> {
+        write_braces(out)
+    }
+}
+
+fn write_braces(out: &mut Vec<u8>) -> Result<(), AllocError>
+    ensures { OnOk result (out.new.items ≡ out.old.items ++ 123 ∷ 125 ∷ []) }
 {
-    json!(in alloc; {"positionEncodings": ["utf-8"]})
+    out.extend_from_slice(b"{}")
+}
+
+/// It takes edits with the versions of the documents that they are for.
+#[derive(Drop)]
+struct WorkspaceSupport {}
+
+impl Written for WorkspaceSupport {
+    ghost value = { λ _. versions_taken };
+
+    fn write(&self, out: &mut Vec<u8>) -> Result<(), AllocError> {
+        first_member(out, "workspaceEdit", &EditSupport {})?;
+        end_object(out)
+    }
+}
+
+/// It takes edits with versions.
+#[derive(Drop)]
+struct EditSupport {}
+
+impl Written for EditSupport {
+    ghost value = { λ _. versions_supported };
+
+    fn write(&self, out: &mut Vec<u8>) -> Result<(), AllocError> {
+        first_member(out, "documentChanges", &true)?;
+        end_object(out)
+    }
 }

@@ -6,7 +6,7 @@ mod asks;
 mod beginning;
 mod documents;
 mod editor;
-mod members;
+mod params;
 mod reading;
 mod texts;
 mod writing;

@@ -1,0 +1,292 @@
+//! The messages that an editor writes (LSP 3.17), as types.
+ghost use Rattle.std.specs.Prelude.{◌≡◌, false, Some, None, OnOk, codes, map};
+ghost use Rattle.serde_json.specs.Data.{array, boolean, member, no_members, number, object, string, unsigned};
+ghost use Rattle.serde_json.specs.View.{items_of};
+ghost use Rattle.ob0_rpc.specs.Appending.{AppendsEach};
+ghost use Rattle.ob0_rpc.specs.Shapes.{json_rpc, text as text_data};
+ghost use Rattle.ob0_world_editor.specs.Shapes.{actions_params, change_by, change_value, close_params, diagnostics_of_none, document_value, open_params, opened_value, options_by, options_value, rename_params, versioned_value};
+
+use ob0_rpc::{Written, begin_list, end_list, end_object, first_member, next_member, write_item};
+use ob0_text::{Change, Indent, Position, Range};
+use std::alloc::AllocError;
+
+/// A request.
+#[derive(Drop)]
+pub struct Request<'a, I, P> {
+    pub id: I,
+    pub method: &'a str,
+    pub params: &'a P,
+}
+
+impl<'a, I: Written, P: Written> Written for Request<'a, I, P> {
+    ghost value = { λ r. object (member (codes "id") (I.value r.id) (member (codes "jsonrpc") json_rpc (member (codes "method") (text_data r.method.now) (member (codes "params") (P.value r.params.now) no_members)))) };
+
+    fn write(&self, out: &mut Vec<u8>) -> Result<(), AllocError> {
+        first_member(out, "id", &self.id)?;
+        next_member(out, "jsonrpc", &"2.0")?;
+        next_member(out, "method", &self.method)?;
+        next_member(out, "params", self.params)?;
+        end_object(out)
+    }
+}
+
+/// The document that is meant.
+#[derive(Drop)]
+pub struct DocumentId<'a> {
+    pub uri: &'a str,
+}
+
+impl<'a> Written for DocumentId<'a> {
+    ghost value = { λ d. document_value d.uri.now };
+
+    fn write(&self, out: &mut Vec<u8>) -> Result<(), AllocError> {
+        first_member(out, "uri", &self.uri)?;
+        end_object(out)
+    }
+}
+
+/// The document that is meant, with its version.
+#[derive(Drop)]
+pub struct DocumentVersion<'a> {
+    pub uri: &'a str,
+    pub version: u64,
+}
+
+impl<'a> Written for DocumentVersion<'a> {
+    ghost value = { λ d. versioned_value d.uri.now d.version };
+
+    fn write(&self, out: &mut Vec<u8>) -> Result<(), AllocError> {
+        first_member(out, "uri", &self.uri)?;
+        next_member(out, "version", &self.version)?;
+        end_object(out)
+    }
+}
+
+/// A document with its text.
+#[derive(Drop)]
+pub struct OpenedDocument<'a> {
+    pub uri: &'a str,
+    pub version: u64,
+    pub text: &'a str,
+}
+
+impl<'a> Written for OpenedDocument<'a> {
+    ghost value = { λ d. opened_value d.uri.now d.version d.text.now };
+
+    fn write(&self, out: &mut Vec<u8>) -> Result<(), AllocError> {
+        first_member(out, "languageId", &"oberon-0")?;
+        next_member(out, "text", &self.text)?;
+        next_member(out, "uri", &self.uri)?;
+        next_member(out, "version", &self.version)?;
+        end_object(out)
+    }
+}
+
+/// That a document was opened.
+#[derive(Drop)]
+pub struct DidOpen<'a> {
+    pub document: OpenedDocument<'a>,
+}
+
+impl<'a> Written for DidOpen<'a> {
+    ghost value = { λ p. open_params p.document.uri.now p.document.version p.document.text.now };
+
+    fn write(&self, out: &mut Vec<u8>) -> Result<(), AllocError> {
+        first_member(out, "textDocument", &self.document)?;
+        end_object(out)
+    }
+}
+
+/// A new text of a range, or of the whole document.
+#[derive(Drop)]
+pub struct ContentChange<'a> {
+    pub range: Option<Range>,
+    pub text: &'a str,
+}
+
+impl<'a> Written for ContentChange<'a> {
+    ghost value = { λ c. change_by c.range c.text.now };
+
+    fn write(&self, out: &mut Vec<u8>) -> Result<(), AllocError> {
+        match self.range {
+            Some(range) => {
+                first_member(out, "range", &range)?;
+                next_member(out, "text", &self.text)?;
+                end_object(out)
+            }
+            None => {
+                first_member(out, "text", &self.text)?;
+                end_object(out)
+            }
+        }
+    }
+}
+
+/// How a document was changed, change by change.
+#[derive(Drop)]
+pub struct ContentChanges<'a> {
+    pub changes: &'a [Change],
+}
+
+impl<'a> Written for ContentChanges<'a> {
+    ghost value = { λ c. array (items_of (map change_value c.changes.now)) };
+
+    fn write(&self, out: &mut Vec<u8>) -> Result<(), AllocError> {
+        begin_list(out)?;
+        write_changes(out, self.changes)?;
+        end_list(out)
+    }
+}
+
+fn write_changes(out: &mut Vec<u8>, changes: &[Change]) -> Result<(), AllocError>
+    ensures { OnOk result
+        (AppendsEach false (map change_value changes.now) out.old.items out.new.items) }
+{
+    let mut later = false;
+    for change in changes {
+        let text = change.text.as_str();
+        let range = change.range;
+        write_item(out, later, &ContentChange { range, text })?;
+        later = true;
+    }
+    Ok(())
+}
+
+/// That a document was changed to this version.
+#[derive(Drop)]
+pub struct DidChange<'a, C> {
+    pub changes: C,
+    pub document: DocumentVersion<'a>,
+}
+
+impl<'a, C: Written> Written for DidChange<'a, C> {
+    ghost value = { λ p. object (member (codes "contentChanges") (C.value p.changes) (member (codes "textDocument") (versioned_value p.document.uri.now p.document.version) no_members)) };
+
+    fn write(&self, out: &mut Vec<u8>) -> Result<(), AllocError> {
+        first_member(out, "contentChanges", &self.changes)?;
+        next_member(out, "textDocument", &self.document)?;
+        end_object(out)
+    }
+}
+
+/// That a document was closed.
+#[derive(Drop)]
+pub struct DidClose<'a> {
+    pub document: DocumentId<'a>,
+}
+
+impl<'a> Written for DidClose<'a> {
+    ghost value = { λ p. close_params p.document.uri.now };
+
+    fn write(&self, out: &mut Vec<u8>) -> Result<(), AllocError> {
+        first_member(out, "textDocument", &self.document)?;
+        end_object(out)
+    }
+}
+
+/// A new name for what is at a position.
+#[derive(Drop)]
+pub struct Rename<'a> {
+    pub new_name: &'a str,
+    pub position: Position,
+    pub document: DocumentId<'a>,
+}
+
+impl<'a> Written for Rename<'a> {
+    ghost value = { λ p. rename_params p.document.uri.now p.position p.new_name.now };
+
+    fn write(&self, out: &mut Vec<u8>) -> Result<(), AllocError> {
+        first_member(out, "newName", &self.new_name)?;
+        next_member(out, "position", &self.position)?;
+        next_member(out, "textDocument", &self.document)?;
+        end_object(out)
+    }
+}
+
+/// Which diagnostics actions are for: none.
+#[derive(Drop)]
+pub struct ActionContext {}
+
+impl Written for ActionContext {
+    ghost value = { λ _. diagnostics_of_none };
+
+    fn write(&self, out: &mut Vec<u8>) -> Result<(), AllocError> {
+        let none: [Range; 0] = [];
+        first_member(out, "diagnostics", &none.as_slice())?;
+        end_object(out)
+    }
+}
+
+/// The actions at a position.
+#[derive(Drop)]
+pub struct CodeActions<'a> {
+    pub position: Position,
+    pub document: DocumentId<'a>,
+}
+
+impl<'a> Written for CodeActions<'a> {
+    ghost value = { λ p. actions_params p.document.uri.now p.position };
+
+    fn write(&self, out: &mut Vec<u8>) -> Result<(), AllocError> {
+        let range = Range {
+            start: self.position,
+            end: self.position,
+        };
+        first_member(out, "context", &ActionContext {})?;
+        next_member(out, "range", &range)?;
+        next_member(out, "textDocument", &self.document)?;
+        end_object(out)
+    }
+}
+
+/// What a level of indentation is.
+#[derive(Drop)]
+pub struct FormattingOptions {
+    pub insert_spaces: bool,
+    pub tab_size: u64,
+}
+
+impl Written for FormattingOptions {
+    ghost value = { λ o. options_by o.insert_spaces o.tab_size };
+
+    fn write(&self, out: &mut Vec<u8>) -> Result<(), AllocError> {
+        first_member(out, "insertSpaces", &self.insert_spaces)?;
+        next_member(out, "tabSize", &self.tab_size)?;
+        end_object(out)
+    }
+}
+
+impl FormattingOptions {
+    /// The options for an indent.
+    pub fn of(indent: Indent) -> FormattingOptions
+        ensures { options_by result.insert_spaces result.tab_size ≡ options_value indent }
+    {
+        match indent {
+            Indent::Tab => FormattingOptions {
+                insert_spaces: false,
+                tab_size: 1,
+            },
+            Indent::Spaces(count) => FormattingOptions {
+                insert_spaces: true,
+                tab_size: u64::from(count),
+            },
+        }
+    }
+}
+
+/// The layout of a document.
+#[derive(Drop)]
+pub struct Formatting<'a> {
+    pub options: FormattingOptions,
+    pub document: DocumentId<'a>,
+}
+
+impl<'a> Written for Formatting<'a> {
+    ghost value = { λ p. object (member (codes "options") (options_by p.options.insert_spaces p.options.tab_size) (member (codes "textDocument") (document_value p.document.uri.now) no_members)) };
+
+    fn write(&self, out: &mut Vec<u8>) -> Result<(), AllocError> {
+        first_member(out, "options", &self.options)?;
+        next_member(out, "textDocument", &self.document)?;
+        end_object(out)
+    }
+}
