@@ -244,10 +244,10 @@ fn statement<F: Fn(&mut Machine<'_>, usize, &Level<'_>) -> Result<(), Stop>>(
     }
 }
 
-/// Statements in order.
-#[inline(never)]
+/// Statements in order. Loops execute their bodies by this, without a call.
+#[inline(always)]
 #[cycle(execution)]
-pub(crate) fn sequence<F: Fn(&mut Machine<'_>, usize, &Level<'_>) -> Result<(), Stop>>(
+fn in_order<F: Fn(&mut Machine<'_>, usize, &Level<'_>) -> Result<(), Stop>>(
     statements: &[Instruction],
     level: &Level<'_>,
     turns: u32,
@@ -262,6 +262,23 @@ pub(crate) fn sequence<F: Fn(&mut Machine<'_>, usize, &Level<'_>) -> Result<(), 
         statement(s, level, turns, machine, enter)?;
     }
     Ok(())
+}
+
+/// The same in a call.
+#[inline(never)]
+#[cycle(execution)]
+pub(crate) fn sequence<F: Fn(&mut Machine<'_>, usize, &Level<'_>) -> Result<(), Stop>>(
+    statements: &[Instruction],
+    level: &Level<'_>,
+    turns: u32,
+    machine: &mut Machine<'_>,
+    enter: &F,
+) -> Result<(), Stop>
+    requires { F.IsAlwaysCallable enter.now }
+    ensures { MachineDoes (F.post enter.now) result machine.old machine.new
+        (executed_all turns (levels_of level.now) (sequence_of statements.now)) }
+{
+    in_order(statements, level, turns, machine, enter)
 }
 
 /// IF: the statements after the first condition that is TRUE.
@@ -309,7 +326,7 @@ fn run_loop<F: Fn(&mut Machine<'_>, usize, &Level<'_>) -> Result<(), Stop>>(
             return Err(Stop::TurnBound);
         }
         left -= 1;
-        sequence(&w.body, level, turns, machine, enter)?;
+        in_order(&w.body, level, turns, machine, enter)?;
     }
 }
 
@@ -329,7 +346,7 @@ fn until<F: Fn(&mut Machine<'_>, usize, &Level<'_>) -> Result<(), Stop>>(
 {
     let mut further = turns.saturating_sub(1);
     loop {
-        sequence(&r.body, level, turns, machine, enter)?;
+        in_order(&r.body, level, turns, machine, enter)?;
         if evaluate_condition(&r.condition, level, machine)? {
             return Ok(());
         }
