@@ -10,11 +10,13 @@ pub enum Operator {
     Remainder,
 }
 
-/// A variable of the module or of the running activation, by its offset in the cells of either.
+/// A variable of the module or of the running activation, by its offset in the cells of either, or what a VAR parameter of the
+/// running activation leads to, by its index among these parameters.
 #[derive(Clone, Copy, PartialEq, Eq, Debug)]
 pub enum Variable {
     Module(usize),
     Here(usize),
+    Lent(usize),
 }
 
 /// Where a variable or a part of one is.
