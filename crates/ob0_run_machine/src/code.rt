@@ -95,7 +95,8 @@ pub struct Chain {
     pub rest: Vec<Link>,
 }
 
-/// An operator with its right operand: a literal, a variable or another number. Its left operand is what was computed so far.
+/// An operator with its right operand: a literal, a variable or another number. Its left operand is what was computed so far; where
+/// the name begins with the variable, that is the left operand, and what was computed is the right one.
 #[cycle(numbers)]
 #[derive(Drop)]
 pub enum Link {
@@ -109,6 +110,9 @@ pub enum Link {
     QuotientVariable(Variable),
     RemainderLiteral(i32),
     RemainderVariable(Variable),
+    VariableSum(Variable),
+    VariableDifference(Variable),
+    VariableProduct(Variable),
     Other(Operator, Number),
 }
 
@@ -136,6 +140,8 @@ pub struct Operands {
 pub enum Truth {
     Constant(bool),
     Flag(Place),
+    /// The negation of a flag, in one step.
+    Unset(Place),
     Negation(Box<Truth>),
     Both(Box<Truths>),
     Either(Box<Truths>),

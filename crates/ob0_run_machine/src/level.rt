@@ -12,7 +12,7 @@ pub(crate) struct Level<'l> {
     pub enclosing: Option<&'l Level<'l>>,
 }
 
-/// The activation so many levels out. The running one and the next are found without a call.
+/// The activation so many levels out. The running one and the next one are found without a call.
 #[inline(always)]
 pub(crate) fn outside<'l>(level: &'l Level<'l>, up: usize) -> Option<&'l Level<'l>>
     ensures { levels_seen result ≡ drop up (levels_of level.now) }
@@ -22,7 +22,12 @@ pub(crate) fn outside<'l>(level: &'l Level<'l>, up: usize) -> Option<&'l Level<'
     }
     match level.enclosing {
         None => None,
-        Some(level) => further_out(level, up - 1),
+        Some(level) => {
+            if up == 1 {
+                return Some(level);
+            }
+            further_out(level, up - 1)
+        }
     }
 }
 

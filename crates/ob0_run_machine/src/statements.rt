@@ -300,6 +300,9 @@ fn branches<F: Fn(&mut Machine<'_>, usize, &Level<'_>) -> Result<(), Stop>>(
             return sequence(&branch.body, level, turns, machine, enter);
         }
     }
+    if i.otherwise.is_empty() {
+        return Ok(());
+    }
     sequence(&i.otherwise, level, turns, machine, enter)
 }
 
