@@ -1,6 +1,6 @@
 //! Copies of cells: from one part of a slice to another they go at once, between parts that overlap one by one.
 
-ghost use Rattle.std.specs.Prelude.{◌≡◌, ◌+◌, ◌≤◌, ◌×◌, length};
+ghost use Rattle.std.specs.Prelude.{◌≡◌, ◌+◌, ◌≤◌, length};
 ghost use Rattle.ob0_run_machine.specs.Execution.{copied};
 
 /// Copies so many cells to a place after them.
