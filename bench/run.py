@@ -516,6 +516,16 @@ def lacks(command):
     return None if shutil.which(command) else f"{command} is missing (on Debian: apt-get install {command})"
 
 
+def instructions(words, file):
+    """How many instructions a command on a file has, as valgrind counts them; what is said where it can't."""
+    if missing := lacks("valgrind"):
+        return f"skipped: {missing}"
+    counted = ["valgrind", "--tool=callgrind", "--callgrind-out-file=/dev/null", *words, file]
+    told = subprocess.run(counted, stdin=subprocess.DEVNULL, stdout=subprocess.DEVNULL, stderr=subprocess.PIPE, check=False).stderr
+    found = re.search(rb"Collected : (\d+)", told)
+    return f"{int(found[1]):,} instructions" if found else "valgrind counted nothing"
+
+
 @measure("run: loops, arrays and calls, against Lua and Python")
 def ran():
     import programs
@@ -525,6 +535,11 @@ def ran():
     for name, (text, lua, python) in programs.PROGRAMS.items():
         found = on_file(["run"], text)
         said(f"{name}: ob0", f"{found.processor:.3f} s  {megabytes(found.memory)}  status {found.status}")
+        with tempfile.TemporaryDirectory() as room:
+            file = os.path.join(room, "program")
+            with open(file, "w", encoding="utf-8") as it:
+                it.write(text)
+            said(f"{name}: ob0, counted", instructions([BINARY, "run"], file))
         for words, other in ([beside, "run"], text), (["lua5.4"], lua), (["python3"], python):
             if words[0] is None:
                 continue
