@@ -281,6 +281,27 @@ pub(crate) fn sequence<F: Fn(&mut Machine<'_>, usize, &Level<'_>) -> Result<(), 
     in_order(statements, level, turns, machine, enter)
 }
 
+/// The same: of no statements, as of an IF without ELSE, there is no call.
+#[inline(always)]
+#[cycle(execution)]
+fn sequence_if_any<F: Fn(&mut Machine<'_>, usize, &Level<'_>) -> Result<(), Stop>>(
+    statements: &[Instruction],
+    level: &Level<'_>,
+    turns: u32,
+    machine: &mut Machine<'_>,
+    enter: &F,
+) -> Result<(), Stop>
+    requires { F.IsAlwaysCallable enter.now }
+    ensures { MachineDoes (F.post enter.now) result machine.old machine.new
+        (executed_all turns (levels_of level.now) (sequence_of statements.now)) }
+{
+    let count = statements.len();
+    if count == 0 {
+        return Ok(());
+    }
+    sequence(statements, level, turns, machine, enter)
+}
+
 /// IF: the statements after the first condition that is TRUE.
 #[inline(always)]
 #[cycle(execution)]
@@ -300,10 +321,7 @@ fn branches<F: Fn(&mut Machine<'_>, usize, &Level<'_>) -> Result<(), Stop>>(
             return sequence(&branch.body, level, turns, machine, enter);
         }
     }
-    if i.otherwise.is_empty() {
-        return Ok(());
-    }
-    sequence(&i.otherwise, level, turns, machine, enter)
+    sequence_if_any(&i.otherwise, level, turns, machine, enter)
 }
 
 /// WHILE: where the condition is TRUE and this execution has made as many turns as it may, it ends with TurnBound.
