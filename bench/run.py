@@ -516,7 +516,7 @@ def lacks(command):
     return None if shutil.which(command) else f"{command} is missing (on Debian: apt-get install {command})"
 
 
-def instructions(program, given):
+def instructions_of_conversation(program, given):
     """How many instructions a conversation takes: the same on each run, where times vary."""
     with tempfile.TemporaryFile() as file:
         file.write(given)
@@ -540,7 +540,7 @@ def keys_typed():
         one, other = (best(3, lambda given=given: Timed([BINARY, "serve"], given)).processor for given in (less, more))
         told = f"{max(other - one, 1e-5) / count * 1000:9.3f} ms"
         if counts:
-            taken = [(instructions(it, more) - instructions(it, less)) / count for it in programs]
+            taken = [(instructions_of_conversation(it, more) - instructions_of_conversation(it, less)) / count for it in programs]
             told += "".join(f"  {it:14,.0f}" for it in taken) + (f"  ratio {taken[0] / taken[1]:.2f}" if taken[1:] else "")
         said(name, told)
 
@@ -554,6 +554,16 @@ def grown_and_shrunk():
         said(f"{count} changes", f"{megabytes(found.memory)}  status {found.status}")
 
 
+def instructions(words, file):
+    """How many instructions a command on a file has, as valgrind counts them; what is said where it can't."""
+    if missing := lacks("valgrind"):
+        return f"skipped: {missing}"
+    counted = ["valgrind", "--tool=callgrind", "--callgrind-out-file=/dev/null", *words, file]
+    told = subprocess.run(counted, stdin=subprocess.DEVNULL, stdout=subprocess.DEVNULL, stderr=subprocess.PIPE, check=False).stderr
+    found = re.search(rb"Collected : (\d+)", told)
+    return f"{int(found[1]):,} instructions" if found else "valgrind counted nothing"
+
+
 @measure("run: loops, arrays and calls, against Lua and Python")
 def ran():
     import programs
@@ -563,6 +573,11 @@ def ran():
     for name, (text, lua, python) in programs.PROGRAMS.items():
         found = on_file(["run"], text)
         said(f"{name}: ob0", f"{found.processor:.3f} s  {megabytes(found.memory)}  status {found.status}")
+        with tempfile.TemporaryDirectory() as room:
+            file = os.path.join(room, "program")
+            with open(file, "w", encoding="utf-8") as it:
+                it.write(text)
+            said(f"{name}: ob0, counted", instructions([BINARY, "run"], file))
         for words, other in ([beside, "run"], text), (["lua5.4"], lua), (["python3"], python):
             if words[0] is None:
                 continue

@@ -7,7 +7,7 @@ ghost use Rattle.ob0_scan.specs.Reused.{kinds};
 ghost use Rattle.ob0_scan.specs.Scanned.{IsScannable, IsScanOf};
 ghost use Rattle.ob0_tree.specs.Parsed.{IsParsed};
 ghost use Rattle.ob0_analysis.specs.Found.{IsFound, IsRefusalOf};
-ghost use Rattle.ob0_analysis.specs.declared.analysis.Found.TheVariants.{NoTree};
+ghost use Rattle.ob0_analysis.specs.declared.analysis.Findings.TheVariants.{NoTree};
 ghost use Rattle.ob0_analysis.specs.Parts.{parsed_by};
 ghost use Rattle.ob0_analysis.specs.Diagnosed.{IsWellTypedModule, Reports, complaint_in};
 
@@ -138,7 +138,7 @@ impl Analysis {
             return Analysis::of_tokens(alloc, rescan.tokens);
         }
         Ok(Analysis {
-            found: Found::NoTree(rescan.tokens, refusal),
+            found: Findings::NoTree(rescan.tokens, refusal),
         })
     }
 

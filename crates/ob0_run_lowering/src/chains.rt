@@ -1,11 +1,11 @@
 //! Operations in a row: a few are one inside the other, many in a list.
 
-ghost use Rattle.std.specs.Prelude.{◌≡◌, IfOk};
+ghost use Rattle.std.specs.Prelude.{◌≡◌, IfOk, IfSome};
 ghost use Rattle.ob0_run_machine.specs.Lowered as machine;
-ghost use Rattle.ob0_run_machine.specs.View.{all_in, any_in, applied, chained_in, first_of, number_of, operation_of, operator_of, truth_of};
+ghost use Rattle.ob0_run_machine.specs.View.{all_in, any_in, applied, chained_in, first_of, number_of, operation_of, operator_of, truth_of, variable_of};
 
 use ob0_run_machine::code::{
-    Chain, FirstOperand, Link, Number, Operation, Operator, Several, Truth, Truths,
+    Chain, FirstOperand, Link, Number, Operation, Operator, Several, Truth, Truths, Variable,
 };
 use std::alloc::{AllocError, Global};
 
@@ -43,6 +43,20 @@ fn link(operator: Operator, right: Number) -> Link
     }
 }
 
+/// An operator with a variable as its left operand, where there is such a link.
+fn link_after(operator: Operator, variable: Variable) -> Option<Link>
+    ensures { IfSome result (λ l. (right : machine.Number) → applied l right
+        ≡ machine.operation (operator_of operator) (machine.cell (variable_of variable)) right) }
+{
+    match operator {
+        Operator::Sum => Some(Link::VariableSum(variable)),
+        Operator::Difference => Some(Link::VariableDifference(variable)),
+        Operator::Product => Some(Link::VariableProduct(variable)),
+        Operator::Quotient => None,
+        Operator::Remainder => None,
+    }
+}
+
 /// One operation on a number that is none itself.
 fn single(alloc: Global, first: FirstOperand, link: Link) -> Result<Number, AllocError>
     ensures { IfOk result (λ n. number_of n ≡ applied link (first_of first)) }
@@ -70,6 +84,40 @@ fn longer(alloc: Global, chain: Chain, link: Link) -> Result<Number, AllocError>
     Ok(Number::Chain(Box::new(alloc, Chain { first, rest })?))
 }
 
+/// An operation between a variable and a number.
+fn plain(
+    alloc: Global,
+    operator: Operator,
+    variable: Variable,
+    right: Number,
+) -> Result<Number, AllocError>
+    ensures { IfOk result (λ n. number_of n ≡ machine.operation (operator_of operator)
+        (machine.cell (variable_of variable)) (number_of right)) }
+{
+    single(alloc, FirstOperand::Variable(variable), link(operator, right))
+}
+
+/// The same. Where the number is a row of operations, they are all in one row: a variable can be evaluated after what it is
+/// operated with.
+fn operation_on_variable(
+    alloc: Global,
+    operator: Operator,
+    variable: Variable,
+    right: Number,
+) -> Result<Number, AllocError>
+    ensures { IfOk result (λ n. number_of n ≡ machine.operation (operator_of operator)
+        (machine.cell (variable_of variable)) (number_of right)) }
+{
+    let Some(link) = link_after(operator, variable) else {
+        return plain(alloc, operator, variable, right);
+    };
+    match right {
+        Number::Chain(chain) => longer(alloc, Box::into_inner(chain), link),
+        Number::Operation(operation) => two(alloc, Box::into_inner(operation), link),
+        other => plain(alloc, operator, variable, other),
+    }
+}
+
 /// An operation between two numbers. Where the left one is an operation, both are in one row.
 pub(crate) fn operation(
     alloc: Global,
@@ -80,14 +128,17 @@ pub(crate) fn operation(
     ensures { IfOk result (λ n. number_of n
         ≡ machine.operation (operator_of operator) (number_of left) (number_of right)) }
 {
-    let link = link(operator, right);
     match left {
-        Number::Chain(chain) => longer(alloc, Box::into_inner(chain), link),
-        Number::Operation(operation) => two(alloc, Box::into_inner(operation), link),
-        Number::Literal(n) => single(alloc, FirstOperand::Literal(n), link),
-        Number::Variable(v) => single(alloc, FirstOperand::Variable(v), link),
-        Number::Cell(place) => single(alloc, FirstOperand::Cell(place), link),
-        Number::Negative(number) => single(alloc, FirstOperand::Negative(number), link),
+        Number::Variable(v) => operation_on_variable(alloc, operator, v, right),
+        Number::Chain(chain) => longer(alloc, Box::into_inner(chain), link(operator, right)),
+        Number::Operation(operation) => {
+            two(alloc, Box::into_inner(operation), link(operator, right))
+        }
+        Number::Literal(n) => single(alloc, FirstOperand::Literal(n), link(operator, right)),
+        Number::Cell(place) => single(alloc, FirstOperand::Cell(place), link(operator, right)),
+        Number::Negative(number) => {
+            single(alloc, FirstOperand::Negative(number), link(operator, right))
+        }
     }
 }
 
@@ -109,6 +160,16 @@ fn any_of(alloc: Global, several: Several, right: Truth) -> Result<Truth, AllocE
     rest.push(right)?;
     let several = Box::new(alloc, Several { first, rest })?;
     Ok(Truth::Any(several))
+}
+
+/// The negation of a truth: of a flag it is one node.
+pub(crate) fn negation(alloc: Global, truth: Truth) -> Result<Truth, AllocError>
+    ensures { IfOk result (λ t. truth_of t ≡ machine.negation (truth_of truth)) }
+{
+    match truth {
+        Truth::Flag(place) => Ok(Truth::Unset(place)),
+        other => Ok(Truth::Negation(Box::new(alloc, other)?)),
+    }
 }
 
 fn pair_of_both(alloc: Global, left: Truth, right: Truth) -> Result<Truth, AllocError>

@@ -10,7 +10,7 @@ ghost use Rattle.ob0_run_lowering.specs.Codes as codes;
 ghost use Rattle.ob0_run_lowering.specs.Parts.{number_in, truth_in};
 ghost use Rattle.ob0_run_lowering.specs.Trees.{code_of};
 
-use crate::chains::{both, either, operation};
+use crate::chains::{both, either, negation, operation};
 use crate::lowered::Lowered;
 use ob0_run_machine::code;
 use ob0_run_machine::code::{Number, Operands, Operator, Truth, Truths, Variable};
@@ -165,7 +165,7 @@ pub(crate) fn negated(alloc: Global, operand: Lowered) -> Result<Lowered, AllocE
     ensures { IfOk result (λ l. code_of l ≡ codes.negated (code_of operand)) }
 {
     match operand {
-        Lowered::Truth(truth) => Ok(Lowered::Truth(Truth::Negation(Box::new(alloc, truth)?))),
+        Lowered::Truth(truth) => Ok(Lowered::Truth(negation(alloc, truth)?)),
         Lowered::Number(_) => Ok(Lowered::Nothing),
         Lowered::Block(_, _) => Ok(Lowered::Nothing),
         Lowered::Nothing => Ok(Lowered::Nothing),

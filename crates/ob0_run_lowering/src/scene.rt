@@ -88,7 +88,7 @@ impl<'s, 'k, 't> Scene<'s, 'k, 't> {
         match self.site(name) {
             Site::Module(offset) => Place::Variable(Variable::Module(offset)),
             Site::Held(at, offset) => held(self.depth.saturating_sub(at), offset),
-            Site::Lent(at, index) => Place::Passed(self.depth.saturating_sub(at), index),
+            Site::Lent(at, index) => lent(self.depth.saturating_sub(at), index),
             Site::Nowhere => Place::Variable(Variable::Module(0)),
             Site::Procedure(_, _) => Place::Variable(Variable::Module(0)),
         }
@@ -103,5 +103,16 @@ fn held(up: usize, offset: usize) -> Place
         Place::Variable(Variable::Here(offset))
     } else {
         Place::Outside(up, offset)
+    }
+}
+
+/// Where a VAR parameter of the activation so many levels out leads.
+fn lent(up: usize, index: usize) -> Place
+    ensures { place_of result ≡ slot_place (slots.lent up index) }
+{
+    if up == 0 {
+        Place::Variable(Variable::Lent(index))
+    } else {
+        Place::Passed(up, index)
     }
 }

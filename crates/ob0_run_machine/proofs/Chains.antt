@@ -3,13 +3,15 @@ use Rattle.std.proofs.Common.{◌≡◌, ℕ, ◌+◌, ◌<◌, ◌≤◌, ℤ, 
 use Rattle.std.proofs.lemmas.List.{drop_all, drop_more}
 use Rattle.ob0_run_machine.specs.declared.code.Link.{Link}
 use Rattle.ob0_run_machine.specs.declared.code.Link as link
+use Rattle.ob0_run_machine.specs.declared.code.Variable.{Variable}
+use Rattle.ob0_run_machine.specs.declared.code.Variable.TheVariants as variable
 use Rattle.ob0_run_machine.specs.declared.code.Chain.{out-Chain}
 use Rattle.ob0_run_machine.specs.declared.code.Number.{Chain, Row_of-Link, end_of-Link, more_of-Link, items-the_row-Link, items_hidden-the_row-Link-0}
 use Rattle.ob0_run_machine.specs.declared.code.FirstOperand.TheBlock.{hidden-the_row-Link-0}
 use Rattle.ob0_run_machine.specs.Evaluation.{Levels, StepResult, ends, gives, number, ◌>>=◌}
 use Rattle.ob0_run_machine.specs.Lowered as lowered
 use Rattle.ob0_run_machine.specs.Answers.{linked}
-use Rattle.ob0_run_machine.specs.View.{applied, chained_by, chained_from, chained_in, first_of, number_of}
+use Rattle.ob0_run_machine.specs.View.{applied, chained_by, chained_from, chained_in, first_of, number_of, variable_of}
 
 pub bind_gives : {A : Type 0} (o : StepResult A) → (o >>= (λ a. gives a)) ≡ o
 bind_gives (gives a) = refl
@@ -28,6 +30,13 @@ abbrev pub continued : Levels → List ℤ → List Link → ℤ → StepResult 
 continued ls cells [] a = gives a
 continued ls cells (l ∷ rest) a = linked ls cells l a >>= continued ls cells rest
 
+-- a variable is there, so an operation between it and a number ends as the number does
+after_variable : (ls : Levels) (cells : List ℤ) (o : lowered.Operator) (v : Variable) (right : lowered.Number)
+    → number ls cells (lowered.operation o (lowered.cell (variable_of v)) right) ≡ (number ls cells right >>= (λ b. number ls cells (lowered.operation o (lowered.cell (variable_of v)) (lowered.literal b))))
+after_variable ls cells o (variable.Module offset) right = refl
+after_variable ls cells o (variable.Here offset) right = refl
+after_variable ls cells o (variable.Lent index) right = refl
+
 -- an operation on a number is that on its value
 pub applied_to : (ls : Levels) (cells : List ℤ) (left : lowered.Number) (l : Link) → number ls cells (applied l left) ≡ (number ls cells left >>= linked ls cells l)
 applied_to ls cells left (link.SumLiteral n) = refl
@@ -40,6 +49,9 @@ applied_to ls cells left (link.QuotientLiteral n) = refl
 applied_to ls cells left (link.QuotientVariable v) = refl
 applied_to ls cells left (link.RemainderLiteral n) = refl
 applied_to ls cells left (link.RemainderVariable v) = refl
+applied_to ls cells left (link.VariableSum v) = after_variable ls cells lowered.sum v left
+applied_to ls cells left (link.VariableDifference v) = after_variable ls cells lowered.difference v left
+applied_to ls cells left (link.VariableProduct v) = after_variable ls cells lowered.product v left
 applied_to ls cells left (link.Other o n) = refl
 
 pub chained : (ls : Levels) (cells : List ℤ) (left : lowered.Number) (links : List Link) → number ls cells (chained_from left links) ≡ (number ls cells left >>= continued ls cells links)

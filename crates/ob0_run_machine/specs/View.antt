@@ -47,6 +47,7 @@ operator_of operator.Remainder = lowered.remainder
 abbrev pub variable_of : Variable → lowered.Place
 variable_of (variable.Module offset) = lowered.in_module offset
 variable_of (variable.Here offset) = lowered.here offset
+variable_of (variable.Lent index) = lowered.passed 0 index
 
 abbrev pub row_of : Row → lowered.Place
 row_of r =
@@ -96,6 +97,12 @@ abbrev mutual
       lowered.operation lowered.remainder left (lowered.literal n)
   applied (link.RemainderVariable v) left =
       lowered.operation lowered.remainder left (lowered.cell (variable_of v))
+  applied (link.VariableSum v) right =
+      lowered.operation lowered.sum (lowered.cell (variable_of v)) right
+  applied (link.VariableDifference v) right =
+      lowered.operation lowered.difference (lowered.cell (variable_of v)) right
+  applied (link.VariableProduct v) right =
+      lowered.operation lowered.product (lowered.cell (variable_of v)) right
   applied (link.Other o n) left = lowered.operation (operator_of o) left (number_of n)
 
   -- operations in a row
@@ -143,6 +150,7 @@ abbrev mutual
   pub truth_of : Truth → lowered.Truth
   truth_of (truth.Constant b) = lowered.constant b
   truth_of (truth.Flag p) = lowered.flag (place_of p)
+  truth_of (truth.Unset p) = lowered.negation (lowered.flag (place_of p))
   truth_of (truth.Negation' pointer t) = lowered.negation (truth_of t)
   truth_of (truth.Both' pointer left right) = lowered.both (truth_of left) (truth_of right)
   truth_of (truth.Either' pointer left right) = lowered.either (truth_of left) (truth_of right)

@@ -10,11 +10,13 @@ pub enum Operator {
     Remainder,
 }
 
-/// A variable of the module or of the running activation, by its offset in the cells of either.
+/// A variable of the module or of the running activation, by its offset in the cells of either, or what a VAR parameter of the
+/// running activation leads to, by its index among these parameters.
 #[derive(Clone, Copy, PartialEq, Eq, Debug)]
 pub enum Variable {
     Module(usize),
     Here(usize),
+    Lent(usize),
 }
 
 /// Where a variable or a part of one is.
@@ -93,7 +95,8 @@ pub struct Chain {
     pub rest: Vec<Link>,
 }
 
-/// An operator with its right operand: a literal, a variable or another number. Its left operand is what was computed so far.
+/// An operator with its right operand: a literal, a variable or another number. Its left operand is what was computed so far; where
+/// the name begins with the variable, that is the left operand, and what was computed is the right one.
 #[cycle(numbers)]
 #[derive(Drop)]
 pub enum Link {
@@ -107,6 +110,9 @@ pub enum Link {
     QuotientVariable(Variable),
     RemainderLiteral(i32),
     RemainderVariable(Variable),
+    VariableSum(Variable),
+    VariableDifference(Variable),
+    VariableProduct(Variable),
     Other(Operator, Number),
 }
 
@@ -134,6 +140,8 @@ pub struct Operands {
 pub enum Truth {
     Constant(bool),
     Flag(Place),
+    /// The negation of a flag, in one step.
+    Unset(Place),
     Negation(Box<Truth>),
     Both(Box<Truths>),
     Either(Box<Truths>),

@@ -15,7 +15,7 @@ use crate::code::{
 };
 use crate::ending::Ending;
 use crate::evaluated::{Evaluated, flat, unpacked};
-use crate::level::{Level, base_at, passed_at};
+use crate::level::{Level, base_at, lent_at, passed_at};
 use crate::operators::{
     add, alike, compare, divide, element_at, forward, is_true, modulo, multiply, negative, operate,
     subtract,
@@ -41,6 +41,7 @@ pub(crate) fn variable_at(variable: Variable, level: &Level<'_>) -> usize
     match variable {
         Variable::Module(offset) => offset,
         Variable::Here(offset) => forward(level.base, offset),
+        Variable::Lent(index) => lent_at(level, index),
     }
 }
 
@@ -222,6 +223,9 @@ fn apply(link: &Link, left: i32, level: &Level<'_>, cells: &[i32]) -> Result<i32
         Link::QuotientVariable(v) => divide(left, value_of(*v, level, cells)),
         Link::RemainderLiteral(n) => modulo(left, *n),
         Link::RemainderVariable(v) => modulo(left, value_of(*v, level, cells)),
+        Link::VariableSum(v) => add(value_of(*v, level, cells), left),
+        Link::VariableDifference(v) => subtract(value_of(*v, level, cells), left),
+        Link::VariableProduct(v) => multiply(value_of(*v, level, cells), left),
         Link::Other(o, n) => unpacked(apply_other(*o, left, n, level, cells)),
     }
 }
@@ -262,13 +266,38 @@ pub(crate) fn evaluate_update(
     apply(link, left, level, cells)
 }
 
-/// Whether a truth is TRUE. A constant and a comparison of a variable, as most conditions are, are evaluated without a call.
+/// Whether a cell is TRUE.
+#[inline(never)]
+fn flag(place: &Place, level: &Level<'_>, cells: &[i32]) -> Evaluated<bool>
+    ensures { outcome_of result
+        ≡ truth (levels_of level.now) cells.now (lowered.flag (place_of place.now)) }
+{
+    match locate(place, level, cells) {
+        Ok(a) => Evaluated::Value(is_true(cell_at(cells, a))),
+        Err(ending) => flat(Err(ending)),
+    }
+}
+
+/// Whether a cell is FALSE.
+#[inline(always)]
+fn unset(place: &Place, level: &Level<'_>, cells: &[i32]) -> Result<bool, Ending>
+    ensures { outcome_of_result result
+        ≡ truth (levels_of level.now) cells.now
+        (lowered.negation (lowered.flag (place_of place.now))) }
+{
+    let a = unpacked(flag(place, level, cells))?;
+    Ok(!a)
+}
+
+/// Whether a truth is TRUE. A constant, a flag and a comparison of a variable, as most conditions are, are found here.
 #[inline(always)]
 pub(crate) fn evaluate_truth(t: &Truth, level: &Level<'_>, cells: &[i32]) -> Result<bool, Ending>
     ensures { outcome_of_result result ≡ truth (levels_of level.now) cells.now (truth_of t.now) }
 {
     match t {
         Truth::Constant(b) => Ok(*b),
+        Truth::Flag(place) => unpacked(flag(place, level, cells)),
+        Truth::Unset(place) => unset(place, level, cells),
         Truth::ComparedToLiteral(r, v, n) => Ok(compare_variable(*r, *v, *n, level, cells)),
         Truth::ComparedToVariable(r, v, w) => {
             let right = value_of(*w, level, cells);
@@ -301,10 +330,8 @@ fn any_truth(t: &Truth, level: &Level<'_>, cells: &[i32]) -> Result<bool, Ending
 {
     match t {
         Truth::Constant(b) => Ok(*b),
-        Truth::Flag(place) => {
-            let a = locate(place, level, cells)?;
-            Ok(is_true(cell_at(cells, a)))
-        }
+        Truth::Flag(place) => unpacked(flag(place, level, cells)),
+        Truth::Unset(place) => unset(place, level, cells),
         Truth::Negation(operand) => {
             let a = truth(operand, level, cells)?;
             Ok(!a)

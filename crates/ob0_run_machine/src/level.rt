@@ -1,7 +1,7 @@
 //! Activations.
 
 ghost use Rattle.std.specs.Prelude.{◌≡◌, drop, slice_index_or};
-ghost use Rattle.ob0_run_machine.specs.Evaluation.{level_at};
+ghost use Rattle.ob0_run_machine.specs.Evaluation.{innermost, level_at};
 ghost use Rattle.ob0_run_machine.specs.Levels.{levels_of, levels_seen};
 
 /// An activation: where its cells begin, where its VAR parameters lead, and the activation in which its procedure is declared.
@@ -12,7 +12,8 @@ pub(crate) struct Level<'l> {
     pub enclosing: Option<&'l Level<'l>>,
 }
 
-/// The activation so many levels out.
+/// The activation so many levels out. The running one and the next one are found without a call.
+#[inline(always)]
 pub(crate) fn outside<'l>(level: &'l Level<'l>, up: usize) -> Option<&'l Level<'l>>
     ensures { levels_seen result ≡ drop up (levels_of level.now) }
 {
@@ -21,7 +22,25 @@ pub(crate) fn outside<'l>(level: &'l Level<'l>, up: usize) -> Option<&'l Level<'
     }
     match level.enclosing {
         None => None,
-        Some(level) => outside(level, up - 1),
+        Some(level) => {
+            if up == 1 {
+                return Some(level);
+            }
+            further_out(level, up - 1)
+        }
+    }
+}
+
+#[inline(never)]
+fn further_out<'l>(level: &'l Level<'l>, up: usize) -> Option<&'l Level<'l>>
+    ensures { levels_seen result ≡ drop up (levels_of level.now) }
+{
+    if up == 0 {
+        return Some(level);
+    }
+    match level.enclosing {
+        None => None,
+        Some(level) => further_out(level, up - 1),
     }
 }
 
@@ -35,15 +54,23 @@ pub(crate) fn base_at(level: &Level<'_>, up: usize) -> usize
     }
 }
 
-/// Where a VAR parameter of the activation so many levels out leads.
+/// Where a VAR parameter of an activation leads.
+#[inline(always)]
+pub(crate) fn lent_at(level: &Level<'_>, index: usize) -> usize
+    ensures { result ≡ slice_index_or (innermost (levels_of level.now)).addresses index 0 }
+{
+    match level.addresses.get(index) {
+        None => 0,
+        Some(address) => *address,
+    }
+}
+
+/// The same of the activation so many levels out.
 pub(crate) fn passed_at(level: &Level<'_>, up: usize, index: usize) -> usize
     ensures { result ≡ slice_index_or (level_at (levels_of level.now) up).addresses index 0 }
 {
     match outside(level, up) {
         None => 0,
-        Some(level) => match level.addresses.get(index) {
-            None => 0,
-            Some(address) => *address,
-        },
+        Some(level) => lent_at(level, index),
     }
 }

@@ -4,6 +4,7 @@
 mod addresses;
 mod calls;
 pub mod code;
+mod copying;
 mod ending;
 mod evaluated;
 mod evaluating;

@@ -6,6 +6,7 @@ ghost use Rattle.ob0_run_machine.specs.Machines.{item_of, moved, state_of};
 ghost use Rattle.ob0_run_machine.specs.Allocations.{has_failed};
 
 use crate::ending::Ending;
+use crate::copying::copy_cells;
 use crate::memory::Memory;
 use std::alloc::AllocError;
 
@@ -45,9 +46,13 @@ pub(crate) fn copy(cells: &mut Vec<i32>, to: usize, from: usize, count: usize)
     if count > length {
         return;
     }
-    if to <= length - count && from <= length - count {
-        cells.copy_within(from..from + count, to);
+    if to > length - count {
+        return;
     }
+    if from > length - count {
+        return;
+    }
+    copy_cells(cells.as_mut_slice(), to, from, count);
 }
 
 impl<'i> Machine<'i> {

@@ -4,6 +4,7 @@ ghost use Rattle.std.specs.Prelude.{◌≡◌, ◌++◌, ◌∷◌, [], OnErr, O
 ghost use Rattle.ob0_run_machine.specs.Execution.{block_at, zeros};
 ghost use Rattle.ob0_run_machine.specs.Allocations.{has_failed};
 
+use crate::copying::copy_up;
 use std::alloc::{AllocError, Global};
 
 /// The most cells that are put at the end one by one.
@@ -97,10 +98,9 @@ impl Memory {
         if from > length - count {
             return self.push_zeros(cells, count);
         }
-        match cells.extend_from_within(from..from + count) {
-            Ok(()) => Ok(()),
-            Err(_) => Err(self.fail()),
-        }
+        self.push_zeros(cells, count)?;
+        copy_up(cells.as_mut_slice(), length, from, count);
+        Ok(())
     }
 
     /// Remembers that an allocation has failed.

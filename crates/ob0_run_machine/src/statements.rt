@@ -244,10 +244,10 @@ fn statement<F: Fn(&mut Machine<'_>, usize, &Level<'_>) -> Result<(), Stop>>(
     }
 }
 
-/// Statements in order.
-#[inline(never)]
+/// Statements in order. Loops execute their bodies by this, without a call.
+#[inline(always)]
 #[cycle(execution)]
-pub(crate) fn sequence<F: Fn(&mut Machine<'_>, usize, &Level<'_>) -> Result<(), Stop>>(
+fn in_order<F: Fn(&mut Machine<'_>, usize, &Level<'_>) -> Result<(), Stop>>(
     statements: &[Instruction],
     level: &Level<'_>,
     turns: u32,
@@ -262,6 +262,44 @@ pub(crate) fn sequence<F: Fn(&mut Machine<'_>, usize, &Level<'_>) -> Result<(), 
         statement(s, level, turns, machine, enter)?;
     }
     Ok(())
+}
+
+/// The same in a call.
+#[inline(never)]
+#[cycle(execution)]
+pub(crate) fn sequence<F: Fn(&mut Machine<'_>, usize, &Level<'_>) -> Result<(), Stop>>(
+    statements: &[Instruction],
+    level: &Level<'_>,
+    turns: u32,
+    machine: &mut Machine<'_>,
+    enter: &F,
+) -> Result<(), Stop>
+    requires { F.IsAlwaysCallable enter.now }
+    ensures { MachineDoes (F.post enter.now) result machine.old machine.new
+        (executed_all turns (levels_of level.now) (sequence_of statements.now)) }
+{
+    in_order(statements, level, turns, machine, enter)
+}
+
+/// The same: of no statements, as of an IF without ELSE, there is no call.
+#[inline(always)]
+#[cycle(execution)]
+fn sequence_if_any<F: Fn(&mut Machine<'_>, usize, &Level<'_>) -> Result<(), Stop>>(
+    statements: &[Instruction],
+    level: &Level<'_>,
+    turns: u32,
+    machine: &mut Machine<'_>,
+    enter: &F,
+) -> Result<(), Stop>
+    requires { F.IsAlwaysCallable enter.now }
+    ensures { MachineDoes (F.post enter.now) result machine.old machine.new
+        (executed_all turns (levels_of level.now) (sequence_of statements.now)) }
+{
+    let count = statements.len();
+    if count == 0 {
+        return Ok(());
+    }
+    sequence(statements, level, turns, machine, enter)
 }
 
 /// IF: the statements after the first condition that is TRUE.
@@ -283,7 +321,7 @@ fn branches<F: Fn(&mut Machine<'_>, usize, &Level<'_>) -> Result<(), Stop>>(
             return sequence(&branch.body, level, turns, machine, enter);
         }
     }
-    sequence(&i.otherwise, level, turns, machine, enter)
+    sequence_if_any(&i.otherwise, level, turns, machine, enter)
 }
 
 /// WHILE: where the condition is TRUE and this execution has made as many turns as it may, it ends with TurnBound.
@@ -309,7 +347,7 @@ fn run_loop<F: Fn(&mut Machine<'_>, usize, &Level<'_>) -> Result<(), Stop>>(
             return Err(Stop::TurnBound);
         }
         left -= 1;
-        sequence(&w.body, level, turns, machine, enter)?;
+        in_order(&w.body, level, turns, machine, enter)?;
     }
 }
 
@@ -329,7 +367,7 @@ fn until<F: Fn(&mut Machine<'_>, usize, &Level<'_>) -> Result<(), Stop>>(
 {
     let mut further = turns.saturating_sub(1);
     loop {
-        sequence(&r.body, level, turns, machine, enter)?;
+        in_order(&r.body, level, turns, machine, enter)?;
         if evaluate_condition(&r.condition, level, machine)? {
             return Ok(());
         }

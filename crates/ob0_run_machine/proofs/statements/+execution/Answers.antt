@@ -1,4 +1,4 @@
-use Rattle.std.proofs.Common.{sym, ap, ◌∙◌}
+use Rattle.std.proofs.Common.{arith, sym, ap, ◌∙◌}
 use Rattle.std.proofs.lemmas.Result.{err_from_is_err_and}
 use Rattle.ob0_run_machine.specs.Levels.{levels_of}
 use Rattle.ob0_run_machine.specs.View.{statement_of}
@@ -22,7 +22,7 @@ branches-loop-branch-preserved g t c =
     branches_on c.branch-item.result c.loop-branch.invariant c.loop-branch-test.true c.branch-item.is (settled c.in_ok-evaluate_condition.ensures c.if-branch.false)
 
 pub branches-returns : goal.branches-returns
-branches-returns g t c = branches_end c.sequence-2.result _ c.loop-branch.invariant c.loop-branch-test.false c.deref-2.ensures.value c.sequence-2.ensures
+branches-returns g t c = branches_end c.sequence_if_any.result _ c.loop-branch.invariant c.loop-branch-test.false c.deref-2.ensures.value c.sequence_if_any.ensures
 
 pub run_loop-loop-left-init : goal.run_loop-loop-left-init
 run_loop-loop-left-init g t c = while_begins
@@ -38,24 +38,27 @@ pub run_loop-returns-then-left-eq0 : goal.run_loop-returns-then-left-eq0
 run_loop-returns-then-left-eq0 g t c = while_bound c.loop-left.invariant (settled c.in_ok-evaluate_condition.ensures c.if-not-branch.false) c.if-left-eq0.true
 
 pub run_loop-loop-left-preserved : goal.run_loop-loop-left-preserved
-run_loop-loop-left-preserved g t c = while_on c.in_ok-sequence.field-0 _ c.loop-left.invariant (settled c.in_ok-evaluate_condition.ensures c.if-not-branch.false) c.if-left-eq0.false c.deref.ensures.value c.in_ok-sequence.ensures
+run_loop-loop-left-preserved g t c = while_on c.in_ok-in_order.field-0 _ c.loop-left.invariant (settled c.in_ok-evaluate_condition.ensures c.if-not-branch.false) c.if-left-eq0.false c.deref.ensures.value c.in_ok-in_order.ensures
 
-pub run_loop-returns-in_err-sequence : goal.run_loop-returns-in_err-sequence
-run_loop-returns-in_err-sequence g t c = leaving (err_from_is_err_and c.from_residual-in_err-sequence.result c.from_residual-in_err-sequence.ensures.1)
-    (while_body_fails c.in_err-sequence.field-0.0 _ c.loop-left.invariant (settled c.in_ok-evaluate_condition.ensures c.if-not-branch.false) c.if-left-eq0.false c.deref.ensures.value c.in_err-sequence.ensures)
+pub run_loop-returns-in_err-in_order : goal.run_loop-returns-in_err-in_order
+run_loop-returns-in_err-in_order g t c = leaving (err_from_is_err_and c.from_residual-in_err-in_order.result c.from_residual-in_err-in_order.ensures.1)
+    (while_body_fails c.in_err-in_order.field-0.0 _ c.loop-left.invariant (settled c.in_ok-evaluate_condition.ensures c.if-not-branch.false) c.if-left-eq0.false c.deref.ensures.value c.in_err-in_order.ensures)
 
-pub sequence-loop-s-init : goal.sequence-loop-s-init
-sequence-loop-s-init g t c = sequence_begins
+pub in_order-loop-s-init : goal.in_order-loop-s-init
+in_order-loop-s-init g t c = sequence_begins
 
-pub sequence-returns-in_err-statement : goal.sequence-returns-in_err-statement
-sequence-returns-in_err-statement g t c = leaving (err_from_is_err_and c.from_residual.result c.from_residual.ensures.1)
+pub in_order-returns-in_err-statement : goal.in_order-returns-in_err-statement
+in_order-returns-in_err-statement g t c = leaving (err_from_is_err_and c.from_residual.result c.from_residual.ensures.1)
     (sequence_fails c.in_err-statement.field-0.0 c.s-item.result c.loop-s.invariant c.loop-s-test.true c.s-item.is c.in_err-statement.ensures)
 
-pub sequence-loop-s-preserved : goal.sequence-loop-s-preserved
-sequence-loop-s-preserved g t c = sequence_on c.in_ok-statement.field-0 c.s-item.result c.loop-s.invariant c.loop-s-test.true c.s-item.is c.in_ok-statement.ensures
+pub in_order-loop-s-preserved : goal.in_order-loop-s-preserved
+in_order-loop-s-preserved g t c = sequence_on c.in_ok-statement.field-0 c.s-item.result c.loop-s.invariant c.loop-s-test.true c.s-item.is c.in_ok-statement.ensures
 
-pub sequence-returns : goal.sequence-returns
-sequence-returns g t c = sequence_ends tt c.loop-s.invariant c.loop-s-test.false
+pub in_order-returns : goal.in_order-returns
+in_order-returns g t c = sequence_ends tt c.loop-s.invariant c.loop-s-test.false
+
+pub sequence_if_any-returns-then-count-eq0 : goal.sequence_if_any-returns-then-count-eq0
+sequence_if_any-returns-then-count-eq0 g t c = sequence_ends tt sequence_begins (omega (arith, c.if-count-eq0.true, c.len-count.ensures))
 
 pub statement-returns-in-If : goal.statement-returns-in-If
 statement-returns-in-If g t c = does_statement c.args.turns (levels_of c.args.level.now) (sym (ap statement_of c.in-If.is ∙ if_made c.in-If.i)) c.branches.ensures
@@ -69,22 +72,22 @@ statement-returns-in-Repeat g t c = does_statement c.args.turns (levels_of c.arg
 pub until-loop-machine-init : goal.until-loop-machine-init
 until-loop-machine-init g t c = repeat_begins c.saturating_sub-further.ensures
 
-pub until-returns-in_err-sequence : goal.until-returns-in_err-sequence
-until-returns-in_err-sequence g t c = leaving (err_from_is_err_and c.from_residual.result c.from_residual.ensures.1)
-    (repeat_body_fails c.in_err-sequence.field-0.0 _ c.loop-machine.invariant c.deref.ensures.value c.in_err-sequence.ensures)
+pub until-returns-in_err-in_order : goal.until-returns-in_err-in_order
+until-returns-in_err-in_order g t c = leaving (err_from_is_err_and c.from_residual.result c.from_residual.ensures.1)
+    (repeat_body_fails c.in_err-in_order.field-0.0 _ c.loop-machine.invariant c.deref.ensures.value c.in_err-in_order.ensures)
 
 pub until-returns-in_err-evaluate_condition : goal.until-returns-in_err-evaluate_condition
 until-returns-in_err-evaluate_condition g t c = ending_by c.in_err-evaluate_condition.field-0.0 (err_from_is_err_and c.from_residual-in_err-evaluate_condition.result c.from_residual-in_err-evaluate_condition.ensures.1)
-    (repeat_fails c.in_err-evaluate_condition.field-0.0 (turn_made c.in_ok-sequence.field-0 _ c.loop-machine.invariant c.deref.ensures.value c.in_ok-sequence.ensures) c.in_err-evaluate_condition.ensures)
+    (repeat_fails c.in_err-evaluate_condition.field-0.0 (turn_made c.in_ok-in_order.field-0 _ c.loop-machine.invariant c.deref.ensures.value c.in_ok-in_order.ensures) c.in_err-evaluate_condition.ensures)
 
 pub until-returns-then-branch : goal.until-returns-then-branch
 until-returns-then-branch g t c =
-    repeat_ends tt (turn_made c.in_ok-sequence.field-0 _ c.loop-machine.invariant c.deref.ensures.value c.in_ok-sequence.ensures) (settled c.in_ok-evaluate_condition.ensures c.if-branch.true)
+    repeat_ends tt (turn_made c.in_ok-in_order.field-0 _ c.loop-machine.invariant c.deref.ensures.value c.in_ok-in_order.ensures) (settled c.in_ok-evaluate_condition.ensures c.if-branch.true)
 
 pub until-returns-then-further-eq0 : goal.until-returns-then-further-eq0
 until-returns-then-further-eq0 g t c =
-    repeat_bound (turn_made c.in_ok-sequence.field-0 _ c.loop-machine.invariant c.deref.ensures.value c.in_ok-sequence.ensures) (settled c.in_ok-evaluate_condition.ensures c.if-branch.false) c.if-further-eq0.true
+    repeat_bound (turn_made c.in_ok-in_order.field-0 _ c.loop-machine.invariant c.deref.ensures.value c.in_ok-in_order.ensures) (settled c.in_ok-evaluate_condition.ensures c.if-branch.false) c.if-further-eq0.true
 
 pub until-loop-machine-preserved : goal.until-loop-machine-preserved
 until-loop-machine-preserved g t c =
-    repeat_on (turn_made c.in_ok-sequence.field-0 _ c.loop-machine.invariant c.deref.ensures.value c.in_ok-sequence.ensures) (settled c.in_ok-evaluate_condition.ensures c.if-branch.false) c.if-further-eq0.false
+    repeat_on (turn_made c.in_ok-in_order.field-0 _ c.loop-machine.invariant c.deref.ensures.value c.in_ok-in_order.ensures) (settled c.in_ok-evaluate_condition.ensures c.if-branch.false) c.if-further-eq0.false

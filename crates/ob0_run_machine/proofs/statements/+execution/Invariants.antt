@@ -11,8 +11,8 @@ invariant-run_loop-loop-left g l = InWhile (goal.F-post g l.enter) l.fn.machine 
 abbrev pub decreases-run_loop-loop-left : goal.decreases-run_loop-loop-left
 decreases-run_loop-loop-left g l = l.left
 
-abbrev pub invariant-sequence-loop-s : goal.invariant-sequence-loop-s
-invariant-sequence-loop-s g l = InSequence (goal.F-post g l.enter) l.fn.machine l.machine l.turns (levels_of l.level) l.statements l.s-index
+abbrev pub invariant-in_order-loop-s : goal.invariant-in_order-loop-s
+invariant-in_order-loop-s g l = InSequence (goal.F-post g l.enter) l.fn.machine l.machine l.turns (levels_of l.level) l.statements l.s-index
 
 abbrev pub invariant-until-loop-machine : goal.invariant-until-loop-machine
 invariant-until-loop-machine g l = InRepeat (goal.F-post g l.enter) l.fn.machine l.machine l.turns (levels_of l.level) l.r l.further

@@ -1,0 +1,36 @@
+//! Copies of cells: from one part of a slice to another they go at once, between parts that overlap one by one.
+
+ghost use Rattle.std.specs.Prelude.{◌≡◌, ◌+◌, ◌≤◌, length};
+ghost use Rattle.ob0_run_machine.specs.Execution.{copied};
+
+/// Copies so many cells to a place after them.
+pub(crate) fn copy_up(cells: &mut [i32], to: usize, from: usize, count: usize)
+    requires { (from + count ≤ to) × (to + count ≤ length cells.old) }
+    ensures { cells.new ≡ copied cells.old to from count }
+{
+    let (front, back) = cells.split_at_mut(to);
+    back[..count].copy_from_slice(&front[from..from + count]);
+}
+
+/// Copies so many cells to a place before them.
+fn copy_down(cells: &mut [i32], to: usize, from: usize, count: usize)
+    requires { (to + count ≤ from) × (from + count ≤ length cells.old) }
+    ensures { cells.new ≡ copied cells.old to from count }
+{
+    let (front, back) = cells.split_at_mut(from);
+    front[to..to + count].copy_from_slice(&back[..count]);
+}
+
+/// Copies so many cells from one address to another.
+pub(crate) fn copy_cells(cells: &mut [i32], to: usize, from: usize, count: usize)
+    requires { (to + count ≤ length cells.old) × (from + count ≤ length cells.old) }
+    ensures { cells.new ≡ copied cells.old to from count }
+{
+    if from + count <= to {
+        copy_up(cells, to, from, count);
+    } else if to + count <= from {
+        copy_down(cells, to, from, count);
+    } else {
+        cells.copy_within(from..from + count, to);
+    }
+}
