@@ -108,7 +108,7 @@ fn held(up: usize, offset: usize) -> Place
 
 /// Where a VAR parameter of the activation so many levels out leads.
 fn lent(up: usize, index: usize) -> Place
-    ensures { place_of result ≡ slot_place (slots.lent up index) }
+    ensures { place_of result ≡ slot_place (slots.by_reference up index) }
 {
     if up == 0 {
         Place::Variable(Variable::Lent(index))
