@@ -58,7 +58,7 @@ pub in_order-returns : goal.in_order-returns
 in_order-returns g t c = sequence_ends tt c.loop-s.invariant c.loop-s-test.false
 
 pub sequence_if_any-returns-then-count-eq0 : goal.sequence_if_any-returns-then-count-eq0
-sequence_if_any-returns-then-count-eq0 g t c = sequence_ends tt sequence_begins (omega (arith, c.if-count-eq0.true, c.len-count.ensures))
+sequence_if_any-returns-then-count-eq0 g t c = sequence_ends {t = c.args.turns} {ls = levels_of c.args.level.now} {xs = c.args.statements.now} tt sequence_begins (omega (arith, c.if-count-eq0.true))
 
 pub statement-returns-in-If : goal.statement-returns-in-If
 statement-returns-in-If g t c = does_statement c.args.turns (levels_of c.args.level.now) (sym (ap statement_of c.in-If.is ∙ if_made c.in-If.i)) c.branches.ensures
