@@ -158,7 +158,7 @@ def transcripts():
 
 @test("shell: the lines of README's first module make it, find nothing wrong and run it")
 def first_module():
-    page = text_of("README.md").partition("\n## A first module\n")[2].partition("\n\n")[2]
+    page = text_of("README.md").partition("\n## A first module\n\n")[2]
     lines = [it[4:] for it in page.partition("\n\n")[0].splitlines()]
     same(len(lines), 3, "the lines")
     printed = re.search(r"The last line prints `([^`]*)`", page)[1]

@@ -64,20 +64,26 @@ class Cases:
         return lambda *words, **named: None if self.noting else check(*words, **named)
 
     def write(self, room):
-        """Writes the cases as files for `rt try`, and returns their names and the flags that give it the modules."""
-        names, flags = {}, []
+        """Writes the cases as files for `rt try`, and returns their names and the flags that give it the modules that are run. It
+        copies each of these for each case: so a module is there once, and where a case reads no input it is the module itself."""
+        names, modules = {}, {}
         for at, (words, *texts) in enumerate(self.wanted):
-            name, given = f"case{at:04}", texts[-1]
-            line = [f"{name}.mod" if it == "FILE" else it for it in words]
-            if len(texts) > 1:
-                path = os.path.join(room, "modules", f"{name}.mod")
-                with open(path, "wb") as file:
-                    file.write(texts[0])
-                flags += ["--data", f"{name}.mod={path}"]
-            for ending, content in (("", given), (".args", "\n".join(line).encode())):
+            name, content, module = f"case{at:04}", texts[-1], "{}"
+            if len(texts) > 1 and words[0] == "run":
+                module = modules.setdefault(texts[0], f"module{len(modules):03}.mod")
+            elif len(texts) > 1:
+                content = texts[0]
+            line = [module if it == "FILE" else it for it in words]
+            for ending, text in (("", content), (".args", "\n".join(line).encode())):
                 with open(os.path.join(room, "cases", name + ending), "wb") as file:
-                    file.write(content)
+                    file.write(text)
             names[name] = (words, *texts)
+        flags = []
+        for text, name in modules.items():
+            path = os.path.join(room, "modules", name)
+            with open(path, "wb") as file:
+                file.write(text)
+            flags += ["--data", f"{name}={path}"]
         return names, flags
 
     def take(self, out, err, names):

@@ -84,11 +84,11 @@ impl<'a> Written for OpenedDocument<'a> {
 
 /// That a document was opened.
 #[derive(Drop)]
-pub struct DidOpen<'a> {
+pub struct DidOpenParams<'a> {
     pub document: OpenedDocument<'a>,
 }
 
-impl<'a> Written for DidOpen<'a> {
+impl<'a> Written for DidOpenParams<'a> {
     ghost value = { λ p. open_params p.document.uri.now p.document.version p.document.text.now };
 
     fn write(&self, out: &mut Vec<u8>) -> Result<(), AllocError> {
@@ -154,12 +154,12 @@ fn write_changes(out: &mut Vec<u8>, changes: &[Change]) -> Result<(), AllocError
 
 /// That a document was changed to this version.
 #[derive(Drop)]
-pub struct DidChange<'a, C> {
+pub struct DidChangeParams<'a, C> {
     pub changes: C,
     pub document: DocumentVersion<'a>,
 }
 
-impl<'a, C: Written> Written for DidChange<'a, C> {
+impl<'a, C: Written> Written for DidChangeParams<'a, C> {
     ghost value = { λ p. object (member (codes "contentChanges") (C.value p.changes) (member (codes "textDocument") (versioned_value p.document.uri.now p.document.version) no_members)) };
 
     fn write(&self, out: &mut Vec<u8>) -> Result<(), AllocError> {
@@ -171,11 +171,11 @@ impl<'a, C: Written> Written for DidChange<'a, C> {
 
 /// That a document was closed.
 #[derive(Drop)]
-pub struct DidClose<'a> {
+pub struct DidCloseParams<'a> {
     pub document: DocumentId<'a>,
 }
 
-impl<'a> Written for DidClose<'a> {
+impl<'a> Written for DidCloseParams<'a> {
     ghost value = { λ p. close_params p.document.uri.now };
 
     fn write(&self, out: &mut Vec<u8>) -> Result<(), AllocError> {
@@ -186,13 +186,13 @@ impl<'a> Written for DidClose<'a> {
 
 /// A new name for what is at a position.
 #[derive(Drop)]
-pub struct Rename<'a> {
+pub struct RenameParams<'a> {
     pub new_name: &'a str,
     pub position: Position,
     pub document: DocumentId<'a>,
 }
 
-impl<'a> Written for Rename<'a> {
+impl<'a> Written for RenameParams<'a> {
     ghost value = { λ p. rename_params p.document.uri.now p.position p.new_name.now };
 
     fn write(&self, out: &mut Vec<u8>) -> Result<(), AllocError> {
@@ -219,12 +219,12 @@ impl Written for ActionContext {
 
 /// The actions at a position.
 #[derive(Drop)]
-pub struct CodeActions<'a> {
+pub struct CodeActionParams<'a> {
     pub position: Position,
     pub document: DocumentId<'a>,
 }
 
-impl<'a> Written for CodeActions<'a> {
+impl<'a> Written for CodeActionParams<'a> {
     ghost value = { λ p. actions_params p.document.uri.now p.position };
 
     fn write(&self, out: &mut Vec<u8>) -> Result<(), AllocError> {
@@ -276,12 +276,12 @@ impl FormattingOptions {
 
 /// The layout of a document.
 #[derive(Drop)]
-pub struct Formatting<'a> {
+pub struct FormattingParams<'a> {
     pub options: FormattingOptions,
     pub document: DocumentId<'a>,
 }
 
-impl<'a> Written for Formatting<'a> {
+impl<'a> Written for FormattingParams<'a> {
     ghost value = { λ p. object (member (codes "options") (options_by p.options.insert_spaces p.options.tab_size) (member (codes "textDocument") (document_value p.document.uri.now) no_members)) };
 
     fn write(&self, out: &mut Vec<u8>) -> Result<(), AllocError> {

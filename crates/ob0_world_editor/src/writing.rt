@@ -1,4 +1,4 @@
-//! What an editor tells a server, and asks it.
+//! The notifications and requests of an editor.
 ghost use Rattle.std.specs.Prelude.{◌≤◌, ◌<◌, ◌^◌, ◌∷◌, [], pos, IfOk, map};
 ghost use Rattle.std.specs.Str.{chars};
 ghost use Rattle.serde_json.specs.Data.{depth};
@@ -11,8 +11,9 @@ ghost use Rattle.ob0_world_editor.specs.Shapes.{request_message};
 
 use crate::asks::Ask;
 use crate::params::{
-    CodeActions, ContentChange, ContentChanges, DidChange, DidClose, DidOpen, DocumentId,
-    DocumentVersion, Formatting, FormattingOptions, OpenedDocument, Rename, Request,
+    CodeActionParams, ContentChange, ContentChanges, DidChangeParams, DidCloseParams,
+    DidOpenParams, DocumentId, DocumentVersion, FormattingOptions, FormattingParams,
+    OpenedDocument, RenameParams, Request,
 };
 use ob0_rpc::{Written, content_of, notify};
 use ob0_text::Change;
@@ -25,7 +26,7 @@ pub fn did_open(alloc: Global, uri: &str, version: u64, text: &str) -> Result<Ve
         (λ content. IsNote (Opened uri.now (pos version) (chars text.now)) content.items) }
 {
     let document = OpenedDocument { uri, version, text };
-    notify(alloc, "textDocument/didOpen", &DidOpen { document })
+    notify(alloc, "textDocument/didOpen", &DidOpenParams { document })
 }
 
 /// Notifies how a document was changed.
@@ -44,7 +45,7 @@ pub fn did_change(
     notify(
         alloc,
         "textDocument/didChange",
-        &DidChange { changes, document },
+        &DidChangeParams { changes, document },
     )
 }
 
@@ -65,7 +66,7 @@ pub fn did_rewrite(
     notify(
         alloc,
         "textDocument/didChange",
-        &DidChange { changes, document },
+        &DidChangeParams { changes, document },
     )
 }
 
@@ -74,10 +75,10 @@ pub fn did_close(alloc: Global, uri: &str) -> Result<Vec<u8>, AllocError>
     ensures { IfOk result (λ content. IsNote (Closed uri.now) content.items) }
 {
     let document = DocumentId { uri };
-    notify(alloc, "textDocument/didClose", &DidClose { document })
+    notify(alloc, "textDocument/didClose", &DidCloseParams { document })
 }
 
-/// Asks this of a document; both ways of inlining ask for the actions at their place.
+/// Requests this of a document; both ways of inlining request the actions at their place.
 pub fn request(alloc: Global, number: u64, uri: &str, ask: &Ask) -> Result<Vec<u8>, AllocError>
     ensures { IfOk result (λ content. IsRequest number uri.now (ask_of ask.now) content.items) }
 {
@@ -85,7 +86,7 @@ pub fn request(alloc: Global, number: u64, uri: &str, ask: &Ask) -> Result<Vec<u
     match ask {
         Ask::Rename { position, name } => {
             let (position, new_name) = (*position, name.as_str());
-            let params = Rename {
+            let params = RenameParams {
                 new_name,
                 position,
                 document,
@@ -94,17 +95,17 @@ pub fn request(alloc: Global, number: u64, uri: &str, ask: &Ask) -> Result<Vec<u
         }
         Ask::InlineHere { position } => {
             let position = *position;
-            let params = CodeActions { position, document };
+            let params = CodeActionParams { position, document };
             send(alloc, number, "textDocument/codeAction", &params)
         }
         Ask::InlineAll { position } => {
             let position = *position;
-            let params = CodeActions { position, document };
+            let params = CodeActionParams { position, document };
             send(alloc, number, "textDocument/codeAction", &params)
         }
         Ask::Format { indent } => {
             let options = FormattingOptions::of(*indent);
-            let params = Formatting { options, document };
+            let params = FormattingParams { options, document };
             send(alloc, number, "textDocument/formatting", &params)
         }
     }
