@@ -8,4 +8,4 @@ pub returns-in-Chain : goal.returns-in-Chain
 returns-in-Chain c =
     let left : chained_in c.into_inner.result ≡ number_of c.args.left = ap chained_in c.into_inner.ensures ∙ sym (chain_made c.in-Chain.chain) ∙ sym (ap number_of c.in-Chain.is) in
     subst (λ z. IfOk c.longer.result (λ n. number_of n ≡ z))
-    (c.link-link.ensures (chained_in c.into_inner.result) ∙ ap (λ z. machine.operation (operator_of c.args.operator) z (number_of c.args.right)) left) c.longer.ensures
+    (c.link.ensures (chained_in c.into_inner.result) ∙ ap (λ z. machine.operation (operator_of c.args.operator) z (number_of c.args.right)) left) c.longer.ensures
