@@ -115,6 +115,14 @@ def installed():
         same(status, 0, said)
         left = [at for at, _, _ in os.walk(os.path.join(root, "opt", "x"))]
         same(left, [os.path.join(root, "opt", "x"), os.path.join(root, "opt", "x", "bin")], "what is left")
+        # (a home that the shell left to be named)
+        home = os.path.join(room, "home")
+        os.mkdir(home)
+        for command, found in (("install", ["bin", "share"]), ("uninstall", [])):
+            status, said = run_plainly(["make", "--silent", "PREFIX=~/local", command], {**environment, "HOME": home}, TOP)
+            same(status, 0, said)
+            local = os.path.join(home, "local")
+            same(sorted(os.listdir(local)) if os.path.isdir(local) else [], found, f"what is in ~/local after `make {command}`")
 
 
 @test("package: a stamp beside another program doesn't make it the proved one")

@@ -312,8 +312,11 @@ def uninstall(room):
 
 def main(words):
     command, *places = words
-    # (a prefix is below DESTDIR, the root of another system)
-    room = places and os.path.join(places[1], os.path.expanduser(places[0]).lstrip("/")) if len(places) > 1 and places[1] else places and places[0]
+    # (not every shell expands a ~ after the =; a prefix is below DESTDIR, the root of another system)
+    prefix, root = (*places, "", "")[:2]
+    room = os.path.expanduser(prefix)
+    if root:
+        room = os.path.join(root, room.lstrip("/"))
     if command == "uninstall":
         return uninstall(room)
     need_program()

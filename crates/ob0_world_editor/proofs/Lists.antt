@@ -1,12 +1,12 @@
 -- Lists of values that are read, and that are written, item by item.
-use Rattle.std.proofs.Common.{◌≡◌, ◌∙◌, ◌<◌, ◌≤◌, ◌+◌, ℕ, zero, suc, true, false, List, [], ◌∷◌, ◌++◌, length, take, drop, get_or, map, Option, Some, None, option_map, arith, refl, ap, sym, add-one}
+use Rattle.std.proofs.Common.{◌≡◌, ◌∙◌, ◌<◌, ◌≤◌, ◌+◌, ℕ, zero, suc, true, false, List, [], ◌∷◌, ◌++◌, length, drop, get_or, Option, Some, None, option_map, arith, refl, ap, sym, add-one}
 use Rattle.std.specs.Prelude.{Vec, vec_len, ◌==◌, codes}
 use Rattle.std.specs.declared.alloc.Global.{Global}
 use Rattle.std.proofs.lemmas.Bool.{ne_eqb}
 use Rattle.std.proofs.lemmas.List.{append_assoc, append-nil, map-append}
-use Rattle.std.proofs.Math.Seq.{drop-cons, drop-nil, take-suc}
-use Rattle.serde_json.specs.Data.{Data, item}
-use Rattle.serde_json.specs.View.{view, items_of, items_view}
+use Rattle.std.proofs.Math.Seq.{drop-cons, drop-nil}
+use Rattle.serde_json.specs.Data.{item}
+use Rattle.serde_json.specs.View.{view, items_view}
 use Rattle.serde_json.specs.declared.value.Value.{Value}
 use Rattle.ob0_text.specs.declared.edits.Edit.{Edit}
 use Rattle.ob0_rpc.specs.Members.{text_in}
@@ -66,20 +66,3 @@ none_is_empty v values e = ap (λ n. n == 0) e ∙ go values
     go : (values : List Value) → length values == 0 ≡ has_none (items_view values)
     go [] = refl
     go (x ∷ xs) = ne_eqb (suc (length xs)) 0 (λ e. omega (arith, e))
-
--- ---- values that are written
-
-items_of-append : (xs ys zs : List Data) → items_of xs ≡ items_of ys → items_of (xs ++ zs) ≡ items_of (ys ++ zs)
-items_of-append [] [] zs e = refl
-items_of-append [] (y ∷ ys) zs e = cc
-items_of-append (x ∷ xs) [] zs e = cc
-items_of-append (x ∷ xs) (y ∷ ys) zs e =
-    let head : x ≡ y = cc in
-    let tail : items_of xs ≡ items_of ys = cc in
-    rw (head, items_of-append xs ys zs tail)
-
--- values of a list's items, and that of the next one
-pub values_next : {A : Type 0} (shown : A → Data) (xs : List A) (i : ℕ) (x : A) (vs : List Value) (v : Value) → i < length xs
-    → items_view vs ≡ items_of (map shown (take i xs)) → view v ≡ shown (get_or xs i x) → items_view (vs ++ v ∷ []) ≡ items_of (map shown (take (i + 1) xs))
-values_next shown xs i x vs v h are is =
-    rw (add-one, take-suc xs i x h, map-append shown (take i xs) (get_or xs i x ∷ []), map-append view vs (v ∷ []), is) (items_of-append (map view vs) (map shown (take i xs)) (shown (get_or xs i x) ∷ []) are)

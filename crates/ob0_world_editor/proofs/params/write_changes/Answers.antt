@@ -10,8 +10,7 @@ loop-change-init c = (each_none false _, refl)
 
 pub loop-change-preserved : goal.loop-change-preserved
 loop-change-preserved c =
-    let is = ap (change_by c.change-item.result.range) c.as_str-text.ensures.value ∙ ap change_value c.change-item.is in
-    (
+    let is = ap (change_by c.change-item.result.range) c.as_str-text.ensures.value ∙ ap change_value c.change-item.is in (
       each_next change_value c.args.changes.now c.loop-change.change-index _ _ _ _ _ (omega arith) c.loop-change.invariant.0 c.loop-change.invariant.1
           (subst (λ e. AppendsItem c.loop-change.later e c.loop-change.out.items c.write_item.new.out.items) is c.in_ok-write_item.ensures),
       sym (lt-ltb 0 _ (omega arith)),

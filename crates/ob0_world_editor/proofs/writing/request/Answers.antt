@@ -1,9 +1,9 @@
-use Rattle.std.proofs.Common.{◌≡◌, ◌≤◌, Some, ap, subst, sym}
+use Rattle.std.proofs.Common.{◌≤◌, Some, ap, subst, sym}
 use Rattle.std.specs.Prelude.{codes, string_bytes}
 use Rattle.serde_json.specs.Data.{Data, depth, member, no_members, object}
 use Rattle.ob0_rpc.specs.Messages.{ReadsContent}
 use Rattle.ob0_world_rules.specs.Asks.{rename, inline_here, inline_all, format}
-use Rattle.ob0_world_editor.specs.Shapes.{document_value, formatting_params, options_by, request_message}
+use Rattle.ob0_world_editor.specs.Shapes.{document_value, request_message}
 use Rattle.ob0_world_editor.proofs.Hearing.{if_ok}
 use Rattle.ob0_world_editor.proofs.Shallow.{ask_requested, shallow_request}
 use Rattle.ob0_world_editor.proofs.writing.request.Goals as goal
