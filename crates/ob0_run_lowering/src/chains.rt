@@ -94,7 +94,11 @@ fn plain(
     ensures { IfOk result (λ n. number_of n ≡ machine.operation (operator_of operator)
         (machine.cell (variable_of variable)) (number_of right)) }
 {
-    single(alloc, FirstOperand::Variable(variable), link(operator, right))
+    single(
+        alloc,
+        FirstOperand::Variable(variable),
+        link(operator, right),
+    )
 }
 
 /// The same. Where the number is a row of operations, they are all in one row: a variable can be evaluated after what it is
