@@ -5,8 +5,8 @@ ghost use Rattle.ob0_run_machine.specs.Execution.{copied, append_output, read_nu
 ghost use Rattle.ob0_run_machine.specs.Machines.{item_of, moved, state_of};
 ghost use Rattle.ob0_run_machine.specs.Allocations.{has_failed};
 
-use crate::ending::Ending;
 use crate::copying::copy_cells;
+use crate::ending::Ending;
 use crate::memory::Memory;
 use std::alloc::AllocError;
 
