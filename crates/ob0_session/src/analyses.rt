@@ -1,11 +1,10 @@
 //! The analyses of the documents that were reported or queried last.
 
-ghost use Rattle.std.specs.Prelude.{◌≡◌, ◌≤◌, IfOk};
-ghost use Rattle.std.specs.Str.{chars};
+ghost use Rattle.std.specs.Prelude.{◌≡◌, ◌∷◌, ◌≤◌, [], IfSome, IfOk};
+ghost use Rattle.ob0_session.specs.KeptAnalyses.{IsKept, KeepsAlso, KeepsOnly, KeepsOthers};
 
 use lru::LruCache;
 use ob0_analysis::Analysis;
-use ob0_text::TextStore;
 use std::alloc::{AllocError, Global};
 
 /// How many bytes the analyses that are kept count for together, at most.
@@ -14,8 +13,7 @@ const MOST_BYTES: usize = 2_097_152;
 /// What an analysis counts for beside the bytes of its text, so that those of empty texts are bounded too.
 const BYTES_PER_ANALYSIS: usize = 1_024;
 
-/// For the uri of a document the analysis of a text that it had. Nothing is promised of which text that is: `take` is given
-/// the present text, and compares.
+/// Analyses of texts by the uris of their documents. What is put in may be dropped at any time.
 #[derive(Drop)]
 pub struct Analyses {
     alloc: Global,
@@ -27,7 +25,9 @@ pub struct Analyses {
 
 impl Analyses {
     /// No analysis of any document.
-    pub fn new(alloc: Global) -> Analyses {
+    pub fn new(alloc: Global) -> Analyses
+        ensures { (uri : _) (text : _) → IsKept result uri text → ⊥ }
+    {
         Analyses {
             alloc,
             by_uri: None,
@@ -35,48 +35,49 @@ impl Analyses {
         }
     }
 
-    /// The analysis of the text in a store, which is kept no more. Where one of another text of the document was kept, it is
-    /// made of that one.
-    pub fn take<T: TextStore>(&mut self, uri: &str, store: &T) -> Result<Analysis, AllocError>
-        ensures { IfOk result (λ a. T.content store.now ≡ chars a) }
+    /// Takes the analysis of a document out, where one is kept.
+    pub fn take(&mut self, uri: &str) -> Option<Analysis>
+        ensures found { IfSome result (IsKept self.old uri.now) }
+        ensures others { KeepsOthers self.old uri.now self.new }
     {
-        let kept = self.remove(uri);
-        let analysis = analysis_from(self.alloc, kept, store.as_str())?;
-        Ok(analysis)
+        let by_uri = self.by_uri.as_mut()?;
+        // For the proof: what the contract of this call says.
+        let _count = by_uri.len();
+        let analysis = by_uri.pop(uri)?;
+        self.bytes = self.bytes.saturating_sub(bytes_of(&analysis));
+        Some(analysis)
     }
 
     /// Keeps the analysis of a document, and drops those that weren't used for longest where there is too much in all. One
     /// that is too much alone isn't kept.
-    pub fn keep(&mut self, uri: &str, analysis: Analysis) -> Result<(), AllocError> {
+    pub fn put(&mut self, uri: &str, analysis: Analysis) -> Result<(), AllocError>
+        ensures { KeepsAlso self.old uri.now analysis self.new }
+    {
         let bytes = bytes_of(&analysis);
         if bytes > MOST_BYTES {
             return Ok(());
         }
-        let key = String::from_str(self.alloc, uri)?;
-        if self.by_uri.is_none() {
-            self.by_uri = Some(LruCache::unbounded(self.alloc)?);
-        }
         self.free(bytes);
-        if let Some(by_uri) = &mut self.by_uri {
-            by_uri.put(key, analysis)?;
+        self.insert(uri, analysis)
+    }
+
+    fn insert(&mut self, uri: &str, analysis: Analysis) -> Result<(), AllocError>
+        ensures { KeepsAlso self.old uri.now analysis self.new }
+    {
+        let key = String::from_str(self.alloc, uri)?;
+        match &mut self.by_uri {
+            Some(by_uri) => {
+                by_uri.put(key, analysis)?;
+            }
+            None => self.by_uri = Some(cache_of(self.alloc, key, analysis)?),
         }
         Ok(())
     }
 
-    /// Drops the analysis of a document.
-    pub fn forget(&mut self, uri: &str) {
-        self.remove(uri);
-    }
-
-    fn remove(&mut self, uri: &str) -> Option<Analysis> {
-        let by_uri = self.by_uri.as_mut()?;
-        let kept = by_uri.pop(uri)?;
-        self.bytes = self.bytes.saturating_sub(bytes_of(&kept));
-        Some(kept)
-    }
-
     /// Counts this many bytes more, and drops what wasn't used for longest until all is within the bound.
-    fn free(&mut self, bytes: usize) {
+    fn free(&mut self, bytes: usize)
+        ensures { KeepsOnly self.old self.new }
+    {
         let mut counted = self.bytes.saturating_add(bytes);
         while counted > MOST_BYTES {
             let Some(oldest) = self.remove_oldest() else {
@@ -87,7 +88,9 @@ impl Analyses {
         self.bytes = counted;
     }
 
-    fn remove_oldest(&mut self) -> Option<Analysis> {
+    fn remove_oldest(&mut self) -> Option<Analysis>
+        ensures { KeepsOnly self.old self.new }
+    {
         let by_uri = self.by_uri.as_mut()?;
         let (_, oldest) = by_uri.pop_lru()?;
         Some(oldest)
@@ -101,18 +104,15 @@ fn bytes_of(analysis: &Analysis) -> usize
     analysis.text().len().saturating_add(BYTES_PER_ANALYSIS)
 }
 
-/// The analysis of a text, by one of any text.
-fn analysis_from(alloc: Global, kept: Option<Analysis>, text: &str) -> Result<Analysis, AllocError>
-    ensures { IfOk result (λ a. a ≡ text.now) }
+/// A cache with one analysis.
+fn cache_of(
+    alloc: Global,
+    uri: String,
+    analysis: Analysis,
+) -> Result<LruCache<String, Analysis>, AllocError>
+    ensures { IfOk result (λ c. c.entries ≡ (uri, analysis) ∷ []) }
 {
-    match kept {
-        None => Analysis::of(alloc, text),
-        Some(kept) => {
-            if kept.text() == text {
-                Ok(kept)
-            } else {
-                kept.after(alloc, text)
-            }
-        }
-    }
+    let mut cache = LruCache::unbounded(alloc)?;
+    cache.put(uri, analysis)?;
+    Ok(cache)
 }

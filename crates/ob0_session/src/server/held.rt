@@ -9,6 +9,6 @@ impl<T: TextStore> Server<T> {
     pub fn documents(&self) -> &Documents<T>
         ensures { result.now ≡ self.now.held }
     {
-        &self.documents
+        self.documents.documents()
     }
 }

@@ -5,19 +5,19 @@ use Rattle.ob0_text.specs.declared.position_types.Unit.{Unit}
 use Rattle.ob0_session.specs.Answers.{ServerState, requests_layout, lays_out}
 use Rattle.ob0_session_edits.specs.Formatted.{AnswersFormatting}
 use Rattle.ob0_session.specs.Seen.{Reacts}
-use Rattle.ob0_session.proofs.Answering.{of_held}
+use Rattle.ob0_session.proofs.Answering.{of_held, stays_with}
 use Rattle.ob0_session.proofs.server.Server.format.Goals as goal
 
 pub returns-in_ok-keep-in-Some-InStep : goal.returns-in_ok-keep-in-Some-InStep
 returns-in_ok-keep-in-Some-InStep g c =
     let s = c.args.self.now in
     let id = id_data c.args.id.now in
-    let is = ap (λ (t : ServerState). t.held) c.self.view_is in
+    let is = c.take-kept.ensures.same ∙ ap (λ (t : ServerState). t.held) c.self.view_is in
     let there = rw c.in-Some-InStep.field-0-is at c.in-Some-InStep.ensures.held in
     let unit = (rw c.in-Some-InStep.field-0-is at c.in-Some-InStep.ensures.unit) ∙ ap (λ (h : OpenDocuments). h.unit) is in
     let text = g.T.TextStore.content c.in-Some-InStep.text.now in
     let answer = c.in_ok-answer-in-Some-InStep.ensures in
-    subst (Reacts (requests_layout s id c.args.uri.now c.args.indent) (Some c.in_ok-answer-in-Some-InStep.answer)) (sym c.self.view_is)
+    subst (Reacts (requests_layout s id c.args.uri.now c.args.indent) (Some c.in_ok-answer-in-Some-InStep.answer)) (stays_with c.self.inside.phase c.self.inside.client c.self.inside.documents c.keep.new.self s c.self.view_is (c.keep.ensures ∙ c.take-kept.ensures.same))
     (of_held s id _ c.args.uri.now (Some (InStep _ text)) (λ version. lays_out s.held.unit id c.args.indent) _ is there
     (refl, (answer.0, subst (λ (u : Unit). AnswersFormatting u id c.args.indent text answer.0) unit answer.1, (_, refl, answer.2))))
 
@@ -25,6 +25,7 @@ pub returns-in_ok-refused-in-Some-OutOfStep : goal.returns-in_ok-refused-in-Some
 returns-in_ok-refused-in-Some-OutOfStep g c =
     let s = c.args.self.now in
     let id = id_data c.args.id.now in
-    let is = ap (λ (t : ServerState). t.held) c.self.view_is in
+    let is = c.take-kept.ensures.same ∙ ap (λ (t : ServerState). t.held) c.self.view_is in
     let there = rw c.in-Some-OutOfStep.field-0-is at c.in-Some-OutOfStep.ensures.held in
-    of_held s id _ c.args.uri.now (Some OutOfStep) (λ version. lays_out s.held.unit id c.args.indent) _ is there (refl, (_, refl, c.in_ok-refused-in-Some-OutOfStep.ensures))
+    subst (Reacts (requests_layout s id c.args.uri.now c.args.indent) _) (stays_with c.self.inside.phase c.self.inside.client c.self.inside.documents c.take-kept.new.self s c.self.view_is c.take-kept.ensures.same)
+    (of_held s id _ c.args.uri.now (Some OutOfStep) (λ version. lays_out s.held.unit id c.args.indent) _ is there (refl, (_, refl, c.in_ok-refused-in-Some-OutOfStep.ensures)))

@@ -8,7 +8,7 @@ use Rattle.ob0_session.proofs.server.Server.publish.Goals as goal
 pub returns-in_ok-publication-in-Some-InStep-clause-says : goal.returns-in_ok-publication-in-Some-InStep-clause-says
 returns-in_ok-publication-in-Some-InStep-clause-says g c =
     let s = c.args.self.now in
-    let is = ap (λ (t : ServerState). t.held) c.self.view_is in
+    let is = c.take-kept.ensures.same ∙ ap (λ (t : ServerState). t.held) c.self.view_is in
     let there = rw c.in-Some-InStep.field-0-is at c.in-Some-InStep.ensures.held in
     let unit = (rw c.in-Some-InStep.field-0-is at c.in-Some-InStep.ensures.unit) ∙ ap (λ (h : OpenDocuments). h.unit) is in
     let text = g.T.TextStore.content c.in-Some-InStep.text.now in

@@ -9,7 +9,7 @@ use Rattle.ob0_text.specs.declared.position_types.Unit.{Unit}
 use Rattle.ob0_session.specs.Answers.{ServerState, requests_rename, renames}
 use Rattle.ob0_session_edits.specs.Renamed.{RenameAsked, AnswersRenaming}
 use Rattle.ob0_session.specs.Seen.{Reacts}
-use Rattle.ob0_session.proofs.Answering.{of_held}
+use Rattle.ob0_session.proofs.Answering.{of_held, stays_with}
 use Rattle.ob0_session.proofs.server.Server.rename.Goals as goal
 
 pub returns-in_ok-keep-in-Some-InStep : goal.returns-in_ok-keep-in-Some-InStep
@@ -17,16 +17,16 @@ returns-in_ok-keep-in-Some-InStep g c =
     let s = c.args.self.now in
     let id = id_data c.args.id.now in
     let place = at_seen c.args.place.now in
-    let is = ap (λ (t : ServerState). t.held) c.self.view_is in
+    let is = c.take-kept.ensures.same ∙ ap (λ (t : ServerState). t.held) c.self.view_is in
     let client = ap (λ (t : ServerState). t.client) c.self.view_is in
-    let there = (rw c.in-Some-InStep.field-0-is at c.in-Some-InStep.ensures.held) ∙ ap (document_at c.self.inside.documents) c.as_str-uri.ensures.value in
+    let there = (rw c.in-Some-InStep.field-0-is at c.in-Some-InStep.ensures.held) ∙ ap (document_at c.take-kept.new.self) c.as_str-uri.ensures.value in
     let unit = (rw c.in-Some-InStep.field-0-is at c.in-Some-InStep.ensures.unit) ∙ ap (λ (h : OpenDocuments). h.unit) is in
     let text = g.T.TextStore.content c.in-Some-InStep.text.now in
     let requested : Client → RenameAsked = λ who. record { id = id; client = who; at = place; version = c.in-Some-InStep.version; new = c.args.new.now } in
     let answer = rw (to_z-of_z {w = w64} {z = c.in-Some-InStep.version} (search rules)) at c.in_ok-answer-in-Some-InStep.ensures in
     let for_unit = subst (λ (u : Unit). AnswersRenaming u (requested c.self.inside.client) text answer.0) unit answer.1 in
     let for_client = subst (λ (who : Client). AnswersRenaming s.held.unit (requested who) text answer.0) client for_unit in
-    subst (Reacts (requests_rename s id place c.args.new.now) (Some c.in_ok-answer-in-Some-InStep.answer)) (sym c.self.view_is)
+    subst (Reacts (requests_rename s id place c.args.new.now) (Some c.in_ok-answer-in-Some-InStep.answer)) (stays_with c.self.inside.phase c.self.inside.client c.self.inside.documents c.keep.new.self s c.self.view_is (c.keep.ensures ∙ c.take-kept.ensures.same))
     (of_held s id _ place.uri (Some (InStep _ text)) (λ version. renames s.held.unit (record { id = id; client = s.client; at = place; version = version; new = c.args.new.now })) _ is there
     (refl, (answer.0, for_client, (_, refl, answer.2))))
 
@@ -35,7 +35,8 @@ returns-in-Some-OutOfStep g c =
     let s = c.args.self.now in
     let id = id_data c.args.id.now in
     let place = at_seen c.args.place.now in
-    let is = ap (λ (t : ServerState). t.held) c.self.view_is in
-    let there = (rw c.in-Some-OutOfStep.field-0-is at c.in-Some-OutOfStep.ensures.held) ∙ ap (document_at c.self.inside.documents) c.as_str-uri.ensures.value in
+    let is = c.take-kept.ensures.same ∙ ap (λ (t : ServerState). t.held) c.self.view_is in
+    let there = (rw c.in-Some-OutOfStep.field-0-is at c.in-Some-OutOfStep.ensures.held) ∙ ap (document_at c.take-kept.new.self) c.as_str-uri.ensures.value in
     IfOk-weaker c.refuse_document.result _ _ (λ sent said.
-    of_held s id _ place.uri (Some OutOfStep) (λ version. renames s.held.unit (record { id = id; client = s.client; at = place; version = version; new = c.args.new.now })) _ is there said) c.refuse_document.ensures
+    subst (Reacts (requests_rename s id place c.args.new.now) sent) (stays_with c.self.inside.phase c.self.inside.client c.self.inside.documents c.take-kept.new.self s c.self.view_is c.take-kept.ensures.same)
+    (of_held s id _ place.uri (Some OutOfStep) (λ version. renames s.held.unit (record { id = id; client = s.client; at = place; version = version; new = c.args.new.now })) _ is there (refl, said.1))) c.refuse_document.ensures
