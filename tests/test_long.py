@@ -1,8 +1,14 @@
-"""A conversation of random changes and questions; `make faults` has a longer one."""
+"""Conversations of random changes and questions; `make faults` has longer ones."""
 import long_conversation
+import several_documents
 from harness import test
 
 
 @test("long: 1,500 changes and questions, each publication as a new `check` has it, and memory that doesn't grow")
 def talk():
     long_conversation.converse(1500, seed=1)
+
+
+@test("long: 800 messages about several documents, each answer that of a server that keeps nothing")
+def several():
+    several_documents.converse(800, seed=1)

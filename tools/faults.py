@@ -1,12 +1,13 @@
 #!/usr/bin/env python3
 """What is done to the program beyond the end-to-end tests, since it takes long: memory refused at each allocation, of longer
 conversations and commands, and of the tests of the crates that are made for it (`a_refused_..`); one long conversation; many
-random changes of documents; many random modules, run by the program and by the reference.
+random changes of documents; many random modules, run by the program and by the reference; one long conversation about several
+documents, each answer held against that of a server that keeps nothing.
 
   tools/faults.py [WORD..]   what has one of these words in its name; with no word all of it
 
 It runs bin/ob0 (or the program that the variable OB0 names) and the programs of tests that `make test` or `rt test` left in
-crates/NAME/out. OB0_LONG is how many messages the long conversation has (100,000), OB0_CHANGES how many random changes are
+crates/NAME/out. OB0_LONG is how many messages each long conversation has (100,000), OB0_CHANGES how many random changes are
 tried (20,000), OB0_RUNS how many random modules are run (20,000), OB0_WALK about how many allocations of one test are refused
 (10,000): of more, each second, third and so on. The last line is 'N passed, M failed'."""
 import os
@@ -26,6 +27,7 @@ import failing  # noqa: E402
 import long_conversation  # noqa: E402
 import random_changes  # noqa: E402
 import refused_tests  # noqa: E402
+import several_documents  # noqa: E402
 
 WALK = int(os.environ.get("OB0_WALK", "10000"))
 LONG = int(os.environ.get("OB0_LONG", "100000"))
@@ -57,6 +59,7 @@ def all_of_it():
             yield f"refused memory: {crate}, {name}", does
     yield f"a long conversation: {LONG:,} messages", lambda: long_conversation.converse(LONG)
     yield f"random changes: {CHANGES:,}", lambda: random_changes.many_changes(CHANGES, SEED, failing.PROCESSORS)
+    yield f"a long conversation about several documents: {LONG:,} messages", lambda: several_documents.converse(LONG, SEED)
     yield f"random texts: {TEXTS:,}", lambda: against_reference.many_texts(TEXTS, SEED, failing.PROCESSORS)
     yield f"random runs: {RUNS:,} modules", lambda: against_reference.many_runs(RUNS, SEED, failing.PROCESSORS)
 

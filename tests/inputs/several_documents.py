@@ -1,0 +1,156 @@
+"""One conversation about several documents: random changes, closes, texts that get lost, and questions between. Each answer is held
+against that of a server that keeps nothing: a new one, which is given the present text alone and then the same question."""
+import concurrent.futures
+import json
+import random
+import re
+
+import corpus
+import failing
+import harness
+from harness import EXIT, SHUTDOWN, Server, did_change, did_close, did_open, holds, initialize, notice, request, same, shown
+from long_conversation import PIECES, QUESTIONS, position_of
+
+WORD = re.compile(r"[A-Za-z][A-Za-z0-9]*")
+# (these leave most modules well-typed)
+MILD = [" ", "\n", "(* é *)", "  ", "\r\n"]
+CLIENT = {
+    "textDocument": {"codeAction": {"codeActionLiteralSupport": {}}, "rename": {"prepareSupport": True}},
+    "workspace": {"workspaceEdit": {"documentChanges": True}},
+}
+REFUSED = -32803
+# (more than the session keeps in all: 2 MiB)
+LARGE = {"file:///large/1": 700_000, "file:///large/2": 800_000, "file:///large/3": 900_000}
+SMALL = [f"file:///small/{at}" for at in range(1, 6)]
+
+
+class Document:
+    """A document from the client's side. Its text is None while it isn't open, or the server doesn't know it."""
+
+    def __init__(self, uri, size=0):
+        self.uri, self.size, self.version = uri, size, 0
+        self.is_open, self.text, self.good, self.published = False, None, None, None
+
+
+class Talk:
+    """The conversation. What is to be compared with a server that keeps nothing is listed in `asked`."""
+
+    def __init__(self, server, chance):
+        self.server, self.chance, self.idents, self.asked = server, chance, 1000, []
+        self.documents = [*(Document(it) for it in SMALL), *(Document(uri, size) for uri, size in LARGE.items())]
+
+    def publishes(self, document, message):
+        """Sends a message after which the document is reported."""
+        document.published = self.server.tell(message)
+        if not document.published and document.size + 6000 > len(document.text):
+            document.good = document.text
+
+    def open(self, document):
+        document.text = document.good = corpus.module(document.size or self.chance.choice([300, 900, 2000]), self.chance.randrange(1000))
+        document.version, document.is_open = document.version + 1, True
+        self.publishes(document, did_open(document.text, document.uri, document.version))
+
+    def close(self, document):
+        document.is_open, document.text = False, None
+        same(self.server.tell(did_close(document.uri)), [], "the diagnostics of a document that is closed")
+
+    def lose(self, document):
+        """A change that can't be read."""
+        self.server.send(notice("textDocument/didChange", {"contentChanges": 0, "textDocument": {"uri": document.uri, "version": 0}}))
+        document.text = None
+
+    def one_change(self, document):
+        """A change and the text after it: the last text without a fault, a blank at a blank, or any piece anywhere."""
+        chance, text = self.chance, document.text
+        if text is None or (text != document.good and chance.random() < 0.5):
+            return {"text": document.good}, document.good
+        start = end = chance.randrange(len(text) + 1)
+        if chance.random() < 0.6:
+            start = end = text.find(" ", start) if " " in text[start:] else start
+            new = chance.choice(MILD)
+        else:
+            end, new = min(len(text), start + chance.choice([0, 0, 1, 1, 5, 20])), chance.choice(PIECES)
+        # (between CR and LF there is no position)
+        start, end = (it - 1 if text[it - 1 : it + 1] == "\r\n" else it for it in (start, end))
+        there = {"start": position_of(text, start), "end": position_of(text, end)}
+        return {"range": there, "text": new}, text[:start] + new + text[end:]
+
+    def change(self, document):
+        """One to three changes in one note."""
+        changes = []
+        for _ in range(self.chance.choice([1, 1, 1, 2, 3])):
+            one, document.text = self.one_change(document)
+            changes.append(one)
+        document.version += 1
+        self.publishes(document, did_change(changes, document.uri, document.version))
+
+    def params_of(self, document, method):
+        text = document.text or document.good or "x"
+        at = self.chance.randrange(len(text) + 1)
+        word = WORD.search(text, at)
+        if word and self.chance.random() < 0.8:
+            at = word.start()
+        where, known = position_of(text, at), {"textDocument": {"uri": document.uri}}
+        if method == "codeAction":
+            return {"context": {}, "range": {"end": where, "start": where}, **known}
+        if method == "formatting":
+            return {"options": {"insertSpaces": True, "tabSize": 2}, **known}
+        new = self.chance.choice(["k", "fresh", word[0] if word else "x"])
+        return {"context": {"includeDeclaration": self.chance.random() < 0.5}, "newName": new, "position": where, **known}
+
+    def ask(self, document):
+        method = self.chance.choice(QUESTIONS)
+        self.idents += 1
+        question = request(self.idents, f"textDocument/{method}", self.params_of(document, method))
+        self.server.send(question)
+        found = self.server.take()
+        if document.text is None:
+            why = "out of step" if document.is_open else "unopened"
+            same(found, json.loads(harness.error(self.idents, REFUSED, why)), f"{method} of {document.uri}")
+        else:
+            opening = did_open(document.text, document.uri, document.version)
+            self.asked.append((opening, document.published, question, found))
+
+    def step(self):
+        document = self.chance.choice(self.documents[: len(SMALL)] if self.chance.random() < 0.97 else self.documents)
+        way = self.chance.random()
+        if not document.is_open:
+            return self.open(document) if way < 0.7 or not document.good else self.ask(document)
+        if way < 0.4:
+            return self.ask(document)
+        if way < 0.41:
+            return self.close(document)
+        if way < 0.42:
+            return self.open(document)
+        if way < 0.43:
+            return self.lose(document)
+        return self.change(document)
+
+
+def answered_alike(asked):
+    """Whether a server that keeps nothing says the same, and if so what kind of answer that is."""
+    opening, published, question, answer = asked
+    found = harness.serve([initialize(**CLIENT), opening, question, SHUTDOWN, EXIT])
+    same(found.status, 0, "the status of a server that keeps nothing")
+    first, second = (json.loads(it) for it in found.contents()[1:3])
+    where = f"of version {opening['params']['textDocument']['version']} of {opening['params']['textDocument']['uri']},\n{shown(opening['params']['textDocument']['text'])}\n"
+    same(published, first["params"]["diagnostics"], f"the diagnostics {where}")
+    same(answer, second, f"{question['method']} at {question['params'].get('position')} {where}")
+    return question["method"].partition("/")[2] if answer.get("result") else None
+
+
+def converse(count, seed=0):
+    """A conversation of so many messages. Returns a line with figures."""
+    kinds, compared = {}, 0
+    with Server(capabilities=CLIENT) as server, concurrent.futures.ThreadPoolExecutor(failing.PROCESSORS) as pool:
+        talk = Talk(server, random.Random(seed))
+        for number in range(count):
+            talk.step()
+            if len(talk.asked) == 200 or number == count - 1:
+                for kind in pool.map(answered_alike, talk.asked):
+                    kinds[kind] = kinds.get(kind, 0) + 1
+                compared, talk.asked = compared + len(talk.asked), []
+        same(server.end(), 0, "the status")
+    missing = [it for it in QUESTIONS if it not in kinds]
+    holds(not missing, f"no answer to {missing} said anything")
+    return f"{compared:,} answers, {compared - kinds[None]:,} of them with a result, each as a new server gives it"
