@@ -222,10 +222,10 @@ def faulty():
 class Talk:
     """A server in conversation, one message at a time; what comes back is awaited and not read as JSON."""
 
-    def __init__(self, text):
+    def __init__(self, text, **capabilities):
         self.process = subprocess.Popen([BINARY, "serve"], stdin=subprocess.PIPE, stdout=subprocess.PIPE, bufsize=0)
         self.held = bytearray()
-        self.after(initialize())
+        self.after(initialize(**capabilities))
         self.after(did_open(text))
 
     def __enter__(self):
@@ -242,6 +242,11 @@ class Talk:
         given = memoryview(given)
         while given:
             given = given[self.process.stdin.write(given) :]
+
+    def used(self):
+        """The milliseconds that the server was on a processor."""
+        with open(f"/proc/{self.process.pid}/schedstat", encoding="ascii") as file:
+            return int(file.read().split()[0]) / 1e6
 
     def more(self):
         came = os.read(self.process.stdout.fileno(), MIB)
@@ -384,6 +389,126 @@ def largest():
                 said("NOTE: another answer was expected", f"{name}: status {found.status}, {len(found.out):,} bytes")
         (half, low), (whole, high) = taken
         said(f"{name}, {size:,}", f"{whole:7.3f} s, ratio {whole / half / 2:.2f}; {megabytes(high)}, of half of it {megabytes(low)}")
+
+
+def instructions(given):
+    """The instructions of a conversation, None where valgrind isn't here to count them."""
+    if not shutil.which("valgrind"):
+        return None
+    words = ["valgrind", "--tool=callgrind", "--callgrind-out-file=/dev/null", BINARY, "serve"]
+    found = re.search(rb"Collected : (\d+)", subprocess.run(words, input=given, capture_output=True).stderr)
+    return int(found[1]) if found else None
+
+
+ABLE = {"textDocument": {"codeAction": {"codeActionLiteralSupport": {}}}}
+
+
+def place_of(text, at):
+    return place(text.count("\n", 0, at), at - (text.rfind("\n", 0, at) + 1))
+
+
+def middle_name(text):
+    """Where a number is assigned to a variable, after the middle of a text, in a statement of a line of its own."""
+    return re.compile(r"(?<=[\n ])v[0-9]+ := [^;\n]*;").search(text, len(text) // 2).start()
+
+
+def questions_at(text):
+    """The questions of an editor at a name in the middle of a text, and a hover at the sign after it."""
+    at = middle_name(text)
+    known, here = {"textDocument": {"uri": "file:///m"}}, place_of(text, at)
+    between = place_of(text, text.index(":=", at) + 1)
+    return {
+        "hover": ("hover", {"position": here, **known}),
+        "hover between two words": ("hover", {"position": between, **known}),
+        "definition": ("definition", {"position": here, **known}),
+        "prepareRename": ("prepareRename", {"position": here, **known}),
+        "code action": ("codeAction", {"context": {}, "range": {"end": here, "start": here}, **known}),
+        "references": ("references", {"context": {"includeDeclaration": True}, "position": here, **known}),
+        "rename of a local name": ("rename", {"newName": "fresh", "position": here, **known}),
+    }
+
+
+@measure("questions: at one name in the middle, from 10 KB to 1 MiB")
+def questions_in_the_middle():
+    """Time on a processor of one question of many about an open document, and its instructions: by both, it should cost its
+    answer and not the text."""
+    many, few = 200, 20
+    for size in (10_000, 100_000, MIB - 1000):
+        text = corpus.module(size)
+        start = [initialize(**ABLE), did_open(text)]
+        alone = instructions(frames([*start, SHUTDOWN, EXIT]))
+        for name, (method, params) in questions_at(text).items():
+            one = request(5, f"textDocument/{method}", params)
+            with Talk(text, **ABLE) as talk:
+                answer = talk.after(one)[1]
+                before = talk.used()
+                for _ in range(many):
+                    talk.after(one)
+                taken = (talk.used() - before) / many
+            if b'"error"' in answer:
+                said("NOTE: another answer was expected", answer[:200].decode(errors="replace"))
+            counted = instructions(frames([*start, *[one] * few, SHUTDOWN, EXIT])) if alone else None
+            steps = f"{(counted - alone) / few:,.0f} instructions" if counted else "no instructions counted: valgrind is missing"
+            said(f"{name}, {len(text):,} bytes", f"{taken:.3f} ms  {steps}  {len(answer):,} bytes answered")
+
+
+def keys_typed(talk, text):
+    """Types a statement into the middle of a text, key by key, each with the questions that editors ask then. Returns for each key
+    milliseconds on a processor and by the clock."""
+    at = text.index(";", middle_name(text)) + 1
+    known, found = {"textDocument": {"uri": "file:///m"}}, []
+    typed = "\n  IF (1 < 2) & TRUE THEN WriteLn END;"
+    for number, key in enumerate(typed):
+        here, there = place_of(text, at + number), place_of(text[: at + number] + key, at + number + 1)
+        text = text[: at + number] + key + text[at + number :]
+        before, start = talk.used(), time.monotonic()
+        talk.after(did_change([{"range": {"end": here, "start": here}, "text": key}], version=number + 2))
+        talk.after(request(5, "textDocument/codeAction", {"context": {}, "range": {"end": there, "start": there}, **known}))
+        talk.after(request(6, "textDocument/hover", {"position": there, **known}))
+        talk.after(request(7, "textDocument/definition", {"position": there, **known}))
+        found.append((talk.used() - before, 1000 * (time.monotonic() - start)))
+    return found
+
+
+@measure("typing: a statement typed in the middle, each key with three questions, from 10 KB to 1 MiB")
+def typed():
+    for size in (10_000, 100_000, MIB - 1000):
+        text = corpus.module(size)
+        with Talk(text, **ABLE) as talk:
+            found = keys_typed(talk, text)
+            memory = peak_until_now(talk.process.pid)
+        taken = sum(it for it, _ in found) / len(found)
+        slowest = max(it for _, it in found)
+        said(f"{len(text):,} bytes: a key, the slowest by the clock", f"{taken:.2f} ms, {slowest:.2f} ms  peak memory {megabytes(memory)}")
+
+
+@measure("typing: changes that leave a text ill-typed, beside changes that don't")
+def left_ill_typed():
+    """What makes a number a truth value is put in and taken out in turn, and what leaves it a number."""
+    for size in (10_000, 100_000, MIB - 1000):
+        text = corpus.module(size)
+        at = text.index(" := ", middle_name(text)) + 4
+        sound, faulty = place_of(text, at), []
+        for new in ("TRUE & ", "1 * "):
+            put = {"range": {"end": sound, "start": sound}, "text": new}
+            out = {"range": {"end": place_of(text, at) | {"character": sound["character"] + len(new)}, "start": sound}, "text": ""}
+            with Talk(text) as talk:
+                before = talk.used()
+                for number in range(20):
+                    content = talk.after(did_change([out if number % 2 else put], version=number + 2))[1]
+                    if number == 0 and (b'"code"' in content) != (new == "TRUE & "):
+                        said("NOTE: other diagnostics were expected", content[:200].decode(errors="replace"))
+                faulty.append((talk.used() - before) / 20)
+        said(f"{len(text):,} bytes: ill-typed in turn, well-typed", f"{faulty[0]:.2f} ms, {faulty[1]:.2f} ms  ratio {faulty[0] / faulty[1]:.2f}")
+
+
+@measure("serve: 1,000 open documents of 10 KB")
+def many_documents():
+    text = corpus.module(10_000)
+    with Talk(text) as talk:
+        for number in range(999):
+            talk.after(did_open(text, f"file:///{number}"))
+        said("peak memory", megabytes(peak_until_now(talk.process.pid)))
 
 
 @measure("questions: references of one name, on 100 KB and 1 MB")
