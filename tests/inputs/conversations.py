@@ -37,6 +37,28 @@ MANY = "MODULE M; VAR v0" + "".join(f",v{at}" for at in range(1, 200)) + ": INTE
     f" v{at} := v{at + 1};" for at in range(199)
 ) + " WriteLn END M."
 
+
+def about(uri, message):
+    """A message about another document."""
+    document = {**message["params"]["textDocument"], "uri": uri}
+    return {**message, "params": {**message["params"], "textDocument": document}}
+
+
+# (three such texts are more than the session keeps analyses of)
+COMMENT = "(*" + "x" * 900_000 + "*)\n"
+KEPT = [f"file:///{it}" for it in "abc"]
+
+
+def several_documents():
+    """Documents whose analyses are kept, dropped for others and made again."""
+    opened = [about(it, did_open(COMMENT + LEAST)) for it in KEPT]
+    queried = [about(it, asked(10 + at, "hover", 4, 15)) for at, it in enumerate(KEPT + KEPT[:1])]
+    changed = [about(it, did_change([{"range": extent("4:0-4:0"), "text": new}], version=2)) for it, new in zip(KEPT, (" ", "$", "1"))]
+    again = [about(it, asked(20 + at, "definition", 4, 16)) for at, it in enumerate(KEPT)]
+    closed = [about(KEPT[0], did_close()), about(KEPT[0], asked(30, "hover", 4, 15)), about(KEPT[0], did_open(LEAST))]
+    return talk(*opened, *queried, *changed, *again, *closed, about(KEPT[0], asked(31, "hover", 3, 15)))
+
+
 BYTE_BY_BYTE = 1 << 40  # (the call that fails: there are never so many)
 
 # name: the words, standard input, the file m.mod; and for a reader of one byte a call, the call that fails
@@ -93,6 +115,7 @@ LONG = {
         talk(did_open("a\r\n(* 😀 *) $"), did_change([{"range": extent("1:11-1:12"), "text": "$$"}]), general={"positionEncodings": ["utf-8"]}),
         None,
     ),
+    "three documents, whose analyses are kept, dropped and made again": (["serve"], several_documents(), None),
     "a constant inlined": (["serve"], talk(did_open(LEAST), acted(3, 3, 15), acted(4, 1, 6), **LITERALS), None),
     "a layout": (["serve"], talk(did_open(ON_ONE_LINE), laid_out(3)), None),
     "200 variables, renamed and laid out": (
