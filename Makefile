@@ -12,7 +12,7 @@
 #   make editors           installs the editors and tools that the end-to-end tests want, by apt-get
 #   make try               the tables of check, run and rename, with the program compiled without its proofs, in some minutes
 #   make end-to-end        the end-to-end tests alone, on bin/ob0
-#   make faults            what takes longer: memory refused at each allocation, one long conversation, many random runs; WORDS=".." names some
+#   make faults            what takes longer: memory refused at each allocation, two long conversations, many random runs; WORDS=".." names some
 #   make wrong-bodies      tries each crate's wrong bodies, all at once where that can be; CRATE="NAME.." names some
 #   make surface           the public functions, who uses them and their wrong bodies: docs/SURFACE.md
 #   make statement         all definitions that the headline is made of, in reading order: docs/STATEMENT.md
