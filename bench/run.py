@@ -391,15 +391,6 @@ def largest():
         said(f"{name}, {size:,}", f"{whole:7.3f} s, ratio {whole / half / 2:.2f}; {megabytes(high)}, of half of it {megabytes(low)}")
 
 
-def instructions(given):
-    """The instructions of a conversation, None where valgrind isn't here to count them."""
-    if not shutil.which("valgrind"):
-        return None
-    words = ["valgrind", "--tool=callgrind", "--callgrind-out-file=/dev/null", BINARY, "serve"]
-    found = re.search(rb"Collected : (\d+)", subprocess.run(words, input=given, capture_output=True).stderr)
-    return int(found[1]) if found else None
-
-
 ABLE = {"textDocument": {"codeAction": {"codeActionLiteralSupport": {}}}}
 
 
@@ -436,7 +427,8 @@ def questions_in_the_middle():
     for size in (10_000, 100_000, MIB - 1000):
         text = corpus.module(size)
         start = [initialize(**ABLE), did_open(text)]
-        alone = instructions(frames([*start, SHUTDOWN, EXIT]))
+        counts = lacks("valgrind") is None
+        alone = instructions_of_conversation(BINARY, frames([*start, SHUTDOWN, EXIT])) if counts else 0
         for name, (method, params) in questions_at(text).items():
             one = request(5, f"textDocument/{method}", params)
             with Talk(text, **ABLE) as talk:
@@ -447,12 +439,12 @@ def questions_in_the_middle():
                 taken = (talk.used() - before) / many
             if b'"error"' in answer:
                 said("NOTE: another answer was expected", answer[:200].decode(errors="replace"))
-            counted = instructions(frames([*start, *[one] * few, SHUTDOWN, EXIT])) if alone else None
-            steps = f"{(counted - alone) / few:,.0f} instructions" if counted else "no instructions counted: valgrind is missing"
+            counted = instructions_of_conversation(BINARY, frames([*start, *[one] * few, SHUTDOWN, EXIT])) if counts else 0
+            steps = f"{(counted - alone) / few:,.0f} instructions" if counts else lacks("valgrind")
             said(f"{name}, {len(text):,} bytes", f"{taken:.3f} ms  {steps}  {len(answer):,} bytes answered")
 
 
-def keys_typed(talk, text):
+def type_statement(talk, text):
     """Types a statement into the middle of a text, key by key, each with the questions that editors ask then. Returns for each key
     milliseconds on a processor and by the clock."""
     at = text.index(";", middle_name(text)) + 1
@@ -475,7 +467,7 @@ def typed():
     for size in (10_000, 100_000, MIB - 1000):
         text = corpus.module(size)
         with Talk(text, **ABLE) as talk:
-            found = keys_typed(talk, text)
+            found = type_statement(talk, text)
             memory = peak_until_now(talk.process.pid)
         taken = sum(it for it, _ in found) / len(found)
         slowest = max(it for _, it in found)
