@@ -1,4 +1,5 @@
 use Rattle.std.proofs.Common.{◌∙◌, Some, ap, refl, subst, sym}
+use Rattle.std.proofs.lemmas.Result.{IfOk-weaker}
 use Rattle.ob0_rpc.specs.Seen.{id_data}
 use Rattle.ob0_text.specs.OpenDocuments.{OpenDocuments, InStep, OutOfStep}
 use Rattle.ob0_text.specs.declared.position_types.Unit.{Unit}
@@ -21,11 +22,12 @@ returns-in_ok-keep-in-Some-InStep g c =
     (of_held s id _ c.args.uri.now (Some (InStep _ text)) (λ version. lays_out s.held.unit id c.args.indent) _ is there
     (refl, (answer.0, subst (λ (u : Unit). AnswersFormatting u id c.args.indent text answer.0) unit answer.1, (_, refl, answer.2))))
 
-pub returns-in_ok-refused-in-Some-OutOfStep : goal.returns-in_ok-refused-in-Some-OutOfStep
-returns-in_ok-refused-in-Some-OutOfStep g c =
+pub returns-in-Some-OutOfStep : goal.returns-in-Some-OutOfStep
+returns-in-Some-OutOfStep g c =
     let s = c.args.self.now in
     let id = id_data c.args.id.now in
     let is = c.take-kept.ensures.same ∙ ap (λ (t : ServerState). t.held) c.self.view_is in
     let there = rw c.in-Some-OutOfStep.field-0-is at c.in-Some-OutOfStep.ensures.held in
-    subst (Reacts (requests_layout s id c.args.uri.now c.args.indent) _) (stays_with c.self.inside.phase c.self.inside.client c.self.inside.documents c.take-kept.new.self s c.self.view_is c.take-kept.ensures.same)
-    (of_held s id _ c.args.uri.now (Some OutOfStep) (λ version. lays_out s.held.unit id c.args.indent) _ is there (refl, (_, refl, c.in_ok-refused-in-Some-OutOfStep.ensures)))
+    IfOk-weaker c.refuse_document.result _ _ (λ sent said.
+    subst (Reacts (requests_layout s id c.args.uri.now c.args.indent) sent) (stays_with c.self.inside.phase c.self.inside.client c.self.inside.documents c.take-kept.new.self s c.self.view_is c.take-kept.ensures.same)
+    (of_held s id _ c.args.uri.now (Some OutOfStep) (λ version. lays_out s.held.unit id c.args.indent) _ is there (refl, said.1))) c.refuse_document.ensures
