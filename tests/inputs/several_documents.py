@@ -152,5 +152,6 @@ def converse(count, seed=0):
                 compared, talk.asked = compared + len(talk.asked), []
         same(server.end(), 0, "the status")
     missing = [it for it in QUESTIONS if it not in kinds]
-    holds(not missing, f"no answer to {missing} said anything")
+    # (in a short conversation no place of an action may come up)
+    holds(count < 4000 or not missing, f"no answer to {missing} said anything")
     return f"{compared:,} answers, {compared - kinds[None]:,} of them with a result, each as a new server gives it"
