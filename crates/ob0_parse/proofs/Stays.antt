@@ -81,16 +81,14 @@ as_many : (a b : List Token) → kinds a ≡ kinds b → length a ≡ length b
 as_many a b same = sym (length-map a (λ (t : Token). valueless t.kind)) ∙ (ap length same ∙ length-map b (λ (t : Token). valueless t.kind))
 
 pub refusal_stays : (old new : Scanned) (e : ParseRefusal) → kinds new.tokens ≡ kinds old.tokens → RefusedBy old e → RefusedBy new e
-refusal_stays old new (Syntax i expected) same by =
-    (
-      subst (λ n. i ≤ n) (sym (as_many _ _ same)) by.0,
-      none_begins old new i same by.1,
-      subst (λ w. DescendsText w (Expects i expected)) (sym (same_lexemes _ _ same)) by.2,
-    )
-refusal_stays old new (TooDeep i) same by =
-    (
-      subst (λ n. i ≤ n) (sym (as_many _ _ same)) by.0,
-      none_begins old new i same by.1,
-      subst (λ w. DescendsText w (Deep i)) (sym (same_lexemes _ _ same)) by.2,
-    )
+refusal_stays old new (Syntax i expected) same by = (
+  subst (λ n. i ≤ n) (sym (as_many _ _ same)) by.0,
+  none_begins old new i same by.1,
+  subst (λ w. DescendsText w (Expects i expected)) (sym (same_lexemes _ _ same)) by.2,
+)
+refusal_stays old new (TooDeep i) same by = (
+  subst (λ n. i ≤ n) (sym (as_many _ _ same)) by.0,
+  none_begins old new i same by.1,
+  subst (λ w. DescendsText w (Deep i)) (sym (same_lexemes _ _ same)) by.2,
+)
 refusal_stays old new Memory same by = tt
