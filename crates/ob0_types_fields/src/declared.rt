@@ -22,8 +22,8 @@ fn names(found: &mut Vec<(usize, usize)>, owner: usize, listed: &Names) -> Resul
     Ok(())
 }
 
-/// Notes the fields that a type's text declares. `made` has the tokens of the ARRAY and RECORD before it: the ordinal of
-/// the next is their number.
+/// Notes the fields that a type's text declares. `made` has the ordinals of the ARRAY and RECORD before it: that of the
+/// next is their number.
 #[cycle(types)]
 pub(crate) fn written_type(
     found: &mut Vec<(usize, usize)>,
@@ -38,7 +38,8 @@ pub(crate) fn written_type(
     match t {
         WrittenType::Named(_) => Ok(()),
         WrittenType::Array(a) => {
-            made.push(a.token)?;
+            let ordinal = made.len();
+            made.push(ordinal)?;
             written_type(found, made, &a.element)
         }
         WrittenType::Record(r) => record(found, made, r),
@@ -57,7 +58,7 @@ fn record(
         (λ _. length made.new.items ≡ length made.old.items + constructors (record_in r.now)) }
 {
     let ordinal = made.len();
-    made.push(r.token)?;
+    made.push(ordinal)?;
     for group in &r.groups {
         fields(found, made, ordinal, group)?;
     }

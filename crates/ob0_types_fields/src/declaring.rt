@@ -9,7 +9,7 @@ use crate::declared::{formals, types, variables};
 use ob0_tree::{Block, Procedure};
 use std::alloc::AllocError;
 
-/// The fields that a block declares, and its procedures. `made` has the tokens of the ARRAY and RECORD before it.
+/// The fields that a block declares, and its procedures. `made` has the ordinals of the ARRAY and RECORD before it.
 #[cycle(blocks)]
 pub(crate) fn block(
     found: &mut Vec<(usize, usize)>,

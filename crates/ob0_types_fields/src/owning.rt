@@ -279,7 +279,7 @@ impl<'a, 't> Owning<'a, 't> {
     }
 
     /// The fields of a block: those that its declarations and its procedures declare and select, and those of its
-    /// statements. `made` has the tokens of the ARRAY and RECORD before it.
+    /// statements. `made` has the ordinals of the ARRAY and RECORD before it.
     #[cycle(blocks)]
     pub(crate) fn block(
         &self,
