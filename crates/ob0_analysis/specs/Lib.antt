@@ -1,7 +1,6 @@
 pub mod Analysed
 pub mod Diagnosed
 pub mod Found
-pub mod Parts
 pub mod RunsKept
 pub mod Texts
 pub mod Pieces

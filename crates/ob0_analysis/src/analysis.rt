@@ -5,10 +5,9 @@ ghost use Rattle.std.specs.Str.{IsUtf8};
 ghost use Rattle.ob0_scan.specs.Refused.{AreFaults};
 ghost use Rattle.ob0_scan.specs.Reused.{kinds};
 ghost use Rattle.ob0_scan.specs.Scanned.{IsScannable, IsScanOf};
-ghost use Rattle.ob0_tree.specs.Parsed.{IsParsed};
+ghost use Rattle.ob0_tree.specs.Parsed.{IsParsed, parsed_by};
 ghost use Rattle.ob0_analysis.specs.Found.{IsFound, IsRefusalOf};
 ghost use Rattle.ob0_analysis.specs.declared.analysis.Findings.TheVariants.{NoTree};
-ghost use Rattle.ob0_analysis.specs.Parts.{parsed_by};
 ghost use Rattle.ob0_analysis.specs.Diagnosed.{IsWellTypedModule, Reports, complaint_in};
 
 use crate::diagnoses::{Diagnosis, of_faults};

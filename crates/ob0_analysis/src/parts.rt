@@ -1,11 +1,10 @@
 //! A text that is a module.
 
 ghost use Rattle.std.specs.Prelude.{◌≡◌, IfOk};
-ghost use Rattle.ob0_tree.specs.Parsed.{IsParsed};
+ghost use Rattle.ob0_tree.specs.Parsed.{IsParsed, parsed_by};
 ghost use Rattle.ob0_scope_rules.specs.Bindings.{resolution_by};
 ghost use Rattle.ob0_scope_rules.specs.Resolution.{IsResolution};
 ghost use Rattle.ob0_types.specs.CheckedModules.{AreCheckedFaults, AreTypesOf, IsChecked};
-ghost use Rattle.ob0_analysis.specs.Parts.{parsed_by};
 
 use ob0_scan::{Fault, Tokens};
 use ob0_scope::bindings_of;
@@ -26,11 +25,10 @@ pub(crate) struct ModuleParts {
 }
 
 impl Model for ModuleParts {
-    ghost use Rattle.ob0_tree.specs.Parsed.{IsParsed};
+    ghost use Rattle.ob0_tree.specs.Parsed.{IsParsed, parsed_by};
     ghost use Rattle.ob0_scope_rules.specs.Bindings.{resolution_by};
     ghost use Rattle.ob0_scope_rules.specs.Resolution.{IsResolution, Resolution};
     ghost use Rattle.ob0_types.specs.CheckedModules.{AreTypesOf};
-    ghost use Rattle.ob0_analysis.specs.Parts.{parsed_by};
 
     ghost Value = { Resolution };
 

@@ -21,11 +21,11 @@ use Rattle.ob0_edits.proofs.TextCuts.{AreSame, same_cut, patched_by_same}
 abbrev pub scan_of : List ℕ → List Lexeme → Scanned
 scan_of text ls = record { text = text; tokens = tokens_from 0 ls; comments = comments_from 0 ls }
 
-module _ (unit : counting.Unit) (s : Scanned) (scan : IsScan s) (new : List ℕ) (ws : List Word) (stands : ReplacesName new ws) (good : IsUtf8 new) (places : List ℕ) (names : AreNames s.tokens 0 places) where
-  result : Swapped s.text s.tokens new ws stands 0 0 scan.lexemes places
+module _ (unit : counting.Unit) (s : Scanned) (scan : IsScan s) (new : List ℕ) (ws : List Word) (replaces : ReplacesName new ws) (good : IsUtf8 new) (places : List ℕ) (names : AreNames s.tokens 0 places) where
+  result : Swapped s.text s.tokens new ws replaces 0 0 scan.lexemes places
   result =
       let apart = (lexed_by_next_bytes s.text scan.lexemes).0 scan.lexed in
-      swapped s.text s.tokens new ws stands 0 0 scan.lexemes places [] scan.tokens refl (sym apart.0) apart.1 names
+      swapped s.text s.tokens new ws replaces 0 0 scan.lexemes places [] scan.tokens refl (sym apart.0) apart.1 names
 
   -- the cuts at the places, in bytes and in characters
   abbrev pub char_cut : ℕ → Cut

@@ -24,39 +24,39 @@ pub lower : (tokens : List Token) (least low : ℕ) (places : List ℕ) → low 
 lower tokens least low [] h names = tt
 lower tokens least low (p ∷ ps) h names = (omega (arith, h, names.0), names.1, names.2, names.3)
 
-module _ (unit : counting.Unit) (s : Scanned) (scan : IsScan s) (new : List ℕ) (ws : List Word) (stands : ReplacesName new ws) (good : IsUtf8 new) (first last : ℕ) (decl : IsDeclaration s.tokens first last) (places : List ℕ) (names : AreNames s.tokens (suc last) places) where
+module _ (unit : counting.Unit) (s : Scanned) (scan : IsScan s) (new : List ℕ) (ws : List Word) (replaces : ReplacesName new ws) (good : IsUtf8 new) (first last : ℕ) (decl : IsDeclaration s.tokens first last) (places : List ℕ) (names : AreNames s.tokens (suc last) places) where
   all_names : AreNames s.tokens 0 places
   all_names = lower s.tokens (suc last) 0 places (omega arith) names
 
-  result : Cleared s.text s.tokens new ws stands first last decl places names 0 0 scan.lexemes
+  result : Cleared s.text s.tokens new ws replaces first last decl places names 0 0 scan.lexemes
   result =
       let apart = (lexed_by_next_bytes s.text scan.lexemes).0 scan.lexed in
-      cleared s.text s.tokens new ws stands first last decl places names 0 0 scan.lexemes []
+      cleared s.text s.tokens new ws replaces first last decl places names 0 0 scan.lexemes []
       (record { tokens_are = scan.tokens; count = refl; rest = sym apart.0; apart = apart.1 }) (omega arith)
 
   first_cut : Cut
   first_cut = cut_at (width_of unit) (chars s.text) (range_of (width_of unit) (chars s.text) (span_over s.tokens first last)) (chars [])
 
-  same_all : AreSame unit s.text scan.utf8 (removal s.tokens first last ∷ map (cut_of s.tokens new) places) (first_cut ∷ map (char_cut unit s scan new ws stands good places all_names) places)
+  same_all : AreSame unit s.text scan.utf8 (removal s.tokens first last ∷ map (cut_of s.tokens new) places) (first_cut ∷ map (char_cut unit s scan new ws replaces good places all_names) places)
   unfolding AreSame first_cut
   same_all =
       let from : IsRangeOf s.text (span_at s.tokens first) = scan_token_ranges s scan first _ (omega (arith, decl.order, decl.inside)) in
       let to : IsRangeOf s.text (span_at s.tokens last) = scan_token_ranges s scan last _ decl.inside in (
         same_cut unit s.text scan.utf8 (span_over s.tokens first last) [] ([], (refl, refl)) from.start to.end result.chain.1 result.clear.0,
-        same_cuts unit s scan new ws stands good places all_names (suc last) (span_at s.tokens last).end places names result.chain.2 result.clear.1,
+        same_cuts unit s scan new ws replaces good places all_names (suc last) (span_at s.tokens last).end places names result.chain.2 result.clear.1,
       )
 
-  made : IsUtf8 (without_text s first last places new) × (patched_by_cuts (chars s.text) (first_cut ∷ map (char_cut unit s scan new ws stands good places all_names) places) ≡ Some (chars (without_text s first last places new)))
-  made = patched_by_same unit s.text scan.utf8 (removal s.tokens first last ∷ map (cut_of s.tokens new) places) (first_cut ∷ map (char_cut unit s scan new ws stands good places all_names) places) same_all result.chain
+  made : IsUtf8 (without_text s first last places new) × (patched_by_cuts (chars s.text) (first_cut ∷ map (char_cut unit s scan new ws replaces good places all_names) places) ≡ Some (chars (without_text s first last places new)))
+  made = patched_by_same unit s.text scan.utf8 (removal s.tokens first last ∷ map (cut_of s.tokens new) places) (first_cut ∷ map (char_cut unit s scan new ws replaces good places all_names) places) same_all result.chain
 
   cuts_are : (edits : List Edit) → map parts edits ≡ (range_of (width_of unit) (chars s.text) (span_over s.tokens first last), []) ∷ map (edit_at unit (chars s.text) s.tokens new) places
-      → cuts_of (width_of unit) (chars s.text) edits ≡ first_cut ∷ map (char_cut unit s scan new ws stands good places all_names) places
+      → cuts_of (width_of unit) (chars s.text) edits ≡ first_cut ∷ map (char_cut unit s scan new ws replaces good places all_names) places
   unfolding first_cut
   cuts_are [] e = absurd (cc)
   cuts_are (x ∷ xs) e =
       let head : parts x ≡ (range_of (width_of unit) (chars s.text) (span_over s.tokens first last), []) = ap (λ t. get_or t 0 (parts x)) e in
       ap₂ (λ c cs. c ∷ cs) (ap (λ (p : Range × List ℕ). cut_at (width_of unit) (chars s.text) p.0 (chars p.1)) head)
-      (cuts_of_parts unit s scan new ws stands good places all_names xs places (ap (drop 1) e))
+      (cuts_of_parts unit s scan new ws replaces good places all_names xs places (ap (drop 1) e))
 
   pub leaves_words_without : (edits : List Edit) → map parts edits ≡ (range_of (width_of unit) (chars s.text) (span_over s.tokens first last), []) ∷ map (edit_at unit (chars s.text) s.tokens new) places
       → length (without_text s first last places new) ≤ max_text → LeavesWords unit (chars s.text) edits (changed (without first last (at_each places ws)) 0 (words_of s))

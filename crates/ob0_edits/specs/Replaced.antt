@@ -79,7 +79,8 @@ abbrev pub edit_at : counting.Unit → List ℕ → List Token → List ℕ → 
 edit_at unit text tokens new p = (range_of (width_of unit) text (span_at tokens p), new)
 
 -- The edits make of the text another one, which is scanned and has these words.
-pub record LeavesWords (unit : counting.Unit) (text : List ℕ) (edits : List Edit) (ws : List Word) : Type 0 where
+pub record LeavesWords
+    (unit : counting.Unit) (text : List ℕ) (edits : List Edit) (ws : List Word) : Type 0 where
   pub after : Scanned
   pub scan : IsScan after
   pub made : patched (width_of unit) text edits ≡ Some (chars after.text)

@@ -132,7 +132,7 @@ pub fn range_of<T: TextStore>(store: &T, span: Span) -> Range
     }
 }
 
-/// Whether so many bytes, and the text from `end` on with the new one at all places, are more than a text may have.
+/// Whether `counted` bytes, and the text from `end` on with the new one at all places, are more than a text may have.
 fn is_too_long(tokens: &Tokens, counted: usize, end: usize, places: &[usize], new: &str) -> bool
     requires names { AreNames tokens.now.tokens 0 places.now }
     requires order { AreInOrder end (map (cut_of tokens.now.tokens new.now) places.now) }

@@ -45,7 +45,7 @@ module_begins = w reserved.Module ∷ ident ∷ s symbol.Semicolon ∷ []
 abbrev pub module_ends : List TokenKind
 module_ends = w reserved.End ∷ ident ∷ s symbol.Dot ∷ []
 
--- the same kinds so many times
+-- the same kinds, repeated
 abbrev pub times : ℕ → List TokenKind → List TokenKind
 times zero ks = []
 times (suc n) ks = ks ++ times n ks

@@ -9,8 +9,8 @@ use crate::answers::Hover;
 use crate::field_line;
 use crate::hovering::hover as hover_name;
 use ob0_scope_rules::{Resolved, token_span};
+use ob0_tree::text_at;
 use ob0_types::{FieldRow, WellTyped, field_row_at};
-use ob0_types_table::text_at;
 use std::alloc::{AllocError, Global};
 
 /// What is shown at a place, where it lies in a name or at its end: of a name its declaration, and of a field its type,

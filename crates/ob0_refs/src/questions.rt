@@ -9,8 +9,8 @@ use crate::{declared_at, references_to, spans_of};
 use ob0_scan::Span;
 use ob0_scope::name_at;
 use ob0_scope_rules::token_span;
+use ob0_tree::text_at;
 use ob0_types::{WellTyped, declaring_field, field_at, field_place, field_tokens};
-use ob0_types_table::text_at;
 use std::alloc::{AllocError, Global};
 
 /// What a place is on, where it lies in an identifier or at its end: a name, or a field, at the identifier that declares it

@@ -20,7 +20,8 @@ use crate::typing::type_text;
 use ob0_scan::Tokens;
 use ob0_scope::Named;
 use ob0_scope_rules::{PREDECLARED, Resolved};
-use ob0_types_table::{Formal, Known, Object, TypeId, text_at};
+use ob0_tree::text_at;
+use ob0_types_table::{Formal, Known, Object, TypeId};
 use std::alloc::{AllocError, Global};
 
 /// What is shown of a name. None where its declaration is nothing.

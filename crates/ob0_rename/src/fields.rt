@@ -19,8 +19,8 @@ use ob0_edits::laws::{names_replace_names, renamed_words_spell};
 use ob0_rename_laws::laws::free_field_keeps_modules;
 use ob0_scan::is_identifier;
 use ob0_text::{Edit, EditRefusal, TextStore};
+use ob0_tree::text_at;
 use ob0_types_fields::laws::{duplicate_by_token, renamed_at_tokens};
-use ob0_types_table::text_at;
 use std::alloc::{AllocError, Global};
 
 /// The field that a place is on: the identifier's token, and the ordinal of the field's record.

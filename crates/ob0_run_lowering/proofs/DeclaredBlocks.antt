@@ -15,7 +15,7 @@ use Rattle.ob0_types_rules.specs.Expressions.{Object}
 use Rattle.ob0_types_rules.specs.WellTyped.{Signature, TypeEnvironment, TypedParameter, WellTyped, bind_names, bind_typed, block_fits, fits_over, heading, procedures_fit}
 use Rattle.ob0_values.specs.Values.{Shape}
 use Rattle.ob0_types_rules.proofs.Bound.{bind_typed-append, newest-if}
-use Rattle.ob0_types_rules.proofs.ConstantsDeclared.{Binds, Entered, FitParts, Knows, Opened, all_known, binds-append, binds-wider, block-listed, block-opened, block-parts, block-worths, bound-elsewhere, bound-first, knows-all, opened-above, opened-binds, opened-grown, opened-since, outermost-binds, predeclared-below, procedure-entered, procedure-parts, procedures-listed, procedures-worths}
+use Rattle.ob0_types_rules.proofs.ConstantsDeclared.{Binds, Entered, FitParts, Knows, Opened, all_known, binds-append, binds-wider, block-listed, block-opened, block-parts, block-evaluates, bound-elsewhere, bound-first, knows-all, opened-above, opened-binds, opened-grown, opened-since, outermost-binds, predeclared-below, procedure-entered, procedure-parts, procedures-listed, procedures-evaluate}
 use Rattle.ob0_types_rules.proofs.Literals.{some_inverse}
 use Rattle.ob0_types_rules.proofs.Proved.{fits_by_ordinal-holds}
 use Rattle.ob0_types_rules.proofs.TypesByOrdinal.{TypeNoted, TypedBelow, TypedBelow-weaken, typed_by_ordinal, typed_outermost, typed_scope}
@@ -86,7 +86,7 @@ mutual
       let names : List Name = named_types (section_types ts) ++ variable_names (section_variables vs) in
       let known' : Known = bind_names names no_constant o.constants.known_after in
       let fits = (λ i. procedures_fit as_labels (sym o.reads i) jv (block_statements b') (relabel_procedures as_names (as_label as_names) (o.scoped i) kp ps)) ∙ parts.2 in
-      let p = procedures-worths known' o.last jv kp (o.others.knows o.constants.known_after o.constants.knows) o.below (block_statements b') ps fits in
+      let p = procedures-evaluate known' o.last jv kp (o.others.knows o.constants.known_after o.constants.knows) o.below (block_statements b') ps fits in
       let P : TypeEnvironment Label = procedures_bindings as_labels (typed_by_ordinal o.last) jv (relabel_procedures as_names (as_label as_names) (typed_scope o.last) kp ps) in
       let own : TypeEnvironment Label = o.others.bound ++ o.constants.bound in
       let own_binds : Binds k kp own = opened-binds known noted k b parts.0 o in
@@ -127,10 +127,10 @@ mutual
       let qs : List (TypedParameter Label) = f.listed in
       let e : Entered known noted k x xs qs = procedure-entered known noted j k knows below x fs qs f.typed in
       let inside_fits = (λ i. block_fits as_labels (e.opened i) jb (relabel_block as_names (as_label as_names) (e.scoped i) m b)) ∙ f.block_right in
-      let inside_block = block-worths (bind_names xs no_constant ((x, no_constant) ∷ known)) e.inner jb m e.knows e.below b inside_fits in
+      let inside_block = block-evaluates (bind_names xs no_constant ((x, no_constant) ∷ known)) e.inner jb m e.knows e.below b inside_fits in
       let later_below : TypedBelow q e.own = TypedBelow-weaken (suc k) q e.own (le-after_procedure (suc k) (declares_procedure x fs b closing)) e.own_below in
       let later_fits = (λ i. procedures_fit as_labels (e.headed i) jr statements (relabel_procedures as_names (as_label as_names) (e.own_scope i) q rest)) ∙ f.rest_right in
-      let later = procedures-worths ((x, no_constant) ∷ known) e.own jr q e.own_knows later_below statements rest later_fits in
+      let later = procedures-evaluate ((x, no_constant) ∷ known) e.own jr q e.own_knows later_below statements rest later_fits in
       let B : TypeEnvironment Label = block_bindings as_labels (typed_by_ordinal e.inner) jb (relabel_block as_names (as_label as_names) (typed_scope e.inner) m b) in
       let top : TypeEnvironment Label = heading (declared k) qs [] in
       let H : TypeEnvironment Label = bind_typed qs top in
@@ -170,7 +170,7 @@ module-declared (is_module x b closing) well =
     let noted : TypeNoted Name = typed_outermost as_names in
     let b' : Tree Label block = relabel_block as_names (as_label as_names) (typed_scope noted) 7 b in
     let B : TypeEnvironment Label = block_bindings as_labels (outermost as_labels) 0 b' in
-    let w = block-worths (all_known noted) noted 0 7 (knows-all noted) predeclared-below b h in
+    let w = block-evaluates (all_known noted) noted 0 7 (knows-all noted) predeclared-below b h in
     block-declared (all_known noted) noted 0 7 (knows-all noted) predeclared-below (B ++ outermost as_labels)
     (λ d o e. first d o e (nat_lt d 7) refl w.binds) b h
     (λ d l m. bound-first 0 7 d B (outermost as_labels) outermost-binds (λ a z. omega (arith, l, z)))

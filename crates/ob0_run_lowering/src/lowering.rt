@@ -22,8 +22,8 @@ use crate::operators::{added, lower_relation, multiplied, negated, signed};
 use crate::places::{content, element};
 use crate::scene::Scene;
 use ob0_run_machine::code::{Number, Place, Truth};
-use ob0_tree::{Comparison, Designator, Expression, Factor, Selector, Simple, Term};
-use ob0_types_table::{Object, Parts, TypeId, number_at, text_at};
+use ob0_tree::{Comparison, Designator, Expression, Factor, Selector, Simple, Term, text_at};
+use ob0_types_table::{Object, Parts, TypeId, number_at};
 use ob0_values::Scalar;
 use std::alloc::{AllocError, Global};
 

@@ -1,4 +1,4 @@
--- What a tree tells of names that are declared once more: what loops collect, and what the parts of a module come to.
+-- What a tree says of names that are declared once more: what loops collect, and what the parts of a module come to.
 use Rattle.std.proofs.Common.{◌≡◌, ℕ, zero, suc, map, take, arith, ◌+◌, ◌<◌, ◌≤◌, Bool, true, false, not, cond, ◌||◌, List, [], ◌∷◌, ◌++◌, length, get_or, drop, refl, sym, ap, ◌∙◌, append-nil, append_assoc, Bor}
 use Rattle.std.proofs.lemmas.List.{drop_all, drop_more}
 use Rattle.std.proofs.lemmas.Map.Text.{is_eq-slice_cmp}

@@ -46,14 +46,14 @@ pub record StandsAt (es : List BoundName) (x : Name) (i : ℕ) (d : BoundName) :
   pub named : (get_or es i d).name.now ≡ x
   pub newest : newest_in es x ≡ (get_or es i d).newest
 
-pub stands_at : (es : List BoundName) (x : Name) (i : ℕ) (d : BoundName) → place_of es x ≡ Some i → StandsAt es x i d
-stands_at [] x i d h = absurd (cc)
-stands_at (e ∷ es) x zero d h =
+pub place_holds : (es : List BoundName) (x : Name) (i : ℕ) (d : BoundName) → place_of es x ≡ Some i → StandsAt es x i d
+place_holds [] x i d h = absurd (cc)
+place_holds (e ∷ es) x zero d h =
     let same = first_place (same_name x e.name.now) (place_of es x) h in
     record { below = omega arith; named = sym ((bytes_eq-Decides x e.name.now).0 same); newest = if_true (same_name x e.name.now) e.newest (newest_in es x) same }
-stands_at (e ∷ es) x (suc i) d h =
+place_holds (e ∷ es) x (suc i) d h =
     let later = later_place (same_name x e.name.now) (place_of es x) i h in
-    let r = stands_at es x i d later.1 in
+    let r = place_holds es x i d later.1 in
     record { below = let b = r.below in omega (arith, b); named = r.named; newest = if_false (same_name x e.name.now) e.newest (newest_in es x) later.0 ∙ r.newest }
 
 pub newest_none : (es : List BoundName) (x : Name) → place_of es x ≡ None → newest_in es x ≡ None
@@ -126,7 +126,7 @@ place_added (e ∷ es) r h y =
 pub places_renewed : (places : BTreeMap Key ℕ) (es : List BoundName) (x : Name) (i : ℕ) (r : BoundName) → r.name.now ≡ x → place_of es x ≡ Some i → ArePlaces places es → ArePlaces places (set es i r)
 places_renewed places es x i r named h w =
     let name : BoundName → Name = λ (e : BoundName). e.name.now in
-    let names : map name (set es i r) ≡ map name es = map-set_same name es i r r (named ∙ sym (stands_at es x i r h).named) in
+    let names : map name (set es i r) ≡ map name es = map-set_same name es i r r (named ∙ sym (place_holds es x i r h).named) in
     record {
       placed = λ y. w.placed y ∙ sym (place_renewed es x i r named h y);
       distinct = λ j d less.

@@ -186,7 +186,7 @@ found_every table src (x ∷ xs) v =
           (now.0, (now.1.0, subst (λ s. AllFit table src s xs) a.scope later.1));
     }
 
--- what a part has passed on, with the identifiers in it, the names visible after it, the next ordinal, and what a table with all marks tells
+-- what a part has passed on, with the identifiers in it, the names visible after it, the next ordinal, and what a table with all marks says
 pub record Passed (table : ℕ → Option ℕ) (src : Writing) (v w : Visit) (ids : List (Role × ℕ)) (s : Scope Name) (k : ℕ) (P : Type 0) : Type 0 where
   pub at : At w src s k
   pub declared : w.declarations ≡ v.declarations ++ declaring_only ids

@@ -61,7 +61,7 @@ bound_to source ordinals d i = one (ordinal_in ordinals i)
     one None = refl
     one (Some k) = refl
 
--- an identifier has this ordinal, and isn't the declaring one unless that is asked for
+-- an identifier has this ordinal, and isn't the declaring one unless that is wanted
 abbrev pub is_listed : List (Option ℕ) → Bool → ℕ → Role × ℕ → Bool
 is_listed ordinals include d x = same_ordinal (ordinal_in ordinals x.1) d && (include || not (is_declaring x.0))
 

@@ -336,9 +336,9 @@ ends_above low (x ∷ xs) high a = let later = ends_above (x + 1) xs high a.1 in
 emptier : (low i : ℕ) (table : List (Option ℕ)) → low ≤ i → ((j : ℕ) → low ≤ j → ordinal_in table j ≡ None) → (j : ℕ) → i + 1 ≤ j → ordinal_in table j ≡ None
 emptier low i table le empty j above = empty j (omega (arith, le, above))
 
-other_stands : (low high i : ℕ) (xs : List (Role × ℕ)) (table : List (Option ℕ)) → low ≤ i → Ascending (i + 1) (names_only xs) high → ((j : ℕ) → low ≤ j → ordinal_in table j ≡ None)
+other_is_at : (low high i : ℕ) (xs : List (Role × ℕ)) (table : List (Option ℕ)) → low ≤ i → Ascending (i + 1) (names_only xs) high → ((j : ℕ) → low ≤ j → ordinal_in table j ≡ None)
     → ordinal_in (with_marks table (map first_at (looked_up_only xs))) i ≡ None
-other_stands low high i xs table le a empty =
+other_is_at low high i xs table le a empty =
     let here : i < i + 1 = omega arith in
     kept_below (map first_at (looked_up_only xs)) table (i + 1) high i (fewer (i + 1) high xs a) here ∙ empty i le
 
@@ -354,10 +354,10 @@ all_reported low high ((role.LookedUp, i) ∷ xs) table a within empty =
       kept_below (map first_at (looked_up_only xs)) next (i + 1) high i (fewer (i + 1) high xs a.1) here ∙ get_or-set_same table i (Some 0) None inside,
       all_reported (i + 1) high xs next a.1 still (λ j above. let other : j ≢ i = omega (arith, above) in get_or-set_other table i j (Some 0) None other ∙ empty j (omega (arith, a.0, above))),
     )
-all_reported low high ((role.Declaring, i) ∷ xs) table a within empty = (other_stands low high i xs table a.0 a.1 empty, all_reported (i + 1) high xs table a.1 within (emptier low i table a.0 empty))
-all_reported low high ((role.ClosingName, i) ∷ xs) table a within empty = (other_stands low high i xs table a.0 a.1 empty, all_reported (i + 1) high xs table a.1 within (emptier low i table a.0 empty))
-all_reported low high ((role.FieldName, i) ∷ xs) table a within empty = (other_stands low high i xs table a.0 a.1 empty, all_reported (i + 1) high xs table a.1 within (emptier low i table a.0 empty))
-all_reported low high ((role.ModuleName, i) ∷ xs) table a within empty = (other_stands low high i xs table a.0 a.1 empty, all_reported (i + 1) high xs table a.1 within (emptier low i table a.0 empty))
+all_reported low high ((role.Declaring, i) ∷ xs) table a within empty = (other_is_at low high i xs table a.0 a.1 empty, all_reported (i + 1) high xs table a.1 within (emptier low i table a.0 empty))
+all_reported low high ((role.ClosingName, i) ∷ xs) table a within empty = (other_is_at low high i xs table a.0 a.1 empty, all_reported (i + 1) high xs table a.1 within (emptier low i table a.0 empty))
+all_reported low high ((role.FieldName, i) ∷ xs) table a within empty = (other_is_at low high i xs table a.0 a.1 empty, all_reported (i + 1) high xs table a.1 within (emptier low i table a.0 empty))
+all_reported low high ((role.ModuleName, i) ∷ xs) table a within empty = (other_is_at low high i xs table a.0 a.1 empty, all_reported (i + 1) high xs table a.1 within (emptier low i table a.0 empty))
 
 nothing_there : (n i : ℕ) → ordinal_in (replicate n None) i ≡ None
 nothing_there n i =

@@ -30,7 +30,7 @@ visible_from first v =
           = declare_names (7 + first) (map (name_at v.writing) (drop first v.declarations)) v.scope;
     }
 
--- only so many bindings are left
+-- only the oldest `len` bindings are left
 abbrev pub left_to : {M : Type 0} → ℕ → Visit M → Visit M
 left_to len v = record v { scope = drop (length v.scope - len) v.scope }
 
@@ -145,7 +145,8 @@ module _ {M : Type 0} (put : ℕ → Option ℕ → M → M) where
     visit_procedure (declares_procedure x fs b closing) v =
         marked closing (Some (7 + length v.declarations))
         (leave_block x (7 + length v.declarations) (length v.scope)
-        (visit_block b (after_heading (length v.declarations) (length v.scope) (visit_formals fs (numbered_at x v)))))
+        (visit_block b (after_heading (length v.declarations) (length v.scope)
+        (visit_formals fs (numbered_at x v)))))
 
   abbrev pub visit_module : Tree ℕ module_text → Visit M → Visit M
   visit_module (is_module x b closing) v = marked closing None (visit_block b (marked x None v))

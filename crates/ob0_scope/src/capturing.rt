@@ -14,10 +14,9 @@ ghost use Rattle.ob0_scope.specs.Searching.{found_in_block, found_in_procedure, 
 
 use crate::checks::{add_block, add_formals};
 use crate::renamed::renumber;
-use crate::writing::token_text;
 use ob0_scan::Tokens;
 use ob0_scope_rules::{PREDECLARED, Resolved, ordinal_at};
-use ob0_tree::{Block, Procedure};
+use ob0_tree::{Block, Procedure, text_at};
 use std::alloc::{AllocError, Global};
 use std::marker::Model;
 
@@ -62,7 +61,7 @@ fn is_nowhere(tokens: &Tokens, name: &str) -> bool
         return false;
     }
     for index in 0..tokens.tokens().len() {
-        if token_text(tokens, index) == name {
+        if text_at(tokens, index) == name {
             return false;
         }
     }
@@ -146,7 +145,12 @@ impl<'t> Model for Sought<'t> {
 
     ghost Value = { searching.BlockSearch };
 
-    ghost view = { λ s. record { source = s.tokens.now; ordinals = s.ordinals.now; declaration = s.declaration; new = s.new.now } };
+    ghost view = { λ s. record {
+      source = s.tokens.now;
+      ordinals = s.ordinals.now;
+      declaration = s.declaration;
+      new = s.new.now;
+    } };
 }
 
 impl<'t> Sought<'t> {
@@ -163,7 +167,7 @@ impl<'t> Sought<'t> {
     fn is_other(&self, token: usize) -> bool
         ensures { result ≡ is_other self.now token }
     {
-        token_text(self.tokens, token) == self.new && !self.is_sought(token)
+        text_at(self.tokens, token) == self.new && !self.is_sought(token)
     }
 
     /// The last of the tokens of a block's declarations that has the name and is another, where the declaration is one

@@ -9,12 +9,11 @@ ghost use Rattle.ob0_scope_rules.specs.Parts.{names_listed, constant_names, name
 ghost use Rattle.ob0_scope_rules.specs.DeclaredOnce.{block_names, group_fields, is_among, procedure_names};
 ghost use Rattle.ob0_scope_rules.specs.DeclaredTwice.{again, block_twice, closing_other, duplicate_at, fields_twice, formals_twice, group_twice, procedure_twice, twice_in, types_twice, unless, variables_twice};
 
-use crate::writing::token_text;
 use ob0_scan::{Code, Fault, Tokens};
 use ob0_scope_rules::token_span;
 use ob0_tree::{
     Block, Constant, Fields, Module, Names, Procedure, RecordType, Section, TypeDeclaration,
-    Variables, WrittenType,
+    Variables, WrittenType, text_at,
 };
 use std::alloc::{AllocError, Global};
 use std::collections::BTreeSet;
@@ -56,7 +55,7 @@ pub(crate) fn check<'t>(alloc: Global, read: &'t Module<'t>) -> Result<Vec<Fault
 fn is_same(tokens: &Tokens, a: usize, b: usize) -> bool
     ensures { result ≡ same_name (text_at tokens.now a) (text_at tokens.now b) }
 {
-    token_text(tokens, a) == token_text(tokens, b)
+    text_at(tokens, a) == text_at(tokens, b)
 }
 
 /// A second declaration.
@@ -74,7 +73,7 @@ fn is_written(tokens: &Tokens, names: &[usize], text: &str) -> bool
     ensures { result ≡ is_among text.now (map (text_at tokens.now) names.now) }
 {
     for name in names {
-        if text == token_text(tokens, *name) {
+        if text == text_at(tokens, *name) {
             return true;
         }
     }
@@ -216,7 +215,7 @@ impl Checks {
         ensures { OnOk result (self.new ≡ self.old ++ again tokens.now [] names.now) }
     {
         for (index, name) in names.iter().enumerate() {
-            let is_second = is_written(tokens, &names[..index], token_text(tokens, *name));
+            let is_second = is_written(tokens, &names[..index], text_at(tokens, *name));
             self.expect(!is_second, duplicate_at(tokens, *name))?;
         }
         Ok(())
@@ -228,7 +227,7 @@ impl Checks {
     {
         let mut seen = BTreeSet::new(self.alloc);
         for name in names {
-            let added = seen.insert(token_text(tokens, *name))?;
+            let added = seen.insert(text_at(tokens, *name))?;
             self.expect(added, duplicate_at(tokens, *name))?;
         }
         Ok(())

@@ -130,7 +130,8 @@ pub fn renamed_tokens(
 /// The index of the first identifier that a place is on. It is found by halving: it is the first token that doesn't end
 /// before the place, or the next one.
 fn first_on(tokens: &[Token], offset: usize) -> Option<usize>
-    ensures { TokensAreApart 0 tokens.now → result ≡ position_from (is_name_on offset) 0 tokens.now }
+    ensures { TokensAreApart 0 tokens.now
+        → result ≡ position_from (is_name_on offset) 0 tokens.now }
 {
     let place = ended_before(tokens, offset);
     if place >= tokens.len() {

@@ -12,10 +12,12 @@ ghost use Rattle.ob0_scope.specs.Written.{is_renamed, name_at};
 ghost use Rattle.ob0_scope.specs.Tabling.{marked, numbered_at, numbered_all, visible, visible_from, left_to, found, visit_constant, visit_constant_section, visit_type, visit_type_section, visit_variable, visit_variable_section, visit_section, visit_formals, visit_procedure, visit_block, visit_module, started};
 
 use crate::visible::Visible;
-use crate::writing::{Writing, is_renamed, token_text};
+use crate::writing::{Writing, is_renamed};
 use ob0_scan::Tokens;
 use ob0_scope_rules::{PREDECLARED, ordinal_at};
-use ob0_tree::{Block, Constant, Module, Names, Procedure, Section, TypeDeclaration, Variables};
+use ob0_tree::{
+    Block, Constant, Module, Names, Procedure, Section, TypeDeclaration, Variables, text_at,
+};
 use std::alloc::{AllocError, Global};
 use std::marker::Model;
 
@@ -36,7 +38,18 @@ impl<'t> Model for Numbering<'t> {
 
     ghost Value = { Visit };
 
-    ghost view = { λ n. record { writing = record { source = n.tokens.now; ordinals = n.ordinals.now; declaration = n.declaration; new = n.visible.new_name }; scope = n.visible.scope; declarations = n.declarations.items; uses = n.occurrences.items; marks = n.table.items } };
+    ghost view = { λ n. record {
+      writing = record {
+        source = n.tokens.now;
+        ordinals = n.ordinals.now;
+        declaration = n.declaration;
+        new = n.visible.new_name;
+      };
+      scope = n.visible.scope;
+      declarations = n.declarations.items;
+      uses = n.occurrences.items;
+      marks = n.table.items;
+    } };
 }
 
 /// The ordinal of a declaration by its index among the declarations of the text.
@@ -146,8 +159,7 @@ impl<'t> Numbering<'t> {
         if self.is_renamed(token) {
             self.visible.declare_new(ordinal)
         } else {
-            self.visible
-                .declare(token_text(self.tokens, token), ordinal)
+            self.visible.declare(text_at(self.tokens, token), ordinal)
         }
     }
 
@@ -162,7 +174,7 @@ impl<'t> Numbering<'t> {
         Ok(())
     }
 
-    /// Gives up the newest bindings until so many are left.
+    /// Drops the newest bindings until `len` are left.
     fn leave_to(&mut self, len: usize)
         ensures { self.new ≡ left_to len self.old }
     {
@@ -186,7 +198,7 @@ impl<'t> Numbering<'t> {
         if self.is_renamed(token) {
             self.visible.look_up_new()
         } else {
-            self.visible.look_up(token_text(self.tokens, token))
+            self.visible.look_up(text_at(self.tokens, token))
         }
     }
 

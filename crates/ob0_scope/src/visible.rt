@@ -104,7 +104,7 @@ impl<'t> Visible<'t> {
         Ok(())
     }
 
-    /// Gives up the newest bindings until so many are left.
+    /// Drops the newest bindings until `len` are left.
     pub(crate) fn leave_to(&mut self, len: usize)
         ensures { self.new
             ≡ with_scope self.old (drop (length self.old.scope - len) self.old.scope) }

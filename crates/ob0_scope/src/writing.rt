@@ -1,7 +1,6 @@
 //! How the identifiers of a text are written.
 
 ghost use Rattle.std.specs.Prelude.{◌≡◌};
-ghost use Rattle.ob0_tree.specs.Places.{text_at};
 ghost use Rattle.ob0_scope.specs.Written.{as_in, is_renamed};
 
 use ob0_scan::Tokens;
@@ -21,18 +20,12 @@ impl<'t> Model for Writing<'t> {
 
     ghost Value = { written.Writing };
 
-    ghost view = { λ w. record { source = w.tokens.now; ordinals = w.ordinals.now; declaration = w.declaration; new = w.new.now } };
-}
-
-/// How a token is written in its text; nothing where there is no such token.
-pub(crate) fn token_text<'t>(tokens: &'t Tokens, token: usize) -> &'t str
-    ensures { result.now ≡ text_at tokens.now token }
-{
-    if token < tokens.tokens().len() {
-        tokens.token_text(token)
-    } else {
-        ""
-    }
+    ghost view = { λ w. record {
+      source = w.tokens.now;
+      ordinals = w.ordinals.now;
+      declaration = w.declaration;
+      new = w.new.now;
+    } };
 }
 
 /// Whether an identifier of this ordinal has the new name.

@@ -163,7 +163,8 @@ relabel_formals naming label scope k none = none
 relabel_formals naming label scope k (one no_formals) = one no_formals
 relabel_formals naming label scope k (one (some_formals s fs)) =
     one (some_formals (relabel_section naming label scope k s)
-    (relabel_sections naming label (declare_names k (section_names s) scope) (after_names k (section_names s)) fs))
+    (relabel_sections naming label (declare_names k (section_names s) scope)
+    (after_names k (section_names s)) fs))
 
 -- a CONST section with labels
 abbrev pub relabel_constant_section : {N M : Type 0}
@@ -257,7 +258,9 @@ abbrev mutual
       (relabel_variable_section naming label
       (variables_scope k (has_body (declares cs ts vs ps) statements) scope)
       (first_variable k (has_body (declares cs ts vs ps) statements)) vs)
-      (relabel_procedures naming label (procedures_scope k (has_body (declares cs ts vs ps) statements) scope) (first_procedure k (has_body (declares cs ts vs ps) statements)) ps))
+      (relabel_procedures naming label
+      (procedures_scope k (has_body (declares cs ts vs ps) statements) scope)
+      (first_procedure k (has_body (declares cs ts vs ps) statements)) ps))
       (relabel_uses naming label (body_scope k (has_body (declares cs ts vs ps) statements) scope)
       statements)
 

@@ -156,9 +156,9 @@ pub are_identifiers_joined : (ts : List Token) (xs ys : List ℕ) → AreIdentif
 are_identifiers_joined ts [] ys p q = q
 are_identifiers_joined ts (x ∷ xs) ys p q = (p.0, are_identifiers_joined ts xs ys p.1 q)
 
-stands_following : (front back : List Token) (t d : Token) → slice_index_or (front ++ (t ∷ back)) (length front) d ≡ t
-stands_following [] back t d = refl
-stands_following (x ∷ front) back t d = stands_following front back t d
+after_front : (front back : List Token) (t d : Token) → slice_index_or (front ++ (t ∷ back)) (length front) d ≡ t
+after_front [] back t d = refl
+after_front (x ∷ front) back t d = after_front front back t d
 
 length_following : (front back : List Token) (t : Token) → length front < length (front ++ (t ∷ back))
 length_following [] back t = omega arith
@@ -173,13 +173,13 @@ are_identifiers_from all front [] e i at = tt
 are_identifiers_from all front (t ∷ back) e i at =
     let others = are_identifiers_from all (front ++ (t ∷ [])) back (e ∙ sym (append_assoc front (t ∷ []) back)) (i + 1) (ap (λ n. n + 1) at ∙ length_snoc front t) in
     let within : i < length all = subst (λ n. n < length all) (sym at) (subst (λ l. length front < length l) (sym e) (length_following front back t)) in
-    let stands : (d : Token) → slice_index_or all i d ≡ t = λ d. ap (λ l. slice_index_or l i d) e ∙ (ap (λ n. slice_index_or (front ++ (t ∷ back)) n d) at ∙ stands_following front back t d) in
-    first all i t t.kind refl within stands (identifiers_from (i + 1) back) others
+    let at_index : (d : Token) → slice_index_or all i d ≡ t = λ d. ap (λ l. slice_index_or l i d) e ∙ (ap (λ n. slice_index_or (front ++ (t ∷ back)) n d) at ∙ after_front front back t d) in
+    first all i t t.kind refl within at_index (identifiers_from (i + 1) back) others
   where
     first : (all : List Token) (i : ℕ) (t : Token) (k : TokenKind) → t.kind ≡ k → i < length all → ((d : Token) → slice_index_or all i d ≡ t) → (xs : List ℕ) → AreIdentifiers all xs → AreIdentifiers all (identifier_at i k ++ xs)
-    first all i t kind.Identifier e within stands xs p = ((within, λ d. ap (λ u. u.kind) (stands d) ∙ e), p)
-    first all i t (kind.Integer v) e within stands xs p = p
-    first all i t _ e within stands xs p = p
+    first all i t kind.Identifier e within at_index xs p = ((within, λ d. ap (λ u. u.kind) (at_index d) ∙ e), p)
+    first all i t (kind.Integer v) e within at_index xs p = p
+    first all i t _ e within at_index xs p = p
 
 -- Each identifier of a module's tree is the index of an identifier.
 pub leaves_are_identifiers : (m : Parsed) → IsParsed m → AreIdentifiers m.source.tokens (leaves (tree_of m))

@@ -3,6 +3,7 @@
 use Rattle.std.specs.Prelude.{◌≡◌, ℕ, List, [], ◌∷◌, ◌++◌}
 use Rattle.ob0_scan.specs.Scanned.{Scanned}
 use Rattle.ob0_tree.specs.declared.tree.Block.{Block}
+use Rattle.ob0_tree.specs.declared.tree.ModuleTree.{ModuleTree}
 use Rattle.ob0_tree.specs.Lexeme.{EndOfText}
 use Rattle.ob0_tree.specs.Tree.{Tree, module_text, is_module, spell}
 use Rattle.ob0_tree.specs.View.{block_of}
@@ -15,6 +16,10 @@ pub record Parsed : Type 0 where
   pub name : ℕ
   pub block : Block
   pub closing : ℕ
+
+-- a tree, joined to the tokens that it spells
+abbrev pub parsed_by : Scanned → ModuleTree → Parsed
+parsed_by s t = record { source = s; name = t.name; block = t.block; closing = t.closing }
 
 -- the tree, over indexes of tokens
 abbrev pub tree_of : Parsed → Tree ℕ module_text

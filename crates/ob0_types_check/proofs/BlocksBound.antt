@@ -11,7 +11,7 @@ use Rattle.ob0_types_check.specs.Agreement.{MeansAlike, is_standard, shape_in}
 use Rattle.ob0_types_check.specs.Known.{Meaning}
 use Rattle.ob0_types_check.proofs.BindingsByOrdinal.{since-front}
 use Rattle.ob0_types_check.proofs.DeclaredShapes.{Longer}
-use Rattle.ob0_types_check.proofs.DeclaredStanding.{NamesStand, stands_kept}
+use Rattle.ob0_types_check.proofs.DeclaredStanding.{NamesStand, holds_kept}
 
 -- bindings of the ordinals below m down to n, the latest first: each is what is known of its ordinal
 abbrev pub BindingsStand : List Shape → List (Option (Meaning TypeId)) → ℕ → ℕ → TypeEnvironment Name → Type 0
@@ -29,7 +29,7 @@ bindings_later before after old new n m i longer kept le (b ∷ bs) h =
     let less : h.0 < i = omega (arith, le, h.1) in (
       h.0,
       h.1,
-      subst (λ o. MeansAlike (shape_in after) o (Some b.1)) (sym (kept h.0 less)) (stands_kept before after longer (slice_index_or old h.0 None) (Some b.1) h.2),
+      subst (λ o. MeansAlike (shape_in after) o (Some b.1)) (sym (kept h.0 less)) (holds_kept before after longer (slice_index_or old h.0 None) (Some b.1) h.2),
       h.3,
       bindings_later before after old new n h.0 i longer kept (omega (arith, less)) bs h.4,
     )
@@ -39,11 +39,11 @@ record Split (shapes : List Shape) (declared : List (Option (Meaning TypeId))) (
   first : TypeEnvironment Name
   rest : TypeEnvironment Name
   both : env ≡ first ++ rest
-  stands : NamesStand shapes declared l scope rest
+  holds : NamesStand shapes declared l scope rest
   bound : BindingsStand shapes declared n m first
 
 split_one : (shapes : List Shape) (declared : List (Option (Meaning TypeId))) (l n m : ℕ) (x : Name) (scope : Scope Name) (env : TypeEnvironment Name) → Split shapes declared l (suc n) m ((x, n) ∷ scope) env → Split shapes declared l n m scope env
-split_one shapes declared l n m x scope env s = by s.rest s.both s.stands
+split_one shapes declared l n m x scope env s = by s.rest s.both s.holds
   where
     by : (rest : TypeEnvironment Name) → env ≡ s.first ++ rest → NamesStand shapes declared l ((x, n) ∷ scope) rest → Split shapes declared l n m scope env
     by [] both h = absurd h
@@ -51,12 +51,12 @@ split_one shapes declared l n m x scope env s = by s.rest s.both s.stands
       first = s.first ++ c ∷ [];
       rest = rest;
       both = both ∙ sym (append_assoc s.first (c ∷ []) rest);
-      stands = h.4;
+      holds = h.4;
       bound = bindings_both shapes declared n (suc n) m s.first (c ∷ []) s.bound (n, refl, h.2, h.3, refl);
     }
 
 split : (shapes : List Shape) (declared : List (Option (Meaning TypeId))) (l n : ℕ) (xs : List Name) (scope : Scope Name) (env : TypeEnvironment Name) → NamesStand shapes declared l (declare_names n xs scope) env → Split shapes declared l n (after_names n xs) scope env
-split shapes declared l n [] scope env h = record { first = []; rest = env; both = refl; stands = h; bound = refl }
+split shapes declared l n [] scope env h = record { first = []; rest = env; both = refl; holds = h; bound = refl }
 split shapes declared l n (x ∷ xs) scope env h = split_one shapes declared l n (after_names (suc n) xs) x scope env (split shapes declared l (suc n) xs ((x, n) ∷ scope) env h)
 
 split_then : (shapes : List Shape) (declared : List (Option (Meaning TypeId))) (l n i m : ℕ) (scope mid : Scope Name) (env : TypeEnvironment Name) (s : Split shapes declared l i m mid env) → Split shapes declared l n i scope s.rest → Split shapes declared l n m scope env
@@ -64,7 +64,7 @@ split_then shapes declared l n i m scope mid env s t = record {
   first = s.first ++ t.first;
   rest = t.rest;
   both = s.both ∙ (ap (λ z. s.first ++ z) t.both ∙ sym (append_assoc s.first t.first t.rest));
-  stands = t.stands;
+  holds = t.holds;
   bound = bindings_both shapes declared n i m s.first t.first s.bound t.bound;
 }
 
@@ -76,7 +76,7 @@ as_long shapes declared n (b ∷ scope) (c ∷ env) h = ap suc (as_long shapes d
 
 split_since : (shapes : List Shape) (declared : List (Option (Meaning TypeId))) (l n m : ℕ) (scope : Scope Name) (before env : TypeEnvironment Name) → length before ≡ length scope → Split shapes declared l n m scope env → BindingsStand shapes declared n m (since before env)
 split_since shapes declared l n m scope before env long s =
-    subst (BindingsStand shapes declared n m) (sym (ap (since before) s.both ∙ since-front before s.first s.rest (long ∙ sym (as_long shapes declared l scope s.rest s.stands)))) s.bound
+    subst (BindingsStand shapes declared n m) (sym (ap (since before) s.both ∙ since-front before s.first s.rest (long ∙ sym (as_long shapes declared l scope s.rest s.holds)))) s.bound
 
 -- what names bind, after what there was; m is the first ordinal after theirs
 pub names_bind : (shapes : List Shape) (declared : List (Option (Meaning TypeId))) (l n m : ℕ) (xs : List Name) (scope : Scope Name) (before env : TypeEnvironment Name) → after_names n xs ≡ m → length before ≡ length scope → NamesStand shapes declared l (declare_names n xs scope) env
@@ -93,8 +93,8 @@ sections_bind shapes declared l n i j m xs ys zs scope before env ei ej em long 
     let first : Scope Name = declare_names n xs scope in
     let second : Scope Name = declare_names i ys first in
     let c = split_to shapes declared l j m zs second env em h in
-    let b = split_to shapes declared l i j ys first c.rest ej c.stands in
-    let a = split_to shapes declared l n i xs scope b.rest ei b.stands in
+    let b = split_to shapes declared l i j ys first c.rest ej c.holds in
+    let a = split_to shapes declared l n i xs scope b.rest ei b.holds in
     split_since shapes declared l n m scope before env long (split_then shapes declared l n j m scope second env c (split_then shapes declared l n i j scope first c.rest b a))
 
 -- parameters are put before what there was

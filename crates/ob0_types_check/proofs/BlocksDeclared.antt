@@ -21,7 +21,7 @@ use Rattle.ob0_types_check.specs.WrittenTypeFaults.{reported_type}
 use Rattle.ob0_types_check.proofs.MadeOnce.{Apart, apart_same, apart_then}
 use Rattle.ob0_types_check.proofs.PartsFitting.{PartsFit}
 use Rattle.ob0_types_check.proofs.DeclaredNames.{ConstantsPlaced, Numbering, TypesPlaced, VariablesPlaced, after_names-map, names_listed-mapped, scope_following}
-use Rattle.ob0_types_check.proofs.DeclaredStanding.{Later, Stands, agrees_where_seen, all_defined, defined, later_same, later_then, stands_defined, stands_later}
+use Rattle.ob0_types_check.proofs.DeclaredStanding.{Later, Stands, agrees_where_seen, all_defined, defined, later_same, later_then, holds_defined, holds_later}
 use Rattle.ob0_types_check.proofs.DeclaredTypes.{none_both, type_denotes}
 
 -- declarations from the ordinal n on, up to m, with the constructors from k on, up to l, give an environment
@@ -31,10 +31,10 @@ pub record Declared (w : Numbering) (n m k l : ℕ) (p q : SoFar) (before : List
   pub after : List Shape
   pub apart : Apart k l before after
   pub later : Later n p q before after
-  pub stands : Stands w q after m scope env
+  pub holds : Stands w q after m scope env
 
 nothing_declared : (w : Numbering) (n k l : ℕ) → l ≡ k → (p : SoFar) (before : List Shape) (scope : Scope Name) (env : TypeEnvironment Name) → Stands w p before n scope env → Declared w n n k l p p before scope (Some env)
-nothing_declared w n k l last p before scope env st = record { env = env; given_is = refl; after = before; apart = apart_same k l before last; later = later_same n p before st.table; stands = st }
+nothing_declared w n k l last p before scope env st = record { env = env; given_is = refl; after = before; apart = apart_same k l before last; later = later_same n p before st.table; holds = st }
 
 -- what is declared in two steps
 pub declared_then : {A : Type 0} (w : Numbering) (n i m k j l : ℕ) (p q r : SoFar) (before mid : List Shape) (scope : Scope Name) (given : Option A) (a : A) (next : A → Option (TypeEnvironment Name)) → n ≤ i → given ≡ Some a → Apart k j before mid → Later n p q before mid → Declared w i m j l q r mid scope (next a)
@@ -45,7 +45,7 @@ declared_then w n i m k j l p q r before mid scope given a next le is own later 
   after = d.after;
   apart = apart_then k j l before mid d.after own d.apart;
   later = later_then n i p q r before mid d.after le later d.later;
-  stands = d.stands;
+  holds = d.holds;
 }
 
 pub more_constructors : (k m n : ℕ) → k + m + n ≡ k + (m + n)
@@ -66,7 +66,7 @@ module _ (w : Numbering) (fit : PartsFit) where
       let c = fit.constants p before (text_at w.source) (meanings as_names env) e (agrees_where_seen w p true before n scope env st fit e placed.1) (none_both v.faults [] a.0).0 in
       let given : constant_value (meanings as_names env) (named w.source e) ≡ Some c.value = ap (λ s. constant_value (meanings as_names env) (mapped (text_at w.source) (value_at s) e)) (sym st.source) ∙ c.given in
       let d = defined w p before n (a_constant v.known) x st.ordinals st.room st.table placed.0 in
-      let next = stands_defined w p q before n scope env (a_constant v.known) (text_at w.source x) (meant.a_constant c.value) st d refl (c.value, c.known, refl, c.scalar) in
+      let next = holds_defined w p q before n scope env (a_constant v.known) (text_at w.source x) (meant.a_constant c.value) st d refl (c.value, c.known, refl, c.scalar) in
       declared_then w n (suc n) (after_names (suc n) (constant_names cs)) k k k p q (reported_constants q cs).known before before (scope_following w (suc n) (constant_names cs) ((text_at w.source x, n) ∷ scope))
       (constant_value (meanings as_names env) (named w.source e)) c.value (λ v. declare_constants as_names ((text_at w.source x, meant.a_constant v) ∷ env) (named w.source cs)) (next_le n) given (apart_same k k before refl) d.later
       (constants_declare cs k (suc n) q before ((text_at w.source x, n) ∷ scope) ((text_at w.source x, meant.a_constant c.value) ∷ env) next placed.2 a.1)
@@ -80,9 +80,9 @@ module _ (w : Numbering) (fit : PartsFit) where
       let q : SoFar = define u.known.following (a_type u.known.of) x in
       let a = none_both (u.faults ++ []) (reported_types q ds).faults h in
       let s = type_denotes w fit n scope env 0 k t p before (omega (arith, at)) st placed.1 (none_both u.faults [] a.0).0 in
-      let following = stands_later w n n n p u.known.following before s.after scope env (le_refl n) (le_refl n) st s.later in
+      let following = holds_later w n n n p u.known.following before s.after scope env (le_refl n) (le_refl n) st s.later in
       let d = defined w u.known.following s.after n (a_type u.known.of) x following.ordinals following.room following.table placed.0 in
-      let next = stands_defined w u.known.following q s.after n scope env (a_type u.known.of) (text_at w.source x) (meant.a_type s.shape) following d refl (s.shape, s.known, refl) in
+      let next = holds_defined w u.known.following q s.after n scope env (a_type u.known.of) (text_at w.source x) (meant.a_type s.shape) following d refl (s.shape, s.known, refl) in
       let own : ℕ = constructors (named w.source t) in
       let others : ℕ = types_constructors (named w.source ds) in
       subst (λ l. Declared w n (after_names (suc n) (named_types ds)) k l p (reported_types q ds).known before (scope_following w (suc n) (named_types ds) ((text_at w.source x, n) ∷ scope)) (declare_types as_names env k (named w.source (more (declares_type x t) ds)))) (more_constructors k own others)
@@ -106,10 +106,10 @@ module _ (w : Numbering) (fit : PartsFit) where
       let q : SoFar = define_all u.known.following (a_variable u.known.of) xs in
       let a = none_both (u.faults ++ []) (reported_variables q gs).faults h in
       let s = type_denotes w fit n scope env 0 k t p before (omega (arith, at)) st placed.1 (none_both u.faults [] a.0).0 in
-      let following = stands_later w n n n p u.known.following before s.after scope env (le_refl n) (le_refl n) st s.later in
+      let following = holds_later w n n n p u.known.following before s.after scope env (le_refl n) (le_refl n) st s.later in
       let all = all_defined w u.known.following s.after n scope env (a_variable u.known.of) xs (meant.a_variable s.shape) following placed.0 refl (s.shape, s.known, refl) in
       let own : names_listed (named w.source ns) ≡ map (text_at w.source) xs = names_listed-mapped (text_at w.source) (value_at w.source) ns in
-      let rest = variables_declare gs (k + constructors (named w.source t)) (after_names n xs) q s.after (scope_following w n xs scope) (bind_names (map (text_at w.source) xs) (meant.a_variable s.shape) env) (omega (arith, at, s.apart.counted)) all.stands placed.2 a.1 in
+      let rest = variables_declare gs (k + constructors (named w.source t)) (after_names n xs) q s.after (scope_following w n xs scope) (bind_names (map (text_at w.source) xs) (meant.a_variable s.shape) env) (omega (arith, at, s.apart.counted)) all.holds placed.2 a.1 in
       let one : ℕ = constructors (named w.source t) in
       let others : ℕ = variables_constructors (named w.source gs) in
       let whole = declared_then w n (after_names n xs) (after_names (after_names n xs) (variable_names gs)) k (k + one) (k + one + others) p q (reported_variables q gs).known before s.after (scope_following w (after_names n xs) (variable_names gs) (scope_following w n xs scope))

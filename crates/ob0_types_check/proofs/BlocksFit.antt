@@ -24,7 +24,7 @@ use Rattle.ob0_types_check.proofs.PartsFitting.{PartsFit, parts_fit}
 use Rattle.ob0_types_check.specs.ModuleLaws.{ModulesFit}
 use Rattle.ob0_types_check.proofs.DeclaredModules.{module_placed, numbering_of}
 use Rattle.ob0_types_check.proofs.DeclaredNames.{AreSeen, BlockPlaced, ConstantsPlaced, IsPlaced, Numbering, ProcedurePlaced, ProceduresPlaced, SectionsPlaced, TypesPlaced, VariablesPlaced, after_names-map, following_constants, following_procedure, following_types, following_variables, constants-mapped, formals-mapped, scope_following, types-mapped, variables-mapped}
-use Rattle.ob0_types_check.proofs.DeclaredStanding.{Later, NamesStand, Stands, agrees_where_seen, defined, later_of, later_same, later_then, stands_defined, stands_later}
+use Rattle.ob0_types_check.proofs.DeclaredStanding.{Later, NamesStand, Stands, agrees_where_seen, defined, later_of, later_same, later_then, holds_defined, holds_later}
 use Rattle.ob0_types_check.proofs.DeclaredTypes.{none_both}
 use Rattle.ob0_types_check.proofs.BlocksDeclared.{Declared, constants_declare, declared_then, more_constructors, next_le, types_declare, variables_declare}
 use Rattle.ob0_types_check.proofs.BindingsByOrdinal.{procedure-listed, procedures-listed}
@@ -49,7 +49,7 @@ pub record ProcedureFits (w : Numbering) (n : ℕ) (p q : SoFar) (before : List 
   pub after : List Shape
   pub apart : Apart k (k + procedure_constructors (named w.source d)) before after
   pub later : Later n p q before after
-  pub stands : Stands w q after (after_procedure (suc n) d) (following_procedure w scope n d) (heading (procedure_name (named w.source d)) parameters env)
+  pub holds : Stands w q after (after_procedure (suc n) d) (following_procedure w scope n d) (heading (procedure_name (named w.source d)) parameters env)
   pub bound : BindingsStand after q.declared n (after_procedure (suc n) d) (procedure_bindings as_names env k (named w.source d))
 
 -- what is known after a procedure's heading, where its parameters and it are known
@@ -62,7 +62,7 @@ pub record HeadingKnown (w : Numbering) (n : ℕ) (p : SoFar) (before : List Sha
   pub after : List Shape
   pub apart : Apart k (k + formals_constructors (formal_sections (named w.source fs))) before after
   pub later : Later n p (heading_known p x fs) before after
-  pub stands : Stands w (heading_known p x fs) after (suc n) ((text_at w.source x, n) ∷ scope) (heading (text_at w.source x) parameters env)
+  pub holds : Stands w (heading_known p x fs) after (suc n) ((text_at w.source x, n) ∷ scope) (heading (text_at w.source x) parameters env)
   pub inside : Stands w (heading_known p x fs) after (after_names (suc n) (formal_names (formal_sections fs))) (scope_following w (suc n) (formal_names (formal_sections fs)) ((text_at w.source x, n) ∷ scope)) (bind_typed parameters (heading (text_at w.source x) parameters env))
 
 -- the ordinal after a block's constructors
@@ -105,14 +105,14 @@ module _ (w : Numbering) (fit : PartsFit) where
       let p₂ : SoFar = (reported_types p₁ (section_types ts)).known in
       let p₃ : SoFar = (reported_variables p₂ (section_variables vs)).known in
       let dc = constants_declare w fit (section_constants cs) k n p before scope env st placed₀ none₀ in
-      let dt = types_declare w fit (section_types ts) k (first_type n b) p₁ dc.after (following_constants w scope n b) dc.env (omega (arith, at, dc.apart.counted)) dc.stands placed₁ none₁ in
+      let dt = types_declare w fit (section_types ts) k (first_type n b) p₁ dc.after (following_constants w scope n b) dc.env (omega (arith, at, dc.apart.counted)) dc.holds placed₁ none₁ in
       let le₁ : n ≤ first_type n b = le-after_names n (constant_names (section_constants cs)) in
       let le₂ : n ≤ first_variable n b = le_trans le₁ (le-after_names (first_type n b) (named_types (section_types ts))) in
       let first : Declared w n (first_variable n b) k (after_types k nb) p p₂ before (following_types w scope n b) (declare_first as_names env k nb) =
       declared_then w n (first_type n b) (first_variable n b) k k (after_types k nb) p p₁ p₂ before dc.after (following_types w scope n b) (declare_constants as_names env (section_constants (named w.source cs))) dc.env (λ e. declare_types as_names e k (section_types (named w.source ts))) le₁
       (ap (declare_constants as_names env) (constants-mapped text value cs) ∙ dc.given_is) dc.apart dc.later
       (subst (λ z. Declared w (first_type n b) (first_variable n b) k (k + types_constructors z) p₁ p₂ dc.after (following_types w scope n b) (declare_types as_names dc.env k z)) (sym (types-mapped text value ts)) dt) in
-      let dv = variables_declare w fit (section_variables vs) (after_types k nb) (first_variable n b) p₂ first.after (following_types w scope n b) first.env (omega (arith, at, first.apart.counted)) first.stands placed₂ none₂ in
+      let dv = variables_declare w fit (section_variables vs) (after_types k nb) (first_variable n b) p₂ first.after (following_types w scope n b) first.env (omega (arith, at, first.apart.counted)) first.holds placed₂ none₂ in
       declared_then w n (first_variable n b) (first_procedure n b) k (after_types k nb) (after_variables k nb) p p₂ p₃ before first.after (following_variables w scope n b) (declare_first as_names env k nb) first.env (declare_typed as_names (after_types k nb) (section_variables (named w.source vs))) le₂ first.given_is first.apart first.later
       (subst (λ z. Declared w (first_variable n b) (first_procedure n b) (after_types k nb) (after_types k nb + variables_constructors z) p₂ p₃ first.after (following_variables w scope n b) (declare_typed as_names (after_types k nb) z first.env)) (sym (variables-mapped text value vs)) dv)
 
@@ -133,17 +133,17 @@ module _ (w : Numbering) (fit : PartsFit) where
   -- a procedure's heading, and what is known after it
   pub heading_reported : (x : ℕ) (fs : Tree ℕ (maybe formals)) (k n : ℕ) (p : SoFar) (before : List Shape) (scope : Scope Name) (env : TypeEnvironment Name) → length before ≡ k → Stands w p before n scope env → IsPlaced w n x → SectionsPlaced w scope (suc n) (formal_sections fs)
       → (reported_sections (record { formals = []; following = p }) (formal_sections fs)).faults ≡ [] → HeadingKnown w n p before scope env k x fs
-  heading_reported x fs k n p before scope env at st placed sections untold =
+  heading_reported x fs k n p before scope env at st placed sections unreported =
       let text : ℕ → Name = text_at w.source in
       let start : KnownHeading = record { formals = []; following = p } in
       let g : KnownHeading = (reported_sections start (formal_sections fs)).known in
       let q₁ : SoFar = heading_known p x fs in
-      let weak = stands_later w n n (suc n) p p before before scope env (le_refl n) (next_le n) st (later_same n p before st.table) in
-      let ps = sections_declare w fit (formal_sections fs) k (suc n) start before scope env at weak sections untold in
+      let weak = holds_later w n n (suc n) p p before before scope env (le_refl n) (next_le n) st (later_same n p before st.table) in
+      let ps = sections_declare w fit (formal_sections fs) k (suc n) start before scope env at weak sections unreported in
       let signature : Signature = formals_of ps.parameters in
-      let outer = stands_later w n (suc n) n p g.following before ps.after scope env (next_le n) (le_refl n) st ps.later in
+      let outer = holds_later w n (suc n) n p g.following before ps.after scope env (next_le n) (le_refl n) st ps.later in
       let made = defined w g.following ps.after n (a_procedure g.formals) x outer.ordinals outer.room outer.table placed in
-      let own = stands_defined w g.following q₁ ps.after n scope env (a_procedure g.formals) (text x) (meant.a_procedure signature) outer made refl (signature, refl, ps.formals [] tt) in
+      let own = holds_defined w g.following q₁ ps.after n scope env (a_procedure g.formals) (text x) (meant.a_procedure signature) outer made refl (signature, refl, ps.formals [] tt) in
       let names : List ℕ = formal_names (formal_sections fs) in
       let xs : List Name = map text names in
       let kept = parameters_kept ps.after ps.after g.following.declared q₁.declared (suc n) (after_names (suc n) xs) (λ t s e. e) (λ j from to. made.others j (above j n from)) xs ps.parameters (le_refl (after_names (suc n) xs)) ps.own in
@@ -154,7 +154,7 @@ module _ (w : Numbering) (fit : PartsFit) where
         after = ps.after;
         apart = subst (λ z. Apart k (k + formals_constructors z) before ps.after) (sym (formals-mapped text (value_at w.source) fs)) ps.apart;
         later = later_then n n p g.following q₁ before ps.after ps.after (le_refl n) (later_of n (suc n) p g.following before ps.after (next_le n) ps.later) made.later;
-        stands = own;
+        holds = own;
         inside = record {
           source = own.source;
           ordinals = own.ordinals;
@@ -202,11 +202,11 @@ module _ (w : Numbering) (fit : PartsFit) where
         let a₄ = none_both t₄.faults t₅.faults a₃.1 in
         let d = declarations_reported cs ts vs ps statements k n p before scope env at st placed.0 placed.1 placed.2 a₁.0 a₂.0 a₃.0 in
         let le : n ≤ first_procedure n b = le_trans (le-after_names n (constant_names (section_constants cs))) (le_trans (le-after_names (first_type n b) (named_types (section_types ts))) (le-after_names (first_variable n b) (variable_names (section_variables vs)))) in
-        let rest = procedures_reported ps statements (after_variables k nb) (first_procedure n b) t₃.known d.after (following_variables w scope n b) d.env (omega (arith, at, d.apart.counted)) d.stands placed.3 a₄.0 a₄.1 in
+        let rest = procedures_reported ps statements (after_variables k nb) (first_procedure n b) t₃.known d.after (following_variables w scope n b) d.env (omega (arith, at, d.apart.counted)) d.holds placed.3 a₄.0 a₄.1 in
         let l : ℕ = after_variables k nb + procedures_constructors (named w.source ps) in
         let own = sections_bind d.after t₃.known.declared (first_procedure n b) n (first_type n b) (first_variable n b) (first_procedure n b) (map text (constant_names (section_constants cs))) (map text (named_types (section_types ts))) (map text (variable_names (section_variables vs))) scope env d.env
         (after_names-map text n (constant_names (section_constants cs))) (after_names-map text (first_type n b) (named_types (section_types ts))) (after_names-map text (first_variable n b) (variable_names (section_variables vs)))
-        (as_long before p.declared n scope env st.names) d.stands.names in
+        (as_long before p.declared n scope env st.names) d.holds.names in
         subst (λ j. FitsLater n (after_block n b) k j p (reported_block p (has_body (declares cs ts vs ps) statements)).known before (block_fits as_names env k (named w.source (has_body (declares cs ts vs ps) statements))) (block_bindings as_names env k (named w.source (has_body (declares cs ts vs ps) statements))))
         (block_end k (types_constructors (section_types (named w.source ts))) (variables_constructors (section_variables (named w.source vs))) (procedures_constructors (named w.source ps)))
         (block_then p t₃.known t₄.known before n (first_procedure n b) (after_block n b) k (after_variables k nb) l (following_variables w scope n b) env (option_and_then (declare_typed as_names (after_types k nb) (section_variables (named w.source vs))) (declare_first as_names env k nb)) statements
@@ -220,7 +220,7 @@ module _ (w : Numbering) (fit : PartsFit) where
         let q : SoFar = (reported_procedure p d).known in
         let a = none_both (reported_procedure p d).faults (reported_procedures q rest).faults h in
         let f = procedure_reported d k n p before scope env at st placed.0 a.0 in
-        let others = procedures_reported rest statements (k + procedure_constructors nd) (after_procedure (suc n) d) q f.after (following_procedure w scope n d) (heading (procedure_name nd) f.parameters env) (omega (arith, at, f.apart.counted)) f.stands placed.1 a.1 last in
+        let others = procedures_reported rest statements (k + procedure_constructors nd) (after_procedure (suc n) d) q f.after (following_procedure w scope n d) (heading (procedure_name nd) f.parameters env) (omega (arith, at, f.apart.counted)) f.holds placed.1 a.1 last in
         record {
           right = ap (λ o. some_and o (λ ps. procedure_fits as_names (bind_typed ps (heading (procedure_name nd) ps env)) k nd && procedures_fit as_names (heading (procedure_name nd) ps env) (k + procedure_constructors nd) (named w.source statements) (named w.source rest))) f.typed
               ∙ (λ i. f.right i && others.right i);
@@ -255,7 +255,7 @@ module _ (w : Numbering) (fit : PartsFit) where
           apart = apart_to k (first + own) (k + procedure_constructors (named w.source d)) before f.after (more_constructors k (formals_constructors (formal_sections (named w.source fs))) own)
               (apart_then k first (first + own) before e.after f.after e.apart f.apart);
           later = later_then n m p q₁ q before e.after f.after (le_trans (next_le n) le) e.later f.later;
-          stands = stands_later w (suc n) m (after_procedure (suc n) d) q₁ q e.after f.after ((text x, n) ∷ scope) (heading (text x) e.parameters env) le (le-after_procedure (suc n) d) e.stands f.later;
+          holds = holds_later w (suc n) m (after_procedure (suc n) d) q₁ q e.after f.after ((text x, n) ∷ scope) (heading (text x) e.parameters env) le (le-after_procedure (suc n) d) e.holds f.later;
           bound = subst (BindingsStand f.after q.declared n (after_procedure (suc n) d)) (sym (procedure-listed as_names env k (text x) (named w.source fs) (named w.source b) (text closing) e.parameters e.typed))
               (bindings_both f.after q.declared n m (after_procedure (suc n) d) (block_bindings as_names (bind_typed e.parameters (heading (text x) e.parameters env)) first (named w.source b)) (bind_typed e.parameters (heading (text x) e.parameters [])) f.bound
               (bindings_later e.after f.after q₁.declared q.declared n m m f.later.longer f.later.kept (le_refl m) (bind_typed e.parameters (heading (text x) e.parameters [])) (heading_bound x fs n scope env p before st.names e)));
@@ -268,8 +268,8 @@ room_first xs =
     omega (arith, length-append predeclared_meanings later, count)
 
 -- where a module begins
-pub first_stands : (r : Resolution) → Stands (numbering_of r) (at_first r) [] 7 (predeclared_scope as_names) (outermost as_names)
-first_stands r = record {
+pub first_holds : (r : Resolution) → Stands (numbering_of r) (at_first r) [] 7 (predeclared_scope as_names) (outermost as_names)
+first_holds r = record {
   source = refl;
   ordinals = refl;
   room = room_first r.declarations;
@@ -318,4 +318,4 @@ unfolding reported_module fits_over
 modules_fit-holds r is h =
     let m = r.module_read in
     let a = none_both (filter is_of_occurrences r.faults) (reported_block (at_first r) (module_block (tree_of m))).faults h in
-    (block_reported (numbering_of r) parts_fit (module_block (tree_of m)) 0 7 (at_first r) [] (predeclared_scope as_names) (outermost as_names) refl (first_stands r) (module_placed r is a.0) a.1).right
+    (block_reported (numbering_of r) parts_fit (module_block (tree_of m)) 0 7 (at_first r) [] (predeclared_scope as_names) (outermost as_names) refl (first_holds r) (module_placed r is a.0) a.1).right

@@ -25,7 +25,7 @@ use Rattle.ob0_types_check.specs.ModuleLaws.{DeclarationsKnown}
 use Rattle.ob0_types_check.specs.SoFar.{SoFar, at_first}
 use Rattle.ob0_types_check.proofs.BindingsByOrdinal.{InOrder, Ordered, module-block, module-ordered}
 use Rattle.ob0_types_check.proofs.BlocksBound.{BindingsStand, bindings_both, bindings_later, names_bind}
-use Rattle.ob0_types_check.proofs.BlocksFit.{block_reported, first_stands, room_first}
+use Rattle.ob0_types_check.proofs.BlocksFit.{block_reported, first_holds, room_first}
 use Rattle.ob0_types_check.proofs.DeclaredModules.{module_counted, module_placed, numbering_of}
 use Rattle.ob0_types_check.proofs.DeclaredNames.{after_block-mapped}
 use Rattle.ob0_types_check.proofs.DeclaredTypes.{none_both}
@@ -54,9 +54,9 @@ none_at (b ∷ noted) m order k le =
     ∙ (ap (λ t. cond t (Some b.object) (object_bound (typed_by_ordinal noted) k)) (ne_eqb k b.ordinal (λ e. omega (arith, e, le, order.0)))
     ∙ none_at noted b.ordinal order.1 k (omega (arith, le, order.0)))
 
-stands_agree : (shape : TypeId → Option Shape) (m : Option (Meaning TypeId)) (o : Option (meant.Object Shape Signature)) → MeansAlike shape m o → DeclarationAgrees shape m o
-stands_agree shape None o h = absurd h
-stands_agree shape (Some m) o h = h
+holds_agree : (shape : TypeId → Option Shape) (m : Option (Meaning TypeId)) (o : Option (meant.Object Shape Signature)) → MeansAlike shape m o → DeclarationAgrees shape m o
+holds_agree shape None o h = absurd h
+holds_agree shape (Some m) o h = h
 
 either : {P : Type 0} (k m : ℕ) → (k < m → P) → (m ≤ k → P) → P
 either {P} k m f g = by (nat_lt k m) refl
@@ -75,7 +75,7 @@ module _ (shapes : List Shape) (known : List (Option (Meaning TypeId))) (m : ℕ
 
   every_agrees : (k : ℕ) → DeclarationAgrees (shape_in shapes) (slice_index_or known k None) (object_bound labels k)
   every_agrees k =
-      either k m (λ less. stands_agree (shape_in shapes) (slice_index_or known k None) (object_bound labels k) (below k less).0)
+      either k m (λ less. holds_agree (shape_in shapes) (slice_index_or known k None) (object_bound labels k) (below k less).0)
       (λ le. subst (λ z. DeclarationAgrees (shape_in shapes) z (object_bound labels k)) (sym (past k le).1) (past k le).0)
 
   every_own : (k : ℕ) → 7 ≤ k → is_standard (object_bound labels k) ≡ false
@@ -108,7 +108,7 @@ declarations_known-holds r is h =
     let last : ℕ = after_block 7 b in
     let q : SoFar = (reported_block (at_first r) b).known in
     let a = none_both (filter is_of_occurrences r.faults) (reported_block (at_first r) b).faults h in
-    let st = first_stands r in
+    let st = first_holds r in
     let f = block_reported (numbering_of r) parts_fit b 0 7 (at_first r) [] (predeclared_scope as_names) (outermost as_names) refl st (module_placed r is a.0) a.1 in
     let first : BindingsStand f.after q.declared 0 7 (outermost as_names) =
     bindings_later [] f.after (at_first r).declared q.declared 0 7 7 f.later.longer f.later.kept (le_refl 7) (outermost as_names) (names_bind [] (at_first r).declared 7 0 7 (map as_names.predeclared (0 ∷ 1 ∷ 2 ∷ 3 ∷ 4 ∷ 5 ∷ 6 ∷ [])) [] [] (outermost as_names) refl refl st.names) in

@@ -25,7 +25,7 @@ use Rattle.ob0_types_check.proofs.MadeOnce.{Apart, apart_same, apart_then}
 use Rattle.ob0_types_check.proofs.PartsFitting.{PartsFit}
 use Rattle.ob0_types_check.proofs.DeclaredNames.{AreSeen, NamesPlaced, Numbering, SectionsPlaced, after_names-map, names_listed-mapped, scope_following}
 use Rattle.ob0_types_check.proofs.DeclaredShapes.{Longer}
-use Rattle.ob0_types_check.proofs.DeclaredStanding.{Later, NamesStand, Stands, all_defined, defined, formals_kept, later_same, later_then, names_later, stands_defined, stands_kept, stands_later}
+use Rattle.ob0_types_check.proofs.DeclaredStanding.{Later, NamesStand, Stands, all_defined, defined, formals_kept, later_same, later_then, names_later, holds_defined, holds_kept, holds_later}
 use Rattle.ob0_types_check.proofs.DeclaredTypes.{none_both, type_denotes}
 
 -- parameters from an ordinal on, each known as a variable
@@ -43,7 +43,7 @@ parameters_kept before after old new k m longer kept [] (p ∷ ps) le h = absurd
 parameters_kept before after old new k m longer kept (x ∷ xs) [] le h = absurd h
 parameters_kept before after old new k m longer kept (x ∷ xs) (p ∷ ps) le h = (
   h.0,
-  subst (λ o. MeansAlike (shape_in after) o (Some (meant.a_variable p.formal.shape))) (sym (kept k (le_refl k) (le_trans (le-after_names (suc k) xs) le))) (stands_kept before after longer (slice_index_or old k None) (Some (meant.a_variable p.formal.shape)) h.1),
+  subst (λ o. MeansAlike (shape_in after) o (Some (meant.a_variable p.formal.shape))) (sym (kept k (le_refl k) (le_trans (le-after_names (suc k) xs) le))) (holds_kept before after longer (slice_index_or old k None) (Some (meant.a_variable p.formal.shape)) h.1),
   parameters_kept before after old new (suc k) m longer (λ j from to. kept j (le_of_lt from) to) xs ps le h.2,
 )
 
@@ -91,7 +91,7 @@ own_stand w p shapes n scope env mode t s (x ∷ xs) is st placed =
     let q : SoFar = define p (a_variable t) x in
     let o : meant.Object Shape Signature = meant.a_variable s in
     let d = defined w p shapes n (a_variable t) x st.ordinals st.room st.table placed.0 in
-    let next = stands_defined w p q shapes n scope env (a_variable t) (text_at w.source x) o st d refl (s, is, refl) in
+    let next = holds_defined w p q shapes n scope env (a_variable t) (text_at w.source x) o st d refl (s, is, refl) in
     let rest = all_defined w q shapes (suc n) ((text_at w.source x, n) ∷ scope) ((text_at w.source x, o) ∷ env) (a_variable t) xs o next placed.1 refl (s, is, refl) in
     let slot : slice_index_or (define_all q (a_variable t) xs).declared n None ≡ Some (a_variable t) = rest.later.kept n (le_refl (suc n)) ∙ d.here in (
       refl,
@@ -116,7 +116,7 @@ pub record OneType (w : Numbering) (n m k l : ℕ) (h g : KnownHeading) (before 
   pub after : List Shape
   pub apart : Apart k l before after
   pub later : Later n h.following g.following before after
-  pub stands : Stands w g.following after m scope (bind_names xs (meant.a_variable shape) env)
+  pub holds : Stands w g.following after m scope (bind_names xs (meant.a_variable shape) env)
   pub own : ParametersStand after g.following.declared n xs (map (typed_as mode shape) xs)
   pub formals : (signature : Signature) → FormalsAgree (shape_in before) h.formals signature → FormalsAgree (shape_in after) g.formals (signature ++ formals_of (map (typed_as mode shape) xs))
 
@@ -126,7 +126,7 @@ module _ (w : Numbering) (fit : PartsFit) where
   one_type by xs t k n h before scope env at st placed seen none =
       let u : TypedAfter = (reported_type 0 h.following t).known in
       let s = type_denotes w fit n scope env 0 k t h.following before (omega (arith, at)) st seen none in
-      let following = stands_later w n n n h.following u.following before s.after scope env (le_refl n) (le_refl n) st s.later in
+      let following = holds_later w n n n h.following u.following before s.after scope env (le_refl n) (le_refl n) st s.later in
       let all = all_defined w u.following s.after n scope env (a_variable u.of) xs (meant.a_variable s.shape) following placed refl (s.shape, s.known, refl) in
       record {
         shape = s.shape;
@@ -134,7 +134,7 @@ module _ (w : Numbering) (fit : PartsFit) where
         after = s.after;
         apart = s.apart;
         later = later_then n n h.following u.following (define_all u.following (a_variable u.of) xs) before s.after s.after (le_refl n) s.later all.later;
-        stands = all.stands;
+        holds = all.holds;
         own = own_stand w u.following s.after n scope env (mode_of by) u.of s.shape xs s.known following placed;
         formals = λ signature agree. formals_both (shape_in s.after) h.formals (map (λ x. record { by_place = by; of = u.of }) xs) signature (formals_of (map (typed_as (mode_of by) s.shape) (map (text_at w.source) xs)))
             (formals_kept before s.after s.later.longer h.formals signature agree) (formals_same (shape_in s.after) (text_at w.source) by u.of s.shape s.known xs);
@@ -181,7 +181,7 @@ module _ (w : Numbering) (fit : PartsFit) where
       let g : KnownHeading = with_parameters h false xs u.known in
       let a = none_both (u.faults ++ []) (reported_sections g fs).faults none in
       let one = one_type false xs t k n h before scope env at st placed.0 placed.1 (none_both u.faults [] a.0).0 in
-      let rest = sections_declare fs (k + constructors (named w.source t)) (after_names n xs) g one.after (scope_following w n xs scope) (bind_names (map (text_at w.source) xs) (meant.a_variable one.shape) env) (omega (arith, at, one.apart.counted)) one.stands placed.2 a.1 in
+      let rest = sections_declare fs (k + constructors (named w.source t)) (after_names n xs) g one.after (scope_following w n xs scope) (bind_names (map (text_at w.source) xs) (meant.a_variable one.shape) env) (omega (arith, at, one.apart.counted)) one.holds placed.2 a.1 in
       let own : ℕ = constructors (named w.source t) in
       let others : ℕ = formals_constructors (named w.source fs) in
       subst₂ (λ l ys. Parameters n k l h (reported_sections g fs).known before ys (typed_parameters as_names env k (named w.source (more (then_section (value_section ns t)) fs)))) (more_constructors k own others) (sym (map-append (text_at w.source) xs (formal_names fs)))
@@ -193,7 +193,7 @@ module _ (w : Numbering) (fit : PartsFit) where
       let g : KnownHeading = with_parameters h true xs u.known in
       let a = none_both (u.faults ++ []) (reported_sections g fs).faults none in
       let one = one_type true xs t k n h before scope env at st placed.0 placed.1 (none_both u.faults [] a.0).0 in
-      let rest = sections_declare fs (k + constructors (named w.source t)) (after_names n xs) g one.after (scope_following w n xs scope) (bind_names (map (text_at w.source) xs) (meant.a_variable one.shape) env) (omega (arith, at, one.apart.counted)) one.stands placed.2 a.1 in
+      let rest = sections_declare fs (k + constructors (named w.source t)) (after_names n xs) g one.after (scope_following w n xs scope) (bind_names (map (text_at w.source) xs) (meant.a_variable one.shape) env) (omega (arith, at, one.apart.counted)) one.holds placed.2 a.1 in
       let own : ℕ = constructors (named w.source t) in
       let others : ℕ = formals_constructors (named w.source fs) in
       subst₂ (λ l ys. Parameters n k l h (reported_sections g fs).known before ys (typed_parameters as_names env k (named w.source (more (then_section (variable_section ns t)) fs)))) (more_constructors k own others) (sym (map-append (text_at w.source) xs (formal_names fs)))

@@ -10,7 +10,7 @@ use Rattle.ob0_values.specs.Values.{FieldShapes, Shape, Value, array_shape, bool
 use Rattle.ob0_types_check.proofs.DeclaredNames.{Each}
 use Rattle.ob0_types_check.proofs.EqualShapes.{agree-equal, each-true}
 use Rattle.ob0_types_check.proofs.TypedOperands.{and-then}
-use Rattle.ob0_types_check.proofs.Untold.{some-none}
+use Rattle.ob0_types_check.proofs.Unreported.{some-none}
 
 pub each-of-both : {A : Type 0} (P : A → Type 0) (xs ys : List A) → Each P xs → Each P ys → Each P (xs ++ ys)
 each-of-both P [] ys p q = q

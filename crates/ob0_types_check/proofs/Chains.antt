@@ -22,7 +22,7 @@ steps {f0 = f0} {x = x} {a = a} next s1 s2 = record {
 pub reports_known : {A : Type 0} (faults : List Fault) {x y : A} → x ≡ y → ReportsAfter faults faults x (right y)
 reports_known faults e = record { known = e; reported = sym (append-nil faults) }
 
--- the same told, known by another name
+-- the same reported, known by another name
 pub reports_same : {A : Type 0} {f0 f1 : List Fault} {x : A} {a b : Reported A} → ReportsAfter f0 f1 x a → a ≡ b → ReportsAfter f0 f1 x b
 reports_same {f0 = f0} s e = record { known = s.known ∙ ap (λ t. t.known) e; reported = s.reported ∙ ap (λ t. f0 ++ t.faults) e }
 

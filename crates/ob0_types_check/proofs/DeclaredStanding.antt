@@ -33,9 +33,9 @@ meaning_kept before after longer (a_constant c) o h = h
 meaning_kept before after longer (a_variable t) o (s, e, h) = (s, longer t s e, h)
 meaning_kept before after longer (a_procedure fs) o (signature, e, h) = (signature, e, formals_kept before after longer fs signature h)
 
-pub stands_kept : (before after : List Shape) → Longer before after → (m : Option (Meaning TypeId)) (o : Option (meant.Object Shape Signature)) → MeansAlike (shape_in before) m o → MeansAlike (shape_in after) m o
-stands_kept before after longer None o h = absurd h
-stands_kept before after longer (Some m) o h = meaning_kept before after longer m o h
+pub holds_kept : (before after : List Shape) → Longer before after → (m : Option (Meaning TypeId)) (o : Option (meant.Object Shape Signature)) → MeansAlike (shape_in before) m o → MeansAlike (shape_in after) m o
+holds_kept before after longer None o h = absurd h
+holds_kept before after longer (Some m) o h = meaning_kept before after longer m o h
 
 -- each name of a scope means the same in the environment beside it, as is known of its declaration; all ordinals are below n,
 -- and the standard procedures have those below 7
@@ -53,7 +53,7 @@ names_later before after old new n m longer kept le (b ∷ scope) [] h = absurd 
 names_later before after old new n m longer kept le (b ∷ scope) (c ∷ env) h = (
   le_trans h.0 le,
   h.1,
-  subst (λ o. MeansAlike (shape_in after) o (Some c.1)) (sym (kept b.1 h.0)) (stands_kept before after longer (slice_index_or old b.1 None) (Some c.1) h.2),
+  subst (λ o. MeansAlike (shape_in after) o (Some c.1)) (sym (kept b.1 h.0)) (holds_kept before after longer (slice_index_or old b.1 None) (Some c.1) h.2),
   h.3,
   names_later before after old new n m longer kept le scope env h.4,
 )
@@ -109,8 +109,8 @@ later_then n m p q r a b c le f g = record {
 pub later_of : (n m : ℕ) (p q : SoFar) (a b : List Shape) → n ≤ m → Later m p q a b → Later n p q a b
 later_of n m p q a b le f = record { source = f.source; ordinals = f.ordinals; room = f.room; kept = λ k less. f.kept k (le_trans less le); longer = f.longer; table = f.table }
 
-pub stands_later : (w : Numbering) (n m l : ℕ) (p q : SoFar) (before after : List Shape) (scope : Scope Name) (env : TypeEnvironment Name) → n ≤ m → n ≤ l → Stands w p before n scope env → Later m p q before after → Stands w q after l scope env
-stands_later w n m l p q before after scope env le up h f = record {
+pub holds_later : (w : Numbering) (n m l : ℕ) (p q : SoFar) (before after : List Shape) (scope : Scope Name) (env : TypeEnvironment Name) → n ≤ m → n ≤ l → Stands w p before n scope env → Later m p q before after → Stands w q after l scope env
+holds_later w n m l p q before after scope env le up h f = record {
   source = f.source ∙ h.source;
   ordinals = f.ordinals ∙ h.ordinals;
   room = f.room ∙ h.room;
@@ -151,11 +151,11 @@ defined w p shapes n m x ordinals room table placed =
       others = λ k other. other_kept p.declared (Some m) n k other;
     })
 
-pub stands_defined : (w : Numbering) (p q : SoFar) (shapes : List Shape) (n : ℕ) (scope : Scope Name) (env : TypeEnvironment Name) (m : Meaning TypeId) (x : Name) (o : meant.Object Shape Signature) → Stands w p shapes n scope env → Defined w p q shapes n m → is_standard (Some o) ≡ false → MeaningAgrees (shape_in shapes) m (Some o)
+pub holds_defined : (w : Numbering) (p q : SoFar) (shapes : List Shape) (n : ℕ) (scope : Scope Name) (env : TypeEnvironment Name) (m : Meaning TypeId) (x : Name) (o : meant.Object Shape Signature) → Stands w p shapes n scope env → Defined w p q shapes n m → is_standard (Some o) ≡ false → MeaningAgrees (shape_in shapes) m (Some o)
     → Stands w q shapes (suc n) ((x, n) ∷ scope) ((x, o) ∷ env)
-stands_defined w p q shapes n scope env m x o h d own agrees =
+holds_defined w p q shapes n scope env m x o h d own agrees =
     let less : n < suc n = le_refl (suc n) in
-    let rest = stands_later w n n (suc n) p q shapes shapes scope env (le_refl n) (le_of_lt less) h d.later in
+    let rest = holds_later w n n (suc n) p q shapes shapes scope env (le_refl n) (le_of_lt less) h d.later in
     record {
       source = rest.source;
       ordinals = rest.ordinals;
@@ -166,14 +166,14 @@ stands_defined w p q shapes n scope env m x o h d own agrees =
 
 -- an expression or statements where all names are seen
 module _ (w : Numbering) (p : SoFar) (only_constants : Bool) (shapes : List Shape) (n : ℕ) (scope : Scope Name) (env : TypeEnvironment Name) (h : Stands w p shapes n scope env) where
-  pub seen_stands : (x : ℕ) → IsSeen w scope x → MeansAlike (shape_in shapes) ((facts_at p only_constants).object_for x) ((meanings as_names env).object_for (text_at w.source x))
-  seen_stands x (k, at, there) =
+  pub seen_holds : (x : ℕ) → IsSeen w scope x → MeansAlike (shape_in shapes) ((facts_at p only_constants).object_for x) ((meanings as_names env).object_for (text_at w.source x))
+  seen_holds x (k, at, there) =
       subst (λ o. MeansAlike (shape_in shapes) (option_and_then (λ j. slice_index_or p.declared j None) o) (newest (from_binding as_names env (text_at w.source x)))) (sym (ap (λ os. ordinal_in os x) h.ordinals ∙ at))
       (name_found shapes p.declared n scope env h.names (text_at w.source x) k there)
 
   tokens_agree : (xs : List (Role × ℕ)) → Each (IsSeen w scope) (looked_up_only xs) → TokensAgree (facts_at p only_constants) (shape_in shapes) (text_at w.source) (meanings as_names env) xs
   tokens_agree [] seen = tt
-  tokens_agree ((role.LookedUp, x) ∷ xs) seen = (seen_stands x seen.0, tokens_agree xs seen.1)
+  tokens_agree ((role.LookedUp, x) ∷ xs) seen = (seen_holds x seen.0, tokens_agree xs seen.1)
   tokens_agree ((role.Declaring, x) ∷ xs) seen = (tt, tokens_agree xs seen)
   tokens_agree ((role.ClosingName, x) ∷ xs) seen = (tt, tokens_agree xs seen)
   tokens_agree ((role.FieldName, x) ∷ xs) seen = (ap (λ s. text_at s x) (sym h.source), tokens_agree xs seen)
@@ -188,16 +188,16 @@ module _ (w : Numbering) (p : SoFar) (only_constants : Bool) (shapes : List Shap
 -- several names of one object
 pub record AllDefined (w : Numbering) (p q : SoFar) (shapes : List Shape) (n m : ℕ) (scope : Scope Name) (env : TypeEnvironment Name) : Type 0 where
   pub later : Later n p q shapes shapes
-  pub stands : Stands w q shapes m scope env
+  pub holds : Stands w q shapes m scope env
 
 pub all_defined : (w : Numbering) (p : SoFar) (shapes : List Shape) (n : ℕ) (scope : Scope Name) (env : TypeEnvironment Name) (m : Meaning TypeId) (xs : List ℕ) (o : meant.Object Shape Signature) → Stands w p shapes n scope env → NamesPlaced w n xs → is_standard (Some o) ≡ false → MeaningAgrees (shape_in shapes) m (Some o)
     → AllDefined w p (define_all p m xs) shapes n (after_names n xs) (scope_following w n xs scope) (bind_names (map (text_at w.source) xs) o env)
-all_defined w p shapes n scope env m [] o h placed own agrees = record { later = later_same n p shapes h.table; stands = h }
+all_defined w p shapes n scope env m [] o h placed own agrees = record { later = later_same n p shapes h.table; holds = h }
 all_defined w p shapes n scope env m (x ∷ xs) o h placed own agrees =
     let one = defined w p shapes n m x h.ordinals h.room h.table placed.0 in
-    let first = stands_defined w p (define p m x) shapes n scope env m (text_at w.source x) o h one own agrees in
+    let first = holds_defined w p (define p m x) shapes n scope env m (text_at w.source x) o h one own agrees in
     let rest = all_defined w (define p m x) shapes (suc n) ((text_at w.source x, n) ∷ scope) ((text_at w.source x, o) ∷ env) m xs o first placed.1 own agrees in
     record {
       later = later_then n (suc n) p (define p m x) (define_all (define p m x) m xs) shapes shapes shapes (le_of_lt (le_refl (suc n))) one.later rest.later;
-      stands = rest.stands;
+      holds = rest.holds;
     }

@@ -24,7 +24,7 @@ use Rattle.ob0_types_check.proofs.MadeOnce.{Apart, apart_made, apart_same, apart
 use Rattle.ob0_types_check.proofs.PartsFitting.{PartsFit}
 use Rattle.ob0_types_check.proofs.DeclaredNames.{AreSeen, IsSeen, Numbering, each_part, names_listed-mapped}
 use Rattle.ob0_types_check.proofs.DeclaredShapes.{GatheredAgrees, SizeAgrees, array_sized, followed, followed-assoc, followed-nothing, gathered_kept, is_limited, last_array, last_record, longer_more, longer_then, names_put, record_sized, size_agrees, table_long, table_more, with_fields-followed}
-use Rattle.ob0_types_check.proofs.DeclaredStanding.{Later, Stands, agrees_where_seen, later_same, later_then, seen_stands, stands_later}
+use Rattle.ob0_types_check.proofs.DeclaredStanding.{Later, Stands, agrees_where_seen, later_same, later_then, seen_holds, holds_later}
 
 -- where nothing is reported of both, nothing is reported of either
 pub none_both : (xs ys : List Fault) → xs ++ ys ≡ [] → (xs ≡ []) × (ys ≡ [])
@@ -209,7 +209,7 @@ module _ (w : Numbering) (fit : PartsFit) (n : ℕ) (scope : Scope Name) (env : 
     pub type_denotes : (around k : ℕ) (t : Tree ℕ written_type) (p : SoFar) (before : List Shape) → length before + around ≡ k → Stands w p before n scope env → AreSeen w scope t → (reported_type around p t).faults ≡ []
         → Denotes n p before k (k + constructors (named w.source t)) (denoted (meanings as_names env) k (named w.source t)) (reported_type around p t).known
     type_denotes around k (named_type x) p before at st seen e =
-        named_denotes n p p before k (k + 0) (omega arith) x ((facts_at p false).object_for x) ((meanings as_names env).object_for (text_at w.source x)) st.table (seen_stands w p false before n scope env st x seen.0) (none_both (type_meant (facts_at p false) x ((facts_at p false).object_for x)).faults [] e).0
+        named_denotes n p p before k (k + 0) (omega arith) x ((facts_at p false).object_for x) ((meanings as_names env).object_for (text_at w.source x)) st.table (seen_holds w p false before n scope env st x seen.0) (none_both (type_meant (facts_at p false) x ((facts_at p false).object_for x)).faults [] e).0
     type_denotes around k (array_type e u) p before at st seen h =
         let parts = each_part (IsSeen w scope) (occurrences e) (occurrences u) seen in
         let o : Operand TypeId = (reported_expression (facts_at p true) e).known in
@@ -236,7 +236,7 @@ module _ (w : Numbering) (fit : PartsFit) (n : ℕ) (scope : Scope Name) (env : 
         let a = none_both first.faults (all.faults ++ (record_made word ordinal all.known).faults) h in
         let b = none_both all.faults (record_made word ordinal all.known).faults a.1 in
         let one = group_gathers (suc around) (suc k) g (nothing_gathered p) before no_field_shape (omega (arith, at)) st parts.0 (nothing_agrees before p) a.0 in
-        let later = stands_later w n n n p first.known.following before one.gathers.after scope env (le_refl n) (le_refl n) st one.gathers.later in
+        let later = holds_later w n n n p first.known.following before one.gathers.after scope env (le_refl n) (le_refl n) st one.gathers.later in
         let other = groups_gather (suc around) (suc k + group_constructors (named w.source g)) rest first.known one.gathers.after one.own (omega (arith, at, one.gathers.apart.counted)) later parts.1 one.gathers.agrees b.0 in
         let c : ℕ = group_constructors (named w.source g) in
         let d : ℕ = groups_constructors (named w.source rest) in
@@ -262,7 +262,7 @@ module _ (w : Numbering) (fit : PartsFit) (n : ℕ) (scope : Scope Name) (env : 
         let all : Reported Gathered = reported_groups around next.known rest in
         let a = none_both next.faults all.faults h in
         let one = group_gathers around k f g before first at st parts.0 agrees a.0 in
-        let later = stands_later w n n n g.following next.known.following before one.gathers.after scope env (le_refl n) (le_refl n) st one.gathers.later in
+        let later = holds_later w n n n g.following next.known.following before one.gathers.after scope env (le_refl n) (le_refl n) st one.gathers.later in
         let other = groups_gather around (k + group_constructors (named w.source f)) rest next.known one.gathers.after (followed first one.own) (omega (arith, at, one.gathers.apart.counted)) later parts.1 one.gathers.agrees a.1 in
         let c : ℕ = group_constructors (named w.source f) in
         let d : ℕ = groups_constructors (named w.source rest) in

@@ -19,7 +19,7 @@ use Rattle.ob0_types_check.specs.Known.{Facts, Operand}
 use Rattle.ob0_types_check.specs.Operations.{add_operands, complement_operand, element_selected, field_selected, multiply_operands, named, relate_operands, sign_operand}
 use Rattle.ob0_types_check.specs.Agreement.{TypesAgree}
 use Rattle.ob0_types_check.proofs.Operands.{IsOf, added-fits, complement-of, complemented-fits, element-fits, field-fits, multiplied-fits, none-of, related-fits, relation-of, signed-fits, some-of}
-use Rattle.ob0_types_check.proofs.Untold.{goes-on, none-reported, then-assoc, then-itself}
+use Rattle.ob0_types_check.proofs.Unreported.{goes-on, none-reported, then-assoc, then-itself}
 use Rattle.ob0_types_check.proofs.Valued.{addend-valued, multiplier-valued, name-valued, negation-valued, parts-valued, related-valued, simple-valued, term-valued}
 
 -- an operand, its type and its value

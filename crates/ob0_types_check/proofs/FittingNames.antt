@@ -38,14 +38,14 @@ module _ {T : Type 0} (facts : Facts T) (shape : T → Option Shape) (types : Ty
   variable-fits x t s known true h = absurd (cc)
   variable-fits x t s known false h = record { fits = record { of = s; known = known; typed = refl; valued = refl; scalar = none-of s }; placed = λ e. refl }
 
-  stands-fits : (x : ℕ) (m : Option (Meaning T)) (o : Option (Object Shape Signature)) → MeansAlike shape m o → (named_value facts x m).faults ≡ [] → ObjectFits shape (named_value facts x m).known o
-  stands-fits x None o a h = absurd a
-  stands-fits x (Some (a_type t)) o a h = absurd (cc)
-  stands-fits x (Some (a_procedure fs)) o a h = absurd (cc)
-  stands-fits x (Some (a_constant c)) o (v, reported, stands, scalar) h =
-      subst₂ (λ c o. ObjectFits shape (a_constant_name facts.types c x) o) (sym reported) (sym stands) (constant-fits x v scalar)
-  stands-fits x (Some (a_variable t)) o (s, known, stands) h =
-      subst (λ o. ObjectFits shape (named_value facts x (Some (a_variable t))).known o) (sym stands) (variable-fits x t s known facts.only_constants h)
+  holds-fits : (x : ℕ) (m : Option (Meaning T)) (o : Option (Object Shape Signature)) → MeansAlike shape m o → (named_value facts x m).faults ≡ [] → ObjectFits shape (named_value facts x m).known o
+  holds-fits x None o a h = absurd a
+  holds-fits x (Some (a_type t)) o a h = absurd (cc)
+  holds-fits x (Some (a_procedure fs)) o a h = absurd (cc)
+  holds-fits x (Some (a_constant c)) o (v, reported, holds, scalar) h =
+      subst₂ (λ c o. ObjectFits shape (a_constant_name facts.types c x) o) (sym reported) (sym holds) (constant-fits x v scalar)
+  holds-fits x (Some (a_variable t)) o (s, known, holds) h =
+      subst (λ o. ObjectFits shape (named_value facts x (Some (a_variable t))).known o) (sym holds) (variable-fits x t s known facts.only_constants h)
 
   -- where names mean constants alone
   no-variable : (x : ℕ) (t : T) (b : Bool) → b ≡ true → (if b then record { known = a_name facts.types.unknown x; faults = at_token facts code.NotConstant x } else right (a_name t x)).faults ≡ [] → ⊥
@@ -57,13 +57,13 @@ module _ {T : Type 0} (facts : Facts T) (shape : T → Option Shape) (types : Ty
   only-fits x None o only a h = absurd a
   only-fits x (Some (a_type t)) o only a h = absurd (cc)
   only-fits x (Some (a_procedure fs)) o only a h = absurd (cc)
-  only-fits {Q = Q} x (Some (a_constant c)) o only (v, reported, stands, scalar) h =
-      subst₂ (λ c o. ObjectFits {P = Q} shape (a_constant_name facts.types c x) (option_map meant.a_constant (constant_of o))) (sym reported) (sym stands) (constant-fits x v scalar)
+  only-fits {Q = Q} x (Some (a_constant c)) o only (v, reported, holds, scalar) h =
+      subst₂ (λ c o. ObjectFits {P = Q} shape (a_constant_name facts.types c x) (option_map meant.a_constant (constant_of o))) (sym reported) (sym holds) (constant-fits x v scalar)
   only-fits x (Some (a_variable t)) o only a h = absurd (no-variable x t facts.only_constants only h)
 
 module _ {T N : Type 0} (facts : Facts T) (shape : T → Option Shape) (types : TypesAgree facts.types shape) (label : ℕ → N) (meaning : Typed N) where
   token-fits : (r : Role) (x : ℕ) → TokenAgrees facts shape label meaning r x → TokenFits facts shape label meaning r x
-  token-fits role.LookedUp x a = λ h. let o = stands-fits facts shape types x (facts.object_for x) (meaning.object_for (label x)) a h in record { fits = o.fits; placed = o.placed }
+  token-fits role.LookedUp x a = λ h. let o = holds-fits facts shape types x (facts.object_for x) (meaning.object_for (label x)) a h in record { fits = o.fits; placed = o.placed }
   token-fits role.FieldName x a = a
   token-fits role.Declaring x a = tt
   token-fits role.ClosingName x a = tt

@@ -14,7 +14,7 @@ use Rattle.ob0_types_check.specs.Operations.{add_operands, multiply_operands, na
 use Rattle.ob0_types_check.specs.Agreement.{TypesAgree}
 use Rattle.ob0_types_check.specs.ReportLaws.{OperandFits}
 use Rattle.ob0_types_check.proofs.FittingExpressions.{FitsExpression, FitsSelectors, NameFits, TokensFit, addends-apart, expression-fits, multipliers-apart, parts-placed, selectors-fit, split-tokens}
-use Rattle.ob0_types_check.proofs.Untold.{none-reported}
+use Rattle.ob0_types_check.proofs.Unreported.{none-reported}
 
 module _ {T N P : Type 0} (facts : Facts T) (shape : T → Option Shape) (types : TypesAgree facts.types shape) (label : ℕ → N) (meaning : Meanings N Shape P) where
   abbrev here : {s : Sort} → Tree ℕ s → Tree N s
@@ -32,7 +32,7 @@ module _ {T N P : Type 0} (facts : Facts T) (shape : T → Option Shape) (types 
   pub variable-typed : (x : ℕ) (path : Tree ℕ (items selector)) (s : Shape) (u : Option Shape) → meaning.object_for (label x) ≡ Some (a_variable s)
       → type_at meaning s (mapped label (value_at facts.source) path) ≡ u → variable_type meaning (Some (label x, mapped label (value_at facts.source) path)) ≡ u
   unfolding variable_type
-  variable-typed x path s u stands typed = ap (λ o. elim o [ Some (a_variable s) ↦ type_at meaning s (here path) | _ ↦ None ]) stands ∙ typed
+  variable-typed x path s u holds typed = ap (λ o. elim o [ Some (a_variable s) ↦ type_at meaning s (here path) | _ ↦ None ]) holds ∙ typed
 
   -- an operand, and the type of the variable that it is
   pub record IsPlaced (o : Operand T) (e : Tree N expression) : Type 0 where

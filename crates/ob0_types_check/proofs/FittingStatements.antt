@@ -25,7 +25,7 @@ use Rattle.ob0_types_check.proofs.FittingExpressions.{FitsSelectors, selectors-f
 use Rattle.ob0_types_check.proofs.FittingNames.{tokens-fit}
 use Rattle.ob0_types_check.proofs.FittingPlaces.{operand-fits, variable-typed}
 use Rattle.ob0_types_check.proofs.Operands.{requested-fits}
-use Rattle.ob0_types_check.proofs.Untold.{both-true, none-reported, second-reported}
+use Rattle.ob0_types_check.proofs.Unreported.{both-true, none-reported, second-reported}
 
 pub agree-same : (s : Shape) (a b : Option Shape) → a ≡ Some s → b ≡ Some s → agree a b ≡ true
 agree-same s a b p q = (λ i. agree (p i) (q i)) ∙ same_shape-refl s
@@ -34,7 +34,7 @@ not-false : (b : Bool) → not b ≡ false → b ≡ true
 not-false true h = refl
 not-false false h = sym h
 
--- as many as there are, and nothing told of them
+-- as many as there are, and nothing reported of them
 counted : {A : Type 0} (b : Bool) (xs : List A) (x : A) → (if b then xs else x ∷ []) ≡ [] → (b ≡ true) × (xs ≡ [])
 counted true xs x h = (refl, h)
 counted false xs x h = absurd (cc)
@@ -74,14 +74,14 @@ module _ {T N : Type 0} (facts : Facts T) (shape : T → Option Shape) (types : 
   pub record IsAssigned (reported : Reported T) (o : Option (Object Shape Signature)) : Type 0 where
     pub of : Shape
     pub known : shape reported.known ≡ Some of
-    pub stands : o ≡ Some (meant.a_variable of)
+    pub holds : o ≡ Some (meant.a_variable of)
 
-  assigned-stands : (x : ℕ) (m : Option (Meaning T)) (o : Option (Object Shape Signature)) → MeansAlike shape m o → (target_by_meaning facts x m).faults ≡ [] → IsAssigned (target_by_meaning facts x m) o
-  assigned-stands x None o a h = absurd a
-  assigned-stands x (Some (a_type t)) o a h = absurd (cc)
-  assigned-stands x (Some (a_constant c)) o a h = absurd (cc)
-  assigned-stands x (Some (a_procedure fs)) o a h = absurd (cc)
-  assigned-stands x (Some (a_variable t)) o (s, reported, stands) h = record { of = s; known = reported; stands = stands }
+  assigned-holds : (x : ℕ) (m : Option (Meaning T)) (o : Option (Object Shape Signature)) → MeansAlike shape m o → (target_by_meaning facts x m).faults ≡ [] → IsAssigned (target_by_meaning facts x m) o
+  assigned-holds x None o a h = absurd a
+  assigned-holds x (Some (a_type t)) o a h = absurd (cc)
+  assigned-holds x (Some (a_constant c)) o a h = absurd (cc)
+  assigned-holds x (Some (a_procedure fs)) o a h = absurd (cc)
+  assigned-holds x (Some (a_variable t)) o (s, reported, holds) h = record { of = s; known = reported; holds = holds }
 
   assignment-fits : (x : ℕ) (path : Tree ℕ (items selector)) (e : Tree ℕ expression) → Agreed (assigns x path e) → reported_assignment facts (reported_target facts x path) e ≡ [] → statement_fits meaning (here (assigns x path e)) ≡ true
   unfolding reported_target statement_fits
@@ -89,11 +89,11 @@ module _ {T N : Type 0} (facts : Facts T) (shape : T → Option Shape) (types : 
       let parts = none-reported (reported_target facts x path).faults _ h in
       let target = none-reported (target_meaning facts x).faults _ parts.0 in
       let rest = split (ids path) (ids e) k.1 in
-      let a : IsAssigned (target_meaning facts x) (meaning.object_for (label x)) = assigned-stands x (facts.object_for x) (meaning.object_for (label x)) k.0 target.0 in
+      let a : IsAssigned (target_meaning facts x) (meaning.object_for (label x)) = assigned-holds x (facts.object_for x) (meaning.object_for (label x)) k.0 target.0 in
       let fs : FitsSelectors facts shape types label meaning (a_name (target_meaning facts x).known x) a.of path
       = selectors-fit facts shape types label meaning (a_name (target_meaning facts x).known x) a.of path a.known (tokens-fit facts shape types label meaning (ids path) rest.0) target.1 in
       agree-same fs.of (variable_type meaning (Some (label x, here path))) (type_of meaning (here e))
-      (variable-typed facts shape types label meaning x path a.of (Some fs.of) a.stands fs.typed)
+      (variable-typed facts shape types label meaning x path a.of (Some fs.of) a.holds fs.typed)
       (requested-typed (reported_target facts x path).known.of fs.of e fs.known rest.1 parts.1)
 
   -- calls
@@ -157,9 +157,9 @@ module _ {T N : Type 0} (facts : Facts T) (shape : T → Option Shape) (types : 
   called-fits x (Some (a_type t)) o es a k h = absurd (cc)
   called-fits x (Some (a_constant c)) o es a k h = absurd (cc)
   called-fits x (Some (a_variable t)) o es a k h = absurd (cc)
-  called-fits x (Some (a_procedure fs)) o es (signature, stands, formals) k h =
+  called-fits x (Some (a_procedure fs)) o es (signature, holds, formals) k h =
       let parts = counted (nat_eq (length fs) (length es)) (reported_arguments facts fs es) _ h in
-      ap (λ s. call_fits meaning s (map here es)) stands ∙ arguments-fit fs signature es formals (eqb-true (length fs) (length es) parts.0) k parts.1
+      ap (λ s. call_fits meaning s (map here es)) holds ∙ arguments-fit fs signature es formals (eqb-true (length fs) (length es) parts.0) k parts.1
 
   call-fits : (x : ℕ) (es : Tree ℕ (maybe arguments)) → Agreed (calls x es) → reported_call facts x (arguments_listed es) ≡ [] → statement_fits meaning (here (calls x es)) ≡ true
   unfolding statement_fits

@@ -15,7 +15,7 @@ use Rattle.ob0_types_check.specs.SoFar.{Size, no_scalar, size_at}
 use Rattle.ob0_types_check.specs.SupposedFacts.{Gathers, IsGathered, counted, fields_in, size_of, so_far_in}
 use Rattle.ob0_types_check.specs.WrittenTypeFaults.{Gathered, beside, nothing_gathered, reported_fields, reported_groups, with_name, with_names}
 use Rattle.ob0_types_check.proofs.Chains.{Chained, chain_goes_on}
-use Rattle.ob0_types_check.proofs.ToldTypes.{group_reported, groups_chain}
+use Rattle.ob0_types_check.proofs.ReportedTypes.{group_reported, groups_chain}
 
 -- inside of one more
 pub inside : (xs : List ℕ) (x : ℕ) (ys : List ℕ) → ys ≡ xs ++ x ∷ [] → length ys ≡ suc (length xs)

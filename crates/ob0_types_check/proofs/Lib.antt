@@ -2,11 +2,11 @@ pub mod Chains
 pub mod GatheredFields
 pub mod Listed
 pub mod SameFacts
-pub mod ToldDeclarations
-pub mod ToldParts
-pub mod ToldStatements
-pub mod ToldTypes
-pub mod Untold
+pub mod ReportedDeclarations
+pub mod ReportedParts
+pub mod ReportedStatements
+pub mod ReportedTypes
+pub mod Unreported
 pub mod Valued
 pub mod Operands
 pub mod FittingExpressions

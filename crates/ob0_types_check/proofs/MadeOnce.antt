@@ -2,7 +2,7 @@
 use Rattle.std.proofs.Common.{◌≡◌, ℕ, zero, suc, ◌+◌, ◌<◌, ◌≤◌, List, [], ◌∷◌, ◌++◌, length, slice_get, Some, refl, sym, ap, ◌∙◌, subst, arith, le_refl, le_trans, length-append}
 use Rattle.ob0_values.specs.Values.{Shape}
 use Rattle.ob0_types_check.specs.WellTypedLaws.{EachOnce, constructor_of}
-use Rattle.ob0_types_check.proofs.Untold.{some-same}
+use Rattle.ob0_types_check.proofs.Unreported.{some-same}
 
 -- no type is made by the constructor of this ordinal
 abbrev pub Lacks : ℕ → List Shape → Type 0

@@ -18,7 +18,7 @@ use Rattle.ob0_values.specs.Values as values
 use Rattle.ob0_types_check.specs.Known.{Facts, Form, Operand, Reported, a_record, a_scalar, an_array, unknown_form}
 use Rattle.ob0_types_check.specs.Operations.{add_operands, required, required_both, at_operand, complement_operand, element_in, element_selected, field_in, field_selected, fits, found_field, multiply_operands, relate_operands, sign_operand, truth_of, required_by_add, required_by_equality, required_by_multiply, required_by_relation}
 use Rattle.ob0_types_check.specs.Agreement.{FormAgrees, TypesAgree}
-use Rattle.ob0_types_check.proofs.Untold.{first-of, first-reported, none-if, none-reported, not-true, some-none, some-same}
+use Rattle.ob0_types_check.proofs.Unreported.{first-of, first-reported, none-if, none-reported, not-true, some-none, some-same}
 
 -- a value that is known is of this type
 abbrev pub IsOf : Shape → Option Value → Type 0

@@ -18,7 +18,7 @@ use Rattle.ob0_types_check.proofs.FittingExpressions.{FitsExpression, expression
 use Rattle.ob0_types_check.proofs.FittingNames.{only-tokens, tokens-fit}
 use Rattle.ob0_types_check.proofs.FittingPlaces.{operand-fits}
 use Rattle.ob0_types_check.proofs.Operands.{IsOf, requested-fits, is-known}
-use Rattle.ob0_types_check.proofs.Untold.{goes-on, none-reported, not-true}
+use Rattle.ob0_types_check.proofs.Unreported.{goes-on, none-reported, not-true}
 
 only-once : {V P : Type 0} (o : Option (Object V P)) → option_map {U = Object Place (Unit {0})} a_constant (constant_of {V = Shape} {P = Unit {0}} (option_map a_constant (constant_of o))) ≡ option_map a_constant (constant_of o)
 only-once o = elim (constant_of o) as (λ c. option_map {U = Object Place (Unit {0})} a_constant (constant_of {V = Shape} {P = Unit {0}} (option_map a_constant c)) ≡ option_map a_constant c) [ None ↦ refl | Some v ↦ refl ]

@@ -15,7 +15,7 @@ use Rattle.ob0_types_check.specs.SupposedFacts.{so_far_in, table_in}
 use Rattle.ob0_types_check.specs.declared.reporting.supposed.Supposed.{Supposed}
 use Rattle.ob0_types_check.proofs.Listed.{nothing_left}
 use Rattle.ob0_types_check.proofs.TableKnown.{table_declares, table_in_order}
-use Rattle.ob0_types_check.proofs.ToldDeclarations.{module_reported}
+use Rattle.ob0_types_check.proofs.ReportedDeclarations.{module_reported}
 
 -- whether a list is empty, by its length
 pub is_nothing : (xs : List Fault) (n : ℕ) (b : Bool) → n ≡ length xs → b ≡ (n == 0) → b ≡ true → xs ≡ []

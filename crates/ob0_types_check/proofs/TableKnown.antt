@@ -27,7 +27,7 @@ use Rattle.ob0_types_check.specs.SupposedFacts.{fields_in, formal_of, made_of, m
 use Rattle.ob0_types_check.specs.declared.reporting.supposed.Meaning.{Meaning}
 use Rattle.ob0_types_check.specs.declared.reporting.supposed.Meaning.TheVariants as declared
 use Rattle.ob0_types_check.specs.declared.reporting.supposed.Supposed.{Supposed}
-use Rattle.ob0_types_check.proofs.Untold.{some-same}
+use Rattle.ob0_types_check.proofs.Unreported.{some-same}
 
 -- a type that has a shape
 array_only : (x u : Shape) → as_array x ≡ Some u → only_array x ≡ u

@@ -11,7 +11,7 @@ use Rattle.ob0_types_check.specs.Known.{a_record, an_array}
 use Rattle.ob0_types_check.specs.SoFar.{MadeType, PartTypes, FieldSoFar, elements_at, elements_in, field_at, field_in, first_field, form_at, of_elements, of_fields, same_type}
 use Rattle.ob0_types_check.specs.Agreement.{EachMade, FieldsAgree, FormAgrees, MadeAgrees, PartsAgree, TableAgrees, as_array, as_record, shape_in}
 use Rattle.ob0_types_check.specs.ReportLaws.{TypesOfTables}
-use Rattle.ob0_types_check.proofs.Untold.{some-none, some-same}
+use Rattle.ob0_types_check.proofs.Unreported.{some-none, some-same}
 
 -- of each shape it is known how it was made
 pub record Found (shape : TypeId → Option Shape) (made : List MadeType) (i : ℕ) (s : Shape) : Type 0 where

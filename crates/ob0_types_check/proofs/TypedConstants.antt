@@ -20,7 +20,7 @@ use Rattle.ob0_types_check.proofs.Proved.{constants-again}
 use Rattle.ob0_types_check.proofs.TypedExpressions.{expression-right}
 use Rattle.ob0_types_check.proofs.TypedNames.{constants-typed, names-typed, types-apart}
 use Rattle.ob0_types_check.proofs.TypedOperands.{TypesApart, and-then, required-right, none-of-both}
-use Rattle.ob0_types_check.proofs.Untold.{some-same}
+use Rattle.ob0_types_check.proofs.Unreported.{some-same}
 
 pub is-there : {A : Type 0} (o : Option A) → is_some o ≡ true → (a : A) × (o ≡ Some a)
 is-there None h = absurd (cc)

@@ -19,7 +19,7 @@ use Rattle.ob0_types_check.specs.WrittenTypeFaults.{reported_type}
 use Rattle.ob0_types_check.specs.WellTypedLaws.{EachOnce}
 use Rattle.ob0_types_check.proofs.BlocksParameters.{one_type, typed_as}
 use Rattle.ob0_types_check.proofs.DeclaredNames.{AreSeen, ConstantsPlaced, Numbering, SectionsPlaced, TypesPlaced, VariablesPlaced, names_listed-mapped, scope_following}
-use Rattle.ob0_types_check.proofs.DeclaredStanding.{Stands, agrees_where_seen, all_defined, defined, stands_defined, stands_later}
+use Rattle.ob0_types_check.proofs.DeclaredStanding.{Stands, agrees_where_seen, all_defined, defined, holds_defined, holds_later}
 use Rattle.ob0_types_check.proofs.DeclaredTypes.{type_denotes}
 use Rattle.ob0_types_check.proofs.PartsFitting.{PartsFit}
 use Rattle.ob0_types_check.proofs.TypedOperands.{and-then, none-of-both}
@@ -37,14 +37,14 @@ module _ (w : Numbering) (fit : PartsFit) (fine : PartsRight) where
       let agrees = agrees_where_seen w p true before n scope env st fit e placed.1 in
       let there : is_some (constant_value (meanings as_names env) (mapped (text_at w.source) (value_at p.source) e)) ≡ true =
       some-there (constant_value (meanings as_names env) (mapped (text_at w.source) (value_at p.source) e)) v (ap (λ s. constant_value (meanings as_names env) (mapped (text_at w.source) (value_at s) e)) st.source ∙ hv) in
-      let untold = fine.constants p before (text_at w.source) (meanings as_names env) e agrees there in
+      let unreported = fine.constants p before (text_at w.source) (meanings as_names env) e agrees there in
       let t : Reported (Option Value) = reported_constant (facts_at p true) e in
       let q : SoFar = define p (a_constant t.known) x in
-      let c = fit.constants p before (text_at w.source) (meanings as_names env) e agrees untold in
+      let c = fit.constants p before (text_at w.source) (meanings as_names env) e agrees unreported in
       let given : value ≡ Some c.value = ap (λ s. constant_value (meanings as_names env) (mapped (text_at w.source) (value_at s) e)) (sym st.source) ∙ c.given in
       let d = defined w p before n (a_constant t.known) x st.ordinals st.room st.table placed.0 in
-      let following = stands_defined w p q before n scope env (a_constant t.known) (text_at w.source x) (meant.a_constant c.value) st d refl (c.value, c.known, refl, c.scalar) in
-      none-of-both (t.faults ++ []) (reported_constants q cs).faults (none-of-both t.faults [] untold refl)
+      let following = holds_defined w p q before n scope env (a_constant t.known) (text_at w.source x) (meant.a_constant c.value) st d refl (c.value, c.known, refl, c.scalar) in
+      none-of-both (t.faults ++ []) (reported_constants q cs).faults (none-of-both t.faults [] unreported refl)
       (constants_right cs (suc n) q before ((text_at w.source x, n) ∷ scope) ((text_at w.source x, meant.a_constant c.value) ∷ env) following placed.2 after (given-again next value c.value (Some after) given h))
 
   pub types_right : (ds : Tree ℕ (items type_name)) (k n : ℕ) (p : SoFar) (before : List Shape) (scope : Scope Name) (env : TypeEnvironment Name) → length before ≡ k → Stands w p before n scope env → TypesPlaced w scope n ds
@@ -57,13 +57,13 @@ module _ (w : Numbering) (fit : PartsFit) (fine : PartsRight) where
       let (r, hr, later) = and-then next given after h in
       let u : Reported TypedAfter = reported_type 0 p t in
       let q : SoFar = define u.known.following (a_type u.known.of) x in
-      let untold = type_right w fit fine n scope env 0 k t p before (omega (arith, at)) st placed.1 r hr in
-      let s = type_denotes w fit n scope env 0 k t p before (omega (arith, at)) st placed.1 untold in
-      let following = stands_later w n n n p u.known.following before s.after scope env (le_refl n) (le_refl n) st s.later in
+      let unreported = type_right w fit fine n scope env 0 k t p before (omega (arith, at)) st placed.1 r hr in
+      let s = type_denotes w fit n scope env 0 k t p before (omega (arith, at)) st placed.1 unreported in
+      let following = holds_later w n n n p u.known.following before s.after scope env (le_refl n) (le_refl n) st s.later in
       let d = defined w u.known.following s.after n (a_type u.known.of) x following.ordinals following.room following.table placed.0 in
-      let next_stands = stands_defined w u.known.following q s.after n scope env (a_type u.known.of) (text_at w.source x) (meant.a_type s.shape) following d refl (s.shape, s.known, refl) in
-      none-of-both (u.faults ++ []) (reported_types q ds).faults (none-of-both u.faults [] untold refl)
-      (types_right ds (k + constructors (named w.source t)) (suc n) q s.after ((text_at w.source x, n) ∷ scope) ((text_at w.source x, meant.a_type s.shape) ∷ env) (omega (arith, at, s.apart.counted)) next_stands placed.2 after (given-again next given s.shape (Some after) s.given_is h))
+      let next_holds = holds_defined w u.known.following q s.after n scope env (a_type u.known.of) (text_at w.source x) (meant.a_type s.shape) following d refl (s.shape, s.known, refl) in
+      none-of-both (u.faults ++ []) (reported_types q ds).faults (none-of-both u.faults [] unreported refl)
+      (types_right ds (k + constructors (named w.source t)) (suc n) q s.after ((text_at w.source x, n) ∷ scope) ((text_at w.source x, meant.a_type s.shape) ∷ env) (omega (arith, at, s.apart.counted)) next_holds placed.2 after (given-again next given s.shape (Some after) s.given_is h))
 
   pub variables_right : (gs : Tree ℕ (items variable)) (k n : ℕ) (p : SoFar) (before : List Shape) (scope : Scope Name) (env : TypeEnvironment Name) → length before ≡ k → Stands w p before n scope env → VariablesPlaced w scope n gs
       → (after : TypeEnvironment Name) → declare_typed as_names k (named w.source gs) env ≡ Some after → (reported_variables p gs).faults ≡ []
@@ -76,14 +76,14 @@ module _ (w : Numbering) (fit : PartsFit) (fine : PartsRight) where
       let (r, hr, later) = and-then (rest (names_listed (named w.source ns))) given after h in
       let u : Reported TypedAfter = reported_type 0 p t in
       let q : SoFar = define_all u.known.following (a_variable u.known.of) xs in
-      let untold = type_right w fit fine n scope env 0 k t p before (omega (arith, at)) st placed.1 r hr in
-      let s = type_denotes w fit n scope env 0 k t p before (omega (arith, at)) st placed.1 untold in
-      let following = stands_later w n n n p u.known.following before s.after scope env (le_refl n) (le_refl n) st s.later in
+      let unreported = type_right w fit fine n scope env 0 k t p before (omega (arith, at)) st placed.1 r hr in
+      let s = type_denotes w fit n scope env 0 k t p before (omega (arith, at)) st placed.1 unreported in
+      let following = holds_later w n n n p u.known.following before s.after scope env (le_refl n) (le_refl n) st s.later in
       let all = all_defined w u.known.following s.after n scope env (a_variable u.known.of) xs (meant.a_variable s.shape) following placed.0 refl (s.shape, s.known, refl) in
       let own : names_listed (named w.source ns) ≡ map (text_at w.source) xs = names_listed-mapped (text_at w.source) (value_at w.source) ns in
       let last : rest (map (text_at w.source) xs) s.shape ≡ Some after = ap (λ ys. rest ys s.shape) (sym own) ∙ given-again (rest (names_listed (named w.source ns))) given s.shape (Some after) s.given_is h in
-      none-of-both (u.faults ++ []) (reported_variables q gs).faults (none-of-both u.faults [] untold refl)
-      (variables_right gs (k + constructors (named w.source t)) (after_names n xs) q s.after (scope_following w n xs scope) (bind_names (map (text_at w.source) xs) (meant.a_variable s.shape) env) (omega (arith, at, s.apart.counted)) all.stands placed.2 after last)
+      none-of-both (u.faults ++ []) (reported_variables q gs).faults (none-of-both u.faults [] unreported refl)
+      (variables_right gs (k + constructors (named w.source t)) (after_names n xs) q s.after (scope_following w n xs scope) (bind_names (map (text_at w.source) xs) (meant.a_variable s.shape) env) (omega (arith, at, s.apart.counted)) all.holds placed.2 after last)
 
   -- parameters of one type, and the others
   abbrev after_section : Mode → List Name → TypeEnvironment Name → ℕ → Tree Name (items further_section) → Shape → Option (List (TypedParameter Name))
@@ -100,14 +100,14 @@ module _ (w : Numbering) (fit : PartsFit) (fine : PartsRight) where
       let (r, hr, later) = and-then (after_section by_value (names_listed (named w.source ns)) env j (named w.source fs)) given ps e in
       let u : Reported TypedAfter = reported_type 0 h.following t in
       let g : KnownHeading = with_parameters h false xs u.known in
-      let untold = type_right w fit fine n scope env 0 k t h.following before (omega (arith, at)) st placed.1 r hr in
-      let one = one_type w fit false xs t k n h before scope env at st placed.0 placed.1 untold in
+      let unreported = type_right w fit fine n scope env 0 k t h.following before (omega (arith, at)) st placed.1 r hr in
+      let one = one_type w fit false xs t k n h before scope env at st placed.0 placed.1 unreported in
       let own : names_listed (named w.source ns) ≡ map (text_at w.source) xs = names_listed-mapped (text_at w.source) (value_at w.source) ns in
       let last : after_section by_value (map (text_at w.source) xs) env j (named w.source fs) one.shape ≡ Some ps =
       ap (λ ys. after_section by_value ys env j (named w.source fs) one.shape) (sym own) ∙ given-again (after_section by_value (names_listed (named w.source ns)) env j (named w.source fs)) given one.shape (Some ps) one.given_is e in
       let (rest, hrest, whole) = and-then (λ rest. Some (map (typed_as by_value one.shape) (map (text_at w.source) xs) ++ rest)) (typed_parameters as_names (bind_names (map (text_at w.source) xs) (meant.a_variable one.shape) env) j (named w.source fs)) ps last in
-      none-of-both (u.faults ++ []) (reported_sections g fs).faults (none-of-both u.faults [] untold refl)
-      (sections_right fs j (after_names n xs) g one.after (scope_following w n xs scope) (bind_names (map (text_at w.source) xs) (meant.a_variable one.shape) env) (omega (arith, at, one.apart.counted)) one.stands placed.2 rest hrest)
+      none-of-both (u.faults ++ []) (reported_sections g fs).faults (none-of-both u.faults [] unreported refl)
+      (sections_right fs j (after_names n xs) g one.after (scope_following w n xs scope) (bind_names (map (text_at w.source) xs) (meant.a_variable one.shape) env) (omega (arith, at, one.apart.counted)) one.holds placed.2 rest hrest)
   sections_right (more (then_section (variable_section ns t)) fs) k n h before scope env at st placed ps e =
       let xs : List ℕ = names_listed ns in
       let j : ℕ = k + constructors (named w.source t) in
@@ -115,14 +115,14 @@ module _ (w : Numbering) (fit : PartsFit) (fine : PartsRight) where
       let (r, hr, later) = and-then (after_section by_place (names_listed (named w.source ns)) env j (named w.source fs)) given ps e in
       let u : Reported TypedAfter = reported_type 0 h.following t in
       let g : KnownHeading = with_parameters h true xs u.known in
-      let untold = type_right w fit fine n scope env 0 k t h.following before (omega (arith, at)) st placed.1 r hr in
-      let one = one_type w fit true xs t k n h before scope env at st placed.0 placed.1 untold in
+      let unreported = type_right w fit fine n scope env 0 k t h.following before (omega (arith, at)) st placed.1 r hr in
+      let one = one_type w fit true xs t k n h before scope env at st placed.0 placed.1 unreported in
       let own : names_listed (named w.source ns) ≡ map (text_at w.source) xs = names_listed-mapped (text_at w.source) (value_at w.source) ns in
       let last : after_section by_place (map (text_at w.source) xs) env j (named w.source fs) one.shape ≡ Some ps =
       ap (λ ys. after_section by_place ys env j (named w.source fs) one.shape) (sym own) ∙ given-again (after_section by_place (names_listed (named w.source ns)) env j (named w.source fs)) given one.shape (Some ps) one.given_is e in
       let (rest, hrest, whole) = and-then (λ rest. Some (map (typed_as by_place one.shape) (map (text_at w.source) xs) ++ rest)) (typed_parameters as_names (bind_names (map (text_at w.source) xs) (meant.a_variable one.shape) env) j (named w.source fs)) ps last in
-      none-of-both (u.faults ++ []) (reported_sections g fs).faults (none-of-both u.faults [] untold refl)
-      (sections_right fs j (after_names n xs) g one.after (scope_following w n xs scope) (bind_names (map (text_at w.source) xs) (meant.a_variable one.shape) env) (omega (arith, at, one.apart.counted)) one.stands placed.2 rest hrest)
+      none-of-both (u.faults ++ []) (reported_sections g fs).faults (none-of-both u.faults [] unreported refl)
+      (sections_right fs j (after_names n xs) g one.after (scope_following w n xs scope) (bind_names (map (text_at w.source) xs) (meant.a_variable one.shape) env) (omega (arith, at, one.apart.counted)) one.holds placed.2 rest hrest)
 
   pub body_right : (statements : Tree ℕ (maybe body)) (n : ℕ) (p : SoFar) (before : List Shape) (scope : Scope Name) (env : TypeEnvironment Name) → Stands w p before n scope env → EachOnce before → AreSeen w scope statements
       → body_fits as_names env (named w.source statements) ≡ true → (reported_body p statements).faults ≡ []

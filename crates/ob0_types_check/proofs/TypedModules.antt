@@ -15,18 +15,18 @@ use Rattle.ob0_types_check.specs.Known.{Reported}
 use Rattle.ob0_types_check.specs.SoFar.{SoFar, at_first}
 use Rattle.ob0_types_check.specs.WellTypedLaws.{NoFaultInModules}
 use Rattle.ob0_types_check.proofs.BlocksDeclared.{constants_declare, next_le, types_declare}
-use Rattle.ob0_types_check.proofs.BlocksFit.{declarations_reported, first_stands, heading_known, heading_reported, procedure_reported}
+use Rattle.ob0_types_check.proofs.BlocksFit.{declarations_reported, first_holds, heading_known, heading_reported, procedure_reported}
 use Rattle.ob0_types_check.proofs.BoundModules.{held, names_bound-holds}
 use Rattle.ob0_types_check.proofs.DeclaredModules.{module_placed, numbering_of}
 use Rattle.ob0_types_check.proofs.DeclaredNames.{BlockPlaced, Numbering, ProcedurePlaced, ProceduresPlaced, following_constants, following_procedure, following_types, following_variables, constants-mapped, formals-mapped, scope_following, types-mapped, variables-mapped}
-use Rattle.ob0_types_check.proofs.DeclaredStanding.{Stands, later_same, stands_later}
+use Rattle.ob0_types_check.proofs.DeclaredStanding.{Stands, later_same, holds_later}
 use Rattle.ob0_types_check.proofs.EqualShapes.{each-true}
 use Rattle.ob0_types_check.proofs.MadeOnce.{Fresh, fresh_after, fresh_first}
 use Rattle.ob0_types_check.proofs.PartsFitting.{PartsFit, parts_fit}
 use Rattle.ob0_types_check.proofs.TypedDeclarations.{body_right, constants_right, sections_right, types_right, variables_right}
 use Rattle.ob0_types_check.proofs.TypedOperands.{and-then, none-of-both}
 use Rattle.ob0_types_check.proofs.TypedTypes.{PartsRight, given-again, parts_right}
-use Rattle.ob0_types_check.proofs.Untold.{some-same}
+use Rattle.ob0_types_check.proofs.Unreported.{some-same}
 
 -- a test of what is there
 held-again : {A : Type 0} (o : Option A) (test : A → Bool) (a : A) → o ≡ Some a → some_and o test ≡ true → test a ≡ true
@@ -57,15 +57,15 @@ module _ (w : Numbering) (fit : PartsFit) (fine : PartsRight) where
         let dc = constants_declare w fit (section_constants cs) k n p before scope env st placed.0 none₁ in
         let c_is : declare_constants as_names env (section_constants (named w.source cs)) ≡ Some dc.env = ap (declare_constants as_names env) (constants-mapped text value cs) ∙ dc.given_is in
         let t_is : types dc.env ≡ Some first = given-again types (declare_constants as_names env (section_constants (named w.source cs))) dc.env (Some first) c_is hf in
-        let none₂ = types_right w fit fine (section_types ts) k (first_type n b) t₁.known dc.after (following_constants w scope n b) dc.env (omega (arith, fresh.counted, dc.apart.counted)) dc.stands placed.1 first (sym (ap (declare_types as_names dc.env k) (types-mapped text value ts)) ∙ t_is) in
-        let dt = types_declare w fit (section_types ts) k (first_type n b) t₁.known dc.after (following_constants w scope n b) dc.env (omega (arith, fresh.counted, dc.apart.counted)) dc.stands placed.1 none₂ in
+        let none₂ = types_right w fit fine (section_types ts) k (first_type n b) t₁.known dc.after (following_constants w scope n b) dc.env (omega (arith, fresh.counted, dc.apart.counted)) dc.holds placed.1 first (sym (ap (declare_types as_names dc.env k) (types-mapped text value ts)) ∙ t_is) in
+        let dt = types_declare w fit (section_types ts) k (first_type n b) t₁.known dc.after (following_constants w scope n b) dc.env (omega (arith, fresh.counted, dc.apart.counted)) dc.holds placed.1 none₂ in
         let first_is : first ≡ dt.env = some-same first dt.env (sym t_is ∙ (ap (declare_types as_names dc.env k) (types-mapped text value ts) ∙ dt.given_is)) in
         let v_is : declare_typed as_names (after_types k nb) (named w.source (section_variables vs)) dt.env ≡ Some inner =
         (λ i. declare_typed as_names (after_types k nb) (sym (variables-mapped text value vs) i) (sym first_is i)) ∙ hv in
         let t_same : types_constructors (section_types (named w.source ts)) ≡ types_constructors (named w.source (section_types ts)) = ap types_constructors (types-mapped text value ts) in
-        let none₃ = variables_right w fit fine (section_variables vs) (after_types k nb) (first_variable n b) t₂.known dt.after (following_types w scope n b) dt.env (omega (arith, fresh.counted, dc.apart.counted, dt.apart.counted, t_same)) dt.stands placed.2 inner v_is in
+        let none₃ = variables_right w fit fine (section_variables vs) (after_types k nb) (first_variable n b) t₂.known dt.after (following_types w scope n b) dt.env (omega (arith, fresh.counted, dc.apart.counted, dt.apart.counted, t_same)) dt.holds placed.2 inner v_is in
         let d = declarations_reported w fit cs ts vs ps statements k n p before scope env fresh.counted st placed.0 placed.1 placed.2 none₁ none₂ none₃ in
-        let rest = procedures_right ps statements (after_variables k nb) (first_procedure n b) t₃.known d.after (following_variables w scope n b) d.env d.stands (fresh_after k (after_variables k nb) before d.after d.apart fresh) placed.3
+        let rest = procedures_right ps statements (after_variables k nb) (first_procedure n b) t₃.known d.after (following_variables w scope n b) d.env d.holds (fresh_after k (after_variables k nb) before d.after d.apart fresh) placed.3
         (held-again (option_and_then variables (declare_first as_names env k nb)) test d.env d.given_is h) in
         none-of-both t₁.faults (t₂.faults ++ (t₃.faults ++ (t₄.faults ++ (reported_body t₄.known statements).faults))) none₁
         (none-of-both t₂.faults (t₃.faults ++ (t₄.faults ++ (reported_body t₄.known statements).faults)) none₂
@@ -84,7 +84,7 @@ module _ (w : Numbering) (fit : PartsFit) (fine : PartsRight) where
         let none = procedure_right d k n p before scope env st fresh placed.0 ps hp (each-true (own ps) (others ps) fitting).0 in
         let f = procedure_reported w fit d k n p before scope env fresh.counted st placed.0 none in
         let both = each-true (own f.parameters) (others f.parameters) (held-again given (λ ps. own ps && others ps) f.parameters f.typed h) in
-        let last = procedures_right rest statements (k + procedure_constructors nd) (after_procedure (suc n) d) q f.after (following_procedure w scope n d) (heading (procedure_name nd) f.parameters env) f.stands
+        let last = procedures_right rest statements (k + procedure_constructors nd) (after_procedure (suc n) d) q f.after (following_procedure w scope n d) (heading (procedure_name nd) f.parameters env) f.holds
         (fresh_after k (k + procedure_constructors nd) before f.after f.apart fresh) placed.1 both.1 in
         (none-of-both (reported_procedure p d).faults (reported_procedures q rest).faults none last.0, last.1)
 
@@ -93,7 +93,7 @@ module _ (w : Numbering) (fit : PartsFit) (fine : PartsRight) where
         → procedure_fits as_names (bind_typed ps (heading (procedure_name (named w.source d)) ps env)) k (named w.source d) ≡ true → (reported_procedure p d).faults ≡ []
     procedure_right (declares_procedure x fs b closing) k n p before scope env st fresh placed ps hp h =
         let text : ℕ → Name = text_at w.source in
-        let weak = stands_later w n n (suc n) p p before before scope env (le_refl n) (next_le n) st (later_same n p before st.table) in
+        let weak = holds_later w n n (suc n) p p before before scope env (le_refl n) (next_le n) st (later_same n p before st.table) in
         let none = sections_right w fit fine (formal_sections fs) k (suc n) (record { formals = []; following = p }) before scope env fresh.counted weak placed.1 ps (sym (ap (typed_parameters as_names env k) (formals-mapped text (value_at w.source) fs)) ∙ hp) in
         let e = heading_reported w fit x fs k n p before scope env fresh.counted st placed.0 placed.1 none in
         let same : ps ≡ e.parameters = some-same ps e.parameters (sym hp ∙ e.typed) in
@@ -111,4 +111,4 @@ no_fault_in_modules-holds r is h =
     let m = r.module_read in
     let names = names_bound-holds r is h in
     none-of-both _ (reported_block (at_first r) (module_block (tree_of m))).faults names
-    (block_right (numbering_of r) parts_fit parts_right (module_block (tree_of m)) 0 7 (at_first r) [] (predeclared_scope as_names) (outermost as_names) (first_stands r) fresh_first (module_placed r is names) h)
+    (block_right (numbering_of r) parts_fit parts_right (module_block (tree_of m)) 0 7 (at_first r) [] (predeclared_scope as_names) (outermost as_names) (first_holds r) fresh_first (module_placed r is names) h)

@@ -1,4 +1,4 @@
--- Names that have a type; and the types of a table, which what is known of them tells apart.
+-- Names that have a type; and the types of a table, which what is known of them sets apart.
 use Rattle.std.proofs.Common.{◌≡◌, ℕ, Bool, true, false, true≢false, List, [], ◌∷◌, slice_get, Option, Some, None, option_map, option_and_then, if◌then◌else◌, refl, sym, ap, ◌∙◌}
 use Rattle.ob0_scan.specs.declared.fault.Code.TheVariants as code
 use Rattle.ob0_tree.specs.declared.tree.Role.{Role}
@@ -16,7 +16,7 @@ use Rattle.ob0_types_check.specs.Agreement.{MeansAlike, TokenAgrees, TokensAgree
 use Rattle.ob0_types_check.specs.SoFar.{MadeType, form_at, types_at}
 use Rattle.ob0_types_check.proofs.TypedExpressions.{NameTyped, NamesTyped}
 use Rattle.ob0_types_check.proofs.TypedOperands.{TypesApart, and-then}
-use Rattle.ob0_types_check.proofs.Untold.{some-none, some-same}
+use Rattle.ob0_types_check.proofs.Unreported.{some-none, some-same}
 
 -- the types of a table
 
@@ -77,12 +77,12 @@ module _ {T : Type 0} (facts : Facts T) (shape : T → Option Shape) where
   variable-named x t true e = absurd (true≢false e)
   variable-named x t false e = refl
 
-  stands-right : (x : ℕ) (m : Option (Meaning T)) (o : Option (Object Shape Signature)) → facts.only_constants ≡ false → MeansAlike shape m o → (s : Shape) → object_type o ≡ Some s → (named_value facts x m).faults ≡ []
-  stands-right x None o only a s h = absurd a
-  stands-right x (Some (a_type t)) o only (u, known, stands) s h = absurd (some-none s (sym h ∙ ap object_type stands))
-  stands-right x (Some (a_procedure fs)) o only (signature, stands, formals) s h = absurd (no-procedure o signature s stands h)
-  stands-right x (Some (a_constant c)) o only a s h = refl
-  stands-right x (Some (a_variable t)) o only a s h = variable-named x t facts.only_constants only
+  holds-right : (x : ℕ) (m : Option (Meaning T)) (o : Option (Object Shape Signature)) → facts.only_constants ≡ false → MeansAlike shape m o → (s : Shape) → object_type o ≡ Some s → (named_value facts x m).faults ≡ []
+  holds-right x None o only a s h = absurd a
+  holds-right x (Some (a_type t)) o only (u, known, holds) s h = absurd (some-none s (sym h ∙ ap object_type holds))
+  holds-right x (Some (a_procedure fs)) o only (signature, holds, formals) s h = absurd (no-procedure o signature s holds h)
+  holds-right x (Some (a_constant c)) o only a s h = refl
+  holds-right x (Some (a_variable t)) o only a s h = variable-named x t facts.only_constants only
 
   -- where names mean constants alone
 
@@ -91,8 +91,8 @@ module _ {T : Type 0} (facts : Facts T) (shape : T → Option Shape) where
 
   only-right : (Q : Type 0) (x : ℕ) (m : Option (Meaning T)) (o : Option (Object Shape Signature)) → MeansAlike shape m o → (s : Shape) → object_type (option_map {U = Object Shape Q} meant.a_constant (constant_of o)) ≡ Some s → (named_value facts x m).faults ≡ []
   only-right Q x None o a s h = absurd a
-  only-right Q x (Some (a_type t)) o (u, known, stands) s h = absurd (some-none s (sym h ∙ ap (λ z. object_type (option_map {U = Object Shape Q} meant.a_constant (constant_of z))) stands))
-  only-right Q x (Some (a_procedure fs)) o (signature, stands, formals) s h = absurd (no-constant o signature s stands h)
+  only-right Q x (Some (a_type t)) o (u, known, holds) s h = absurd (some-none s (sym h ∙ ap (λ z. object_type (option_map {U = Object Shape Q} meant.a_constant (constant_of z))) holds))
+  only-right Q x (Some (a_procedure fs)) o (signature, holds, formals) s h = absurd (no-constant o signature s holds h)
     where
       no-constant : (o : Option (Object Shape Signature)) (signature : Signature) (s : Shape) → signature_of o ≡ Some signature → object_type (option_map {U = Object Shape Q} meant.a_constant (constant_of o)) ≡ Some s → ⊥
       no-constant None signature s e h = some-none s (sym h)
@@ -102,11 +102,11 @@ module _ {T : Type 0} (facts : Facts T) (shape : T → Option Shape) where
       no-constant (Some (meant.a_procedure p)) signature s e h = some-none s (sym h)
       no-constant (Some (meant.a_standard p)) signature s e h = some-none s (sym h)
   only-right Q x (Some (a_constant c)) o a s h = refl
-  only-right Q x (Some (a_variable t)) o (u, known, stands) s h = absurd (some-none s (sym h ∙ ap (λ z. object_type (option_map {U = Object Shape Q} meant.a_constant (constant_of z))) stands))
+  only-right Q x (Some (a_variable t)) o (u, known, holds) s h = absurd (some-none s (sym h ∙ ap (λ z. object_type (option_map {U = Object Shape Q} meant.a_constant (constant_of z))) holds))
 
 module _ {T N : Type 0} (facts : Facts T) (shape : T → Option Shape) (label : ℕ → N) (meaning : Typed N) where
   name-typed : facts.only_constants ≡ false → (r : Role) (x : ℕ) → TokenAgrees facts shape label meaning r x → NameTyped facts label meaning r x
-  name-typed only role.LookedUp x a = λ s h. stands-right facts shape x (facts.object_for x) (meaning.object_for (label x)) only a s h
+  name-typed only role.LookedUp x a = λ s h. holds-right facts shape x (facts.object_for x) (meaning.object_for (label x)) only a s h
   name-typed only role.FieldName x a = tt
   name-typed only role.Declaring x a = tt
   name-typed only role.ClosingName x a = tt

@@ -16,7 +16,7 @@ use Rattle.ob0_values.specs.Values.{Shape, array_shape, boolean_shape, integer_s
 use Rattle.ob0_types_check.specs.Known.{Facts, Form, Operand, Reported, Types, a_record, a_scalar, an_array, unknown_form}
 use Rattle.ob0_types_check.specs.Operations.{add_operands, required, required_both, at_operand, complement_operand, element_in, element_selected, field_in, field_selected, fits, found_field, multiply_operands, relate_operands, sign_operand, required_by_add, required_by_equality, required_by_multiply, required_by_relation}
 use Rattle.ob0_types_check.specs.Agreement.{FormAgrees, TypesAgree, as_array, as_record}
-use Rattle.ob0_types_check.proofs.Untold.{not-true, some-none}
+use Rattle.ob0_types_check.proofs.Unreported.{not-true, some-none}
 
 -- where no fault is in either, none is in both
 pub none-of-both : (xs ys : List Fault) → xs ≡ [] → ys ≡ [] → xs ++ ys ≡ []
@@ -27,7 +27,7 @@ pub and-then : {A B : Type 0} (next : A → Option B) (o : Option A) (r : B) →
 and-then next None r h = absurd (cc)
 and-then next (Some a) r h = (a, refl, h)
 
--- what is known of types tells them apart: INTEGER and BOOLEAN, and those that are made of parts
+-- what is known of types sets them apart: INTEGER and BOOLEAN, and those that are made of parts
 pub record TypesApart {T : Type 0} (types : Types T) (shape : T → Option Shape) : Type 0 where
   pub integer : (t : T) → shape t ≡ Some integer_shape → types.same t types.integer ≡ true
   pub boolean : (t : T) → shape t ≡ Some boolean_shape → types.same t types.boolean ≡ true

@@ -27,7 +27,7 @@ use Rattle.ob0_types_check.proofs.FittingExpressions.{parts-placed}
 use Rattle.ob0_types_check.proofs.FittingStatements.{EachAgreed, arguments-agreed, arguments-mapped, split}
 use Rattle.ob0_types_check.proofs.TypedNames.{types-apart}
 use Rattle.ob0_types_check.proofs.TypedOperands.{TypesApart, and-then, required-right, none-of-both}
-use Rattle.ob0_types_check.proofs.Untold.{goes-on, some-none, some-same}
+use Rattle.ob0_types_check.proofs.Unreported.{goes-on, some-none, some-same}
 use Rattle.ob0_types_check.proofs.TypedTargets.{expression-typed, no-signature, operand-typed, target-typed, variable-of}
 
 module _ {T N : Type 0} (facts : Facts T) (shape : T → Option Shape) (types : TypesAgree facts.types shape) (apart : TypesApart facts.types shape) (alike : (t u : T) (s : Shape) → shape t ≡ Some s → shape u ≡ Some s → facts.types.same t u ≡ true) (only : facts.only_constants ≡ false) (label : ℕ → N) (meaning : Typed N) where
@@ -72,9 +72,9 @@ module _ {T N : Type 0} (facts : Facts T) (shape : T → Option Shape) (types : 
 
   named-place : (x : ℕ) (m : Option (Meaning T)) (o : Option (Object Shape Signature)) (v : Shape) → MeansAlike shape m o → o ≡ Some (meant.a_variable v) → (named_value facts x m).known.is_place ≡ true
   named-place x None o v a e = absurd a
-  named-place x (Some (a_type t)) o v (s, reported, stands) e = absurd (some-none v (sym (ap object_type e) ∙ ap object_type stands))
-  named-place x (Some (a_constant c)) o v (w, reported, stands, scalar) e = let same : Some (meant.a_constant w) ≡ Some (meant.a_variable v) = sym stands ∙ e in absurd (cc)
-  named-place x (Some (a_procedure fs)) o v (signature, stands, formals) e = no-signature facts shape types apart only label meaning o v signature e stands
+  named-place x (Some (a_type t)) o v (s, reported, holds) e = absurd (some-none v (sym (ap object_type e) ∙ ap object_type holds))
+  named-place x (Some (a_constant c)) o v (w, reported, holds, scalar) e = let same : Some (meant.a_constant w) ≡ Some (meant.a_variable v) = sym holds ∙ e in absurd (cc)
+  named-place x (Some (a_procedure fs)) o v (signature, holds, formals) e = no-signature facts shape types apart only label meaning o v signature e holds
   named-place x (Some (a_variable t)) o v a e = variable-place x t facts.only_constants
 
   -- a variable with its selectors has their type, and is known as a place
@@ -96,11 +96,11 @@ module _ {T N : Type 0} (facts : Facts T) (shape : T → Option Shape) (types : 
   place-known (compares (sum None (product (designator x path) end) (more (adds o u) rest)) c) k s h = no-designator s h
   place-known (compares (sum None (product (designator x path) end) end) (one (relates r b))) k s h = no-designator s h
   place-known (compares (sum None (product (designator x path) end) end) none) k s h =
-      let (v, stands, typed) = variable-of (meaning.object_for (label x)) (λ v. type_at meaning v (here path)) s h in
-      let factor : type_of_factor meaning (here (designator x path)) ≡ Some s = goes-on (λ s. type_at meaning s (here path)) (object_type (meaning.object_for (label x))) v (Some s) (ap object_type stands) typed in
+      let (v, holds, typed) = variable-of (meaning.object_for (label x)) (λ v. type_at meaning v (here path)) s h in
+      let factor : type_of_factor meaning (here (designator x path)) ≡ Some s = goes-on (λ s. type_at meaning s (here path)) (object_type (meaning.object_for (label x))) v (Some s) (ap object_type holds) typed in
       record {
         typed = ap (λ o. option_and_then (λ x. option_and_then (λ y. Some y) (Some x)) (option_and_then (λ x. Some x) o)) factor;
-        placed = parts-placed facts (named facts x).known path ∙ named-place x (facts.object_for x) (meaning.object_for (label x)) v k.0 stands;
+        placed = parts-placed facts (named facts x).known path ∙ named-place x (facts.object_for x) (meaning.object_for (label x)) v k.0 holds;
       }
 
   passed-right : (b : Bool) (of : T) (g : Formal) (e : Tree ℕ expression) → g.mode ≡ mode_of b → shape of ≡ Some g.shape → Named e → argument_fits meaning g (here e) ≡ true
@@ -144,11 +144,11 @@ module _ {T N : Type 0} (facts : Facts T) (shape : T → Option Shape) (types : 
   called-right : (x : ℕ) (m : Option (Meaning T)) (o : Option (Object Shape Signature)) (es : List (Tree ℕ expression)) → MeansAlike shape m o → EachAgreed facts shape types label meaning es → call_fits meaning (signature_of o) (map here es) ≡ true → call_by_meaning facts x m es ≡ []
   unfolding call_fits
   called-right x None o es a k h = absurd a
-  called-right x (Some (a_type t)) o es (s, reported, stands) k h = not-called o (Some (meant.a_type s)) es stands refl h
-  called-right x (Some (a_constant c)) o es (v, reported, stands, scalar) k h = not-called o (Some (meant.a_constant v)) es stands refl h
-  called-right x (Some (a_variable t)) o es (s, reported, stands) k h = not-called o (Some (meant.a_variable s)) es stands refl h
-  called-right x (Some (a_procedure fs)) o es (signature, stands, formals) k h =
-      let parts = arguments-right fs signature es formals k (sym (ap (λ s. call_fits meaning s (map here es)) stands) ∙ h) in
+  called-right x (Some (a_type t)) o es (s, reported, holds) k h = not-called o (Some (meant.a_type s)) es holds refl h
+  called-right x (Some (a_constant c)) o es (v, reported, holds, scalar) k h = not-called o (Some (meant.a_constant v)) es holds refl h
+  called-right x (Some (a_variable t)) o es (s, reported, holds) k h = not-called o (Some (meant.a_variable s)) es holds refl h
+  called-right x (Some (a_procedure fs)) o es (signature, holds, formals) k h =
+      let parts = arguments-right fs signature es formals k (sym (ap (λ s. call_fits meaning s (map here es)) holds) ∙ h) in
       ap (λ b. if b then reported_arguments facts fs es else at_token facts code.ArgumentCount x) (eq-eqb (length fs) (length es) parts.0) ∙ parts.1
 
   call-right : (x : ℕ) (es : Tree ℕ (maybe arguments)) → Named (calls x es) → statement_fits meaning (here (calls x es)) ≡ true → reported_call facts x (arguments_listed es) ≡ []

@@ -24,7 +24,7 @@ use Rattle.ob0_types_check.proofs.TypedConstants.{is-there}
 use Rattle.ob0_types_check.proofs.TypedExpressions.{AllTyped, expression-right, selectors-right}
 use Rattle.ob0_types_check.proofs.TypedNames.{names-typed, types-apart}
 use Rattle.ob0_types_check.proofs.TypedOperands.{TypesApart, none-of-both}
-use Rattle.ob0_types_check.proofs.Untold.{some-none}
+use Rattle.ob0_types_check.proofs.Unreported.{some-none}
 
 -- a variable, by the type at the end of its selectors
 pub variable-of : {P : Type 0} (o : Option (Object Shape P)) (f : Shape → Option Shape) (s : Shape) → (elim o [ Some (meant.a_variable v) ↦ f v | _ ↦ None ]) ≡ Some s → (v : Shape) × (o ≡ Some (meant.a_variable v)) × (f v ≡ Some s)
@@ -63,10 +63,10 @@ module _ {T N : Type 0} (facts : Facts T) (shape : T → Option Shape) (types : 
 
   assigned-right : (x : ℕ) (m : Option (Meaning T)) (o : Option (Object Shape Signature)) (v : Shape) → MeansAlike shape m o → o ≡ Some (meant.a_variable v) → ((target_by_meaning facts x m).faults ≡ []) × (shape (target_by_meaning facts x m).known ≡ Some v)
   assigned-right x None o v a e = absurd a
-  assigned-right x (Some (a_type t)) o v (s, reported, stands) e = absurd (some-none v (sym (ap object_type e) ∙ ap object_type stands))
-  assigned-right x (Some (a_constant c)) o v (w, reported, stands, scalar) e = let same : Some (meant.a_constant w) ≡ Some (meant.a_variable v) = sym stands ∙ e in absurd (cc)
-  assigned-right x (Some (a_procedure fs)) o v (signature, stands, formals) e = no-signature o v signature e stands
-  assigned-right x (Some (a_variable t)) o v (s, reported, stands) e = (refl, reported ∙ ap object_type (sym stands ∙ e))
+  assigned-right x (Some (a_type t)) o v (s, reported, holds) e = absurd (some-none v (sym (ap object_type e) ∙ ap object_type holds))
+  assigned-right x (Some (a_constant c)) o v (w, reported, holds, scalar) e = let same : Some (meant.a_constant w) ≡ Some (meant.a_variable v) = sym holds ∙ e in absurd (cc)
+  assigned-right x (Some (a_procedure fs)) o v (signature, holds, formals) e = no-signature o v signature e holds
+  assigned-right x (Some (a_variable t)) o v (s, reported, holds) e = (refl, reported ∙ ap object_type (sym holds ∙ e))
 
   pub record TargetTyped (x : ℕ) (path : Tree ℕ (items selector)) (s : Shape) : Type 0 where
     pub none : (reported_target facts x path).faults ≡ []
@@ -75,8 +75,8 @@ module _ {T N : Type 0} (facts : Facts T) (shape : T → Option Shape) (types : 
   pub target-typed : (x : ℕ) (path : Tree ℕ (items selector)) (s : Shape) → Named (designator x path) → variable_type meaning (Some (label x, here path)) ≡ Some s → TargetTyped x path s
   unfolding reported_target variable_type
   target-typed x path s k h =
-      let (v, stands, typed) = variable-of (meaning.object_for (label x)) (λ v. type_at meaning v (here path)) s h in
-      let a = assigned-right x (facts.object_for x) (meaning.object_for (label x)) v k.0 stands in
+      let (v, holds, typed) = variable-of (meaning.object_for (label x)) (λ v. type_at meaning v (here path)) s h in
+      let a = assigned-right x (facts.object_for x) (meaning.object_for (label x)) v k.0 holds in
       let o : Operand T = a_name (target_meaning facts x).known x in
       let rest = selectors-right facts shape types apart label meaning o v path a.1 (all-typed path k.1) s typed in
       let fs : FitsSelectors facts shape types label meaning o v path = selectors-fit facts shape types label meaning o v path a.1 (tokens-fit facts shape types label meaning (ids path) k.1) rest in

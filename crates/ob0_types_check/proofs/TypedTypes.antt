@@ -22,13 +22,13 @@ use Rattle.ob0_types_check.specs.Agreement.{MeansAlike, shape_in}
 use Rattle.ob0_types_check.specs.WellTypedLaws.{NoFaultInConstants, NoFaultInLengths, NoFaultInStatements}
 use Rattle.ob0_types_check.proofs.DeclaredNames.{AreSeen, IsSeen, Numbering, each_part}
 use Rattle.ob0_types_check.proofs.DeclaredShapes.{GatheredAgrees, SizeAgrees, array_sized, followed, record_sized, size_agrees}
-use Rattle.ob0_types_check.proofs.DeclaredStanding.{Stands, agrees_where_seen, seen_stands, stands_later}
+use Rattle.ob0_types_check.proofs.DeclaredStanding.{Stands, agrees_where_seen, seen_holds, holds_later}
 use Rattle.ob0_types_check.proofs.DeclaredTypes.{array_given, both_gather, group_gathers, grouped, groups_gather, none_both, nothing_agrees, of_limits, type_denotes}
 use Rattle.ob0_types_check.proofs.PartsFitting.{PartsFit}
 use Rattle.ob0_types_check.proofs.TypedConstants.{no_fault_in_constants-holds, no_fault_in_lengths-holds}
 use Rattle.ob0_types_check.proofs.TypedOperands.{and-then, none-of-both}
 use Rattle.ob0_types_check.proofs.TypedStatements.{no_fault_in_statements-holds}
-use Rattle.ob0_types_check.proofs.Untold.{some-none}
+use Rattle.ob0_types_check.proofs.Unreported.{some-none}
 
 -- what declarations use of expressions and statements: where they are well-typed, no fault is reported of them
 pub record PartsRight : Type 0 where
@@ -70,9 +70,9 @@ no-type (Some (meant.a_standard p)) signature s e h = absurd (some-none s (sym h
 meant-right : (p : SoFar) (before : List Shape) (x : ℕ) (m : Option (Meaning TypeId)) (o : Option (meant.Object Shape Signature)) → MeansAlike (shape_in before) m o → (s : Shape) → type_of_name o ≡ Some s → (type_meant (facts_at p false) x m).faults ≡ []
 meant-right p before x None o a s h = refl
 meant-right p before x (Some (a_type t)) o a s h = refl
-meant-right p before x (Some (a_constant c)) o (v, reported, stands, scalar) s h = absurd (some-none s (sym h ∙ ap type_of_name stands))
-meant-right p before x (Some (a_variable t)) o (u, reported, stands) s h = absurd (some-none s (sym h ∙ ap type_of_name stands))
-meant-right p before x (Some (a_procedure fs)) o (signature, stands, formals) s h = no-type o signature s stands h
+meant-right p before x (Some (a_constant c)) o (v, reported, holds, scalar) s h = absurd (some-none s (sym h ∙ ap type_of_name holds))
+meant-right p before x (Some (a_variable t)) o (u, reported, holds) s h = absurd (some-none s (sym h ∙ ap type_of_name holds))
+meant-right p before x (Some (a_procedure fs)) o (signature, holds, formals) s h = no-type o signature s holds h
 
 -- an array of a length that is known
 array-right : (ordinal : ℕ) (o : Operand TypeId) (reported : Option ℕ) (count : ℕ) (u : so_far.TypedAfter) → reported ≡ Some count → is_within (array_size count (size_at u.following.made u.of)) ≡ true → (array_made ordinal o reported u).faults ≡ []
@@ -88,7 +88,7 @@ module _ (w : Numbering) (fit : PartsFit) (fine : PartsRight) (n : ℕ) (scope :
     pub type_right : (around k : ℕ) (t : Tree ℕ written_type) (p : SoFar) (before : List Shape) → length before + around ≡ k → Stands w p before n scope env → AreSeen w scope t → (s : Shape) → denoted (meanings as_names env) k (named w.source t) ≡ Some s → (reported_type around p t).faults ≡ []
     type_right around k (named_type x) p before at st seen s h =
         none-of-both (type_meant (facts_at p false) x ((facts_at p false).object_for x)).faults []
-        (meant-right p before x ((facts_at p false).object_for x) ((meanings as_names env).object_for (text_at w.source x)) (seen_stands w p false before n scope env st x seen.0) s h) refl
+        (meant-right p before x ((facts_at p false).object_for x) ((meanings as_names env).object_for (text_at w.source x)) (seen_holds w p false before n scope env st x seen.0) s h) refl
     type_right around k (array_type e u) p before at st seen s h =
         let parts = each_part (IsSeen w scope) (occurrences e) (occurrences u) seen in
         let given : Option Shape = denoted here (suc k) (named w.source u) in
@@ -127,7 +127,7 @@ module _ (w : Numbering) (fit : PartsFit) (fine : PartsRight) (n : ℕ) (scope :
         let all : Reported Gathered = reported_groups (suc around) first.known rest in
         let none = group_right (suc around) (suc k) g (nothing_gathered p) before (omega (arith, at)) st parts.0 ys fs hf in
         let one = group_gathers w fit n scope env (suc around) (suc k) g (nothing_gathered p) before no_field_shape (omega (arith, at)) st parts.0 (nothing_agrees before p) none in
-        let following = stands_later w n n n p first.known.following before one.gathers.after scope env (le_refl n) (le_refl n) st one.gathers.later in
+        let following = holds_later w n n n p first.known.following before one.gathers.after scope env (le_refl n) (le_refl n) st one.gathers.later in
         let rests = groups_right (suc around) (suc k + c) rest first.known one.gathers.after one.own (omega (arith, at, one.gathers.apart.counted)) following parts.1 one.gathers.agrees ys hy in
         let other = groups_gather w fit n scope env (suc around) (suc k + c) rest first.known one.gathers.after one.own (omega (arith, at, one.gathers.apart.counted)) following parts.1 one.gathers.agrees rests in
         let whole = both_gather n p before (suc k) (suc k + c) (suc k + c + d) no_field_shape own first.known all.known others one other in
@@ -151,5 +151,5 @@ module _ (w : Numbering) (fit : PartsFit) (fine : PartsRight) (n : ℕ) (scope :
         let (ys, hy, hf) = and-then (λ ys. denoted_group here k ys (named w.source f)) (denoted_groups here (k + c) (named w.source rest)) fs h in
         let none = group_right around k f g before at st parts.0 ys fs hf in
         let one = group_gathers w fit n scope env around k f g before first at st parts.0 agrees none in
-        let following = stands_later w n n n g.following next.known.following before one.gathers.after scope env (le_refl n) (le_refl n) st one.gathers.later in
+        let following = holds_later w n n n g.following next.known.following before one.gathers.after scope env (le_refl n) (le_refl n) st one.gathers.later in
         none-of-both next.faults (reported_groups around next.known rest).faults none (groups_right around (k + c) rest next.known one.gathers.after (followed first one.own) (omega (arith, at, one.gathers.apart.counted)) following parts.1 one.gathers.agrees ys hy)

@@ -39,7 +39,11 @@ pub record TypesAgree {T : Type 0} (types : Types T) (shape : T → Option Shape
   pub formed : (t : T) (s : Shape) → shape t ≡ Some s → FormAgrees shape (types.form t) s
 
 -- parameters are those of a signature, one by one
-abbrev pub FormalsAgree : {T : Type 0} → (T → Option Shape) → List (KnownFormal T) → Signature → Type 0
+abbrev pub FormalsAgree : {T : Type 0}
+    → (T → Option Shape)
+    → List (KnownFormal T)
+    → Signature
+    → Type 0
 FormalsAgree shape [] [] = Unit {0}
 FormalsAgree shape [] (g ∷ gs) = ⊥
 FormalsAgree shape (f ∷ fs) [] = ⊥
@@ -118,7 +122,9 @@ TokensAgree facts shape label meaning (x ∷ xs) =
     TokenAgrees facts shape label meaning x.0 x.1 × TokensAgree facts shape label meaning xs
 
 -- what is known at a place, for all that occurs in an expression or in statements there
-pub record Agrees {T N : Type 0} (facts : Facts T) (shape : T → Option Shape) (label : ℕ → N) (meaning : Typed N) {s : Sort} (t : Tree ℕ s) : Type 0 where
+pub record Agrees
+    {T N : Type 0} (facts : Facts T) (shape : T → Option Shape) (label : ℕ → N) (meaning : Typed N)
+    {s : Sort} (t : Tree ℕ s) : Type 0 where
   pub types : TypesAgree facts.types shape
   pub tokens : TokensAgree facts shape label meaning (identifiers role.Declaring t)
 

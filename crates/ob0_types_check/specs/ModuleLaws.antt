@@ -29,7 +29,8 @@ ModulesFit =
 pub record KnowsDeclarations (p : SoFar) (m : Tree Name module_text) : Type 0 where
   pub shapes : List Shape
   pub table : TableAgrees p.made shapes
-  pub declared : (k : ℕ) → DeclarationAgrees (shape_in shapes) (slice_index_or p.declared k None) (declared_object m k)
+  pub declared : (k : ℕ)
+      → DeclarationAgrees (shape_in shapes) (slice_index_or p.declared k None) (declared_object m k)
   pub standards : (k : ℕ) → 7 ≤ k → is_standard (declared_object m k) ≡ false
   pub predeclared : (k : ℕ) → k < 7 → declared_object m k ≡ object_bound (outermost as_labels) k
   pub room : 7 ≤ length p.declared

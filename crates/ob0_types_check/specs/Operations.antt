@@ -35,7 +35,8 @@ abbrev pub ◌>>=◌ : {A B : Type 0} → Reported A → (A → Reported B) → 
 t >>= next = preceded_by t.faults (next t.known)
 
 -- x is what is known, and what is reported follows the faults from before
-pub record ReportsAfter {A : Type 0} (before after : List Fault) (x : A) (t : Reported A) : Type 0 where
+pub record ReportsAfter
+    {A : Type 0} (before after : List Fault) (x : A) (t : Reported A) : Type 0 where
   pub known : x ≡ t.known
   pub reported : after ≡ before ++ t.faults
 

@@ -22,7 +22,9 @@ meaning_here false meaning = meaning
 
 -- What is known of an operand is so of its expression: its type; its value, where it is made of constants, which is of that
 -- type; and where it may be for a place, it is a variable or parameter with its selectors.
-pub record OperandFits {T N P : Type 0} (shape : T → Option Shape) (meaning : Meanings N Shape P) (o : Operand T) (e : Tree N expression) : Type 0 where
+pub record OperandFits
+    {T N P : Type 0} (shape : T → Option Shape) (meaning : Meanings N Shape P) (o : Operand T)
+    (e : Tree N expression) : Type 0 where
   pub of : Shape
   pub known : shape o.of ≡ Some of
   pub typed : type_of meaning e ≡ Some of
@@ -41,7 +43,8 @@ ExpressionsFit N =
     (reported_expression (facts_at p only_constants) e).known (mapped label (value_at p.source) e)
 
 -- a constant's right side of which nothing is reported has the value that is known, a scalar
-pub record ConstantFits {N : Type 0} (meaning : Typed N) (reported : Option Value) (e : Tree N expression) : Type 0 where
+pub record ConstantFits
+    {N : Type 0} (meaning : Typed N) (reported : Option Value) (e : Tree N expression) : Type 0 where
   pub value : Value
   pub known : reported ≡ Some value
   pub given : constant_value meaning e ≡ Some value
@@ -57,7 +60,8 @@ ConstantsFit N =
     (mapped label (value_at p.source) e)
 
 -- an array's length of which nothing is reported is the one that is known
-pub record LengthFits {N : Type 0} (meaning : Typed N) (reported : Option ℕ) (e : Tree N expression) : Type 0 where
+pub record LengthFits
+    {N : Type 0} (meaning : Typed N) (reported : Option ℕ) (e : Tree N expression) : Type 0 where
   pub value : Value
   pub length : ℕ
   pub known : reported ≡ Some length

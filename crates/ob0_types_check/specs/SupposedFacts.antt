@@ -142,7 +142,9 @@ pub record IsGathered (g : Gathered) (s : Supposed) (now : gathering.Gathered) :
   pub following : so_far_in s ≡ g.following
 
 -- what is gathered of a record's fields, after the faults from before
-pub record Gathers (before after : List Fault) (s : Supposed) (gathered : gathering.Gathered) (t : Reported Gathered) : Type 0 where
+pub record Gathers
+    (before after : List Fault) (s : Supposed) (gathered : gathering.Gathered)
+    (t : Reported Gathered) : Type 0 where
   pub reported : after ≡ before ++ t.faults
   pub now : IsGathered t.known s gathered
 

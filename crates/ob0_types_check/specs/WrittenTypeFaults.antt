@@ -13,7 +13,7 @@ use Rattle.ob0_types_check.specs.Operations.{right, token_before, ◌>>=◌}
 use Rattle.ob0_types_check.specs.SoFar.{Size, SoFar, TypedAfter, FieldSoFar, facts_at, make, no_scalar, of_elements, of_fields, size_at}
 use Rattle.ob0_types_check.specs.TypeFaults.{length_of, type_named}
 
--- so many of the same beside one another, inside an array
+-- a number of the same beside one another, inside an array
 abbrev pub array_size : ℕ → Size → Size
 array_size n z = record { scalars = z.scalars * n; depth = z.depth + 1 }
 
@@ -25,7 +25,8 @@ ordinal_here around p = length p.made + around
 -- An array of a faulty length is unknown as a whole; the type of its elements is looked at all the same. The word ARRAY is
 -- before the length.
 abbrev pub array_made : ℕ → Operand TypeId → Option ℕ → TypedAfter → Reported TypedAfter
-array_made ordinal o None element = right (record { of = type.Unknown; following = element.following })
+array_made ordinal o None element =
+    right (record { of = type.Unknown; following = element.following })
 array_made ordinal o (Some n) element =
     make element.following (token_before o.first) ordinal (of_elements n element.of)
     (array_size n (size_at element.following.made element.of))
@@ -86,7 +87,7 @@ record_word (more (then_fields g) rest) = word_before g (record_word rest)
 abbrev pub record_made : ℕ → ℕ → Gathered → Reported TypedAfter
 record_made word ordinal g = make g.following word ordinal (of_fields g.fields) (record_size g.size)
 
--- the faults of a type that is in so many ARRAY and RECORD
+-- the faults of a type that is inside `around` ARRAY and RECORD
 unfoldable mutual
   unfolding reported_expression
 

@@ -11,9 +11,9 @@ ghost use Rattle.ob0_types_fields.specs.Search.{after_all, after_one, found_type
 
 use ob0_scope_rules::Resolved;
 use ob0_tree::{
-    Block, Fields, Procedure, RecordType, Section, TypeDeclaration, Variables, WrittenType,
+    Block, Fields, Procedure, RecordType, Section, TypeDeclaration, Variables, WrittenType, text_at,
 };
-use ob0_types_table::{FieldOf, Known, TypeId, text_at};
+use ob0_types_table::{FieldOf, Known, TypeId};
 
 /// A field of a record, with its type.
 #[derive(Clone, Copy)]

@@ -16,9 +16,9 @@ use crate::declared::{formals, types, variables};
 use ob0_scope_rules::Resolved;
 use ob0_tree::{
     Assignment, Block, Call, Designator, Elsif, Expression, Factor, If, Procedure, Selector,
-    Simple, Statement, Term,
+    Simple, Statement, Term, text_at,
 };
-use ob0_types_table::{Known, Object, TypeId, scalar_type, text_at};
+use ob0_types_table::{Known, Object, TypeId, scalar_type};
 use std::alloc::AllocError;
 
 /// Tokens of fields, each with the ordinal of its record.

@@ -11,7 +11,7 @@ ghost use Rattle.ob0_types_fields.specs.Identifiers.{AreInTextOrder, field_on, f
 
 use ob0_scan::{Span, Tokens};
 use ob0_scope_rules::token_span;
-use ob0_types_table::text_at;
+use ob0_tree::text_at;
 use std::alloc::{AllocError, Global};
 
 /// The first identifier that a place is on. It is found by halving: of identifiers in text order it is the first that doesn't

@@ -34,8 +34,8 @@ IsOf d scope x = ordinal_of as_names scope x ≡ Some d
 abbrev pub StandsAlone : ℕ → Placed
 StandsAlone d s j scope t = NoneOf (IsOf d scope) (names_elsewhere t)
 
-pub stands-constant : {V P Q : Type 0} (edit : Edit) (w : Value) (X : Marks V P → Name → ℕ → P → Type 0) (p : ℕ → P → Q) (n : ℕ) (marks : Marks V P) → Sound edit w X n marks → AreConstant (IsOf edit.constant (scope_marked marks)) (read_meanings p marks) w
-stands-constant edit w X p n marks s x k = read-object_for p marks x ∙ has_value-found edit w p (found marks x) (found-right edit w X n marks x s) (sym (ordinal-found marks x) ∙ k)
+pub holds-constant : {V P Q : Type 0} (edit : Edit) (w : Value) (X : Marks V P → Name → ℕ → P → Type 0) (p : ℕ → P → Q) (n : ℕ) (marks : Marks V P) → Sound edit w X n marks → AreConstant (IsOf edit.constant (scope_marked marks)) (read_meanings p marks) w
+holds-constant edit w X p n marks s x k = read-object_for p marks x ∙ has_value-found edit w p (found marks x) (found-right edit w X n marks x s) (sym (ordinal-found marks x) ∙ k)
 
 pub agree-some : {X Y Z : Type 0} (p : X → Y) (q : X → Z) (P : X → Type 0) (r : Option Y) (s : Option Z) → Agree p q P r s → (y : Y) → r ≡ Some y → (x : X) × P x × (p x ≡ y)
 agree-some {X} {Y} p q P r s (a, e, e', holds) y h = go a holds (sym e ∙ h)
@@ -61,7 +61,7 @@ alone-constants {V} {P} edit w X p j k marks s seven (more (declares_constant x 
     let choice : Bool → Option Value = λ t. if t then Some v else value_among ((x, a_constant v) ∷ knowns marks) edit.constant (suc k) cs in
     let value : k ≤ edit.constant → edit.constant < n → choice (k == edit.constant) ≡ Some w = λ l m.
     sym (ap (option_and_then (λ v. if k == edit.constant then Some v else value_among ((x, a_constant v) ∷ knowns marks) edit.constant (suc k) cs)) known) ∙ has_value l m in (
-      constant_value-elsewhere (IsOf edit.constant (scope_marked marks)) (read_meanings p marks) w (stands-constant edit w X p k marks s) e v ev,
+      constant_value-elsewhere (IsOf edit.constant (scope_marked marks)) (read_meanings p marks) w (holds-constant edit w X p k marks s) e v ev,
       alone-constants edit w X p (j + length (occurrences e)) (suc k) (record { name = x; ordinal = k; object = a_constant v } ∷ marks) (
         le_refl (suc k),
         record {
@@ -81,7 +81,7 @@ alone-types edit w X p i j k marks s seven end outside env h = tt
 alone-types edit w X p i j k marks s seven (more (declares_type x t) ds) outside env h =
     let (shape, es, h₁) = then_some (denoted (read_meanings p marks) i t) (λ s. declare_types as_names ((x, a_type s) ∷ read p marks) (i + constructors t) ds) env h in
     let below : suc k ≤ after_names (suc k) (named_types ds) = le-after_names (suc k) (named_types ds) in (
-      denoted-elsewhere (IsOf edit.constant (scope_marked marks)) (read_meanings p marks) w (stands-constant edit w X p k marks s) i t shape es,
+      denoted-elsewhere (IsOf edit.constant (scope_marked marks)) (read_meanings p marks) w (holds-constant edit w X p k marks s) i t shape es,
       alone-types edit w X p (i + constructors t) (j + length (occurrences t)) (suc k) (record { name = x; ordinal = k; object = a_type shape } ∷ marks)
           (le_refl (suc k), outside-right edit w x k (a_type shape) seven (λ a b. outside a (omega (arith, a, b, below))), tt, s) (omega (arith, seven)) ds (λ a b. outside (omega (arith, a)) b) env h₁,
     )
@@ -100,7 +100,7 @@ alone-variables edit w i j k marks s seven (more (declares_variable ns t) gs) ou
     let last : n ≤ after_names n ys = le-after_names n ys in
     let inner : Marks Shape Signature = mark_all k (with_value shape xs) marks in
     let bound = typed-names edit w k xs shape marks s seven (λ l m. outside l (omega (arith, m, whole, last))) in (
-      denoted-elsewhere (IsOf edit.constant (scope_marked marks)) (read_meanings as_signed marks) w (stands-constant edit w anything as_signed k marks s) i t shape es,
+      denoted-elsewhere (IsOf edit.constant (scope_marked marks)) (read_meanings as_signed marks) w (holds-constant edit w anything as_signed k marks s) i t shape es,
       subst (λ scope. EachVariable (StandsAlone edit.constant) (j + length (occurrences t)) scope n gs) bound.0.scoped
           (alone-variables edit w (i + constructors t) (j + length (occurrences t)) n inner bound.0.sound (omega (arith, seven, above)) gs (λ l m. outside (omega (arith, l, above)) (omega (arith, m, whole))) env
           (ap (declare_typed as_names (i + constructors t) gs) (sym bound.1) ∙ h₁)),
@@ -124,7 +124,7 @@ alone-sections edit w i j k marks s seven (more (then_section f) fs) outside ps 
     let last : n ≤ after_names n ys = le-after_names n ys in
     let inner : Marks Shape Signature = mark_all k (with_value shape xs) marks in
     let bound = typed-names edit w k xs shape marks s seven (λ l m. outside l (omega (arith, m, whole, last))) in (
-      denoted-elsewhere (IsOf edit.constant (scope_marked marks)) (read_meanings as_signed marks) w (stands-constant edit w anything as_signed k marks s) i t shape es,
+      denoted-elsewhere (IsOf edit.constant (scope_marked marks)) (read_meanings as_signed marks) w (holds-constant edit w anything as_signed k marks s) i t shape es,
       subst (λ scope. EachSection (StandsAlone edit.constant) (j + length (occurrences f)) scope n fs) bound.0.scoped
           (alone-sections edit w (i + constructors t) (j + length (occurrences f)) n inner bound.0.sound (omega (arith, seven, above)) fs (λ l m. outside (omega (arith, l, above)) (omega (arith, m, whole))) rest
           (ap (λ env. typed_parameters as_names env (i + constructors t) fs) (sym bound.1) ∙ er)),
@@ -133,7 +133,7 @@ alone-sections edit w i j k marks s seven (more (then_section f) fs) outside ps 
 pub alone-body : (edit : Edit) (w : Value) (n : ℕ) (marks : Marks Shape Signature) → Checked edit w n marks → (statements : Tree Name (maybe body)) → body_fits as_names (read as_signed marks) statements ≡ true → NoneOf (IsOf edit.constant (scope_marked marks)) (names_elsewhere statements)
 unfolding body_fits
 alone-body edit w n marks s none h = tt
-alone-body edit w n marks s (one (begins a)) h = sequence-elsewhere (IsOf edit.constant (scope_marked marks)) (read_meanings as_signed marks) w (stands-constant edit w anything as_signed n marks s) a h
+alone-body edit w n marks s (one (begins a)) h = sequence-elsewhere (IsOf edit.constant (scope_marked marks)) (read_meanings as_signed marks) w (holds-constant edit w anything as_signed n marks s) a h
 
 constants_first : (env : TypeEnvironment Name) (i : ℕ) (b : Tree Name block) (env₁ : TypeEnvironment Name) → declare_first as_names env i b ≡ Some env₁
     → (env₀ : TypeEnvironment Name) × (declare_constants as_names env (block_constants b) ≡ Some env₀) × (declare_types as_names env₀ i (block_types b) ≡ Some env₁)

@@ -501,16 +501,16 @@ unfolding value_in_block block_bindings
 no-procedures known noted j k = record { binds = tt; has_value_is = λ d l. refl }
 
 mutual
-  pub block-worths : (known : Known) (noted : TypeNoted Name) (j k : ℕ) → Knows known noted → TypedBelow k noted → (b : Tree Name block)
+  pub block-evaluates : (known : Known) (noted : TypeNoted Name) (j k : ℕ) → Knows known noted → TypedBelow k noted → (b : Tree Name block)
       → block_fits as_labels (typed_by_ordinal noted) j (relabel_block as_names (as_label as_names) (typed_scope noted) k b) ≡ true
       → Worths k (after_block k b) (λ d. value_in_block known d k b) (block_bindings as_labels (typed_by_ordinal noted) j (relabel_block as_names (as_label as_names) (typed_scope noted) k b))
-  block-worths known noted j k knows below (has_body (declares cs ts vs ps) statements) h =
+  block-evaluates known noted j k knows below (has_body (declares cs ts vs ps) statements) h =
       let b : Tree Name block = has_body (declares cs ts vs ps) statements in
       let b' : Tree Label block = relabel_block as_names (as_label as_names) (typed_scope noted) k b in
       let parts = block-parts (typed_by_ordinal noted) j b' h in
       let o : Opened known noted k b parts.0 = block-opened known noted j k knows below b parts.0 parts.1 in
       let names : List Name = named_types (section_types ts) ++ variable_names (section_variables vs) in
-      let p = procedures-worths (bind_names names no_constant o.constants.known_after) o.last (after_variables j b') (first_procedure k b) (o.others.knows o.constants.known_after o.constants.knows) o.below (block_statements b') ps
+      let p = procedures-evaluate (bind_names names no_constant o.constants.known_after) o.last (after_variables j b') (first_procedure k b) (o.others.knows o.constants.known_after o.constants.knows) o.below (block_statements b') ps
       ((λ i. procedures_fit as_labels (sym o.reads i) (after_variables j b') (block_statements b') (relabel_procedures as_names (as_label as_names) (o.scoped i) (first_procedure k b) ps)) ∙ parts.2) in
       let P : TypeEnvironment Label = procedures_bindings as_labels (typed_by_ordinal o.last) (after_variables j b') (relabel_procedures as_names (as_label as_names) (typed_scope o.last) (first_procedure k b) ps) in
       subst (Worths k (after_block k b) (λ d. value_in_block known d k b))
@@ -518,11 +518,11 @@ mutual
       ∙ sym (block-listed (typed_by_ordinal noted) j b' parts.0 parts.1))
       (block-values known noted k b parts.0 P o p)
 
-  pub procedures-worths : (known : Known) (noted : TypeNoted Name) (j k : ℕ) → Knows known noted → TypedBelow k noted → (statements : Tree Label (maybe body)) (ps : Tree Name (items procedure))
+  pub procedures-evaluate : (known : Known) (noted : TypeNoted Name) (j k : ℕ) → Knows known noted → TypedBelow k noted → (statements : Tree Label (maybe body)) (ps : Tree Name (items procedure))
       → procedures_fit as_labels (typed_by_ordinal noted) j statements (relabel_procedures as_names (as_label as_names) (typed_scope noted) k ps) ≡ true
       → Worths k (after_procedures k ps) (λ d. value_in_procedures known d k ps) (procedures_bindings as_labels (typed_by_ordinal noted) j (relabel_procedures as_names (as_label as_names) (typed_scope noted) k ps))
-  procedures-worths known noted j k knows below statements end h = no-procedures known noted j k
-  procedures-worths known noted j k knows below statements (more (declares_procedure x fs b closing) rest) h =
+  procedures-evaluate known noted j k knows below statements end h = no-procedures known noted j k
+  procedures-evaluate known noted j k knows below statements (more (declares_procedure x fs b closing) rest) h =
       let scope : Scope Name = typed_scope noted in
       let env : TypeEnvironment Label = typed_by_ordinal noted in
       let xs : List Name = formal_names (formal_sections fs) in
@@ -535,8 +535,8 @@ mutual
       let jr : ℕ = j + procedure_constructors (declares_procedure (declared k) fs' b' (declared k)) in
       let f : FitParts env j statements (declared k) fs' b' (declared k) rest' = procedure-parts env j statements (declared k) fs' b' (declared k) rest' h in
       let e : Entered known noted k x xs f.listed = procedure-entered known noted j k knows below x fs f.listed f.typed in
-      let inside_block = block-worths (bind_names xs no_constant ((x, no_constant) ∷ known)) e.inner jb m e.knows e.below b ((λ i. block_fits as_labels (e.opened i) jb (relabel_block as_names (as_label as_names) (e.scoped i) m b)) ∙ f.block_right) in
-      let later = procedures-worths ((x, no_constant) ∷ known) e.own jr q e.own_knows (TypedBelow-weaken (suc k) q e.own (le-after_procedure (suc k) (declares_procedure x fs b closing)) e.own_below) statements rest
+      let inside_block = block-evaluates (bind_names xs no_constant ((x, no_constant) ∷ known)) e.inner jb m e.knows e.below b ((λ i. block_fits as_labels (e.opened i) jb (relabel_block as_names (as_label as_names) (e.scoped i) m b)) ∙ f.block_right) in
+      let later = procedures-evaluate ((x, no_constant) ∷ known) e.own jr q e.own_knows (TypedBelow-weaken (suc k) q e.own (le-after_procedure (suc k) (declares_procedure x fs b closing)) e.own_below) statements rest
       ((λ i. procedures_fit as_labels (e.headed i) jr statements (relabel_procedures as_names (as_label as_names) (e.own_scope i) q rest)) ∙ f.rest_right) in
       subst (Worths k (after_procedures q rest) (λ d. value_in_procedures known d k (more (declares_procedure x fs b closing) rest)))
       ((λ i. procedures_bindings as_labels (e.headed i) jr (relabel_procedures as_names (as_label as_names) (e.own_scope i) q rest) ++ (block_bindings as_labels (e.opened i) jb (relabel_block as_names (as_label as_names) (e.scoped i) m b) ++ bind_typed f.listed (heading (declared k) f.listed [])))
@@ -567,10 +567,10 @@ predeclared-below = (lit< tt, (lit< tt, (lit< tt, (lit< tt, (lit< tt, (lit< tt, 
 pub outermost-binds : Binds 0 7 (outermost as_labels)
 outermost-binds = ((6, refl, omega arith, omega arith), ((5, refl, omega arith, omega arith), ((4, refl, omega arith, omega arith), ((3, refl, omega arith, omega arith), ((2, refl, omega arith, omega arith), ((1, refl, omega arith, omega arith), ((0, refl, omega arith, omega arith), tt)))))))
 
-module-worths : (m : Tree Name module_text) → fits_over as_labels (numbered m) ≡ true → (d : ℕ) → 7 ≤ d → value_in_block predeclared_known d 7 (module_block m) ≡ constant_of (declared_object m d)
+module-evaluates : (m : Tree Name module_text) → fits_over as_labels (numbered m) ≡ true → (d : ℕ) → 7 ≤ d → value_in_block predeclared_known d 7 (module_block m) ≡ constant_of (declared_object m d)
 unfolding fits_over all_known
-module-worths (is_module x b closing) h d l =
-    let w = block-worths predeclared_known (typed_outermost as_names) 0 7 (knows-all (typed_outermost as_names)) predeclared-below b h in
+module-evaluates (is_module x b closing) h d l =
+    let w = block-evaluates predeclared_known (typed_outermost as_names) 0 7 (knows-all (typed_outermost as_names)) predeclared-below b h in
     w.has_value_is d l ∙ sym (ap constant_of (bound-first 0 7 d (block_bindings as_labels (outermost as_labels) 0 (relabel_block as_names (as_label as_names) (typed_scope (typed_outermost as_names)) 7 b)) (outermost as_labels) outermost-binds (λ a z. omega (arith, l, z))))
 
 -- in a well-typed module a constant evaluates to what its declaration is bound to
@@ -582,4 +582,4 @@ pub constant-declared : (m : Tree Name module_text) → WellTyped m → (d : ℕ
 unfolding WellTyped value_of_constant
 constant-declared m well d l =
     sym (ap (λ t. if t then None else value_in_block predeclared_known d 7 (module_block m)) (le-ltb d 7 l)
-    ∙ module-worths m (sym (fits_by_ordinal-holds m) ∙ well.1) d l)
+    ∙ module-evaluates m (sym (fits_by_ordinal-holds m) ∙ well.1) d l)

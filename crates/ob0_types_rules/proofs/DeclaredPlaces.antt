@@ -17,7 +17,7 @@ use Rattle.ob0_types_rules.specs.Environments.{outermost}
 use Rattle.ob0_types_rules.specs.Expressions.{Object}
 use Rattle.ob0_types_rules.specs.WellTyped.{Signature, TypeEnvironment, TypedParameter, WellTyped, bind_names, bind_typed, block_fits, fits_over, heading, procedures_fit, typed_parameters}
 use Rattle.ob0_values.specs.Values.{Shape}
-use Rattle.ob0_types_rules.proofs.ConstantsDeclared.{Binds, Entered, FitParts, Knows, Opened, binds-append, binds-wider, block-listed, block-opened, block-parts, block-worths, bound-elsewhere, bound-first, knows-all, all_known, opened-above, opened-binds, opened-grown, opened-since, outermost-binds, predeclared-below, procedure-entered, procedure-parts, procedures-listed, procedures-worths}
+use Rattle.ob0_types_rules.proofs.ConstantsDeclared.{Binds, Entered, FitParts, Knows, Opened, binds-append, binds-wider, block-listed, block-opened, block-parts, block-evaluates, bound-elsewhere, bound-first, knows-all, all_known, opened-above, opened-binds, opened-grown, opened-since, outermost-binds, predeclared-below, procedure-entered, procedure-parts, procedures-listed, procedures-evaluate}
 use Rattle.ob0_types_rules.proofs.Bound.{bind_typed-append}
 use Rattle.ob0_types_rules.proofs.Proved.{fits_by_ordinal-holds}
 use Rattle.ob0_types_rules.proofs.TypesByOrdinal.{TypeNoted, TypedBelow, TypedBelow-weaken, typed_by_ordinal, typed_outermost, typed_scope}
@@ -40,8 +40,8 @@ bound-none k n d xs b h = ap (λ e. object_bound e d) (sym (append-nil xs)) ∙ 
 nothing : {A : Type 0} (o : A) → None ≡ Some o → ⊥
 nothing o e = cc
 
-stands-grown : (all env own : TypeEnvironment Label) (k n : ℕ) → k ≤ n → Stands all env → Binds 0 k env → Binds k n own → Has k n all own → Stands all (own ++ env)
-stands-grown all env own k n le st envb ownb has = λ d o h. by d o h (nat_lt d k) refl (nat_lt d n) refl
+holds-grown : (all env own : TypeEnvironment Label) (k n : ℕ) → k ≤ n → Stands all env → Binds 0 k env → Binds k n own → Has k n all own → Stands all (own ++ env)
+holds-grown all env own k n le st envb ownb has = λ d o h. by d o h (nat_lt d k) refl (nat_lt d n) refl
   where
     by : (d : ℕ) (o : Object Shape Signature) → object_bound (own ++ env) d ≡ Some o → (s : Bool) → nat_lt d k ≡ s → (t : Bool) → nat_lt d n ≡ t → object_bound all d ≡ Some o
     by d o h true below t e = st d o (sym (bound-elsewhere k n d own env ownb (λ a z. omega (arith, a, ltb-true d k below))) ∙ h)
@@ -68,11 +68,11 @@ unfolding block_bodies
 last-body all env j statements st = All-cons (λ (place : BodyAt Label). Stands all place.environment) (record { environment = env; statements = statements }) [] st (λ k d l. absurd (omega (arith, l)))
 
 mutual
-  block-stands : (known : Known) (noted : TypeNoted Name) (j k : ℕ) → Knows known noted → TypedBelow k noted → (all : TypeEnvironment Label) → Stands all (typed_by_ordinal noted) → (b : Tree Name block)
+  block-holds : (known : Known) (noted : TypeNoted Name) (j k : ℕ) → Knows known noted → TypedBelow k noted → (all : TypeEnvironment Label) → Stands all (typed_by_ordinal noted) → (b : Tree Name block)
       → block_fits as_labels (typed_by_ordinal noted) j (relabel_block as_names (as_label as_names) (typed_scope noted) k b) ≡ true
       → Has k (after_block k b) all (block_bindings as_labels (typed_by_ordinal noted) j (relabel_block as_names (as_label as_names) (typed_scope noted) k b))
       → All (λ (place : BodyAt Label). Stands all place.environment) (block_bodies as_labels (typed_by_ordinal noted) j (relabel_block as_names (as_label as_names) (typed_scope noted) k b))
-  block-stands known noted j k knows below all st (has_body (declares cs ts vs ps) statements) h has =
+  block-holds known noted j k knows below all st (has_body (declares cs ts vs ps) statements) h has =
       let b : Tree Name block = has_body (declares cs ts vs ps) statements in
       let env : TypeEnvironment Label = typed_by_ordinal noted in
       let b' : Tree Label block = relabel_block as_names (as_label as_names) (typed_scope noted) k b in
@@ -84,7 +84,7 @@ mutual
       let names : List Name = named_types (section_types ts) ++ variable_names (section_variables vs) in
       let known' : Known = bind_names names no_constant o.constants.known_after in
       let fits = (λ i. procedures_fit as_labels (sym o.reads i) jv (block_statements b') (relabel_procedures as_names (as_label as_names) (o.scoped i) kp ps)) ∙ parts.2 in
-      let p = procedures-worths known' o.last jv kp (o.others.knows o.constants.known_after o.constants.knows) o.below (block_statements b') ps fits in
+      let p = procedures-evaluate known' o.last jv kp (o.others.knows o.constants.known_after o.constants.knows) o.below (block_statements b') ps fits in
       let P : TypeEnvironment Label = procedures_bindings as_labels (typed_by_ordinal o.last) jv (relabel_procedures as_names (as_label as_names) (typed_scope o.last) kp ps) in
       let own : TypeEnvironment Label = o.others.bound ++ o.constants.bound in
       let own_binds : Binds k kp own = opened-binds known noted k b parts.0 o in
@@ -95,18 +95,18 @@ mutual
       ∙ (λ i. procedures_bindings as_labels (o.reads i) jv (relabel_procedures as_names (as_label as_names) (sym o.scoped i) kp ps) ++ opened-since known noted k b parts.0 o i) in
       let each : Has k n all (P ++ own) = λ d l m. has d l m ∙ ap (λ e. object_bound e d) listed in
       let inner : Stands all (typed_by_ordinal o.last) = subst (Stands all) (sym (opened-grown known noted k b parts.0 o) ∙ o.reads)
-      (stands-grown all env own k kp first st (noted-binds k noted below) own_binds (λ d l m. each d l (omega (arith, m, last)) ∙ bound-elsewhere kp n d P own p.binds (λ a z. omega (arith, a, m)))) in
+      (holds-grown all env own k kp first st (noted-binds k noted below) own_binds (λ d l m. each d l (omega (arith, m, last)) ∙ bound-elsewhere kp n d P own p.binds (λ a z. omega (arith, a, m)))) in
       subst (All (λ (place : BodyAt Label). Stands all place.environment))
       ((λ i. procedures_bodies as_labels (sym o.reads i) jv (block_statements b') (relabel_procedures as_names (as_label as_names) (o.scoped i) kp ps)) ∙ sym (block-bodied env j b' parts.0 parts.1))
-      (procedures-stands known' o.last jv kp (o.others.knows o.constants.known_after o.constants.knows) o.below all inner (block_statements b') ps fits
+      (procedures-hold known' o.last jv kp (o.others.knows o.constants.known_after o.constants.knows) o.below all inner (block_statements b') ps fits
       (λ d l m. each d (omega (arith, l, first)) m ∙ bound-first k kp d P own own_binds (λ a z. omega (arith, l, z))))
 
-  procedures-stands : (known : Known) (noted : TypeNoted Name) (j k : ℕ) → Knows known noted → TypedBelow k noted → (all : TypeEnvironment Label) → Stands all (typed_by_ordinal noted) → (statements : Tree Label (maybe body)) (ps : Tree Name (items procedure))
+  procedures-hold : (known : Known) (noted : TypeNoted Name) (j k : ℕ) → Knows known noted → TypedBelow k noted → (all : TypeEnvironment Label) → Stands all (typed_by_ordinal noted) → (statements : Tree Label (maybe body)) (ps : Tree Name (items procedure))
       → procedures_fit as_labels (typed_by_ordinal noted) j statements (relabel_procedures as_names (as_label as_names) (typed_scope noted) k ps) ≡ true
       → Has k (after_procedures k ps) all (procedures_bindings as_labels (typed_by_ordinal noted) j (relabel_procedures as_names (as_label as_names) (typed_scope noted) k ps))
       → All (λ (place : BodyAt Label). Stands all place.environment) (procedures_bodies as_labels (typed_by_ordinal noted) j statements (relabel_procedures as_names (as_label as_names) (typed_scope noted) k ps))
-  procedures-stands known noted j k knows below all st statements end h has = last-body all (typed_by_ordinal noted) j statements st
-  procedures-stands known noted j k knows below all st statements (more (declares_procedure x fs b closing) rest) h has =
+  procedures-hold known noted j k knows below all st statements end h has = last-body all (typed_by_ordinal noted) j statements st
+  procedures-hold known noted j k knows below all st statements (more (declares_procedure x fs b closing) rest) h has =
       let scope : Scope Name = typed_scope noted in
       let env : TypeEnvironment Label = typed_by_ordinal noted in
       let xs : List Name = formal_names (formal_sections fs) in
@@ -122,10 +122,10 @@ mutual
       let qs : List (TypedParameter Label) = f.listed in
       let e : Entered known noted k x xs qs = procedure-entered known noted j k knows below x fs qs f.typed in
       let inside_fits = (λ i. block_fits as_labels (e.opened i) jb (relabel_block as_names (as_label as_names) (e.scoped i) m b)) ∙ f.block_right in
-      let inside_block = block-worths (bind_names xs no_constant ((x, no_constant) ∷ known)) e.inner jb m e.knows e.below b inside_fits in
+      let inside_block = block-evaluates (bind_names xs no_constant ((x, no_constant) ∷ known)) e.inner jb m e.knows e.below b inside_fits in
       let later_below : TypedBelow q e.own = TypedBelow-weaken (suc k) q e.own (le-after_procedure (suc k) (declares_procedure x fs b closing)) e.own_below in
       let later_fits = (λ i. procedures_fit as_labels (e.headed i) jr statements (relabel_procedures as_names (as_label as_names) (e.own_scope i) q rest)) ∙ f.rest_right in
-      let later = procedures-worths ((x, no_constant) ∷ known) e.own jr q e.own_knows later_below statements rest later_fits in
+      let later = procedures-evaluate ((x, no_constant) ∷ known) e.own jr q e.own_knows later_below statements rest later_fits in
       let B : TypeEnvironment Label = block_bindings as_labels (typed_by_ordinal e.inner) jb (relabel_block as_names (as_label as_names) (typed_scope e.inner) m b) in
       let top : TypeEnvironment Label = heading (declared k) qs [] in
       let H : TypeEnvironment Label = bind_typed qs top in
@@ -143,18 +143,18 @@ mutual
       let each_top : Has k (suc k) all top = λ d l u.
       each_H d l (omega (arith, u, above)) ∙ ap (λ z. object_bound z d) (bind_typed-append qs [] top) ∙ bound-elsewhere (suc k) m d (bind_typed qs []) top e.parameters_bind (λ a z. omega (arith, a, u)) in
       let inner : Stands all (typed_by_ordinal e.inner) = subst (Stands all) (sym (bind_typed-append qs top env) ∙ sym e.opened)
-      (stands-grown all env H k m (omega (arith, above)) st (noted-binds k noted below) e.binds each_H) in
+      (holds-grown all env H k m (omega (arith, above)) st (noted-binds k noted below) e.binds each_H) in
       let following : Stands all (typed_by_ordinal e.own) = subst (Stands all) (sym e.headed)
-      (stands-grown all env top k (suc k) (omega arith) st (noted-binds k noted below) ((k, refl, le_refl k, le_refl (suc k)), tt) each_top) in
+      (holds-grown all env top k (suc k) (omega arith) st (noted-binds k noted below) ((k, refl, le_refl k, le_refl (suc k)), tt) each_top) in
       subst (All (λ (place : BodyAt Label). Stands all place.environment))
       ((λ i. block_bodies as_labels (e.opened i) jb (relabel_block as_names (as_label as_names) (e.scoped i) m b) ++ procedures_bodies as_labels (e.headed i) jr statements (relabel_procedures as_names (as_label as_names) (e.own_scope i) q rest))
       ∙ sym (procedures-bodied env j statements (declared k) fs' b' (declared k) rest' qs f.typed))
       (All-append (λ (place : BodyAt Label). Stands all place.environment)
       (block_bodies as_labels (typed_by_ordinal e.inner) jb (relabel_block as_names (as_label as_names) (typed_scope e.inner) m b))
       (procedures_bodies as_labels (typed_by_ordinal e.own) jr statements (relabel_procedures as_names (as_label as_names) (typed_scope e.own) q rest))
-      (block-stands (bind_names xs no_constant ((x, no_constant) ∷ known)) e.inner jb m e.knows e.below all inner b inside_fits
+      (block-holds (bind_names xs no_constant ((x, no_constant) ∷ known)) e.inner jb m e.knows e.below all inner b inside_fits
       (λ d l u. each d (omega (arith, l, above)) (omega (arith, u, last)) ∙ bound-elsewhere q n d R (B ++ H) later.binds (λ a z. omega (arith, a, u)) ∙ bound-first k m d B H e.binds (λ a z. omega (arith, l, z))))
-      (procedures-stands ((x, no_constant) ∷ known) e.own jr q e.own_knows later_below all following statements rest later_fits
+      (procedures-hold ((x, no_constant) ∷ known) e.own jr q e.own_knows later_below all following statements rest later_fits
       (λ d l u. each d (omega (arith, l, inside, above)) u ∙ bound-first k q d R (B ++ H) one_binds (λ a z. omega (arith, l, z)))))
 
 pub declarations_stand-holds : NamesAreDeclared
@@ -164,8 +164,8 @@ declarations_stand-holds (is_module x b closing) well =
     let noted : TypeNoted Name = typed_outermost as_names in
     let b' : Tree Label block = relabel_block as_names (as_label as_names) (typed_scope noted) 7 b in
     let B : TypeEnvironment Label = block_bindings as_labels (outermost as_labels) 0 b' in
-    let w = block-worths (all_known noted) noted 0 7 (knows-all noted) predeclared-below b h in
-    block-stands (all_known noted) noted 0 7 (knows-all noted) predeclared-below (B ++ outermost as_labels)
+    let w = block-evaluates (all_known noted) noted 0 7 (knows-all noted) predeclared-below b h in
+    block-holds (all_known noted) noted 0 7 (knows-all noted) predeclared-below (B ++ outermost as_labels)
     (λ d o e. first d o e (nat_lt d 7) refl w.binds) b h
     (λ d l m. bound-first 0 7 d B (outermost as_labels) outermost-binds (λ a z. omega (arith, l, z)))
   where

@@ -17,7 +17,7 @@ use Rattle.ob0_types_rules.specs.Typing.{constant_of, constant_value, constants_
 use Rattle.ob0_types_rules.specs.Written.{written_value}
 use Rattle.ob0_types_rules.proofs.DenotedInlined.{ConstantWritten, StandsFor, constant_value-written, denoted-written}
 use Rattle.ob0_types_rules.proofs.Literals.{IsSeen, literal-typed, literal-has_value}
-use Rattle.ob0_types_rules.proofs.Marks.{Mark, Marks, Sound, Stays, edited-stands, found, found-right, known-found, knowns, no-found, object_as, object_of, ordinal-found, read, read-from, read-stands, read_edited, read_edited-from, scope_marked, has_value-found, yes-found}
+use Rattle.ob0_types_rules.proofs.Marks.{Mark, Marks, Sound, Stays, edited-holds, found, found-right, known-found, knowns, no-found, object_as, object_of, ordinal-found, read, read-from, read-holds, read_edited, read_edited-from, scope_marked, has_value-found, yes-found}
 use Rattle.ob0_types_rules.proofs.TypeNaturality.{constant_value-map, denoted-map}
 use Rattle.std.proofs.lemmas.Bool.{cases_Bool, false_from_ne_true}
 
@@ -63,10 +63,10 @@ abbrev pub read_meanings : {V P Q : Type 0} → (ℕ → P → Q) → Marks V P 
 read_meanings q marks = meanings as_names (read q marks)
 
 pub edited-object_for : {V P Q : Type 0} (edit : Edit) (q : ℕ → P → Q) (marks : Marks V P) (x : Name) → Stays edit (scope_marked marks) x → (edited_meanings edit q marks).object_for x ≡ option_map (object_of q) (found marks x)
-edited-object_for edit q marks x stays = ap newest (read_edited-from edit q marks x stays) ∙ edited-stands edit q marks x stays
+edited-object_for edit q marks x stays = ap newest (read_edited-from edit q marks x stays) ∙ edited-holds edit q marks x stays
 
 pub read-object_for : {V P Q : Type 0} (q : ℕ → P → Q) (marks : Marks V P) (x : Name) → (read_meanings q marks).object_for x ≡ option_map (object_of q) (found marks x)
-read-object_for q marks x = ap newest (read-from q marks x) ∙ read-stands q marks x
+read-object_for q marks x = ap newest (read-from q marks x) ∙ read-holds q marks x
 
 pub uses-read : {V P Q : Type 0} (edit : Edit) (w : Value) (X : Marks V P → Name → ℕ → P → Type 0) (p : ℕ → P → Q) (n : ℕ) (marks : Marks V P) → Sound edit w X n marks → (j : ℕ) (xs : List Name)
     → Each (Writes edit w) j (scope_marked marks) xs → UsesAre edit.uses (StandsFor (read_meanings p marks) w) j xs

@@ -90,19 +90,19 @@ read_edited-from {V} {P} {Q} edit q (b ∷ marks) x h = by_name (same_name x b.n
 abbrev pub object_of : {V P Q : Type 0} → (ℕ → P → Q) → Mark V P → Object V Q
 object_of q b = object_as (q b.ordinal) b.object
 
-pub read-stands : {V P Q : Type 0} (q : ℕ → P → Q) (marks : Marks V P) (x : Name) → newest (read q (marks_from marks x)) ≡ option_map (object_of q) (found marks x)
-read-stands q [] x = refl
-read-stands q (b ∷ marks) x =
+pub read-holds : {V P Q : Type 0} (q : ℕ → P → Q) (marks : Marks V P) (x : Name) → newest (read q (marks_from marks x)) ≡ option_map (object_of q) (found marks x)
+read-holds q [] x = refl
+read-holds q (b ∷ marks) x =
     elim (same_name x b.name) as (λ v. newest (read q (elim v [ true ↦ b ∷ marks | false ↦ marks_from marks x ])) ≡ option_map (object_of q) (elim v [ true ↦ Some b | false ↦ found marks x ]))
-    [ true ↦ refl | false ↦ read-stands q marks x ]
+    [ true ↦ refl | false ↦ read-holds q marks x ]
 
-pub edited-stands : {V P Q : Type 0} (edit : Edit) (q : ℕ → P → Q) (marks : Marks V P) (x : Name) → Stays edit (scope_marked marks) x → newest (read_edited edit q (marks_from marks x)) ≡ option_map (object_of q) (found marks x)
-edited-stands edit q [] x h = refl
-edited-stands edit q (b ∷ marks) x h =
+pub edited-holds : {V P Q : Type 0} (edit : Edit) (q : ℕ → P → Q) (marks : Marks V P) (x : Name) → Stays edit (scope_marked marks) x → newest (read_edited edit q (marks_from marks x)) ≡ option_map (object_of q) (found marks x)
+edited-holds edit q [] x h = refl
+edited-holds edit q (b ∷ marks) x h =
     (elim (same_name x b.name) as (λ v. (edit.gone ≡ true → (elim v [ true ↦ Some b.ordinal | false ↦ ordinal_of as_names (scope_marked marks) x ]) ≡ Some edit.constant → ⊥)
     → newest (read_edited edit q (elim v [ true ↦ b ∷ marks | false ↦ marks_from marks x ])) ≡ option_map (object_of q) (elim v [ true ↦ Some b | false ↦ found marks x ])) [
       | true ↦ λ stays. ap (λ w. newest (if w then read_edited edit q marks else (b.name, object_as (q b.ordinal) b.object) ∷ read_edited edit q marks)) (not-left edit b.ordinal stays)
-      | false ↦ λ stays. edited-stands edit q marks x stays
+      | false ↦ λ stays. edited-holds edit q marks x stays
     ]) h
 
 pub ordinal-found : {V P : Type 0} (marks : Marks V P) (x : Name) → ordinal_of as_names (scope_marked marks) x ≡ option_map (λ b. b.ordinal) (found marks x)

@@ -33,7 +33,7 @@ section-names r s = by_mode s.by_reference
     by_mode true = refl
     by_mode false = refl
 
--- the mode, by whatever tells modes by the mark
+-- the mode, by whatever decides modes by the mark
 pub section-mode : (mode_of : Bool → Mode) → mode_of true ≡ by_place → mode_of false ≡ by_value → (r : Resolution) (s : Section) → section_mode (in_labels r (section_of s)) ≡ mode_of s.by_reference
 section-mode mode_of marked unmarked r s = by_mode s.by_reference
   where

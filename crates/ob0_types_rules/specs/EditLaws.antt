@@ -35,7 +35,8 @@ IsPredeclaredTruth m occurrence (truth false) = sees m occurrence (codes "FALSE"
 IsPredeclaredTruth m occurrence _ = Unit {0}
 
 -- d is a constant that a CONST section declares, w its value, and v what is written for it
-pub record IsConstantWritten (m : Tree Name module_text) (d : ℕ) (w : Value) (v : Tree Name factor) : Type 0 where
+pub record IsConstantWritten
+    (m : Tree Name module_text) (d : ℕ) (w : Value) (v : Tree Name factor) : Type 0 where
   pub value : value_of_constant m d ≡ Some w
   pub scalar : IsScalar w
   pub literal : written_value w ≡ Some v

@@ -228,7 +228,10 @@ unfoldable mutual
 
   pub block_fits : {N : Type 0} → Naming N → TypeEnvironment N → ℕ → Tree N block → Bool
   block_fits naming env k (has_body (declares cs ts vs ps) statements) =
-      some_and (do first ← declare_first naming env k (has_body (declares cs ts vs ps) statements); declare_typed naming (after_types k (has_body (declares cs ts vs ps) statements)) (section_variables vs) first)
+      some_and (do
+        first ← declare_first naming env k (has_body (declares cs ts vs ps) statements)
+        declare_typed naming (after_types k (has_body (declares cs ts vs ps) statements))
+            (section_variables vs) first)
       (λ inner. procedures_fit naming inner
       (after_variables k (has_body (declares cs ts vs ps) statements)) statements ps)
 
@@ -242,8 +245,10 @@ unfoldable mutual
       → Bool
   procedures_fit naming env k statements end = body_fits naming env statements
   procedures_fit naming env k statements (more p rest) =
-      some_and (typed_parameters naming env k (procedure_formals p)) (λ ps. procedure_fits naming (bind_typed ps (heading (procedure_name p) ps env)) k p
-      && procedures_fit naming (heading (procedure_name p) ps env) (k + procedure_constructors p) statements rest)
+      some_and (typed_parameters naming env k (procedure_formals p))
+      (λ ps. procedure_fits naming (bind_typed ps (heading (procedure_name p) ps env)) k p
+      && procedures_fit naming (heading (procedure_name p) ps env) (k + procedure_constructors p)
+      statements rest)
 
   pub procedure_fits : {N : Type 0}
       → Naming N

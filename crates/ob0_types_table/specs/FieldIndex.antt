@@ -22,7 +22,8 @@ first_type [] x = None
 first_type (f ∷ fs) x = if same_name x (string_bytes f.name) then Some f.of else first_type fs x
 
 -- a map has the first field of each name among fields from a place on
-pub record IsIndexFrom (map : BTreeMap (String Global) FirstOfName) (k : ℕ) (fields : List Field) : Type 0 where
+pub record IsIndexFrom
+    (map : BTreeMap (String Global) FirstOfName) (k : ℕ) (fields : List Field) : Type 0 where
   pub found : (x : Name) → get_by_text map x ≡ first_from k fields x
 
 -- the map has the first field of each name

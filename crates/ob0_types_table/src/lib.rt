@@ -3,16 +3,16 @@
 
 mod field_table;
 mod known;
+mod numbers;
 pub mod operators;
 mod type_parts;
 mod types;
-mod written;
 
 pub use field_table::FieldTable;
 pub use known::{
     ArrayShape, Field, FieldOf, Formal, Known, MOST_DEPTH, MOST_SCALARS, Object, RecordShape,
     Standard, TypeEntry,
 };
+pub use numbers::number_at;
 pub use type_parts::Parts;
 pub use types::{TypeId, scalar_type};
-pub use written::{number_at, text_at};

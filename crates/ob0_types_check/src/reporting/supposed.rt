@@ -12,7 +12,8 @@ ghost use Rattle.ob0_types_check.specs.WrittenTypeFaults.{array_size, beside, or
 
 use ob0_scan::{Code, Fault, Span};
 use ob0_scope_rules::{Resolved, token_span};
-use ob0_types_table::{Formal, MOST_DEPTH, MOST_SCALARS, TypeEntry, TypeId, text_at};
+use ob0_tree::text_at;
+use ob0_types_table::{Formal, MOST_DEPTH, MOST_SCALARS, TypeEntry, TypeId};
 use ob0_values::Scalar;
 use std::alloc::{AllocError, Global};
 

@@ -2,4 +2,4 @@ use Rattle.ob0_edits.proofs.Made.{leaves_words}
 use Rattle.ob0_edits.proofs.laws.edits_leave_words.Goals as goal
 
 pub returns : goal.returns
-returns c = λ s scan places new ws names good stands unit edits e short. leaves_words unit s scan new ws stands good places names edits e short
+returns c = λ s scan places new ws names good replaces unit edits e short. leaves_words unit s scan new ws replaces good places names edits e short

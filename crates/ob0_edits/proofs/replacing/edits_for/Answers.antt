@@ -19,7 +19,7 @@ returns-clause-words g c =
     c.in_ok-add_edits.ensures.added ∙ ap (λ xs. map parts xs ++ map (edit_at unit content s.tokens c.args.new.now) c.args.places.now) c.new-edits.ensures.items in
     let long = length (with_text_at s c.args.places.now c.args.new.now) in
     let short : long ≤ max_text = let low = ltb-false max_text (0 + long) (sym c.is_too_long.ensures ∙ c.if-is_too_long.false) in omega (arith, low) in
-    λ ws stands.
-    let made = leaves_words unit s c.text-text.ensures.scan c.args.new.now ws stands c.utf8.new c.args.places.now c.requires.names c.add_edits.new.edits.items
+    λ ws replaces.
+    let made = leaves_words unit s c.text-text.ensures.scan c.args.new.now ws replaces c.utf8.new c.args.places.now c.requires.names c.add_edits.new.edits.items
     (subst (λ t. map parts c.add_edits.new.edits.items ≡ map (edit_at unit t s.tokens c.args.new.now) c.args.places.now) c.requires.content all) short in
     subst (λ t. LeavesWords unit t c.add_edits.new.edits.items (changed (at_each c.args.places.now ws) 0 (words_of s))) (sym c.requires.content) made

@@ -67,7 +67,7 @@ returns-clause-words g c =
     ∙ length_without s c.text-text.ensures.scan c.args.new.now c.args.places.now c.args.first c.args.last c.requires.declaration c.requires.names in
     let short : length (without_text s c.args.first c.args.last c.args.places.now c.args.new.now) ≤ max_text =
     subst (λ n. n ≤ max_text) sum (ltb-false max_text _ (sym c.is_too_long.ensures ∙ c.if-is_too_long.false)) in
-    λ ws stands.
-    let made = leaves_words_without unit s c.text-text.ensures.scan c.args.new.now ws stands c.utf8.new c.args.first c.args.last c.requires.declaration c.args.places.now c.requires.names c.add_edits.new.edits.items
+    λ ws replaces.
+    let made = leaves_words_without unit s c.text-text.ensures.scan c.args.new.now ws replaces c.utf8.new c.args.first c.args.last c.requires.declaration c.args.places.now c.requires.names c.add_edits.new.edits.items
     (subst (λ t. map parts c.add_edits.new.edits.items ≡ (range_of (width_of unit) t (span_over s.tokens c.args.first c.args.last), []) ∷ map (edit_at unit t s.tokens c.args.new.now) c.args.places.now) c.requires.content all) short in
     subst (λ t. LeavesWords unit t c.add_edits.new.edits.items (changed (without c.args.first c.args.last (at_each c.args.places.now ws)) 0 (words_of s))) (sym c.requires.content) made

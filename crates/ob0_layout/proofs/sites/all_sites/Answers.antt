@@ -39,20 +39,20 @@ loop-next-preserved-in-Comment c = λ scan.
     let before = c.loop-next.before in
     let span = c.in-Comment.span in
     let next = comment_step _ _ _ _ _ _ _ _ _ (c.loop-next.invariant scan) span (sym c.next_of.ensures ∙ c.in-Some.is ∙ ap Some c.in-Comment.is) in
-    let stands = c.comment_role-role.ensures ∙ (λ i. comment_role (c.begins_line-broken.ensures i) (c.next_line.ensures i)) in
+    let role_is = c.comment_role-role.ensures ∙ (λ i. comment_role (c.begins_line-broken.ensures i) (c.next_line.ensures i)) in
     let written = c.in_ok-push-in-Comment.ensures.items ∙ ap (λ g. c.loop-next.sites.items ++ (make_site c.loop-next.start span.start g ∷ [])) c.gap_before-gap.ensures
-    ∙ ap (λ (st : LineRole). c.loop-next.sites.items ++ (make_site c.loop-next.start span.start (gap_before before lexeme.Comment st) ∷ [])) stands in
-    sited_moved next.after refl c.after_first-comments.ensures refl (ap (λ (st : LineRole). Some (make_solid lexeme.Comment st)) stands) refl written
+    ∙ ap (λ (st : LineRole). c.loop-next.sites.items ++ (make_site c.loop-next.start span.start (gap_before before lexeme.Comment st) ∷ [])) role_is in
+    sited_moved next.after refl c.after_first-comments.ensures refl (ap (λ (st : LineRole). Some (make_solid lexeme.Comment st)) role_is) refl written
 
 pub loop-next-preserved : goal.loop-next-preserved
 loop-next-preserved c = λ scan.
     let before = c.loop-next.before in
     let token = c.in-Token.token in
     let next = token_step _ _ _ _ _ _ _ _ _ (c.loop-next.invariant scan) token (sym c.next_of.ensures ∙ c.in-Some.is ∙ ap Some c.in-Token.is) in
-    let stands = c.next_role-role.ensures in
+    let role_is = c.next_role-role.ensures in
     let written = c.in_ok-push-in-Token.ensures.items ∙ ap (λ g. c.loop-next.sites.items ++ (make_site c.loop-next.start token.span.start g ∷ [])) c.gap_before-gap-in-Token.ensures
-    ∙ ap (λ (st : LineRole). c.loop-next.sites.items ++ (make_site c.loop-next.start token.span.start (gap_before before (lexeme.Token token.kind) st) ∷ [])) stands in
-    sited_moved next.after c.after_first-left.ensures refl c.after_first-roles.ensures (ap (λ (st : LineRole). Some (make_solid (lexeme.Token token.kind) st)) stands) c.next_line-level.ensures written
+    ∙ ap (λ (st : LineRole). c.loop-next.sites.items ++ (make_site c.loop-next.start token.span.start (gap_before before (lexeme.Token token.kind) st) ∷ [])) role_is in
+    sited_moved next.after c.after_first-left.ensures refl c.after_first-roles.ensures (ap (λ (st : LineRole). Some (make_solid (lexeme.Token token.kind) st)) role_is) c.next_line-level.ensures written
 
 pub returns : goal.returns
 returns c = λ scan.

@@ -15,10 +15,10 @@ loop-index-preserved c =
     let name = get_or names done 0 in
     let next : done + 1 ≡ suc done = add-one done in
     sees_on tokens names c.args.self.now done (λ x. is_among x (map (text_at tokens) (take done names))) (λ x. is_among x (map (text_at tokens) (take (done + 1) names)))
-    c.loop-index.self c.expect.new.self (not c.is_written-is_second.result) name c.token_text.result.now
-    c.loop-index.invariant c.loop-index-test.true refl c.token_text.ensures (ap not c.is_written-is_second.ensures)
+    c.loop-index.self c.expect.new.self (not c.is_written-is_second.result) name c.text_at.result.now
+    c.loop-index.invariant c.loop-index-test.true refl c.text_at.ensures (ap not c.is_written-is_second.ensures)
     (λ q. ap (λ n. is_among q (map (text_at tokens) (take n names))) next
-    ∙ (one_further (text_at tokens) names done 0 c.loop-index-test.true q ∙ ap (λ t. same_name q t || is_among q (map (text_at tokens) (take done names))) (sym c.token_text.ensures)))
+    ∙ (one_further (text_at tokens) names done 0 c.loop-index-test.true q ∙ ap (λ t. same_name q t || is_among q (map (text_at tokens) (take done names))) (sym c.text_at.ensures)))
     (c.in_ok-expect.ensures ∙ ap (λ (f : Fault). c.loop-index.self ++ unless (not c.is_written-is_second.result) f) c.duplicate_at.ensures)
 
 pub returns : goal.returns

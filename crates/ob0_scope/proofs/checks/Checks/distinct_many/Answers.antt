@@ -6,8 +6,8 @@ use Rattle.ob0_scope.proofs.checks.Checks.distinct_many.Goals as goal
 
 pub loop-name-preserved : goal.loop-name-preserved
 loop-name-preserved c =
-    sees_on c.args.tokens.now c.args.names.now c.args.self.now c.loop-name.name-index (has c.loop-name.seen) (has c.insert.new.self) c.loop-name.self c.expect.new.self c.in_ok-added.added (get_or c.args.names.now c.loop-name.name-index 0) c.token_text.result.now
-    c.loop-name.invariant c.loop-name-test.true refl c.token_text.ensures c.in_ok-added.ensures.added (one_more c.token_text.result.now c.loop-name.seen c.insert.new.self c.in_ok-added.ensures.updates)
+    sees_on c.args.tokens.now c.args.names.now c.args.self.now c.loop-name.name-index (has c.loop-name.seen) (has c.insert.new.self) c.loop-name.self c.expect.new.self c.in_ok-added.added (get_or c.args.names.now c.loop-name.name-index 0) c.text_at.result.now
+    c.loop-name.invariant c.loop-name-test.true refl c.text_at.ensures c.in_ok-added.ensures.added (one_more c.text_at.result.now c.loop-name.seen c.insert.new.self c.in_ok-added.ensures.updates)
     (c.in_ok-expect.ensures ∙ ap (λ (f : Fault). c.loop-name.self ++ unless c.in_ok-added.added f) c.duplicate_at.ensures)
 
 pub returns : goal.returns

@@ -2,14 +2,14 @@ use Rattle.std.proofs.Common.{◌≡◌, if◌then◌else◌, Some, refl, ap, ar
 use Rattle.ob0_scope.specs.declared.newest.BoundName.{BoundName}
 use Rattle.ob0_scope_rules.specs.Names.{same_name}
 use Rattle.ob0_scope.specs.NewestNames.{newest_in, place_of}
-use Rattle.ob0_scope.proofs.NewestNames.{place_renewed, places_renewed, renewed, stands_at}
+use Rattle.ob0_scope.proofs.NewestNames.{place_renewed, places_renewed, renewed, place_holds}
 use Rattle.ob0_scope.proofs.newest.Newest.renew.Goals as goal
 
 pub index_mut-requires : goal.index_mut-requires
 index_mut-requires c =
     let at : place_of c.self.inside.entries.items c.args.name.now ≡ Some c.args.place = ap (λ es. place_of es c.args.name.now) c.self.view_is ∙ c.requires in
     let d : BoundName = record { name = c.args.name; newest = c.args.newest } in
-    let below = (stands_at c.self.inside.entries.items c.args.name.now c.args.place d at).below in
+    let below = (place_holds c.self.inside.entries.items c.args.name.now c.args.place d at).below in
     omega (arith, below, c.self.inside.entries.ok)
 
 pub invariant_of-self : goal.invariant_of-self

@@ -9,7 +9,7 @@ use Rattle.ob0_types_check.specs.DeclarationFaults.{after_heading, reported_bloc
 use Rattle.ob0_types_check.specs.Operations.{◌>>=◌}
 use Rattle.ob0_types_check.specs.SupposedFacts.{so_far_in}
 use Rattle.ob0_types_check.proofs.Chains.{chain_ends, chain_goes_on, steps, reports_same}
-use Rattle.ob0_types_check.proofs.ToldDeclarations.{block_reported, procedure_reported, procedures_chain}
+use Rattle.ob0_types_check.proofs.ReportedDeclarations.{block_reported, procedure_reported, procedures_chain}
 use Rattle.ob0_types_check.proofs.reporting.Reporter.+blocks.Goals as goal
 
 pub block-returns : goal.block-returns

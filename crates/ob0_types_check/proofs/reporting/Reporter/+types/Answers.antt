@@ -12,8 +12,8 @@ use Rattle.ob0_types_check.specs.WrittenTypeFaults as spec
 use Rattle.ob0_types_check.proofs.Chains.{chain_ends, steps, reports_nothing, reports_same}
 use Rattle.ob0_types_check.proofs.GatheredFields.{gathers, groups_begin, groups_go_on, inside}
 use Rattle.ob0_types_check.proofs.SameFacts.{facts_same}
-use Rattle.ob0_types_check.proofs.ToldDeclarations.{names_are}
-use Rattle.ob0_types_check.proofs.ToldTypes.{array_reported, fields_reported, groups_chain, named_reported, no_fields_reported, record_reported}
+use Rattle.ob0_types_check.proofs.ReportedDeclarations.{names_are}
+use Rattle.ob0_types_check.proofs.ReportedTypes.{array_reported, fields_reported, groups_chain, named_reported, no_fields_reported, record_reported}
 use Rattle.ob0_types_check.proofs.reporting.Reporter.+types.Goals as goal
 
 pub type_inside-returns-in-Named-clause-reports : goal.type_inside-returns-in-Named-clause-reports

@@ -6,7 +6,7 @@ use Rattle.ob0_types_check.specs.StatementFaults.{reported_sequence}
 use Rattle.ob0_types_check.specs.SupposedFacts.{so_far_in}
 use Rattle.ob0_types_check.proofs.Chains.{reports_nothing, reports_same}
 use Rattle.ob0_types_check.proofs.SameFacts.{facts_same}
-use Rattle.ob0_types_check.proofs.ToldDeclarations.{body_reported, no_body_reported}
+use Rattle.ob0_types_check.proofs.ReportedDeclarations.{body_reported, no_body_reported}
 use Rattle.ob0_types_check.proofs.reporting.Reporter.body.Goals as goal
 
 pub returns-in-None : goal.returns-in-None

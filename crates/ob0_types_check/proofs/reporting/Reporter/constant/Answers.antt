@@ -7,7 +7,7 @@ use Rattle.ob0_types_check.specs.SupposedFacts.{so_far_in}
 use Rattle.ob0_types_check.specs.TypeFaults.{reported_constant}
 use Rattle.ob0_types_check.proofs.Chains.{steps, reports_known, reports_same}
 use Rattle.ob0_types_check.proofs.SameFacts.{facts_same}
-use Rattle.ob0_types_check.proofs.ToldDeclarations.{constant_reported}
+use Rattle.ob0_types_check.proofs.ReportedDeclarations.{constant_reported}
 use Rattle.ob0_types_check.proofs.reporting.Reporter.constant.Goals as goal
 
 pub returns : goal.returns

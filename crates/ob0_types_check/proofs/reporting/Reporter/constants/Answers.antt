@@ -1,5 +1,5 @@
 use Rattle.ob0_types_check.proofs.Chains.{chain_ends, chain_goes_on}
-use Rattle.ob0_types_check.proofs.ToldDeclarations.{constants_chain}
+use Rattle.ob0_types_check.proofs.ReportedDeclarations.{constants_chain}
 use Rattle.ob0_types_check.proofs.reporting.Reporter.constants.Goals as goal
 
 pub loop-c-preserved : goal.loop-c-preserved

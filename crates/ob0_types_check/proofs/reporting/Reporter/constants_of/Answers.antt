@@ -4,7 +4,7 @@ use Rattle.ob0_tree.specs.View.{constants_of}
 use Rattle.ob0_types_check.specs.DeclarationFaults.{reported_constants}
 use Rattle.ob0_types_check.specs.SupposedFacts.{so_far_in}
 use Rattle.ob0_types_check.proofs.Chains.{reports_nothing, reports_same}
-use Rattle.ob0_types_check.proofs.ToldDeclarations.{constants_ended}
+use Rattle.ob0_types_check.proofs.ReportedDeclarations.{constants_ended}
 use Rattle.ob0_types_check.proofs.reporting.Reporter.constants_of.Goals as goal
 
 pub returns-in-None : goal.returns-in-None

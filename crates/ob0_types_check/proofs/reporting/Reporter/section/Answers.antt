@@ -5,7 +5,7 @@ use Rattle.ob0_types_check.specs.DeclarationFaults.{with_parameters}
 use Rattle.ob0_types_check.specs.Operations.{right}
 use Rattle.ob0_types_check.specs.SupposedFacts.{formal_of, heading_in, so_far_in}
 use Rattle.ob0_types_check.proofs.Chains.{steps, reports_known, reports_same}
-use Rattle.ob0_types_check.proofs.ToldDeclarations.{parameters_added, section_reported}
+use Rattle.ob0_types_check.proofs.ReportedDeclarations.{parameters_added, section_reported}
 use Rattle.ob0_types_check.proofs.reporting.Reporter.section.Goals as goal
 
 pub returns : goal.returns

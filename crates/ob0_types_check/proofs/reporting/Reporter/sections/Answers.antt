@@ -1,5 +1,5 @@
 use Rattle.ob0_types_check.proofs.Chains.{chain_ends, chain_goes_on}
-use Rattle.ob0_types_check.proofs.ToldDeclarations.{sections_chain}
+use Rattle.ob0_types_check.proofs.ReportedDeclarations.{sections_chain}
 use Rattle.ob0_types_check.proofs.reporting.Reporter.sections.Goals as goal
 
 pub loop-s-preserved : goal.loop-s-preserved

@@ -5,7 +5,7 @@ use Rattle.ob0_tree.specs.View.{formals_of, further_section_of, items_of}
 use Rattle.ob0_types_check.specs.DeclarationFaults.{reported_sections}
 use Rattle.ob0_types_check.specs.SupposedFacts.{heading_in}
 use Rattle.ob0_types_check.proofs.Chains.{reports_nothing, reports_same}
-use Rattle.ob0_types_check.proofs.ToldDeclarations.{sections_ended, sections_listed}
+use Rattle.ob0_types_check.proofs.ReportedDeclarations.{sections_ended, sections_listed}
 use Rattle.ob0_types_check.proofs.reporting.Reporter.sections_of.Goals as goal
 
 pub returns-in-None : goal.returns-in-None

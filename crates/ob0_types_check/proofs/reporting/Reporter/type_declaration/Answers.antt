@@ -5,7 +5,7 @@ use Rattle.ob0_types_check.specs.Operations.{right}
 use Rattle.ob0_types_check.specs.SoFar.{TypedAfter, define}
 use Rattle.ob0_types_check.specs.SupposedFacts.{so_far_in}
 use Rattle.ob0_types_check.proofs.Chains.{steps, reports_known, reports_same}
-use Rattle.ob0_types_check.proofs.ToldDeclarations.{type_reported}
+use Rattle.ob0_types_check.proofs.ReportedDeclarations.{type_reported}
 use Rattle.ob0_types_check.proofs.reporting.Reporter.type_declaration.Goals as goal
 
 pub returns : goal.returns

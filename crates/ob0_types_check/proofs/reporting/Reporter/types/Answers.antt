@@ -1,5 +1,5 @@
 use Rattle.ob0_types_check.proofs.Chains.{chain_ends, chain_goes_on}
-use Rattle.ob0_types_check.proofs.ToldDeclarations.{types_chain}
+use Rattle.ob0_types_check.proofs.ReportedDeclarations.{types_chain}
 use Rattle.ob0_types_check.proofs.reporting.Reporter.types.Goals as goal
 
 pub loop-d-preserved : goal.loop-d-preserved

@@ -4,7 +4,7 @@ use Rattle.ob0_tree.specs.View.{types_of}
 use Rattle.ob0_types_check.specs.DeclarationFaults.{reported_types}
 use Rattle.ob0_types_check.specs.SupposedFacts.{so_far_in}
 use Rattle.ob0_types_check.proofs.Chains.{reports_nothing, reports_same}
-use Rattle.ob0_types_check.proofs.ToldDeclarations.{types_ended}
+use Rattle.ob0_types_check.proofs.ReportedDeclarations.{types_ended}
 use Rattle.ob0_types_check.proofs.reporting.Reporter.types_of.Goals as goal
 
 pub returns-in-None : goal.returns-in-None

@@ -1,5 +1,5 @@
 use Rattle.ob0_types_check.proofs.Chains.{chain_ends, chain_goes_on}
-use Rattle.ob0_types_check.proofs.ToldDeclarations.{variables_chain}
+use Rattle.ob0_types_check.proofs.ReportedDeclarations.{variables_chain}
 use Rattle.ob0_types_check.proofs.reporting.Reporter.variables.Goals as goal
 
 pub loop-v-preserved : goal.loop-v-preserved

@@ -5,7 +5,7 @@ use Rattle.ob0_types_check.specs.Operations.{right}
 use Rattle.ob0_types_check.specs.SoFar.{TypedAfter, define_all}
 use Rattle.ob0_types_check.specs.SupposedFacts.{so_far_in}
 use Rattle.ob0_types_check.proofs.Chains.{steps, reports_known, reports_same}
-use Rattle.ob0_types_check.proofs.ToldDeclarations.{variables_reported}
+use Rattle.ob0_types_check.proofs.ReportedDeclarations.{variables_reported}
 use Rattle.ob0_types_check.proofs.reporting.Reporter.variables_of_one_type.Goals as goal
 
 pub returns : goal.returns

@@ -13,7 +13,7 @@ use Rattle.ob0_types_check.specs.ExpressionFaults.{reported_addends, reported_ex
 use Rattle.ob0_types_check.specs.Operations.{add_operands, complement_operand, element_selected, enclosed, multiply_operands, relate_operands, right, sign_operand, ◌>>=◌}
 use Rattle.ob0_types_check.specs.SupposedFacts.{facts_in, operand_of}
 use Rattle.ob0_types_check.proofs.Chains.{chain_ends, chain_goes_on, steps, reports_nothing, reports_same}
-use Rattle.ob0_types_check.proofs.ToldParts.{added_chain, alone_reported, designator_reported, field_reported, index_reported, integer_reported, multiplied_chain, negation_reported, parentheses_reported, related_reported, selected_chain, simple_reported, term_reported, reported_added}
+use Rattle.ob0_types_check.proofs.ReportedParts.{added_chain, alone_reported, designator_reported, field_reported, index_reported, integer_reported, multiplied_chain, negation_reported, parentheses_reported, related_reported, selected_chain, simple_reported, term_reported, reported_added}
 use Rattle.ob0_types_check.proofs.reporting.supposed.Supposed.+expressions.Goals as goal
 
 pub expression-returns-in-None : goal.expression-returns-in-None

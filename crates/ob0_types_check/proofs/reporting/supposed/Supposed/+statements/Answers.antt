@@ -6,7 +6,7 @@ use Rattle.ob0_tree.specs.View.{else_in, elsif_of, expression_of, items_of, sequ
 use Rattle.ob0_types_check.specs.StatementFaults.{reported_condition, reported_else, reported_elsifs, reported_sequence, reported_statement}
 use Rattle.ob0_types_check.specs.SupposedFacts.{facts_in}
 use Rattle.ob0_types_check.proofs.Listed.{each_ends, each_goes_on, nothing_reported, reported_both}
-use Rattle.ob0_types_check.proofs.ToldStatements.{branches_reported, else_reported, elsifs_each, empty_reported, no_else_reported, repeat_reported, sequence_each, while_reported}
+use Rattle.ob0_types_check.proofs.ReportedStatements.{branches_reported, else_reported, elsifs_each, empty_reported, no_else_reported, repeat_reported, sequence_each, while_reported}
 use Rattle.ob0_types_check.proofs.reporting.supposed.Supposed.+statements.Goals as goal
 
 pub sequence-loop-s-preserved : goal.sequence-loop-s-preserved

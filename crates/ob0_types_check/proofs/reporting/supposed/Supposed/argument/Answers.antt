@@ -3,7 +3,7 @@ use Rattle.ob0_tree.specs.View.{expression_of}
 use Rattle.ob0_types_check.specs.SupposedFacts.{facts_in, formal_of}
 use Rattle.ob0_types_check.specs.StatementFaults.{passed}
 use Rattle.ob0_types_check.proofs.Chains.{steps}
-use Rattle.ob0_types_check.proofs.ToldStatements.{argument_reported}
+use Rattle.ob0_types_check.proofs.ReportedStatements.{argument_reported}
 use Rattle.ob0_types_check.proofs.reporting.supposed.Supposed.argument.Goals as goal
 
 pub returns : goal.returns

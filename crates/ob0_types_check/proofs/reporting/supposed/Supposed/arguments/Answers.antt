@@ -5,7 +5,7 @@ use Rattle.ob0_tree.specs.View.{expression_of}
 use Rattle.ob0_types_check.specs.StatementFaults.{reported_arguments}
 use Rattle.ob0_types_check.specs.SupposedFacts.{facts_in, formal_of}
 use Rattle.ob0_types_check.proofs.Listed.{PairSoFar, pairs_end, pairs_go_on}
-use Rattle.ob0_types_check.proofs.ToldStatements.{argument_pairs, count_differs, count_is_right}
+use Rattle.ob0_types_check.proofs.ReportedStatements.{argument_pairs, count_differs, count_is_right}
 use Rattle.ob0_types_check.proofs.reporting.supposed.Supposed.arguments.Goals as goal
 
 pub returns-then-formals-arguments : goal.returns-then-formals-arguments

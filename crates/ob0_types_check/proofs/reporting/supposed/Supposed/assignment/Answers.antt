@@ -7,7 +7,7 @@ use Rattle.ob0_types_check.specs.StatementFaults.{reported_required}
 use Rattle.ob0_types_check.specs.SupposedFacts.{facts_in}
 use Rattle.ob0_types_check.proofs.Chains.{steps, reports_same}
 use Rattle.ob0_types_check.proofs.Listed.{reported_following}
-use Rattle.ob0_types_check.proofs.ToldStatements.{assigned_reported, target_reported}
+use Rattle.ob0_types_check.proofs.ReportedStatements.{assigned_reported, target_reported}
 use Rattle.ob0_types_check.proofs.reporting.supposed.Supposed.assignment.Goals as goal
 
 pub returns : goal.returns

@@ -4,7 +4,7 @@ use Rattle.ob0_tree.specs.View.{arguments_of, expression_of}
 use Rattle.ob0_types_rules.specs.Arguments.{arguments_listed}
 use Rattle.ob0_types_check.specs.StatementFaults.{reported_call}
 use Rattle.ob0_types_check.specs.SupposedFacts.{facts_in}
-use Rattle.ob0_types_check.proofs.ToldStatements.{all_listed, called_reported}
+use Rattle.ob0_types_check.proofs.ReportedStatements.{all_listed, called_reported}
 use Rattle.ob0_types_check.proofs.reporting.supposed.Supposed.call.Goals as goal
 
 pub returns-in-None : goal.returns-in-None

@@ -4,7 +4,7 @@ use Rattle.ob0_tree.specs.View.{expression_of}
 use Rattle.ob0_types_check.specs.SupposedFacts.{facts_in}
 use Rattle.ob0_types_check.specs.TypeFaults.{evaluated}
 use Rattle.ob0_types_check.proofs.Chains.{steps, reports_same}
-use Rattle.ob0_types_check.proofs.ToldParts.{constant_reported}
+use Rattle.ob0_types_check.proofs.ReportedParts.{constant_reported}
 use Rattle.ob0_types_check.proofs.reporting.supposed.Supposed.constant_value.Goals as goal
 
 pub returns : goal.returns

@@ -1,7 +1,7 @@
 use Rattle.std.proofs.Common.{false}
 use Rattle.ob0_types_check.specs.SupposedFacts.{facts_in}
 use Rattle.ob0_types_check.proofs.Listed.{each_ends, each_goes_on}
-use Rattle.ob0_types_check.proofs.ToldStatements.{parts_each}
+use Rattle.ob0_types_check.proofs.ReportedStatements.{parts_each}
 use Rattle.ob0_types_check.proofs.reporting.supposed.Supposed.parts.Goals as goal
 
 pub loop-e-preserved : goal.loop-e-preserved

@@ -3,7 +3,7 @@ use Rattle.ob0_tree.specs.View.{expression_of}
 use Rattle.ob0_types_check.specs.Operations.{required}
 use Rattle.ob0_types_check.specs.SupposedFacts.{facts_in}
 use Rattle.ob0_types_check.proofs.Chains.{steps}
-use Rattle.ob0_types_check.proofs.ToldStatements.{requested_reported}
+use Rattle.ob0_types_check.proofs.ReportedStatements.{requested_reported}
 use Rattle.ob0_types_check.proofs.reporting.supposed.Supposed.right_side.Goals as goal
 
 pub returns : goal.returns

@@ -1,20 +1,9 @@
-//! How tokens are written.
+//! The numbers that tokens are.
 
 ghost use Rattle.std.specs.Prelude.{◌≡◌, ◌≤◌, pos};
-ghost use Rattle.ob0_tree.specs.Places.{text_at, value_at, value_of};
+ghost use Rattle.ob0_tree.specs.Places.{value_at, value_of};
 
 use ob0_scan::{TokenKind, Tokens};
-
-/// How a token is written. Nothing where there is no such token.
-pub fn text_at(tokens: &Tokens, token: usize) -> &str
-    ensures { result.now ≡ text_at tokens.now token }
-{
-    if token < tokens.tokens().len() {
-        tokens.token_text(token)
-    } else {
-        ""
-    }
-}
 
 /// The number that a token is, and 0 for every other token.
 pub fn number_at(tokens: &Tokens, token: usize) -> i32

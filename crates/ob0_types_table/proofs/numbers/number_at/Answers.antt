@@ -1,7 +1,7 @@
 use Rattle.std.proofs.Common.{pos, sym, ap, ◌∙◌, arith, w32}
 use Rattle.std.proofs.lemmas.Int.{ints, to_z-of_z}
 use Rattle.ob0_types_rules.proofs.Numbers.{small_number, value_at-past, value_at-read}
-use Rattle.ob0_types_table.proofs.written.number_at.Goals as goal
+use Rattle.ob0_types_table.proofs.numbers.number_at.Goals as goal
 
 pub number_of-requires : goal.number_of-requires
 number_of-requires c = rw c.tokens-tokens.ensures (small_number c.args.tokens.now c.text-scanned.ensures.scan c.args.token _ (rw c.tokens-tokens.ensures at c.if-token-tokens.true))

@@ -1,0 +1,17 @@
+//! How tokens are written.
+
+ghost use Rattle.std.specs.Prelude.{◌≡◌};
+ghost use Rattle.ob0_tree.specs.Places.{text_at};
+
+use ob0_scan::Tokens;
+
+/// How a token is written. Nothing where there is no such token.
+pub fn text_at(tokens: &Tokens, token: usize) -> &str
+    ensures { result.now ≡ text_at tokens.now token }
+{
+    if token < tokens.tokens().len() {
+        tokens.token_text(token)
+    } else {
+        ""
+    }
+}
