@@ -8,8 +8,7 @@ use Rattle.ob0_scan.specs.declared.lexeme.TokenKind.{TokenKind}
 use Rattle.ob0_scan.specs.declared.lexeme.TokenKind.TheVariants as kind
 use Rattle.ob0_scan.specs.Scanned.{Scanned}
 
--- In the old text `removed` bytes from a place on were replaced by `added` others: the new one is as the old before them
--- and after them.
+-- So many bytes of the old text from a place on gave way to so many others: the new one is as the old before them and after them.
 pub record IsReplaced (old new : List ℕ) (from removed added : ℕ) : Type 0 where
   pub inside_old : from + removed ≤ length old
   pub inside_new : from + added ≤ length new

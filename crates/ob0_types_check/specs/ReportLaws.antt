@@ -44,7 +44,8 @@ ExpressionsFit N =
 
 -- a constant's right side of which nothing is reported has the value that is known, a scalar
 pub record ConstantFits
-    {N : Type 0} (meaning : Typed N) (reported : Option Value) (e : Tree N expression) : Type 0 where
+    {N : Type 0} (meaning : Typed N) (reported : Option Value) (e : Tree N expression)
+    : Type 0 where
   pub value : Value
   pub known : reported ≡ Some value
   pub given : constant_value meaning e ≡ Some value
