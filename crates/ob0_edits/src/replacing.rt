@@ -2,7 +2,7 @@
 
 ghost use Rattle.std.specs.Prelude.{◌≡◌, ◌⊎◌, ◌+◌, ◌++◌, ◌∷◌, [], suc, OnOk, ◌≤◌, ◌<◌, nat_lt, List, length, map, IfOk, IfErr, IsErrOf};
 ghost use Rattle.std.specs.Str.{chars};
-ghost use Rattle.ob0_scan.specs.Scanned.{Word, IsScan, IsRangeOf, max_text};
+ghost use Rattle.ob0_scan.specs.Scanned.{Word, max_text};
 ghost use Rattle.ob0_text.specs.declared.refusals.EditRefusal.TheVariants.{TooLong, Memory};
 ghost use Rattle.ob0_edits.specs.Changed.{words_of, changed, at_each};
 ghost use Rattle.ob0_edits.specs.Replaced.{AreNames, AreInOrder, cut_of, with_text_at, ReplacesName, parts, edit_at, LeavesWords};
@@ -14,7 +14,7 @@ ghost use Rattle.ob0_edits.specs.Removed.{without, IsDeclaration, span_over, wit
 use crate::positions::{ranges, spans_of};
 use ob0_scan::{MAX_TEXT, Span, Tokens};
 use ob0_text::{Edit, EditRefusal, Range, TextStore};
-use std::alloc::{AllocError, Global};
+use std::alloc::Global;
 
 /// One edit for each of the places, which are numbers of identifiers among the tokens, in text order.
 pub fn edits_for<T: TextStore>(

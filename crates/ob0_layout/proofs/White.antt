@@ -14,7 +14,6 @@ use Rattle.ob0_text.specs.declared.edits.Indent.{Indent}
 use Rattle.ob0_text.specs.declared.edits.Indent.TheVariants as indent_by
 use Rattle.ob0_layout.specs.declared.gap.Gap.{Gap}
 use Rattle.ob0_layout.specs.declared.gap.Gap.TheVariants.{Nothing, Space, Line}
-use Rattle.ob0_layout.specs.declared.sites.GapSite.{GapSite}
 use Rattle.ob0_layout.specs.declared.sites.Solid.{Solid}
 use Rattle.ob0_layout.specs.declared.line_role.LineRole.{LineRole}
 use Rattle.ob0_layout.specs.Layout.{next_line, has_break, indentation, gap_text}

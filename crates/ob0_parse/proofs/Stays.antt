@@ -9,7 +9,7 @@ use Rattle.ob0_scan.specs.Scanned.{Scanned, max_text}
 use Rattle.ob0_scan.specs.Reused.{valueless, kinds}
 use Rattle.ob0_tree.specs.Lexeme.{Terminal, EndOfText, relabelled}
 use Rattle.ob0_tree.specs.Tree.{Tree, module_text, nesting, spell, mapped}
-use Rattle.ob0_tree.specs.Module.{ModuleOf, max_nesting, text_lexemes}
+use Rattle.ob0_tree.specs.Module.{max_nesting, text_lexemes}
 use Rattle.ob0_tree.specs.Parsed.{Parsed, IsParsed, tree_of}
 use Rattle.ob0_tree.specs.Places.{lexeme_of, lexemes_from, lexemes, text_at, value_at}
 use Rattle.ob0_tree.proofs.Mapped.{nesting_mapped, spell_mapped}

@@ -1,10 +1,9 @@
 //! What conflicts with another name for a declaration.
 
-ghost use Rattle.std.specs.Prelude.{◌≡◌, ◌↔◌, ◌++◌, IfOk, None, not, option_map, true};
+ghost use Rattle.std.specs.Prelude.{◌≡◌, ◌↔◌, IfOk, None, not, option_map, true};
 ghost use Rattle.std.specs.List.{position_from};
 ghost use Rattle.ob0_tree.specs.Parsed.{named_tree_of};
 ghost use Rattle.ob0_tree.specs.View.{block_of, procedure_of};
-ghost use Rattle.ob0_scope_rules.specs.DeclaredOnce.{block_names};
 ghost use Rattle.ob0_scope_rules.specs.Occurrences.{Free, bindings, first_captured, first_difference};
 ghost use Rattle.ob0_scope.specs.declared.capturing.FirstCapture.TheVariants.{Occurrence};
 ghost use Rattle.ob0_scope.specs.Renames.{IsNowhere, is_bound_alike, namesake, other_of, place_of};

@@ -1,9 +1,8 @@
 //! Names that are declared twice, and closing names that differ.
 
 ghost use Rattle.std.specs.Prelude.{◌≡◌, ◌++◌, [], IfOk, OnOk, map};
-ghost use Rattle.ob0_scan.specs.Scanned.{Scanned};
 ghost use Rattle.ob0_tree.specs.Places.{text_at};
-ghost use Rattle.ob0_tree.specs.View.{items_of, names_of, type_of, record_in, fields_of, constants_of, types_of, variables_of, formals_of, procedure_of, block_of, further_fields_of_group};
+ghost use Rattle.ob0_tree.specs.View.{items_of, names_of, type_of, record_in, fields_of, constants_of, types_of, variables_of, formals_of, procedure_of, block_of};
 ghost use Rattle.ob0_scope_rules.specs.Names.{same_name};
 ghost use Rattle.ob0_scope_rules.specs.Parts.{names_listed, constant_names, named_types, variable_names, formal_names, formal_sections, section_constants, section_types, section_variables};
 ghost use Rattle.ob0_scope_rules.specs.DeclaredOnce.{block_names, group_fields, is_among, procedure_names};

@@ -2,7 +2,7 @@
 
 ghost use Rattle.std.specs.Prelude.{◌≡◌, IfOk, map, length, replicate, None};
 ghost use Rattle.ob0_tree.specs.Parsed.{named_tree_of};
-ghost use Rattle.ob0_scope_rules.specs.Resolution.{IsResolution, ordinal_in};
+ghost use Rattle.ob0_scope_rules.specs.Resolution.{ordinal_in};
 ghost use Rattle.ob0_scope_rules.specs.SeenNames.{ordinals_seen};
 ghost use Rattle.ob0_scope.specs.Marks.{first_at};
 ghost use Rattle.ob0_scope.specs.Marks.{with_marks};

@@ -1,6 +1,6 @@
 //! The names that are visible at a place of a module.
 
-ghost use Rattle.std.specs.Prelude.{◌≡◌, ◌≤◌, ◌+◌, [], ◌∷◌, OnOk, IfOk, length, drop, ◌-◌};
+ghost use Rattle.std.specs.Prelude.{◌≡◌, [], ◌∷◌, OnOk, IfOk, length, drop, ◌-◌};
 ghost use Rattle.ob0_scope.specs.Shadowing.{with_scope};
 ghost use Rattle.ob0_scope_rules.specs.Names.{as_names};
 ghost use Rattle.ob0_scope_rules.specs.Scopes.{ordinal_of};

@@ -1,6 +1,6 @@
 //! What is known of a module's names.
 
-ghost use Rattle.std.specs.Prelude.{◌≡◌, ◌-◌, ◌<◌, if◌then◌else◌, ◌+◌, length, slice_get, Some, None};
+ghost use Rattle.std.specs.Prelude.{◌≡◌, ◌-◌, ◌<◌, slice_get, Some, None};
 ghost use Rattle.ob0_tree.specs.Parsed.{named_tree_of};
 ghost use Rattle.ob0_scope_rules.specs.Occurrences.{binds};
 ghost use Rattle.ob0_scope_rules.specs.Resolution.{IsResolution, ordinal_in, token_declaring};

@@ -3,7 +3,7 @@ use Rattle.std.proofs.Common.{◌≡◌, ℕ, Bool, true, false, true≢false, L
 use Rattle.ob0_tree.specs.declared.tree.Role.{Role}
 use Rattle.ob0_tree.specs.declared.tree.Role.TheVariants as role
 use Rattle.ob0_types_rules.specs.Expressions as meant
-use Rattle.ob0_types_rules.specs.Expressions.{Meanings, Object}
+use Rattle.ob0_types_rules.specs.Expressions.{Object}
 use Rattle.ob0_types_rules.specs.Typing.{constant_of, constants_only, object_type, value_type}
 use Rattle.ob0_types_rules.specs.WellTyped.{Signature, Typed}
 use Rattle.ob0_values.specs.Values.{Shape, Value, boolean_shape, elements, integer_shape, members, number, truth}

@@ -8,8 +8,7 @@ use Rattle.ob0_scope_rules.specs.Scopes.{numbered}
 use Rattle.ob0_types_rules.specs.Declaring.{declare_block, declare_procedure}
 use Rattle.ob0_types_rules.specs.Declarations.{after_variables, formals_constructors, procedure_constructors}
 use Rattle.ob0_types_rules.specs.Environments.{from_binding, newest, outermost}
-use Rattle.ob0_types_rules.specs.Expressions.{Object, a_constant, a_type, a_variable}
-use Rattle.ob0_types_rules.specs.Typing.{value_type}
+use Rattle.ob0_types_rules.specs.Expressions.{Object, a_variable}
 use Rattle.ob0_types_rules.specs.WellTyped.{Signature, TypeEnvironment, bind_typed, heading, typed_parameters}
 use Rattle.ob0_values.specs.Values.{Shape}
 

@@ -7,7 +7,7 @@ ghost use Rattle.ob0_types_check.specs.DeclarationFaults.{constant_declared, rep
 ghost use Rattle.ob0_types_check.specs.Known.{a_variable};
 ghost use Rattle.ob0_types_check.specs.Operations.{ReportsAfter};
 ghost use Rattle.ob0_types_check.specs.SoFar.{define, define_all};
-ghost use Rattle.ob0_types_check.specs.SupposedFacts.{heading_in, meaning_of, so_far_in};
+ghost use Rattle.ob0_types_check.specs.SupposedFacts.{heading_in, so_far_in};
 
 use crate::reporting::Reporter;
 use crate::reporting::supposed::{Meaning, Supposed};

@@ -1,12 +1,11 @@
 //! Reports the faults of expressions, and finds their types and the values of constant ones on the same way.
 
-ghost use Rattle.std.specs.Prelude.{◌≡◌, ◌++◌, ◌∷◌, [], false, true, if◌then◌else◌, IfOk, OnOk, List, option_map};
+ghost use Rattle.std.specs.Prelude.{◌≡◌, ◌++◌, [], false, true, if◌then◌else◌, IfOk, OnOk, option_map};
 ghost use Rattle.ob0_values.specs.Scalars.{scalar_value};
 ghost use Rattle.ob0_types_table.specs.declared.types.TypeId.TheVariants as type;
 ghost use Rattle.ob0_tree.specs.View.{expression_of, factor_of, selector_of, simple_of, term_of};
 ghost use Rattle.ob0_types_rules.specs.Selected.{selectors_in};
 ghost use Rattle.ob0_types_check.specs.ExpressionFaults.{reported_expression, reported_factor, reported_selector, reported_selectors, reported_simple, reported_term};
-ghost use Rattle.ob0_types_check.specs.Known.{Types};
 ghost use Rattle.ob0_types_check.specs.Operations.{ReportsAfter, a_constant_name, a_number, add_operands, required, required_both, at_operand, after_sign, complement_operand, element_in, element_selected, enclosed, field_in, field_selected, fits, joined, multiply_operands, named, part_of, relate_operands, sign_operand, truth_of, required_by_add, required_by_equality, required_by_multiply, required_by_relation, value_type};
 ghost use Rattle.ob0_types_check.specs.TypeFaults.{evaluated, reported_constant};
 ghost use Rattle.ob0_types_check.specs.SoFar.{same_type};

@@ -5,7 +5,7 @@ ghost use Rattle.ob0_scan.specs.declared.fault.Code.TheVariants as code;
 ghost use Rattle.ob0_tree.specs.View.{assignment_of, call_of, elsifs_in, expression_of, if_of, sequence_in, statement_of};
 ghost use Rattle.ob0_types_check.specs.Known.{a_procedure};
 ghost use Rattle.ob0_types_check.specs.Operations.{ReportsAfter, at_token};
-ghost use Rattle.ob0_types_check.specs.StatementFaults.{target_meaning, call_by_meaning, passed, reported_argument, reported_arguments, reported_required, reported_call, reported_condition, reported_elsifs, reported_parts, reported_sequence, reported_statement};
+ghost use Rattle.ob0_types_check.specs.StatementFaults.{target_meaning, call_by_meaning, passed, reported_argument, reported_required, reported_call, reported_condition, reported_elsifs, reported_parts, reported_sequence, reported_statement};
 ghost use Rattle.ob0_types_check.specs.SupposedFacts.{facts_in, formal_of, operand_of};
 
 use crate::reporting::expressions::Operand;

@@ -1,12 +1,11 @@
 //! What is supposed of types and declarations while faults are reported; each may be unknown, as a whole or in parts.
 
-ghost use Rattle.std.specs.Prelude.{◌≡◌, ◌∷◌, [], ◌++◌, ◌+◌, ◌*◌, map, max, length, IfOk, OnOk, option_map, slice_get, slice_index_or, None, Some};
-ghost use Rattle.ob0_scope_rules.specs.Resolution.{span_at};
+ghost use Rattle.std.specs.Prelude.{◌≡◌, ◌∷◌, [], ◌++◌, ◌+◌, map, max, length, IfOk, OnOk, option_map, slice_get, slice_index_or, None, Some};
 ghost use Rattle.ob0_types_table.specs.declared.types.TypeId.TheVariants as type;
 ghost use Rattle.ob0_tree.specs.Places.{text_at};
 ghost use Rattle.ob0_types_check.specs.Known.{a_procedure};
 ghost use Rattle.ob0_types_check.specs.Operations.{ReportsAfter, fault_between, token_after};
-ghost use Rattle.ob0_types_check.specs.SoFar.{define, is_within, make, no_scalar, one_scalar, predeclared_meanings, size_at, type_with, with_declared};
+ghost use Rattle.ob0_types_check.specs.SoFar.{define, is_within, make, predeclared_meanings, size_at, type_with, with_declared};
 ghost use Rattle.ob0_types_check.specs.SupposedFacts.{counted, declared_at, elements_of, field_of, made_of, meaning_of, size_of, so_far_in};
 ghost use Rattle.ob0_types_check.specs.WrittenTypeFaults.{array_size, beside, ordinal_here, record_size};
 

@@ -4,8 +4,8 @@ use Rattle.ob0_scan.specs.declared.lexeme.Span.{Span}
 use Rattle.ob0_scan.specs.declared.lexeme.Token.{Token}
 use Rattle.ob0_layout.specs.declared.sites.GapSite.{GapSite}
 use Rattle.ob0_layout.specs.declared.line_role.LineRole.{LineRole}
-use Rattle.ob0_layout.specs.Layout.{next_line, next_role, comment_role}
-use Rattle.ob0_layout.specs.Sites.{all_sites, last_gap, gap_before}
+use Rattle.ob0_layout.specs.Layout.{next_line, comment_role}
+use Rattle.ob0_layout.specs.Sites.{all_sites, gap_before}
 use Rattle.ob0_layout.proofs.Ahead.{Sited, sited_at_start, sited_ends, comment_step, token_step, sited_moved, make_site, make_solid}
 use Rattle.ob0_layout.proofs.sites.all_sites.Goals as goal
 
