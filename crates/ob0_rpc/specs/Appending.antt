@@ -39,7 +39,8 @@ pub record AppendsItem (later : Bool) (value : Data) (old new : List ℕ) : Type
   pub reads : IsReadBack value
 
 -- a bracket or a comma, a name between quotes, a colon and the value's text are written after the other
-pub record AppendsMember (before : ℕ) (name : List ℕ) (value : Data) (old new : List ℕ) : Type 0 where
+pub record AppendsMember (before : ℕ) (name : List ℕ) (value : Data)
+    (old new : List ℕ) : Type 0 where
   pub text : new ≡ old ++ before ∷ 34 ∷ (name ++ 34 ∷ 58 ∷ compact_text value)
   pub reads : IsReadBack value
 

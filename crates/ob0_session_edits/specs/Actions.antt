@@ -105,12 +105,15 @@ action_values requested how None = []
 -- inlining here precedes inlining everywhere
 abbrev pub actions_value : ActionsAsked → Option (Vec Edit Global) → Option (Vec Edit Global) → Data
 actions_value requested here everywhere =
-    array (items_of (action_values requested Here here ++ action_values requested Everywhere everywhere))
+    array (items_of
+    (action_values requested Here here ++ action_values requested Everywhere everywhere))
 
 -- These actions are offered, as a list; none to a client that wants none, and none of a text that isn't a well-typed module.
 abbrev pub ListsActions : Unit → ActionsAsked → List ℕ → Data → Type 0
 ListsActions unit requested text value =
-    ((here : Option (Vec Edit Global)) × (everywhere : Option (Vec Edit Global)) × (wants_inlining requested ≡ true)
+    ((here : Option (Vec Edit Global))
+    × (everywhere : Option (Vec Edit Global))
+    × (wants_inlining requested ≡ true)
     × Offers Here unit text (place_of unit text requested.range) here
     × Offers Everywhere unit text (place_of unit text requested.range) everywhere
     × (value ≡ actions_value requested here everywhere))
@@ -120,4 +123,6 @@ ListsActions unit requested text value =
 -- this message answers the request, where positions are counted in the unit and the document has the text
 abbrev pub AnswersActions : Unit → ActionsAsked → List ℕ → Data → Type 0
 AnswersActions unit requested text message =
-    (value : Data) × ListsActions unit requested text value × (message ≡ result_message requested.id value)
+    (value : Data)
+    × ListsActions unit requested text value
+    × (message ≡ result_message requested.id value)

@@ -37,7 +37,8 @@ requested_of r =
 
 -- the edits as they are answered to the client
 abbrev pub edits_for_client : RenameAsked → List Edit → Data
-edits_for_client requested edits = workspace_edit requested.client requested.at.uri requested.version edits
+edits_for_client requested edits =
+    workspace_edit requested.client requested.at.uri requested.version edits
 
 -- this message answers the request, where positions are counted in the unit and the document has the text
 abbrev pub AnswersRenaming : Unit → RenameAsked → List ℕ → Data → Type 0
@@ -45,5 +46,7 @@ AnswersRenaming unit requested text message =
     ((edits : List Edit)
     × RenamesIn unit text requested.at.position requested.new edits
     × (message ≡ result_message requested.id (edits_for_client requested edits)))
-    ⊎ (((refusal : EditRefusal) × IsRefusedIn unit text requested.at.position requested.new refusal × (message ≡ edit_refused requested.id (refusal_text refusal)))
+    ⊎ (((refusal : EditRefusal)
+    × IsRefusedIn unit text requested.at.position requested.new refusal
+    × (message ≡ edit_refused requested.id (refusal_text refusal)))
     ⊎ (¬ IsWellTypedModule (utf8 text) × (message ≡ edit_refused requested.id (codes "ill-typed"))))

@@ -41,8 +41,13 @@ impl<'a, T: TextStore> Question for InlinedAt<'a, T> {
 
     ghost is_about = { λ q text. T.content q.store.now ≡ chars text };
 
-    ghost answers = { λ q names found. Inlines how.Here (T.unit_of q.store.now) (T.content q.store.now) names.module_read (offset_of (width_of (T.unit_of q.store.now)) (T.content q.store.now) q.place) found.here
-        × Inlines how.Everywhere (T.unit_of q.store.now) (T.content q.store.now) names.module_read (offset_of (width_of (T.unit_of q.store.now)) (T.content q.store.now) q.place) found.everywhere };
+    ghost answers = { λ q names found.
+        Inlines how.Here (T.unit_of q.store.now) (T.content q.store.now) names.module_read
+        (offset_of (width_of (T.unit_of q.store.now)) (T.content q.store.now) q.place)
+        found.here
+        × Inlines how.Everywhere (T.unit_of q.store.now) (T.content q.store.now) names.module_read
+        (offset_of (width_of (T.unit_of q.store.now)) (T.content q.store.now) q.place)
+        found.everywhere };
 
     fn answer(&self, alloc: Global, module: &WellTyped<'_>) -> Result<Inlinings, AllocError> {
         let here = offered_edits(inline_here(alloc, self.store, module, self.place))?;

@@ -35,7 +35,8 @@ pub fn rename_symbol<T: TextStore>(
 ) -> Result<Vec<u8>, AllocError>
     requires { T.content store.now ≡ chars analysis.now }
     ensures { IfOk result (λ bytes. (message : Data)
-        × AnswersRenaming (T.unit_of store.now) (requested_of request.now) (T.content store.now) message
+        × AnswersRenaming (T.unit_of store.now) (requested_of request.now) (T.content store.now)
+        message
         × Writes message bytes.items) }
 {
     let id = request.id;

@@ -40,8 +40,11 @@ last_members client =
 -- "documentFormattingProvider":true,"hoverProvider":true, and "positionEncoding":"utf-8" for a client that offers that; then those
 abbrev pub further_members : Client → Members
 further_members client =
-    member (codes "documentFormattingProvider") (boolean true) (member (codes "hoverProvider") (boolean true)
-    (if client.counts_utf8 then member (codes "positionEncoding") (text (codes "utf-8")) (last_members client) else last_members client))
+    member (codes "documentFormattingProvider") (boolean true)
+    (member (codes "hoverProvider") (boolean true)
+    (if client.counts_utf8
+    then member (codes "positionEncoding") (text (codes "utf-8")) (last_members client)
+    else last_members client))
 
 -- "definitionProvider":true and those, and before them "codeActionProvider":{..} for a client that takes actions that aren't commands
 abbrev pub server_capabilities : Client → Data
@@ -124,8 +127,10 @@ edit_refused id said = error_message id (minus 32803) said
 -- {"code":name,"message":m,"range":R,"severity":1}
 abbrev pub diagnostic_value : Diagnostic → Data
 diagnostic_value d =
-    object (member (codes "code") (text d.code) (member (codes "message") (text d.said)
-    (member (codes "range") (range_value d.start d.end) (member (codes "severity") (number (unsigned 1)) no_members))))
+    object (member (codes "code") (text d.code)
+    (member (codes "message") (text d.said)
+    (member (codes "range") (range_value d.start d.end)
+    (member (codes "severity") (number (unsigned 1)) no_members))))
 
 -- `[D,..]`
 abbrev pub diagnostics_value : List Diagnostic → Data

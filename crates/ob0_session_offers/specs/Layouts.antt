@@ -31,7 +31,8 @@ changes_of unit indent characters m =
     (all_sites (line_roles 0 m.tree) m.text_of.scan.scan.lexemes))
 
 -- These edits lay out a text: one for each gap that changes, which it replaces. Made at once they leave the layout, a text of the same module, which runs as before.
-pub record LaysOut (unit : Unit) (indent : Indent) (text : List ℕ) (edits : List Edit) : Type 0 where
+pub record LaysOut (unit : Unit) (indent : Indent) (text : List ℕ)
+    (edits : List Edit) : Type 0 where
   pub before : IsWellTypedModule (utf8 text)
   pub changes : map edit_text edits ≡ changes_of unit indent text before
   pub after : List ℕ

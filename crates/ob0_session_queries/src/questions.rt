@@ -78,7 +78,8 @@ struct ReferencesAt {
 impl Question for ReferencesAt {
     type Answer = Vec<Span>;
 
-    ghost answers = { λ q names found. AreReferencesAt names q.offset q.include_declaration found.items };
+    ghost answers = { λ q names found.
+        AreReferencesAt names q.offset q.include_declaration found.items };
 
     fn answer(&self, alloc: Global, module: &WellTyped<'_>) -> Result<Vec<Span>, AllocError> {
         references(alloc, module, self.offset, self.include_declaration)
@@ -124,7 +125,9 @@ pub fn answer_question<T: TextStore>(
     question: NameQuestion,
 ) -> Result<Vec<u8>, AllocError>
     requires { T.content store.now ≡ chars analysis.now }
-    ensures { IfOk result (λ bytes. (value : Data) × AnswersName (T.unit_of store.now) (T.content store.now) (at_seen place.now) question value
+    ensures { IfOk result (λ bytes. (value : Data)
+        × AnswersName (T.unit_of store.now) (T.content store.now) (at_seen place.now)
+        question value
         × Writes (result_message (id_data id.now) value) bytes.items) }
 {
     match question {
@@ -145,7 +148,9 @@ fn hover_answer<T: TextStore>(
     place: &DocumentPosition,
 ) -> Result<Vec<u8>, AllocError>
     requires { T.content store.now ≡ chars analysis.now }
-    ensures { IfOk result (λ bytes. (value : Data) × AnswersName (T.unit_of store.now) (T.content store.now) (at_seen place.now) asks.Hover value
+    ensures { IfOk result (λ bytes. (value : Data)
+        × AnswersName (T.unit_of store.now) (T.content store.now) (at_seen place.now)
+        asks.Hover value
         × Writes (result_message (id_data id.now) value) bytes.items) }
 {
     let offset = store.offset(place.position);
@@ -163,7 +168,9 @@ fn definition_answer<T: TextStore>(
     place: &DocumentPosition,
 ) -> Result<Vec<u8>, AllocError>
     requires { T.content store.now ≡ chars analysis.now }
-    ensures { IfOk result (λ bytes. (value : Data) × AnswersName (T.unit_of store.now) (T.content store.now) (at_seen place.now) asks.Definition value
+    ensures { IfOk result (λ bytes. (value : Data)
+        × AnswersName (T.unit_of store.now) (T.content store.now) (at_seen place.now)
+        asks.Definition value
         × Writes (result_message (id_data id.now) value) bytes.items) }
 {
     let offset = store.offset(place.position);
@@ -182,7 +189,9 @@ fn references_answer<T: TextStore>(
     include_declaration: bool,
 ) -> Result<Vec<u8>, AllocError>
     requires { T.content store.now ≡ chars analysis.now }
-    ensures { IfOk result (λ bytes. (value : Data) × AnswersName (T.unit_of store.now) (T.content store.now) (at_seen place.now) (asks.References include_declaration) value
+    ensures { IfOk result (λ bytes. (value : Data)
+        × AnswersName (T.unit_of store.now) (T.content store.now) (at_seen place.now)
+        (asks.References include_declaration) value
         × Writes (result_message (id_data id.now) value) bytes.items) }
 {
     let uri = place.uri.as_str();
@@ -204,7 +213,9 @@ fn renamable_answer<T: TextStore>(
     place: &DocumentPosition,
 ) -> Result<Vec<u8>, AllocError>
     requires { T.content store.now ≡ chars analysis.now }
-    ensures { IfOk result (λ bytes. (value : Data) × AnswersName (T.unit_of store.now) (T.content store.now) (at_seen place.now) asks.PrepareRename value
+    ensures { IfOk result (λ bytes. (value : Data)
+        × AnswersName (T.unit_of store.now) (T.content store.now) (at_seen place.now)
+        asks.PrepareRename value
         × Writes (result_message (id_data id.now) value) bytes.items) }
 {
     let offset = store.offset(place.position);

@@ -147,12 +147,17 @@ static REQUESTS: &[(&str, &str, &str)] = &[
     ),
     (
         "initialize",
-        "{\"capabilities\":{\"general\":{\"positionEncodings\":[\"utf-32\"]},\"textDocument\":{\"codeAction\":{\"codeActionLiteralSupport\":true},\"rename\":{\"prepareSupport\":1}}}}",
+        "{\"capabilities\":{\"general\":{\"positionEncodings\":[\"utf-32\"]},\
+         \"textDocument\":{\"codeAction\":{\"codeActionLiteralSupport\":true},\
+         \"rename\":{\"prepareSupport\":1}}}}",
         "of a client that can nothing",
     ),
     (
         "initialize",
-        "{\"capabilities\":{\"general\":{\"positionEncodings\":[null,\"utf-8\"]},\"textDocument\":{\"codeAction\":{\"codeActionLiteralSupport\":{}},\"rename\":{\"prepareSupport\":true}},\"workspace\":{\"workspaceEdit\":{\"documentChanges\":true}}}}",
+        "{\"capabilities\":{\"general\":{\"positionEncodings\":[null,\"utf-8\"]},\
+         \"textDocument\":{\"codeAction\":{\"codeActionLiteralSupport\":{}},\
+         \"rename\":{\"prepareSupport\":true}},\
+         \"workspace\":{\"workspaceEdit\":{\"documentChanges\":true}}}}",
         "of a client that can everything",
     ),
     ("shutdown", "null", "shutdown"),
@@ -178,39 +183,46 @@ static REQUESTS: &[(&str, &str, &str)] = &[
     ),
     (
         "textDocument/hover",
-        "{\"position\":{\"character\":0,\"line\":18446744073709551616},\"textDocument\":{\"uri\":\"u\"}}",
+        "{\"position\":{\"character\":0,\"line\":18446744073709551616},\
+         \"textDocument\":{\"uri\":\"u\"}}",
         "bad params",
     ),
     (
         "textDocument/references",
-        "{\"context\":{\"includeDeclaration\":true},\"position\":{\"character\":0,\"line\":18446744073709551615},\"textDocument\":{\"uri\":\"u\"}}",
+        "{\"context\":{\"includeDeclaration\":true},\"position\":{\"character\":0,\
+         \"line\":18446744073709551615},\"textDocument\":{\"uri\":\"u\"}}",
         "references and the declaration",
     ),
     ("textDocument/references", PLACE, "bad params"),
     (
         "textDocument/rename",
-        "{\"newName\":\"x\",\"position\":{\"character\":0,\"line\":0},\"textDocument\":{\"uri\":\"u\"}}",
+        "{\"newName\":\"x\",\"position\":{\"character\":0,\"line\":0},\
+         \"textDocument\":{\"uri\":\"u\"}}",
         "rename",
     ),
     ("textDocument/rename", PLACE, "bad params"),
     (
         "textDocument/codeAction",
-        "{\"range\":{\"end\":{\"character\":0,\"line\":0},\"start\":{\"character\":0,\"line\":0}},\"textDocument\":{\"uri\":\"u\"}}",
+        "{\"range\":{\"end\":{\"character\":0,\"line\":0},\"start\":{\"character\":0,\"line\":0}},\
+         \"textDocument\":{\"uri\":\"u\"}}",
         "bad params",
     ),
     (
         "textDocument/codeAction",
-        "{\"context\":{\"only\":[null]},\"range\":{\"end\":{\"character\":0,\"line\":0},\"start\":{\"character\":0,\"line\":0}},\"textDocument\":{\"uri\":\"u\"}}",
+        "{\"context\":{\"only\":[null]},\"range\":{\"end\":{\"character\":0,\"line\":0},\
+         \"start\":{\"character\":0,\"line\":0}},\"textDocument\":{\"uri\":\"u\"}}",
         "bad params",
     ),
     (
         "textDocument/codeAction",
-        "{\"context\":{\"only\":null},\"range\":{\"end\":{\"character\":0,\"line\":0},\"start\":{\"character\":0,\"line\":0}},\"textDocument\":{\"uri\":\"u\"}}",
+        "{\"context\":{\"only\":null},\"range\":{\"end\":{\"character\":0,\"line\":0},\
+         \"start\":{\"character\":0,\"line\":0}},\"textDocument\":{\"uri\":\"u\"}}",
         "actions",
     ),
     (
         "textDocument/codeAction",
-        "{\"context\":{\"only\":[\"\",\"refactor\"]},\"range\":{\"end\":{\"character\":0,\"line\":0},\"start\":{\"character\":0,\"line\":0}},\"textDocument\":{\"uri\":\"u\"}}",
+        "{\"context\":{\"only\":[\"\",\"refactor\"]},\"range\":{\"end\":{\"character\":0,\
+         \"line\":0},\"start\":{\"character\":0,\"line\":0}},\"textDocument\":{\"uri\":\"u\"}}",
         "actions of two kinds",
     ),
     (
@@ -225,7 +237,8 @@ static REQUESTS: &[(&str, &str, &str)] = &[
     ),
     (
         "textDocument/formatting",
-        "{\"options\":{\"insertSpaces\":true,\"tabSize\":18446744073709551615},\"textDocument\":{\"uri\":\"u\"}}",
+        "{\"options\":{\"insertSpaces\":true,\"tabSize\":18446744073709551615},\
+         \"textDocument\":{\"uri\":\"u\"}}",
         "layout by 16",
     ),
     (
@@ -289,7 +302,8 @@ fn ranges_are_written_as_text(rt: HostRuntime) {
     };
     let answer = result_of(rt.alloc(), &Id::Signed(1), &reached);
     let wanted =
-        "{\"id\":1,\"jsonrpc\":\"2.0\",\"result\":{\"end\":{\"character\":12345,\"line\":10},\"start\":{\"character\":9,\"line\":0}}}";
+        "{\"id\":1,\"jsonrpc\":\"2.0\",\"result\":{\"end\":{\"character\":12345,\"line\":10},\
+         \"start\":{\"character\":9,\"line\":0}}}";
     assert!(rt; is_written(answer, wanted));
     let most = position(u64::MAX, u64::MAX);
     let reached = Range {
@@ -298,7 +312,9 @@ fn ranges_are_written_as_text(rt: HostRuntime) {
     };
     let answer = result_of(rt.alloc(), &Id::Signed(1), &reached);
     let wanted =
-        "{\"id\":1,\"jsonrpc\":\"2.0\",\"result\":{\"end\":{\"character\":18446744073709551615,\"line\":18446744073709551615},\"start\":{\"character\":18446744073709551615,\"line\":18446744073709551615}}}";
+        "{\"id\":1,\"jsonrpc\":\"2.0\",\"result\":{\"end\":{\"character\":18446744073709551615,\
+         \"line\":18446744073709551615},\"start\":{\"character\":18446744073709551615,\
+         \"line\":18446744073709551615}}}";
     assert!(rt; is_written(answer, wanted));
 }
 

@@ -6,12 +6,21 @@ use std::alloc::Global;
 use std::process::Abort;
 
 /// The first conversation.
-const INPUT: &[u8] =
-    b"Content-Length: 75\r\n\r\n{\"id\":1,\"jsonrpc\":\"2.0\",\"method\":\"initialize\",\"params\":{\"capabilities\":{}}}Content-Length: 171\r\n\r\n{\"jsonrpc\":\"2.0\",\"method\":\"textDocument/didOpen\",\"params\":{\"textDocument\":{\"languageId\":\"oberon-0\",\"text\":\"MODULE M; BEGIN WriteLn END M.\",\"uri\":\"file:///m\",\"version\":1}}}Content-Length: 44\r\n\r\n{\"id\":2,\"jsonrpc\":\"2.0\",\"method\":\"shutdown\"}Content-Length: 33\r\n\r\n{\"jsonrpc\":\"2.0\",\"method\":\"exit\"}";
+const INPUT: &[u8] = b"Content-Length: 75\r\n\r\n\
+    {\"id\":1,\"jsonrpc\":\"2.0\",\"method\":\"initialize\",\"params\":{\"capabilities\":{}}}\
+    Content-Length: 171\r\n\r\n\
+    {\"jsonrpc\":\"2.0\",\"method\":\"textDocument/didOpen\",\
+    \"params\":{\"textDocument\":{\"languageId\":\"oberon-0\",\
+    \"text\":\"MODULE M; BEGIN WriteLn END M.\",\"uri\":\"file:///m\",\"version\":1}}}\
+    Content-Length: 44\r\n\r\n\
+    {\"id\":2,\"jsonrpc\":\"2.0\",\"method\":\"shutdown\"}\
+    Content-Length: 33\r\n\r\n\
+    {\"jsonrpc\":\"2.0\",\"method\":\"exit\"}";
 
 /// The first message, and a head that is bad.
-const BAD_HEAD: &[u8] =
-    b"Content-Length: 75\r\n\r\n{\"id\":1,\"jsonrpc\":\"2.0\",\"method\":\"initialize\",\"params\":{\"capabilities\":{}}}Content-Length: x\r\n\r\n";
+const BAD_HEAD: &[u8] = b"Content-Length: 75\r\n\r\n\
+    {\"id\":1,\"jsonrpc\":\"2.0\",\"method\":\"initialize\",\"params\":{\"capabilities\":{}}}\
+    Content-Length: x\r\n\r\n";
 
 /// A conversation that ends somehow: its bytes up to a length, by pieces of a size, read so often, with room for so many bytes
 /// and with so many flushes.

@@ -46,7 +46,8 @@ abbrev pub IsPlace : (ℕ → ℕ) → List ℕ → PassState → Type 0
 IsPlace width text p = IsCounted width text (drop p.offset text) p.offset p.line p.character
 
 -- A pass that looks for a position has reached an offset before it. What precedes it and each later one is found in the rest.
-pub record IsSought (width : ℕ → ℕ) (text : List ℕ) (sought : Position) (rest : List ℕ) (offset line character : ℕ) : Type 0 where
+pub record IsSought (width : ℕ → ℕ) (text : List ℕ) (sought : Position) (rest : List ℕ)
+    (offset line character : ℕ) : Type 0 where
   pub rest_is : IsRest text rest offset
   pub not_past : IsFrom (at line character) sought
   pub same : (p : Position)

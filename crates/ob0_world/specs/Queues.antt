@@ -88,7 +88,8 @@ made_first held (m ∷ ms) = made_for held m
 -- ---- the whole
 
 -- what waits says something, and the session serves unless an allocation has failed
-pub record Sound (requested : List SentAsk) (to_server to_editor : Contents) (session : SessionState) : Type 0 where
+pub record Sound (requested : List SentAsk) (to_server to_editor : Contents)
+    (session : SessionState) : Type 0 where
   pub heard_all : All (IsHeard requested) to_server
   pub understood_all : All (IsUnderstood requested) to_editor
   pub stands : IsRunningOrFailed session

@@ -45,9 +45,11 @@ impl<T: TextStore> Model for Ends<T> {
 
     ghost coded = { Prim.hlevel (codes, documents_code, open_documents_code) };
 
-    ghost view = { λ w. both_from w.editor w.to_server.items w.session w.to_editor.items w.applied.items w.made.items };
+    ghost view = { λ w. both_from w.editor w.to_server.items w.session w.to_editor.items
+        w.applied.items w.made.items };
 
-    ghost invariant = { λ w. Sound w.editor.requested w.to_server.items w.to_editor.items w.session };
+    ghost invariant = { λ w.
+        Sound w.editor.requested w.to_server.items w.to_editor.items w.session };
 }
 
 impl<T: TextStore> Ends<T> {

@@ -38,7 +38,8 @@ impl<T: TextStore> Model for World<T> {
 
     ghost view = { λ w. record { both = w.ends; steps = w.steps; ended = w.has_ended } };
 
-    ghost invariant = { λ w. w.has_ended ≡ false → Within w.steps w.ends.ends.editor × IsReached w.ends.ends };
+    ghost invariant = { λ w. w.has_ended ≡ false
+        → Within w.steps w.ends.ends.editor × IsReached w.ends.ends };
 }
 
 impl<T: TextStore> World<T> {

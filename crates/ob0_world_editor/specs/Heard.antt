@@ -43,7 +43,8 @@ request_read requested k = option_map (λ a. requests k a.uri a.ask) (numbered r
 
 -- what a message says to the server
 abbrev pub message_read : List SentAsk → MessageMeaning → Option ToServer
-message_read requested (request id method params) = option_and_then (request_read requested) (number_of id)
+message_read requested (request id method params) =
+    option_and_then (request_read requested) (number_of id)
 message_read requested (notice method params) = notification_read (note_of method params)
 message_read requested not_json = None
 message_read requested not_a_message = None
@@ -107,4 +108,5 @@ pub record IsAsk (requested : List SentAsk) (k : ℕ) (uri : List ℕ) (ask : As
 -- the content says this to a server
 abbrev pub SaysToServer : List SentAsk → ToServer → List ℕ → Type 0
 SaysToServer requested (notifies note) content = IsNote note content
-SaysToServer requested (requests k uri ask) content = IsRequest k uri ask content × IsAsk requested k uri ask
+SaysToServer requested (requests k uri ask) content =
+    IsRequest k uri ask content × IsAsk requested k uri ask

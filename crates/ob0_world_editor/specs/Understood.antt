@@ -88,12 +88,14 @@ edits_for ask answer =
 
 -- the answer to the request of this number, with its edits
 abbrev pub answer_to : List SentAsk → Data → ℕ → Option ToEditor
-answer_to requested answer k = option_map (λ a. answers k (edits_for a.ask answer)) (numbered requested k)
+answer_to requested answer k =
+    option_map (λ a. answers k (edits_for a.ask answer)) (numbered requested k)
 
 -- an answer to a request that the editor sent
 abbrev pub answer_understood : List SentAsk → Data → Option ToEditor
 answer_understood requested answer =
-    option_and_then (answer_to requested answer) (option_and_then number_of (get (codes "id") answer))
+    option_and_then (answer_to requested answer)
+    (option_and_then number_of (get (codes "id") answer))
 
 -- ---- messages
 

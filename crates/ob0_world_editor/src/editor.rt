@@ -65,7 +65,13 @@ impl Model for Editor {
 
     ghost coded = { Prim.hlevel (codes, open_documents_code) };
 
-    ghost view = { λ e. record { unit = e.unit; documents = e.documents; openings = e.openings; requested = map requested_of e.requested.items; answers = map answer_of e.answers.items } };
+    ghost view = { λ e. record {
+      unit = e.unit;
+      documents = e.documents;
+      openings = e.openings;
+      requested = map requested_of e.requested.items;
+      answers = map answer_of e.answers.items;
+    } };
 }
 
 impl Editor {

@@ -19,7 +19,10 @@ pub struct Request<'a, I, P> {
 }
 
 impl<'a, I: Written, P: Written> Written for Request<'a, I, P> {
-    ghost value = { λ r. object (member (codes "id") (I.value r.id) (member (codes "jsonrpc") json_rpc (member (codes "method") (text_data r.method.now) (member (codes "params") (P.value r.params.now) no_members)))) };
+    ghost value = { λ r. object (member (codes "id") (I.value r.id)
+        (member (codes "jsonrpc") json_rpc
+        (member (codes "method") (text_data r.method.now)
+        (member (codes "params") (P.value r.params.now) no_members)))) };
 
     fn write(&self, out: &mut Vec<u8>) -> Result<(), AllocError> {
         first_member(out, "id", &self.id)?;
@@ -160,7 +163,9 @@ pub struct DidChangeParams<'a, C> {
 }
 
 impl<'a, C: Written> Written for DidChangeParams<'a, C> {
-    ghost value = { λ p. object (member (codes "contentChanges") (C.value p.changes) (member (codes "textDocument") (versioned_value p.document.uri.now p.document.version) no_members)) };
+    ghost value = { λ p. object (member (codes "contentChanges") (C.value p.changes)
+        (member (codes "textDocument") (versioned_value p.document.uri.now p.document.version)
+        no_members)) };
 
     fn write(&self, out: &mut Vec<u8>) -> Result<(), AllocError> {
         first_member(out, "contentChanges", &self.changes)?;
@@ -282,7 +287,9 @@ pub struct FormattingParams<'a> {
 }
 
 impl<'a> Written for FormattingParams<'a> {
-    ghost value = { λ p. object (member (codes "options") (options_by p.options.insert_spaces p.options.tab_size) (member (codes "textDocument") (document_value p.document.uri.now) no_members)) };
+    ghost value = { λ p. object
+        (member (codes "options") (options_by p.options.insert_spaces p.options.tab_size)
+        (member (codes "textDocument") (document_value p.document.uri.now) no_members)) };
 
     fn write(&self, out: &mut Vec<u8>) -> Result<(), AllocError> {
         first_member(out, "options", &self.options)?;

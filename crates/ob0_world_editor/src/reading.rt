@@ -38,7 +38,8 @@ pub fn read_message(
     content: &[u8],
 ) -> Result<Option<Message>, AllocError>
     ensures { IfOk result
-        (λ found. option_map message_of found ≡ understood (map requested_of requested.now) content.now) }
+        (λ found. option_map message_of found
+        ≡ understood (map requested_of requested.now) content.now) }
 {
     match Value::from_slice(alloc, content) {
         Ok(message) => read_value(alloc, requested, &message),
@@ -140,7 +141,8 @@ fn answer_number(answer: &Value) -> Option<u64>
 
 /// Ask `number`; the first has number 1.
 pub fn numbered_ask(requested: &[SentAsk], number: u64) -> Option<&SentAsk>
-    ensures { option_map (λ a. requested_of a.now) result ≡ numbered (map requested_of requested.now) number }
+    ensures { option_map (λ a. requested_of a.now) result
+        ≡ numbered (map requested_of requested.now) number }
 {
     if number == 0 {
         return None;

@@ -25,7 +25,8 @@ IsRight m = IsEmptyIfCorrect m.text m.empty
 
 -- at some moment, when the first of the events have happened and the others haven't, the editor has this document open, with this
 -- version and this text
-pub record WasOpen (unit : Unit) (events : List Event) (uri : List ℕ) (version : ℤ) (text : List ℕ) : Type 0 where
+pub record WasOpen (unit : Unit) (events : List Event) (uri : List ℕ) (version : ℤ)
+    (text : List ℕ) : Type 0 where
   pub before : List Event
   pub following : List Event
   pub parts : events ≡ before ++ following
@@ -76,7 +77,8 @@ pub record Holds (w : Ends) : Type 0 where
   pub latest_made : w.to_server ≡ [] → AreUpToDate w.editor w.made
 
 -- What a list of events leaves, from the beginning on: these edits were applied and these publications made, in this order.
-pub record Headline (unit : Unit) (events : List Event) (applied : List Applied) (made : List Made) : Type 0 where
+pub record Headline (unit : Unit) (events : List Event) (applied : List Applied)
+    (made : List Made) : Type 0 where
   pub end : Ends
   -- the events lead to this end, and to no other
   pub course : Course (start unit) events end
