@@ -10,7 +10,7 @@ use Rattle.ob0_text.specs.OpenDocuments.{reported_change}
 use Rattle.ob0_rpc.specs.Requesting.{At, ClientRequest, initialize, shutdown, hover, definition, references, prepare_rename, rename, code_action, formatting}
 use Rattle.ob0_rpc.specs.Messages.{ReadsContent, MessageMeaning, not_a_message, response, request, notice, meaning_of}
 use Rattle.ob0_rpc.specs.Notes.{Notification, exits, opens, changes, closes, unreadable, other, note_of}
-use Rattle.ob0_rpc.specs.declared.calls.Call as called
+use Rattle.ob0_rpc.specs.declared.calls.ClientRequest as called
 use Rattle.ob0_rpc.specs.declared.calls.DocumentPosition.{DocumentPosition}
 use Rattle.ob0_rpc.specs.declared.incoming.Id.{Id}
 use Rattle.ob0_rpc.specs.declared.incoming.Id.TheVariants.{Signed, Unsigned, Text}
@@ -61,7 +61,7 @@ abbrev pub kinds_seen : Option (Vec (String Global) Global) → Option (List (Li
 kinds_seen kinds = option_map (λ texts. map string_bytes texts.items) kinds
 
 -- a request of the code
-abbrev pub seen_call : called.Call → ClientRequest
+abbrev pub seen_call : called.ClientRequest → ClientRequest
 seen_call (called.TheVariants.Initialize client) = initialize client
 seen_call called.TheVariants.Shutdown = shutdown
 seen_call (called.TheVariants.Hover place) = hover (at_seen place)
@@ -74,7 +74,7 @@ seen_call (called.TheVariants.CodeAction uri range only) =
 seen_call (called.TheVariants.Formatting uri indent) = formatting (string_bytes uri) indent
 
 -- what the code makes of a request that asks this
-abbrev pub Requests : Result ClientRequest RpcFault → Result called.Call RpcFault → Type 0
+abbrev pub Requests : Result ClientRequest RpcFault → Result called.ClientRequest RpcFault → Type 0
 Requests requested (Ok call) = requested ≡ Ok (seen_call call)
 Requests requested (Err UnknownMethod) = requested ≡ Err UnknownMethod
 Requests requested (Err BadParams) = requested ≡ Err BadParams

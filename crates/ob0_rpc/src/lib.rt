@@ -13,7 +13,7 @@ mod objects;
 mod outgoing;
 mod ranges;
 
-pub use calls::{Call, DocumentPosition, request};
+pub use calls::{ClientRequest, DocumentPosition, request};
 pub use clients::Client;
 pub use incoming::{Id, Incoming, RpcFault, read};
 pub use json_text::{Written, begin_list, end_list, write_item};

@@ -10,7 +10,7 @@ ghost use Rattle.ob0_rpc.specs.Writing.{Writes};
 ghost use Rattle.ob0_text.specs.Texts.{offset_of};
 ghost use Rattle.ob0_text.specs.Units.{width_of};
 ghost use Rattle.ob0_session_offers.specs.Inlinings.{Inlines};
-ghost use Rattle.ob0_session_edits.specs.Actions.{AnswersActions, FindsInlinings, IsOffered, action_of, actions_requested, actions_value, allows_inlining as allows, is_of_kind as of_kind, place_of as place_in, title, wants_inlining as wants};
+ghost use Rattle.ob0_session_edits.specs.Actions.{AnswersActions, FindsInlinings, IsOffered, action_of, actions_requested, actions_value, allows_inlining as allows, is_of_kind as of_kind, actions_offset as place_in, title, wants_inlining as wants};
 ghost use Rattle.ob0_session_json.specs.Made.{action_in};
 ghost use Rattle.ob0_session_offers.specs.declared.inlining.Inlining.TheVariants as how;
 

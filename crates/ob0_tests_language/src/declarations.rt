@@ -134,12 +134,12 @@ fn captures_are_found(rt: HostRuntime) -> Result<(), Fail> {
 
 /// What the occurrences are bound to where the declaration with an ordinal has another name.
 #[derive(Drop)]
-struct Renamed {
+struct BoundAfterRename {
     declaration: usize,
     new: &'static str,
 }
 
-impl Question for Renamed {
+impl Question for BoundAfterRename {
     type Answer = String;
 
     ghost answers = { λ _ _ _. ⊤ };
@@ -171,7 +171,7 @@ static RENAMED_ROWS: &[(usize, &str, &str)] = &[
 fn occurrences_are_bound_with_another_name(rt: HostRuntime) -> Result<(), Fail> {
     for row in RENAMED_ROWS {
         let (declaration, new, wanted) = *row;
-        let found = said(rt.alloc(), NAMES, &Renamed { declaration, new })?;
+        let found = said(rt.alloc(), NAMES, &BoundAfterRename { declaration, new })?;
         assert!(rt;
             found.as_str() == wanted,
             "{found} of {declaration} as {new}"

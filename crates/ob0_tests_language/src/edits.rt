@@ -206,12 +206,12 @@ fn rename_text(
 
 /// The text with another name, or why it has none.
 #[derive(Drop)]
-struct Renamed {
+struct RenamedText {
     place: Position,
     new: &'static str,
 }
 
-impl Question for Renamed {
+impl Question for RenamedText {
     type Answer = String;
 
     ghost answers = { λ _ _ _. ⊤ };
@@ -228,7 +228,7 @@ fn a_well_typed_module_is_renamed_alike(rt: HostRuntime) -> Result<(), Fail> {
     for row in RENAMED {
         let (text, line, character, new, wanted) = *row;
         let place = Position { line, character };
-        let found = said(rt.alloc(), text, &Renamed { place, new })?;
+        let found = said(rt.alloc(), text, &RenamedText { place, new })?;
         assert!(rt;
             found.as_str() == wanted,
             "{found} by {new} at {line}:{character}"

@@ -1,7 +1,8 @@
 //! Messages from outside: what they mean, and which are none; and the bytes of answers.
 
 use ob0_rpc::{
-    Call, Client, Id, Incoming, OneMember, RpcFault, error, notify, read, request, result_of,
+    Client, ClientRequest, Id, Incoming, OneMember, RpcFault, error, notify, read, request,
+    result_of,
 };
 use ob0_text::{Indent, Position, Range};
 use serde_json::Value;
@@ -85,13 +86,13 @@ fn said_by(indent: Indent) -> &'static str {
 }
 
 /// In a word what a call asks for.
-fn word_of(call: &Call) -> &'static str {
+fn word_of(call: &ClientRequest) -> &'static str {
     match call {
-        Call::Initialize(client) => said_of(*client),
-        Call::Shutdown => "shutdown",
-        Call::Hover(_place) => "hover",
-        Call::Definition(_place) => "definition",
-        Call::References {
+        ClientRequest::Initialize(client) => said_of(*client),
+        ClientRequest::Shutdown => "shutdown",
+        ClientRequest::Hover(_place) => "hover",
+        ClientRequest::Definition(_place) => "definition",
+        ClientRequest::References {
             place: _place,
             include_declaration,
         } => {
@@ -101,12 +102,12 @@ fn word_of(call: &Call) -> &'static str {
                 "references"
             }
         }
-        Call::PrepareRename(_place) => "prepare a rename",
-        Call::Rename {
+        ClientRequest::PrepareRename(_place) => "prepare a rename",
+        ClientRequest::Rename {
             place: _place,
             new_name: _name,
         } => "rename",
-        Call::CodeAction {
+        ClientRequest::CodeAction {
             uri: _uri,
             range: _range,
             only,
@@ -120,7 +121,7 @@ fn word_of(call: &Call) -> &'static str {
                 }
             }
         },
-        Call::Formatting { uri: _uri, indent } => said_by(*indent),
+        ClientRequest::Formatting { uri: _uri, indent } => said_by(*indent),
     }
 }
 

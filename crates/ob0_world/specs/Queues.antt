@@ -18,7 +18,7 @@ use Rattle.ob0_world_rules.specs.Events.{Event, nothing, sent}
 use Rattle.ob0_world_rules.specs.Happens.{Course}
 use Rattle.ob0_world.specs.declared.events.Seen as seen
 use Rattle.ob0_world.specs.declared.played.Made as made
-use Rattle.ob0_world.specs.Code.{made_of, seen_of}
+use Rattle.ob0_world.specs.Code.{publication_of, seen_of}
 use Rattle.ob0_world.specs.Worlds.{Both}
 
 -- contents that wait in a queue
@@ -92,7 +92,7 @@ pub record Sound (requested : List SentAsk) (to_server to_editor : Contents)
     (session : SessionState) : Type 0 where
   pub heard_all : All (IsHeard requested) to_server
   pub understood_all : All (IsUnderstood requested) to_editor
-  pub stands : IsRunningOrFailed session
+  pub running : IsRunningOrFailed session
 
 -- client and server, from what the code stores of them
 abbrev pub ends_from : Editor
@@ -109,7 +109,7 @@ ends_from e to_server session to_editor applied made =
       held = held_by session;
       to_editor = all_understood e.requested to_editor;
       applied = map applied_of applied;
-      made = map made_of made;
+      made = map publication_of made;
     }
 
 -- client and server from what the code keeps

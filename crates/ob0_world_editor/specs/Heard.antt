@@ -17,15 +17,15 @@ use Rattle.ob0_world_editor.specs.Shapes.{method_of, empty_at}
 -- ---- as a function: the message in a content, where an ask is known by its number
 
 -- the number that a request has as its id
-abbrev pub number_of : Data → Option ℕ
-number_of (number (unsigned k)) = Some k
-number_of (number (negative z)) = None
-number_of (number (float x)) = None
-number_of null = None
-number_of (boolean b) = None
-number_of (string s) = None
-number_of (array ds) = None
-number_of (object ms) = None
+abbrev pub request_number : Data → Option ℕ
+request_number (number (unsigned k)) = Some k
+request_number (number (negative z)) = None
+request_number (number (float x)) = None
+request_number null = None
+request_number (boolean b) = None
+request_number (string s) = None
+request_number (array ds) = None
+request_number (object ms) = None
 
 -- what a notification says to the server
 abbrev pub notification_read : Notification → Option ToServer
@@ -44,7 +44,7 @@ request_read requested k = option_map (λ a. requests k a.uri a.ask) (numbered r
 -- what a message says to the server
 abbrev pub message_read : List SentAsk → MessageMeaning → Option ToServer
 message_read requested (request id method params) =
-    option_and_then (request_read requested) (number_of id)
+    option_and_then (request_read requested) (request_number id)
 message_read requested (notice method params) = notification_read (note_of method params)
 message_read requested not_json = None
 message_read requested not_a_message = None

@@ -33,15 +33,15 @@ open_params uri version contents =
     object (member (codes "textDocument") (opened_value uri version contents) no_members)
 
 -- {"range":R,"text":t}, without `range` for the whole text
-abbrev pub change_by : Option Range → List ℕ → Data
-change_by (Some range) new =
+abbrev pub change_object : Option Range → List ℕ → Data
+change_object (Some range) new =
     object (member (codes "range") (range_value range.start range.end)
     (member (codes "text") (text new) no_members))
-change_by None new = object (member (codes "text") (text new) no_members)
+change_object None new = object (member (codes "text") (text new) no_members)
 
 -- a change as JSON
 abbrev pub change_value : Change → Data
-change_value c = change_by c.range (string_bytes c.text)
+change_value c = change_object c.range (string_bytes c.text)
 
 -- {"uri":u,"version":v}
 abbrev pub versioned_value : List ℕ → ℕ → Data

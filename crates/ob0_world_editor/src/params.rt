@@ -4,7 +4,7 @@ ghost use Rattle.serde_json.specs.Data.{array, boolean, member, no_members, numb
 ghost use Rattle.serde_json.specs.View.{items_of};
 ghost use Rattle.ob0_rpc.specs.Appending.{AppendsEach};
 ghost use Rattle.ob0_rpc.specs.Shapes.{json_rpc, text as text_data};
-ghost use Rattle.ob0_world_editor.specs.Shapes.{actions_params, change_by, change_value, close_params, diagnostics_of_none, document_value, open_params, opened_value, options_by, options_value, rename_params, versioned_value};
+ghost use Rattle.ob0_world_editor.specs.Shapes.{actions_params, change_object, change_value, close_params, diagnostics_of_none, document_value, open_params, opened_value, options_by, options_value, rename_params, versioned_value};
 
 use ob0_rpc::{Written, begin_list, end_list, end_object, first_member, next_member, write_item};
 use ob0_text::{Change, Indent, Position, Range};
@@ -108,7 +108,7 @@ pub struct ContentChange<'a> {
 }
 
 impl<'a> Written for ContentChange<'a> {
-    ghost value = { λ c. change_by c.range c.text.now };
+    ghost value = { λ c. change_object c.range c.text.now };
 
     fn write(&self, out: &mut Vec<u8>) -> Result<(), AllocError> {
         match self.range {

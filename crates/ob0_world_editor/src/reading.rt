@@ -6,8 +6,8 @@ ghost use Rattle.serde_json.specs.View.{view, items_view};
 ghost use Rattle.ob0_rpc.specs.Members.{text_in as text_of_member, range_in as range_of_member, position_in as position_of_member, position_of as position_reported, range_of as range_reported, count_in as count_of_member};
 ghost use Rattle.ob0_world_editor.specs.Code.{message_of, ask_of, requested_of};
 ghost use Rattle.ob0_world_rules.specs.Edited.{replacement_of, replacements};
-ghost use Rattle.ob0_world_editor.specs.Heard.{number_of};
-ghost use Rattle.ob0_world_editor.specs.Understood.{understood, value_understood, publication_understood, answer_understood, has_none, edit_in, edits_in, workspace_items, is_titled, action_in, action_items, items_for as items_of_answer, edits_for};
+ghost use Rattle.ob0_world_editor.specs.Heard.{request_number};
+ghost use Rattle.ob0_world_editor.specs.Understood.{understood, value_understood, publication_understood, answer_understood, has_none, edit_in, edits_in, workspace_items, is_titled, titled_action, action_items, items_for as items_of_answer, edits_for};
 ghost use Rattle.ob0_world_rules.specs.Ends.{numbered};
 
 use crate::asks::Ask;
@@ -134,7 +134,7 @@ fn read_answer(
 }
 
 fn answer_number(answer: &Value) -> Option<u64>
-    ensures { result ≡ option_and_then number_of (get (codes "id") (view answer.now)) }
+    ensures { result ≡ option_and_then request_number (get (codes "id") (view answer.now)) }
 {
     answer.get("id")?.as_u64()
 }
@@ -208,7 +208,7 @@ fn action_values<'v>(actions: &'v Value, title: &str) -> Option<&'v Vec<Value>>
 }
 
 fn titled<'v>(actions: &'v [Value], title: &str) -> Option<&'v Value>
-    ensures { option_map (λ v. view v.now) result ≡ action_in title.now (items_view actions.now) }
+    ensures { option_map (λ v. view v.now) result ≡ titled_action title.now (items_view actions.now) }
 {
     for action in actions {
         if has_title(action, title) {

@@ -42,14 +42,14 @@ abbrev pub WasMadeFor : Unit → List Event → Made → Type 0
 WasMadeFor unit events m = WasOpen unit events m.uri m.version m.text
 
 -- the later one, if there is one
-abbrev pub or_else : Option Made → Option Made → Option Made
-or_else (Some later) this = Some later
-or_else None this = this
+abbrev pub later_of : Option Made → Option Made → Option Made
+later_of (Some later) this = Some later
+later_of None this = this
 
 -- the last publication for a uri
 abbrev pub latest : List ℕ → List Made → Option Made
 latest uri [] = None
-latest uri (m ∷ ms) = or_else (latest uri ms) (if bytes_eq m.uri uri then Some m else None)
+latest uri (m ∷ ms) = later_of (latest uri ms) (if bytes_eq m.uri uri then Some m else None)
 
 -- there is one, and it was made for this version and this text
 abbrev pub IsMadeFor : ℤ → List ℕ → Option Made → Type 0
