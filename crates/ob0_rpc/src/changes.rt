@@ -3,7 +3,7 @@ ghost use Rattle.std.specs.Prelude.{◌≡◌, IfOk, codes, option_and_then, opt
 ghost use Rattle.ob0_text.specs.OpenDocuments.{reported_change};
 ghost use Rattle.serde_json.specs.Find.{get, as_array};
 ghost use Rattle.serde_json.specs.View.{view, items_view};
-ghost use Rattle.ob0_rpc.specs.Notes.{changes_of as changes_in, change_in, changed_range};
+ghost use Rattle.ob0_rpc.specs.Notifications.{changes_of as changes_in, change_in, changed_range};
 
 use crate::members::{into_member, into_text_in, is_absent, range_of};
 use ob0_text::{Change, Range};

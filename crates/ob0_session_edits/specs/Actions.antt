@@ -27,7 +27,8 @@ use Rattle.ob0_session_offers.specs.declared.inlining.Inlining.TheVariants.{Here
 
 -- ---- the request
 
--- its id, the client, the document and its version, the range, and the kinds of which the actions must be, where there are such
+-- its id, the client, the document and its version, the range, and the kinds of which the actions must be, where
+-- there are such
 pub record RequestedActions : Type 0 where
   pub id : Data
   pub client : Client
@@ -108,7 +109,8 @@ actions_value requested here everywhere =
     array (items_of
     (action_values requested Here here ++ action_values requested Everywhere everywhere))
 
--- These actions are offered, as a list; none to a client that wants none, and none of a text that isn't a well-typed module.
+-- These actions are offered, as a list; none to a client that wants none, and none of a text that isn't a well-typed
+-- module.
 abbrev pub ListsActions : Unit → RequestedActions → List ℕ → Data → Type 0
 ListsActions unit requested text value =
     ((here : Option (Vec Edit Global))

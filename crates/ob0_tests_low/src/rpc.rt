@@ -85,7 +85,7 @@ fn said_by(indent: Indent) -> &'static str {
     }
 }
 
-/// In a word what a call asks for.
+/// A request, in a word.
 fn word_of(call: &ClientRequest) -> &'static str {
     match call {
         ClientRequest::Initialize(client) => said_of(*client),
@@ -125,7 +125,7 @@ fn word_of(call: &ClientRequest) -> &'static str {
     }
 }
 
-/// In a word what a request asks for.
+/// What a message requests, in a word.
 fn method_word(alloc: Global, method: &str, params: &str) -> &'static str {
     match Value::from_str(alloc, params) {
         Ok(params) => match request(alloc, method, &params) {

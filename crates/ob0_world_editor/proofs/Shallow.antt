@@ -10,7 +10,7 @@ use Rattle.ob0_text.specs.declared.position_types.Range.{Range}
 use Rattle.ob0_text.specs.OpenDocuments.{Opened, Changed, Closed, TextChange, reported_change}
 use Rattle.ob0_rpc.specs.Requesting.{call_of}
 use Rattle.ob0_rpc.specs.Messages.{ReadsContent}
-use Rattle.ob0_rpc.specs.Notes.{change_in, all_changes, change_of, open_of}
+use Rattle.ob0_rpc.specs.Notifications.{change_in, all_changes, change_of, open_of}
 use Rattle.ob0_rpc.specs.Shapes.{notification_message}
 use Rattle.ob0_world_rules.specs.Edited.{whole_text}
 use Rattle.ob0_world_rules.specs.Asks.{Ask, rename, inline_here, inline_all, format}

@@ -9,7 +9,7 @@ use Rattle.ob0_text.specs.OpenDocuments.{DocumentEvent, Opened, Changed, Lost, C
 use Rattle.ob0_rpc.specs.Requesting as wire
 use Rattle.ob0_rpc.specs.Requesting.{call_of}
 use Rattle.ob0_rpc.specs.Messages.{ReadsContent, MessageMeaning, not_json, not_a_message, response, request, notice, meaning_of}
-use Rattle.ob0_rpc.specs.Notes.{Notification, exits, opens, changes, closes, unreadable, other, note_of}
+use Rattle.ob0_rpc.specs.Notifications.{Notification, exits, opens, changes, closes, unreadable, other, note_of}
 use Rattle.ob0_world_rules.specs.Asks.{Ask, rename, inline_here, inline_all, format, indent_read}
 use Rattle.ob0_world_rules.specs.Ends.{SentAsk, numbered, ToServer, notifies, requests}
 use Rattle.ob0_world_editor.specs.Shapes.{method_of, empty_at}
@@ -90,7 +90,7 @@ pub record IsNote (note : DocumentEvent) (content : List ℕ) : Type 0 where
   pub reported : note_of method params ≡ sent_as note
   pub fits : HasVersion note
 
--- the content is the request of this number that asks this of a document
+-- the content is the request of this number, with this ask about a document
 pub record IsRequest (k : ℕ) (uri : List ℕ) (ask : Ask) (content : List ℕ) : Type 0 where
   pub json : Data
   pub reads : ReadsContent content (Some json)
