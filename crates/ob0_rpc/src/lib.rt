@@ -16,6 +16,7 @@ mod requests;
 pub use clients::Client;
 pub use incoming::{Id, Incoming, RpcFault, read};
 pub use json_text::{Written, begin_list, end_list, write_item};
+pub use members::{range_in, text_in};
 pub use notifications::{ClientNotification, notice};
 pub use objects::{OneMember, end_object, first_member, next_member};
 pub use outgoing::{

@@ -3,7 +3,7 @@ ghost use Rattle.std.specs.Prelude.{◌≡◌, IfOk, codes, option_map, option_a
 ghost use Rattle.serde_json.specs.Data.{Items};
 ghost use Rattle.serde_json.specs.Find.{get, as_str, as_number, as_i64, as_array};
 ghost use Rattle.serde_json.specs.View.{view, items_view};
-ghost use Rattle.ob0_rpc.specs.Members.{text_in as text_of_member, range_in as range_of_member, position_in as position_of_member, position_of as position_reported, range_of as range_reported, count_in as count_of_member};
+ghost use Rattle.ob0_rpc.specs.Members.{text_in as text_of_member};
 ghost use Rattle.ob0_world_editor.specs.Code.{message_of, ask_of, requested_of};
 ghost use Rattle.ob0_world_rules.specs.Edited.{replacement_of, replacements};
 ghost use Rattle.ob0_world_editor.specs.Heard.{request_number};
@@ -12,7 +12,8 @@ ghost use Rattle.ob0_world_rules.specs.Ends.{numbered};
 
 use crate::asks::Ask;
 use crate::editor::SentAsk;
-use ob0_text::{Edit, Position, Range};
+use ob0_rpc::{range_in, text_in};
+use ob0_text::Edit;
 use serde_json::Value;
 use std::alloc::{AllocError, Global};
 
@@ -255,38 +256,4 @@ fn edit_of(alloc: Global, value: &Value) -> Result<Option<Edit>, AllocError>
     };
     let text = String::from_str(alloc, text)?;
     Ok(Some(Edit { range, text }))
-}
-
-fn text_in<'v>(value: &'v Value, name: &str) -> Option<&'v str>
-    ensures { option_map (λ s. s.now) result ≡ text_of_member name.now (view value.now) }
-{
-    value.get(name)?.as_str()
-}
-
-fn range_in(value: &Value, name: &str) -> Option<Range>
-    ensures { result ≡ range_of_member name.now (view value.now) }
-{
-    range_of(value.get(name)?)
-}
-
-fn range_of(value: &Value) -> Option<Range>
-    ensures { result ≡ range_reported (view value.now) }
-{
-    let start = position_in(value, "start")?;
-    let end = position_in(value, "end")?;
-    Some(Range { start, end })
-}
-
-fn position_in(value: &Value, name: &str) -> Option<Position>
-    ensures { result ≡ position_of_member name.now (view value.now) }
-{
-    position_of(value.get(name)?)
-}
-
-fn position_of(value: &Value) -> Option<Position>
-    ensures { result ≡ position_reported (view value.now) }
-{
-    let line = value.get("line")?.as_u64()?;
-    let character = value.get("character")?.as_u64()?;
-    Some(Position { line, character })
 }
