@@ -32,6 +32,7 @@ pub struct Count {
 }
 
 impl Count {
+    /// Nothing is written yet.
     pub fn new(room: usize, flushes_left: u32) -> Count {
         Count {
             written: 0,
