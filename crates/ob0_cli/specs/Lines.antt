@@ -63,8 +63,12 @@ run =
 
 -- `ob0 rename FILE LINE COLUMN NAME`
 abbrev pub rename : App
-rename = with_rule (with_rule (with_rule (with_rule (new_app (codes "rename")) (word_rule (codes "file"))) (number_rule (codes "line")))
-    (number_rule (codes "column"))) (word_rule (codes "name"))
+rename =
+    with_rule (with_rule (with_rule (with_rule (new_app (codes "rename"))
+    (word_rule (codes "file")))
+    (number_rule (codes "line")))
+    (number_rule (codes "column")))
+    (word_rule (codes "name"))
 
 -- it has a version, and one subcommand is required
 abbrev pub ob0_alone : App

@@ -3,16 +3,16 @@ use Rattle.std.specs.Prelude.{◌≡◌, ◌⊎◌, Bool, true}
 use Rattle.ob0_commands.specs.declared.printing.Flushed.{Flushed}
 
 -- the device
-abbrev pub device_of : {W : Type 0} → Flushed W → W
-device_of output = output.device
+abbrev pub output_device : {W : Type 0} → Flushed W → W
+output_device output = output.device
 
 -- whether it has been flushed since then, by a flush that succeeded
 abbrev pub has_flushed : {W : Type 0} → Flushed W → Bool
 has_flushed output = output.has_flushed
 
 -- whether a call that writes or flushes has failed
-abbrev pub has_failed : {W : Type 0} → Flushed W → Bool
-has_failed output = output.has_failed
+abbrev pub output_failed : {W : Type 0} → Flushed W → Bool
+output_failed output = output.has_failed
 
 -- what was written is flushed, or the device is as it was
 abbrev pub IsHandedOn : {O : Type 0} → (is_flushed : Bool) (before after : O) → Type 0

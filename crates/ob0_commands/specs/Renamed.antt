@@ -15,7 +15,8 @@ use Rattle.ob0_rename.specs.InTexts.{IsRefusedIn, RenamesIn}
 use Rattle.ob0_commands.specs.Printed.{PrintsFaults}
 
 -- known bytes grow by the text that edits make
-pub record PrintsPatched (unit : Unit) (content : List ℕ) (edits : List Edit) (before after : Option (List ℕ)) : Type 0 where
+pub record PrintsPatched (unit : Unit) (content : List ℕ) (edits : List Edit)
+    (before after : Option (List ℕ)) : Type 0 where
   pub text : List ℕ
   pub made : patched (width_of unit) content edits ≡ Some (chars text)
   pub printed : Appends before after text
@@ -36,14 +37,17 @@ abbrev pub IsRefusal : Result (Vec Edit Global) EditRefusal → Type 0
 IsRefusal (Ok edits) = ⊥
 IsRefusal (Err refusal) = ⊤
 
--- Edits write the name in the file's text, in positions that count UTF-16 units, and the text that they make is printed.
-pub record PrintsRenamed (file : List ℕ) (position : Position) (new : List ℕ) (before after : Option (List ℕ)) : Type 0 where
+-- Edits write the name in the file's text, in positions that count UTF-16 units, and the text that they make is
+-- printed.
+pub record PrintsRenamed (file : List ℕ) (position : Position) (new : List ℕ)
+    (before after : Option (List ℕ)) : Type 0 where
   pub edits : List Edit
   pub rename : RenamesIn Utf16 (chars file) position new edits
   pub prints : PrintsPatched Utf16 (chars file) edits before after
 
 -- the name is refused, and nothing printed
-pub record RefusesName (file : List ℕ) (position : Position) (new : List ℕ) (before after : Option (List ℕ)) : Type 0 where
+pub record RefusesName (file : List ℕ) (position : Position) (new : List ℕ)
+    (before after : Option (List ℕ)) : Type 0 where
   pub refusal : EditRefusal
   pub refused : IsRefusedIn Utf16 (chars file) position new refusal
   pub nothing : after ≡ before

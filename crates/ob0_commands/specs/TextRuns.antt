@@ -29,7 +29,8 @@ pub record IsLoweredTo (text : List ℕ) (program : Program) : Type 0 where
   pub runs : lowered.RunsAs tree program
 
 -- known bytes grow by what a run of the file's module outputs, given the numbers that the known bytes of an input write
-pub record PrintsRun (file : List ℕ) (given : Option (List ℕ)) (c t : ℕ) (before after : Option (List ℕ)) (r : Run) : Type 0 where
+pub record PrintsRun (file : List ℕ) (given : Option (List ℕ)) (c t : ℕ)
+    (before after : Option (List ℕ)) (r : Run) : Type 0 where
   pub input : List ℤ
   pub written : IfSome given (λ text. WritesNumbers text input)
   pub runs : TextRunsAs file input c t r

@@ -4,7 +4,7 @@ ghost use Rattle.std.specs.Prelude.{◌≡◌, ◌||◌, Bool, true, false, is_e
 ghost use Rattle.std.specs.Io.{WritesAtMost};
 ghost use Rattle.std.specs.Io.KnownBytes.{Appends, Keeps, WriteAppends};
 ghost use Rattle.ob0_commands.specs.declared.faults.FileFault.TheVariants as faults;
-ghost use Rattle.ob0_commands.specs.Outputs.{device_of, has_failed, has_flushed};
+ghost use Rattle.ob0_commands.specs.Outputs.{output_device, output_failed, has_flushed};
 
 use crate::faults::FileFault;
 use std::io::{self, Write};
@@ -21,13 +21,13 @@ pub trait Output: Write {
     fn put_all(&mut self, bytes: &[u8]) -> io::Result<()>
         ensures bytes { OnOk result
             (Appends (Self.contents self.old) (Self.contents self.new) bytes.now) }
-        ensures failed { has_failed self.new ≡ (has_failed self.old || is_err result) };
+        ensures failed { output_failed self.new ≡ (output_failed self.old || is_err result) };
 
     /// Flushes, and remembers whether this succeeded.
     fn hand_on(&mut self) -> io::Result<()>
         ensures bytes { Keeps (Self.contents self.old) (Self.contents self.new) }
         ensures flushed { OnOk result (is_flushed self.new ≡ true) }
-        ensures failed { has_failed self.new ≡ (has_failed self.old || is_err result) };
+        ensures failed { output_failed self.new ≡ (output_failed self.old || is_err result) };
 }
 
 /// A device, whether it has been flushed since something was last written to it, and whether it has failed.
@@ -41,9 +41,9 @@ pub struct Flushed<W> {
 impl<W> Flushed<W> {
     /// A device that hasn't been flushed and hasn't failed.
     pub fn new(device: W) -> Flushed<W>
-        ensures device { device_of result ≡ device }
+        ensures device { output_device result ≡ device }
         ensures fresh { has_flushed result ≡ false }
-        ensures works { has_failed result ≡ false }
+        ensures works { output_failed result ≡ false }
     {
         Flushed {
             device,
@@ -54,12 +54,12 @@ impl<W> Flushed<W> {
 }
 
 impl<W: Write> Write for Flushed<W> {
-    ghost contents = { λ output. W.contents (device_of output) };
+    ghost contents = { λ output. W.contents (output_device output) };
 
     fn write(&mut self, buf: &[u8]) -> io::Result<usize>
         ensures bound { WritesAtMost result buf.now }
-        ensures bytes { WriteAppends (W.contents (device_of self.old))
-            (W.contents (device_of self.new)) result buf.now }
+        ensures bytes { WriteAppends (W.contents (output_device self.old))
+            (W.contents (output_device self.new)) result buf.now }
         ensures flushed { has_flushed self.new ≡ false }
     {
         self.has_flushed = false;
@@ -74,7 +74,7 @@ impl<W: Write> Write for Flushed<W> {
 impl<W: Write> Output for Flushed<W> {
     ghost is_flushed = { λ output. has_flushed output };
 
-    ghost has_failed = { λ output. has_failed output };
+    ghost has_failed = { λ output. output_failed output };
 
     fn put_all(&mut self, bytes: &[u8]) -> io::Result<()> {
         self.has_flushed = self.has_flushed && bytes.is_empty();

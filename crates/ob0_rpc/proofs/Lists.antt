@@ -8,7 +8,7 @@ use Rattle.serde_json.specs.declared.value.Value.{Value}
 use Rattle.serde_json.specs.Find.{as_str}
 use Rattle.ob0_text.specs.OpenDocuments.{TextChange}
 use Rattle.ob0_rpc.specs.Requesting.{texts_of}
-use Rattle.ob0_rpc.specs.Notes.{change_in, all_changes}
+use Rattle.ob0_rpc.specs.Notifications.{change_in, all_changes}
 
 abbrev pub Values : Type 0
 Values = List Value

@@ -7,7 +7,8 @@ use Rattle.serde_json.specs.Data.{Data, Members, member, no_members, null}
 use Rattle.serde_json.specs.Read.{of_json}
 use Rattle.serde_json.specs.Written.{comma_if, compact_text, outline}
 
--- the value's text reads as the value: its whole numbers are of 64 bits, it has each member once, in order, and its texts are UTF-8
+-- the value's text reads as the value: its whole numbers are of 64 bits, it has each member once, in order,
+-- and its texts are UTF-8
 pub record IsReadBack (value : Data) : Type 0 where
   pub reads : of_json (outline value) ≡ Some value
   pub numbers : HasNumbers (outline value)
@@ -39,7 +40,8 @@ pub record AppendsItem (later : Bool) (value : Data) (old new : List ℕ) : Type
   pub reads : IsReadBack value
 
 -- a bracket or a comma, a name between quotes, a colon and the value's text are written after the other
-pub record AppendsMember (before : ℕ) (name : List ℕ) (value : Data) (old new : List ℕ) : Type 0 where
+pub record AppendsMember (before : ℕ) (name : List ℕ) (value : Data)
+    (old new : List ℕ) : Type 0 where
   pub text : new ≡ old ++ before ∷ 34 ∷ (name ++ 34 ∷ 58 ∷ compact_text value)
   pub reads : IsReadBack value
 

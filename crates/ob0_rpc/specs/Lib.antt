@@ -3,7 +3,7 @@ pub mod Requesting
 pub mod Faults
 pub mod Members
 pub mod Messages
-pub mod Notes
+pub mod Notifications
 pub mod Seen
 pub mod Shapes
 pub mod Writing

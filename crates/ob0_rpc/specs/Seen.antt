@@ -9,16 +9,16 @@ use Rattle.serde_json.specs.View.{view}
 use Rattle.ob0_text.specs.OpenDocuments.{reported_change}
 use Rattle.ob0_rpc.specs.Requesting.{At, ClientRequest, initialize, shutdown, hover, definition, references, prepare_rename, rename, code_action, formatting}
 use Rattle.ob0_rpc.specs.Messages.{ReadsContent, MessageMeaning, not_a_message, response, request, notice, meaning_of}
-use Rattle.ob0_rpc.specs.Notes.{Notification, exits, opens, changes, closes, unreadable, other, note_of}
-use Rattle.ob0_rpc.specs.declared.calls.Call as called
-use Rattle.ob0_rpc.specs.declared.calls.DocumentPosition.{DocumentPosition}
+use Rattle.ob0_rpc.specs.Notifications.{Notification, exits, opens, changes, closes, unreadable, other, note_of}
+use Rattle.ob0_rpc.specs.declared.requests.ClientRequest as called
+use Rattle.ob0_rpc.specs.declared.requests.DocumentPosition.{DocumentPosition}
 use Rattle.ob0_rpc.specs.declared.incoming.Id.{Id}
 use Rattle.ob0_rpc.specs.declared.incoming.Id.TheVariants.{Signed, Unsigned, Text}
 use Rattle.ob0_rpc.specs.declared.incoming.Incoming.{Incoming}
 use Rattle.ob0_rpc.specs.declared.incoming.Incoming.TheVariants.{Request, Notice, Ignored}
 use Rattle.ob0_rpc.specs.declared.incoming.RpcFault.{RpcFault}
 use Rattle.ob0_rpc.specs.declared.incoming.RpcFault.TheVariants.{NotJson, NotAMessage, UnknownMethod, BadParams, Memory}
-use Rattle.ob0_rpc.specs.declared.notes.Note as noted
+use Rattle.ob0_rpc.specs.declared.notifications.ClientNotification as noted
 
 -- an id of the code as a JSON value
 abbrev pub id_data : Id → Data
@@ -61,7 +61,7 @@ abbrev pub kinds_seen : Option (Vec (String Global) Global) → Option (List (Li
 kinds_seen kinds = option_map (λ texts. map string_bytes texts.items) kinds
 
 -- a request of the code
-abbrev pub seen_call : called.Call → ClientRequest
+abbrev pub seen_call : called.ClientRequest → ClientRequest
 seen_call (called.TheVariants.Initialize client) = initialize client
 seen_call called.TheVariants.Shutdown = shutdown
 seen_call (called.TheVariants.Hover place) = hover (at_seen place)
@@ -73,8 +73,8 @@ seen_call (called.TheVariants.CodeAction uri range only) =
     code_action (string_bytes uri) range (kinds_seen only)
 seen_call (called.TheVariants.Formatting uri indent) = formatting (string_bytes uri) indent
 
--- what the code makes of a request that asks this
-abbrev pub Requests : Result ClientRequest RpcFault → Result called.Call RpcFault → Type 0
+-- what the code returns for a request that is read as this
+abbrev pub Requests : Result ClientRequest RpcFault → Result called.ClientRequest RpcFault → Type 0
 Requests requested (Ok call) = requested ≡ Ok (seen_call call)
 Requests requested (Err UnknownMethod) = requested ≡ Err UnknownMethod
 Requests requested (Err BadParams) = requested ≡ Err BadParams
@@ -83,7 +83,7 @@ Requests requested (Err NotJson) = ⊥
 Requests requested (Err NotAMessage) = ⊥
 
 -- a notification of the code
-abbrev pub seen_note : noted.Note → Notification
+abbrev pub seen_note : noted.ClientNotification → Notification
 seen_note noted.TheVariants.Exit = exits
 seen_note (noted.TheVariants.Open uri version text) =
     opens (string_bytes uri) version (chars (string_bytes text))
@@ -94,7 +94,7 @@ seen_note (noted.TheVariants.Unreadable uri) = unreadable (option_map string_byt
 seen_note noted.TheVariants.Other = other
 
 -- what the code makes of a notification
-abbrev pub ReportsAs : List ℕ → Data → Result noted.Note RpcFault → Type 0
+abbrev pub ReportsAs : List ℕ → Data → Result noted.ClientNotification RpcFault → Type 0
 ReportsAs method params (Ok note) = note_of method params ≡ seen_note note
 ReportsAs method params (Err Memory) = Unit {0}
 ReportsAs method params (Err NotJson) = ⊥

@@ -161,7 +161,8 @@ fn read_id(alloc: Global, value: &Value) -> Result<Option<Id>, AllocError>
 fn whole_number(n: &Number) -> Option<Id>
     ensures { MatchOption result
         (is_id (number (number_view n.now)) ≡ false)
-        (λ id. (is_id (number (number_view n.now)) ≡ true) × (id_data id ≡ number (number_view n.now))) }
+        (λ id. (is_id (number (number_view n.now)) ≡ true)
+        × (id_data id ≡ number (number_view n.now))) }
 {
     match n.as_u64() {
         Some(unsigned) => Some(Id::Unsigned(unsigned)),

@@ -2,23 +2,24 @@
 //! and answers are written.
 #![tactic(auto)]
 
-mod calls;
 mod changes;
 mod clients;
 mod incoming;
 mod json_text;
 mod members;
-mod notes;
+mod notifications;
 mod objects;
 mod outgoing;
 mod ranges;
+mod requests;
 
-pub use calls::{Call, DocumentPosition, request};
 pub use clients::Client;
 pub use incoming::{Id, Incoming, RpcFault, read};
 pub use json_text::{Written, begin_list, end_list, write_item};
-pub use notes::{Note, notice};
+pub use members::{range_in, text_in};
+pub use notifications::{ClientNotification, notice};
 pub use objects::{OneMember, end_object, first_member, next_member};
 pub use outgoing::{
     ErrorResponse, Notification, Response, ResponseError, content_of, error, notify, result_of,
 };
+pub use requests::{ClientRequest, DocumentPosition, request};

@@ -53,7 +53,8 @@ pub struct ErrorResponse<'a> {
 }
 
 impl<'a> Written for ErrorResponse<'a> {
-    ghost value = { λ r. error_message (id_or_null (option_map (λ i. i.now) r.id)) r.error.code r.error.message.now };
+    ghost value = { λ r. error_message (id_or_null (option_map (λ i. i.now) r.id))
+        r.error.code r.error.message.now };
 
     fn write(&self, out: &mut Vec<u8>) -> Result<(), AllocError> {
         first_member(out, "error", &self.error)?;

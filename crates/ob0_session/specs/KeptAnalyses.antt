@@ -14,30 +14,30 @@ IsIn (Some cache) uri text =
     (key : String Global) × Contains cache.entries (key, text) × (string_bytes key ≡ uri)
 
 -- an analysis of the text is kept for the document of the uri
-abbrev pub IsKept : Analyses → List ℕ → List ℕ → Type 0
-IsKept analyses = IsIn analyses.by_uri
+abbrev pub KeepsAnalysis : Analyses → List ℕ → List ℕ → Type 0
+KeepsAnalysis analyses = IsIn analyses.by_uri
 
 -- what is kept was kept before
 abbrev pub KeepsOnly : Analyses → Analyses → Type 0
-KeepsOnly old new = (uri text : List ℕ) → IsKept new uri text → IsKept old uri text
+KeepsOnly old new = (uri text : List ℕ) → KeepsAnalysis new uri text → KeepsAnalysis old uri text
 
 -- what is kept was kept before, and for another document than this
 abbrev pub KeepsOthers : Analyses → List ℕ → Analyses → Type 0
 KeepsOthers old document new =
-    (uri text : List ℕ) → IsKept new uri text → IsKept old uri text × (uri ≡ document → ⊥)
+    (uri text : List ℕ) → KeepsAnalysis new uri text → KeepsAnalysis old uri text × (uri ≡ document → ⊥)
 
 -- what is kept was kept before, or is of this text for this document
 abbrev pub KeepsAlso : Analyses → List ℕ → List ℕ → Analyses → Type 0
 KeepsAlso old document its_text new =
-    (uri text : List ℕ) → IsKept new uri text
-    → IsKept old uri text ⊎ ((uri ≡ document) × (text ≡ its_text))
+    (uri text : List ℕ) → KeepsAnalysis new uri text
+    → KeepsAnalysis old uri text ⊎ ((uri ≡ document) × (text ≡ its_text))
 
 -- the document is open and in step, and this is its text, by its bytes
-abbrev pub HasText : OpenDocuments → List ℕ → List ℕ → Type 0
-HasText documents uri text =
+abbrev pub HasDocumentText : OpenDocuments → List ℕ → List ℕ → Type 0
+HasDocumentText documents uri text =
     (version : ℤ) × (document_at documents uri ≡ Some (InStep version (chars text)))
 
 -- each analysis that is kept is of the text that its document has now
 abbrev pub AreOfTheirTexts : OpenDocuments → Analyses → Type 0
 AreOfTheirTexts documents analyses =
-    (uri text : List ℕ) → IsKept analyses uri text → HasText documents uri text
+    (uri text : List ℕ) → KeepsAnalysis analyses uri text → HasDocumentText documents uri text

@@ -5,7 +5,7 @@ ghost use Rattle.std.specs.Str.{chars};
 ghost use Rattle.ob0_text.specs.Entries.{document_stored, UsesUnit};
 ghost use Rattle.ob0_text.specs.OpenDocuments.{changed, closed, document_at, lost, opened, reported_change};
 ghost use Rattle.std.specs.Option.{option_map};
-ghost use Rattle.ob0_session.specs.KeptAnalyses.{HasText};
+ghost use Rattle.ob0_session.specs.KeptAnalyses.{HasDocumentText};
 
 use crate::analyses::Analyses;
 use ob0_analysis::Analysis;
@@ -13,8 +13,8 @@ use ob0_text::{Change, Documents, Held, TextStore};
 use std::alloc::{AllocError, Global};
 use std::marker::Model;
 
-/// The open documents, and analyses of their texts. Contracts see the documents alone: an analysis that is kept is of the
-/// text that its document has, since what changes a text takes the analysis of the text before out.
+/// The open documents, and analyses of their texts. Contracts see the documents alone: an analysis that is kept is of
+/// the text that its document has, since what changes a text takes the analysis of the text before out.
 #[derive(Drop)]
 pub struct AnalysedDocuments<T: TextStore> {
     alloc: Global,
@@ -110,14 +110,14 @@ impl<T: TextStore> AnalysedDocuments<T> {
     /// Takes out the analysis of a document's text, where it is kept.
     pub fn take(&mut self, uri: &str) -> Option<Analysis>
         ensures same { self.new ≡ self.old }
-        ensures found { IfSome result (HasText self.old uri.now) }
+        ensures found { IfSome result (HasDocumentText self.old uri.now) }
     {
         self.analyses.take(uri)
     }
 
     /// Keeps the analysis of a document's text.
     pub fn keep(&mut self, uri: &str, analysis: Analysis) -> Result<(), AllocError>
-        requires { HasText self.old uri.now analysis }
+        requires { HasDocumentText self.old uri.now analysis }
         ensures { self.new ≡ self.old }
     {
         self.analyses.put(uri, analysis)

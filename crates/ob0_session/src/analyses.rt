@@ -1,7 +1,7 @@
 //! The analyses of the documents that were reported or queried last.
 
 ghost use Rattle.std.specs.Prelude.{◌≡◌, ◌∷◌, ◌≤◌, [], IfSome, IfOk};
-ghost use Rattle.ob0_session.specs.KeptAnalyses.{IsKept, KeepsAlso, KeepsOnly, KeepsOthers};
+ghost use Rattle.ob0_session.specs.KeptAnalyses.{KeepsAnalysis, KeepsAlso, KeepsOnly, KeepsOthers};
 
 use lru::LruCache;
 use ob0_analysis::Analysis;
@@ -26,7 +26,7 @@ pub struct Analyses {
 impl Analyses {
     /// No analysis of any document.
     pub fn new(alloc: Global) -> Analyses
-        ensures { (uri : _) (text : _) → IsKept result uri text → ⊥ }
+        ensures { (uri : _) (text : _) → KeepsAnalysis result uri text → ⊥ }
     {
         Analyses {
             alloc,
@@ -37,7 +37,7 @@ impl Analyses {
 
     /// Takes the analysis of a document out, where one is kept.
     pub fn take(&mut self, uri: &str) -> Option<Analysis>
-        ensures found { IfSome result (IsKept self.old uri.now) }
+        ensures found { IfSome result (KeepsAnalysis self.old uri.now) }
         ensures others { KeepsOthers self.old uri.now self.new }
     {
         let by_uri = self.by_uri.as_mut()?;
@@ -48,8 +48,8 @@ impl Analyses {
         Some(analysis)
     }
 
-    /// Keeps the analysis of a document, and drops those that weren't used for longest where there is too much in all. One
-    /// that is too much alone isn't kept.
+    /// Keeps the analysis of a document, and drops those that weren't used for longest where there is too much in all.
+    /// One that is too much alone isn't kept.
     pub fn put(&mut self, uri: &str, analysis: Analysis) -> Result<(), AllocError>
         ensures { KeepsAlso self.old uri.now analysis self.new }
     {

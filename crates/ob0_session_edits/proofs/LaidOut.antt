@@ -21,7 +21,7 @@ use Rattle.ob0_text.specs.declared.refusals.EditRefusal.TheVariants.{TooLong, Me
 use Rattle.ob0_analysis.specs.Analysed.{Finds, IsModuleIn}
 use Rattle.ob0_analysis.specs.Diagnosed.{IsTextOf, IsWellTypedModule}
 use Rattle.ob0_analysis.specs.Texts.{utf8}
-use Rattle.ob0_session_offers.specs.Layouts.{IsTooLongLaidOut, LaysOut, changes_of, layout_of}
+use Rattle.ob0_session_offers.specs.Layouts.{IsTooLongLaidOut, LaysOut, layout_changes, layout_of}
 use Rattle.ob0_session_edits.specs.Formatted.{Formats}
 use Rattle.ob0_analysis.proofs.Scanning.{is_module, utf8_of}
 
@@ -40,7 +40,7 @@ stays_module indent text m u lexed short law =
     let scan : IsScan t = record { utf8 = u; short = short; lexemes = lexemes; lexed = lexed; tokens = refl; comments = refl } in
     record { scanned = t; scan = record { of = sym (encodes-chars laid u); scan = scan }; module_of = law indent m.text_of.scanned m.text_of.scan.scan m.tree m.text_of.module_of t scan refl }
 
-pub lays_out : (unit : Unit) (indent : Indent) (text : List ℕ) (edits : List Edit) (m : IsWellTypedModule (utf8 text)) → map edit_text edits ≡ changes_of unit indent text m
+pub lays_out : (unit : Unit) (indent : Indent) (text : List ℕ) (edits : List Edit) (m : IsWellTypedModule (utf8 text)) → map edit_text edits ≡ layout_changes unit indent text m
     → patched (width_of unit) text edits ≡ Some (chars (layout_of indent m)) → length (layout_of indent m) ≤ max_text
     → IsUtf8 (layout_of indent m) → Lexed (layout_of indent m) (laid_out indent m.tree m.text_of.scan.scan.lexemes) → ModuleStays
     → LaysOut unit indent text edits

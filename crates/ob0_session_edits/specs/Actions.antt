@@ -27,8 +27,9 @@ use Rattle.ob0_session_offers.specs.declared.inlining.Inlining.TheVariants.{Here
 
 -- ---- the request
 
--- its id, the client, the document and its version, the range, and the kinds of which the actions must be, where there are such
-pub record ActionsAsked : Type 0 where
+-- its id, the client, the document and its version, the range, and the kinds of which the actions must be, where
+-- there are such
+pub record RequestedActions : Type 0 where
   pub id : Data
   pub client : Client
   pub uri : List ℕ
@@ -37,7 +38,7 @@ pub record ActionsAsked : Type 0 where
   pub only : Option (List (List ℕ))
 
 -- a request for code actions of the code
-abbrev pub actions_requested : ActionsRequest → ActionsAsked
+abbrev pub actions_requested : ActionsRequest → RequestedActions
 actions_requested r =
     record {
       id = id_data r.id.now;
@@ -59,12 +60,12 @@ allows_inlining (Some kinds) = list_any is_of_kind kinds
 allows_inlining None = true
 
 -- the client takes actions that aren't commands, and these among them
-abbrev pub wants_inlining : ActionsAsked → Bool
+abbrev pub wants_inlining : RequestedActions → Bool
 wants_inlining requested = requested.client.takes_literal_actions && allows_inlining requested.only
 
 -- the place in bytes at which actions work: the start of the range, and the end of one that is swapped
-abbrev pub place_of : Unit → List ℕ → Range → ℕ
-place_of unit text range =
+abbrev pub actions_offset : Unit → List ℕ → Range → ℕ
+actions_offset unit text range =
     min (offset_of (width_of unit) text range.start) (offset_of (width_of unit) text range.end)
 
 -- ---- what is offered
@@ -93,31 +94,37 @@ title Here = codes "Inline here"
 title Everywhere = codes "Inline everywhere"
 
 -- the action, with the edits in the form that the client takes
-abbrev pub action_of : ActionsAsked → Inlining → List Edit → Data
+abbrev pub action_of : RequestedActions → Inlining → List Edit → Data
 action_of requested how edits =
     action_value (workspace_edit requested.client requested.uri requested.version edits) (title how)
 
 -- an action, where its edit isn't refused
-abbrev pub action_values : ActionsAsked → Inlining → Option (Vec Edit Global) → List Data
+abbrev pub action_values : RequestedActions → Inlining → Option (Vec Edit Global) → List Data
 action_values requested how (Some edits) = action_of requested how edits.items ∷ []
 action_values requested how None = []
 
 -- inlining here precedes inlining everywhere
-abbrev pub actions_value : ActionsAsked → Option (Vec Edit Global) → Option (Vec Edit Global) → Data
+abbrev pub actions_value : RequestedActions → Option (Vec Edit Global) → Option (Vec Edit Global) → Data
 actions_value requested here everywhere =
-    array (items_of (action_values requested Here here ++ action_values requested Everywhere everywhere))
+    array (items_of
+    (action_values requested Here here ++ action_values requested Everywhere everywhere))
 
--- These actions are offered, as a list; none to a client that wants none, and none of a text that isn't a well-typed module.
-abbrev pub ListsActions : Unit → ActionsAsked → List ℕ → Data → Type 0
+-- These actions are offered, as a list; none to a client that wants none, and none of a text that isn't a well-typed
+-- module.
+abbrev pub ListsActions : Unit → RequestedActions → List ℕ → Data → Type 0
 ListsActions unit requested text value =
-    ((here : Option (Vec Edit Global)) × (everywhere : Option (Vec Edit Global)) × (wants_inlining requested ≡ true)
-    × Offers Here unit text (place_of unit text requested.range) here
-    × Offers Everywhere unit text (place_of unit text requested.range) everywhere
+    ((here : Option (Vec Edit Global))
+    × (everywhere : Option (Vec Edit Global))
+    × (wants_inlining requested ≡ true)
+    × Offers Here unit text (actions_offset unit text requested.range) here
+    × Offers Everywhere unit text (actions_offset unit text requested.range) everywhere
     × (value ≡ actions_value requested here everywhere))
     ⊎ (((wants_inlining requested ≡ false) ⊎ ¬ IsWellTypedModule (utf8 text))
     × (value ≡ array no_items))
 
 -- this message answers the request, where positions are counted in the unit and the document has the text
-abbrev pub AnswersActions : Unit → ActionsAsked → List ℕ → Data → Type 0
+abbrev pub AnswersActions : Unit → RequestedActions → List ℕ → Data → Type 0
 AnswersActions unit requested text message =
-    (value : Data) × ListsActions unit requested text value × (message ≡ result_message requested.id value)
+    (value : Data)
+    × ListsActions unit requested text value
+    × (message ≡ result_message requested.id value)

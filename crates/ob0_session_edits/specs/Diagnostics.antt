@@ -20,4 +20,6 @@ diagnostic_of unit text c = record {
 -- these are the diagnostics of the text
 abbrev pub Diagnoses : Unit → List ℕ → List Diagnostic → Type 0
 Diagnoses unit text ds =
-    (reported : List Complaint) × Reports (utf8 text) reported × (ds ≡ map (diagnostic_of unit text) reported)
+    (reported : List Complaint)
+    × Reports (utf8 text) reported
+    × (ds ≡ map (diagnostic_of unit text) reported)

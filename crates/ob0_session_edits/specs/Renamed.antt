@@ -17,7 +17,7 @@ use Rattle.ob0_session_json.specs.Shapes.{edit_refused, workspace_edit}
 use Rattle.ob0_session_edits.specs.declared.renaming.RenameRequest.{RenameRequest}
 
 -- a request for another name: its id, the client, the place in a document, the document's version, and the name
-pub record RenameAsked : Type 0 where
+pub record RequestedRename : Type 0 where
   pub id : Data
   pub client : Client
   pub at : At
@@ -25,8 +25,8 @@ pub record RenameAsked : Type 0 where
   pub new : List ℕ
 
 -- a request for a rename of the code
-abbrev pub requested_of : RenameRequest → RenameAsked
-requested_of r =
+abbrev pub rename_requested : RenameRequest → RequestedRename
+rename_requested r =
     record {
       id = id_data r.id.now;
       client = r.client;
@@ -36,14 +36,17 @@ requested_of r =
     }
 
 -- the edits as they are answered to the client
-abbrev pub edits_for_client : RenameAsked → List Edit → Data
-edits_for_client requested edits = workspace_edit requested.client requested.at.uri requested.version edits
+abbrev pub edits_for_client : RequestedRename → List Edit → Data
+edits_for_client requested edits =
+    workspace_edit requested.client requested.at.uri requested.version edits
 
 -- this message answers the request, where positions are counted in the unit and the document has the text
-abbrev pub AnswersRenaming : Unit → RenameAsked → List ℕ → Data → Type 0
+abbrev pub AnswersRenaming : Unit → RequestedRename → List ℕ → Data → Type 0
 AnswersRenaming unit requested text message =
     ((edits : List Edit)
     × RenamesIn unit text requested.at.position requested.new edits
     × (message ≡ result_message requested.id (edits_for_client requested edits)))
-    ⊎ (((refusal : EditRefusal) × IsRefusedIn unit text requested.at.position requested.new refusal × (message ≡ edit_refused requested.id (refusal_text refusal)))
+    ⊎ (((refusal : EditRefusal)
+    × IsRefusedIn unit text requested.at.position requested.new refusal
+    × (message ≡ edit_refused requested.id (refusal_text refusal)))
     ⊎ (¬ IsWellTypedModule (utf8 text) × (message ≡ edit_refused requested.id (codes "ill-typed"))))

@@ -10,7 +10,7 @@ ghost use Rattle.ob0_rpc.specs.Writing.{Writes};
 ghost use Rattle.ob0_text.specs.Texts.{offset_of};
 ghost use Rattle.ob0_text.specs.Units.{width_of};
 ghost use Rattle.ob0_session_offers.specs.Inlinings.{Inlines};
-ghost use Rattle.ob0_session_edits.specs.Actions.{AnswersActions, FindsInlinings, IsOffered, action_of, actions_requested, actions_value, allows_inlining as allows, is_of_kind as of_kind, place_of as place_in, title, wants_inlining as wants};
+ghost use Rattle.ob0_session_edits.specs.Actions.{AnswersActions, FindsInlinings, IsOffered, action_of, actions_requested, actions_value, allows_inlining as allows, is_of_kind as of_kind, actions_offset as place_in, title, wants_inlining as wants};
 ghost use Rattle.ob0_session_json.specs.Made.{action_in};
 ghost use Rattle.ob0_session_offers.specs.declared.inlining.Inlining.TheVariants as how;
 
@@ -41,8 +41,13 @@ impl<'a, T: TextStore> Question for InlinedAt<'a, T> {
 
     ghost is_about = { λ q text. T.content q.store.now ≡ chars text };
 
-    ghost answers = { λ q names found. Inlines how.Here (T.unit_of q.store.now) (T.content q.store.now) names.module_read (offset_of (width_of (T.unit_of q.store.now)) (T.content q.store.now) q.place) found.here
-        × Inlines how.Everywhere (T.unit_of q.store.now) (T.content q.store.now) names.module_read (offset_of (width_of (T.unit_of q.store.now)) (T.content q.store.now) q.place) found.everywhere };
+    ghost answers = { λ q names found.
+        Inlines how.Here (T.unit_of q.store.now) (T.content q.store.now) names.module_read
+        (offset_of (width_of (T.unit_of q.store.now)) (T.content q.store.now) q.place)
+        found.here
+        × Inlines how.Everywhere (T.unit_of q.store.now) (T.content q.store.now) names.module_read
+        (offset_of (width_of (T.unit_of q.store.now)) (T.content q.store.now) q.place)
+        found.everywhere };
 
     fn answer(&self, alloc: Global, module: &WellTyped<'_>) -> Result<Inlinings, AllocError> {
         let here = offered_edits(inline_here(alloc, self.store, module, self.place))?;

@@ -36,8 +36,8 @@ fn all_diagnostics<T: TextStore>(
     reported: &[Diagnosis],
 ) -> Result<Vec<Diagnostic>, AllocError>
     ensures { IfOk result (λ list. DiagnosticsAre (map
-        (λ d. diagnostic_of (T.unit_of store.now) (T.content store.now) (complaint_in d)) reported.now)
-        list.items) }
+        (λ d. diagnostic_of (T.unit_of store.now) (T.content store.now) (complaint_in d))
+        reported.now) list.items) }
 {
     let offsets = offsets_of(alloc, reported)?;
     let positions = store.positions(alloc, offsets.as_slice())?;
@@ -72,8 +72,8 @@ fn list_diagnostics<T: TextStore>(
     requires { positions.now
         ≡ map (position_of (width_of (T.unit_of store.now)) (T.content store.now)) offsets.now }
     ensures { IfOk result (λ list. DiagnosticsAre (map
-        (λ d. diagnostic_of (T.unit_of store.now) (T.content store.now) (complaint_in d)) reported.now)
-        list.items) }
+        (λ d. diagnostic_of (T.unit_of store.now) (T.content store.now) (complaint_in d))
+        reported.now) list.items) }
 {
     let mut list = Vec::new(alloc);
     for diagnosis in reported {

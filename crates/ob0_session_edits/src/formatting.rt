@@ -26,7 +26,8 @@ struct Formatting<'a, T: TextStore> {
 impl<'a, T: TextStore> Question for Formatting<'a, T> {
     type Answer = Result<Vec<Edit>, EditRefusal>;
 
-    ghost answers = { λ q names outcome. IsModuleIn (utf8 (T.content q.store.now)) names → T.content q.store.now ≡ chars names.module_read.source.text
+    ghost answers = { λ q names outcome. IsModuleIn (utf8 (T.content q.store.now)) names
+        → T.content q.store.now ≡ chars names.module_read.source.text
         → Formats (T.unit_of q.store.now) q.indent (T.content q.store.now) outcome };
 
     fn answer(

@@ -6,7 +6,7 @@ ghost use Rattle.serde_json.specs.Data.{Data};
 ghost use Rattle.ob0_rpc.specs.Seen.{id_data};
 ghost use Rattle.ob0_rpc.specs.Shapes.{result_message};
 ghost use Rattle.ob0_rpc.specs.Writing.{Writes};
-ghost use Rattle.ob0_session_edits.specs.Renamed.{AnswersRenaming, requested_of, edits_for_client};
+ghost use Rattle.ob0_session_edits.specs.Renamed.{AnswersRenaming, rename_requested, edits_for_client};
 
 use ob0_analysis::Analysis;
 use ob0_rename::rename_in;
@@ -35,7 +35,8 @@ pub fn rename_symbol<T: TextStore>(
 ) -> Result<Vec<u8>, AllocError>
     requires { T.content store.now ≡ chars analysis.now }
     ensures { IfOk result (λ bytes. (message : Data)
-        × AnswersRenaming (T.unit_of store.now) (requested_of request.now) (T.content store.now) message
+        × AnswersRenaming (T.unit_of store.now) (rename_requested request.now) (T.content store.now)
+        message
         × Writes message bytes.items) }
 {
     let id = request.id;
@@ -56,7 +57,7 @@ fn edits_answer(
     edits: &[Edit],
 ) -> Result<Vec<u8>, AllocError>
     ensures { IfOk result (λ bytes. Writes (result_message (id_data request.now.id.now)
-        (edits_for_client (requested_of request.now) edits.now)) bytes.items) }
+        (edits_for_client (rename_requested request.now) edits.now)) bytes.items) }
 {
     let edits = WorkspaceEdit {
         client: request.client,

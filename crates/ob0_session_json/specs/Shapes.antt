@@ -17,7 +17,7 @@ synchronisation =
     object (member (codes "change") (number (unsigned 2))
     (member (codes "openClose") (boolean true) no_members))
 
--- {"prepareProvider":true} for a client that asks where a rename would work before it asks for one
+-- {"prepareProvider":true} for a client that sends `prepareRename` before it requests a rename
 abbrev pub rename_provider : Bool → Data
 rename_provider prepares =
     if prepares
@@ -37,13 +37,18 @@ last_members client =
     (rename_provider client.prepares_renames)
     (member (codes "textDocumentSync") synchronisation no_members))
 
--- "documentFormattingProvider":true,"hoverProvider":true, and "positionEncoding":"utf-8" for a client that offers that; then those
+-- "documentFormattingProvider":true,"hoverProvider":true, and "positionEncoding":"utf-8" for a client that offers
+-- that; then those
 abbrev pub further_members : Client → Members
 further_members client =
-    member (codes "documentFormattingProvider") (boolean true) (member (codes "hoverProvider") (boolean true)
-    (if client.counts_utf8 then member (codes "positionEncoding") (text (codes "utf-8")) (last_members client) else last_members client))
+    member (codes "documentFormattingProvider") (boolean true)
+    (member (codes "hoverProvider") (boolean true)
+    (if client.counts_utf8
+    then member (codes "positionEncoding") (text (codes "utf-8")) (last_members client)
+    else last_members client))
 
--- "definitionProvider":true and those, and before them "codeActionProvider":{..} for a client that takes actions that aren't commands
+-- "definitionProvider":true and those, and before them "codeActionProvider":{..} for a client that takes actions
+-- that aren't commands
 abbrev pub server_capabilities : Client → Data
 server_capabilities client =
     let members = member (codes "definitionProvider") (boolean true) (further_members client) in
@@ -124,8 +129,10 @@ edit_refused id said = error_message id (minus 32803) said
 -- {"code":name,"message":m,"range":R,"severity":1}
 abbrev pub diagnostic_value : Diagnostic → Data
 diagnostic_value d =
-    object (member (codes "code") (text d.code) (member (codes "message") (text d.said)
-    (member (codes "range") (range_value d.start d.end) (member (codes "severity") (number (unsigned 1)) no_members))))
+    object (member (codes "code") (text d.code)
+    (member (codes "message") (text d.said)
+    (member (codes "range") (range_value d.start d.end)
+    (member (codes "severity") (number (unsigned 1)) no_members))))
 
 -- `[D,..]`
 abbrev pub diagnostics_value : List Diagnostic → Data

@@ -47,7 +47,8 @@ struct TextDocumentEdit<'a> {
 }
 
 impl<'a> Written for TextDocumentEdit<'a> {
-    ghost value = { λ e. document_edit e.text_document.uri.now e.text_document.version e.edits.now };
+    ghost value = { λ e.
+        document_edit e.text_document.uri.now e.text_document.version e.edits.now };
 
     fn write(&self, out: &mut Vec<u8>) -> Result<(), AllocError> {
         first_member(out, "edits", &self.edits)?;

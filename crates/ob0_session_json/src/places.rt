@@ -59,12 +59,12 @@ fn write_locations(out: &mut Vec<u8>, uri: &str, ranges: &[Range]) -> Result<(),
 
 /// Plain text that is displayed of a range.
 #[derive(Drop)]
-pub struct HoverText<'a> {
+pub struct HoverResult<'a> {
     pub contents: MarkupContent<'a>,
     pub range: Range,
 }
 
-impl<'a> Written for HoverText<'a> {
+impl<'a> Written for HoverResult<'a> {
     ghost value = { λ h. hover_value h.contents.value.now (range_value h.range.start h.range.end) };
 
     fn write(&self, out: &mut Vec<u8>) -> Result<(), AllocError> {

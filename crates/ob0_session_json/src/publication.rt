@@ -37,7 +37,8 @@ pub struct PublishDiagnostics<'a> {
 }
 
 impl<'a> Written for PublishDiagnostics<'a> {
-    ghost value = { λ p. publication_params p.uri.now p.version (map diagnostic_in p.diagnostics.now) };
+    ghost value = { λ p.
+        publication_params p.uri.now p.version (map diagnostic_in p.diagnostics.now) };
 
     fn write(&self, out: &mut Vec<u8>) -> Result<(), AllocError> {
         match self.version {

@@ -27,7 +27,7 @@ use Rattle.ob0_rpc.specs.Requesting.{At}
 use Rattle.ob0_analysis.specs.Analysed.{IsModuleIn}
 use Rattle.ob0_analysis.specs.Diagnosed.{IsWellTypedModule}
 use Rattle.ob0_analysis.specs.Texts.{utf8}
-use Rattle.ob0_session_queries.specs.Questions.{AnswersIn, AnswersName, can_be_renamed, hover_at, location_at, or_null, place_in, range_at, renamable_in}
+use Rattle.ob0_session_queries.specs.Questions.{AnswersIn, AnswersName, can_be_renamed, hover_at, location_at, value_or_null, offset_in, range_at, renamable_in}
 use Rattle.ob0_session_queries.specs.declared.questions.NameQuestion.{NameQuestion}
 use Rattle.ob0_session_queries.specs.declared.questions.NameQuestion.TheVariants.{Hover, Definition, References, PrepareRename}
 use Rattle.ob0_world_rules.proofs.OneFields.{one_list_of_fields}
@@ -91,19 +91,19 @@ module _ (r q : Resolution) (e : Same r.module_read q.module_read) (fields : fie
 
   -- ---- what it is
 
-  stands_by : (o : Option Named) (f : Option Identified) → name_or_field r.module_read o f ≡ name_or_field q.module_read o f
-  stands_by (Some n) f = λ i. Some (record { span = span_at (e.source i) n.token; of = if nat_lt n.ordinal 7 then reports.Predeclared else reports.Declared n.ordinal })
-  stands_by None f = λ i.
+  same_name_or_field : (o : Option Named) (f : Option Identified) → name_or_field r.module_read o f ≡ name_or_field q.module_read o f
+  same_name_or_field (Some n) f = λ i. Some (record { span = span_at (e.source i) n.token; of = if nat_lt n.ordinal 7 then reports.Predeclared else reports.Declared n.ordinal })
+  same_name_or_field None f = λ i.
       option_map (λ x. record {
         span = span_at (e.source i) x.0;
         of = reports.Field x.1 (unwrap_or (position_from (λ token. same_name (text_at (e.source i) token) (text_at (e.source i) x.0)) 0 (record_tokens x.1 (declared_in 0 (module_block (e.tree i))))) 0);
       }) f
 
-  same_standing : identified_at r offset ≡ identified_at q offset
-  same_standing = stands_by (name_on r.module_read offset) (field_at r offset) ∙ (λ i. name_or_field q.module_read (one_name e offset i) (same_field i))
+  same_identified : identified_at r offset ≡ identified_at q offset
+  same_identified = same_name_or_field (name_on r.module_read offset) (field_at r offset) ∙ (λ i. name_or_field q.module_read (one_name e offset i) (same_field i))
 
   same_renamable : renamable_in r offset ≡ renamable_in q offset
-  same_renamable = ap (option_and_then (λ a. can_be_renamed a.of a.span)) same_standing
+  same_renamable = ap (option_and_then (λ a. can_be_renamed a.of a.span)) same_identified
 
 -- ---- values
 
@@ -121,12 +121,12 @@ module _ (tables : OneTable) (unit : Unit) (text : List ℕ) (at : At) where
       table = tables r q read.well_typed.resolved again.well_typed.resolved (e.source, e.tree)
 
       go : (question : NameQuestion) → AnswersIn unit text at question r value → AnswersIn unit text at question q other → value ≡ other
-      go Hover h k = h ∙ ap (λ o. or_null (option_map (hover_at unit text) o)) (same_shown r q e fields table (place_in unit text at)) ∙ sym k
-      go Definition h k = h ∙ ap (λ o. or_null (option_map (location_at unit at.uri text) o)) (same_definition r q e fields table (place_in unit text at)) ∙ sym k
+      go Hover h k = h ∙ ap (λ o. value_or_null (option_map (hover_at unit text) o)) (same_shown r q e fields table (offset_in unit text at)) ∙ sym k
+      go Definition h k = h ∙ ap (λ o. value_or_null (option_map (location_at unit at.uri text) o)) (same_definition r q e fields table (offset_in unit text at)) ∙ sym k
       go (References include) (spans, are, is) (others, are_too, is_too) =
-          let same : spans ≡ others = are ∙ same_references r q e fields table (place_in unit text at) include ∙ sym are_too in
+          let same : spans ≡ others = are ∙ same_references r q e fields table (offset_in unit text at) include ∙ sym are_too in
           is ∙ ap (λ xs. array (items_of (map (location_at unit at.uri text) xs))) same ∙ sym is_too
-      go PrepareRename h k = h ∙ ap (λ o. or_null (option_map (range_at unit text) o)) (same_renamable r q e fields table (place_in unit text at)) ∙ sym k
+      go PrepareRename h k = h ∙ ap (λ o. value_or_null (option_map (range_at unit text) o)) (same_renamable r q e fields table (offset_in unit text at)) ∙ sym k
 
   -- a module's text is no other
   is_module : (r : Resolution) → IsModuleIn (utf8 text) r → IsWellTypedModule (utf8 text)

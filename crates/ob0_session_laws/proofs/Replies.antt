@@ -21,10 +21,10 @@ use Rattle.ob0_analysis.specs.Diagnosed.{IsWellTypedModule}
 use Rattle.ob0_analysis.specs.Texts.{utf8}
 use Rattle.ob0_session_offers.specs.declared.inlining.Inlining.{Inlining}
 use Rattle.ob0_session_offers.specs.declared.inlining.Inlining.TheVariants.{Here, Everywhere}
-use Rattle.ob0_session_edits.specs.Actions.{ActionsAsked, ListsActions, Offers, action_values, place_of, title, wants_inlining}
+use Rattle.ob0_session_edits.specs.Actions.{RequestedActions, ListsActions, Offers, action_values, actions_offset, title, wants_inlining}
 use Rattle.ob0_session_edits.specs.Diagnostics.{diagnostic_of}
 use Rattle.ob0_session_edits.specs.Formatted.{AnswersFormatting}
-use Rattle.ob0_session_edits.specs.Renamed.{AnswersRenaming, RenameAsked, edits_for_client}
+use Rattle.ob0_session_edits.specs.Renamed.{AnswersRenaming, RequestedRename, edits_for_client}
 use Rattle.ob0_session_json.specs.Shapes.{action_value, edit_refused, edit_value, publication, versioned_document}
 use Rattle.ob0_session.specs.Answers.{Sends, diagnoses, answers_name, lays_out, nothing, offers_actions, renames, says}
 use Rattle.ob0_world_rules.proofs.OneInlining.{inlines_or_refused, inlines_parts}
@@ -58,7 +58,7 @@ workspace_with client uri version vs =
     then object (member (codes "documentChanges") (array (item (object (member (codes "edits") (array (items_of vs)) (member (codes "textDocument") (versioned_document uri version) no_members))) no_items)) no_members)
     else object (member (codes "changes") (object (member uri (array (items_of vs)) no_members)) no_members)
 
-abbrev action_with : ActionsAsked → Inlining → List Data → Data
+abbrev action_with : RequestedActions → Inlining → List Data → Data
 action_with requested how vs = action_value (workspace_with requested.client requested.uri requested.version vs) (title how)
 
 -- ---- layouts
@@ -77,7 +77,7 @@ formats_one unit id indent text message another (inr (inr (unfit, is))) (inr (in
 
 -- ---- new names
 
-module _ (unit : Unit) (requested : RenameAsked) (text : List ℕ) where
+module _ (unit : Unit) (requested : RequestedRename) (text : List ℕ) where
   fits_refused : (refusal : EditRefusal) → IsRefusedIn unit text requested.at.position requested.new refusal → IsWellTypedModule (utf8 text)
   fits_refused refusal h =
       record { tree = _; text_of = record { scanned = h.names.module_read.source; scan = h.read.scan; module_of = h.read.well_typed.resolved.parsed.module_of }; well_typed = h.read.well_typed.well_typed }
@@ -100,9 +100,9 @@ module _ (unit : Unit) (requested : RenameAsked) (text : List ℕ) where
 
 -- ---- actions
 
-module _ (unit : Unit) (requested : ActionsAsked) (text : List ℕ) where
+module _ (unit : Unit) (requested : RequestedActions) (text : List ℕ) where
   abbrev offset : ℕ
-  offset = place_of unit text requested.range
+  offset = actions_offset unit text requested.range
 
   offered_one : (how : Inlining) (a b : Option (Vec Edit Global)) → Offers how unit text offset a → Offers how unit text offset b → action_values requested how a ≡ action_values requested how b
   offered_one how (Some xs) (Some ys) h k =

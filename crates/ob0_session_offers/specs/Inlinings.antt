@@ -37,7 +37,8 @@ Inlines how unit text m offset None =
     × AnswersInlining how unit text m offset (Err refusal)
 
 -- These edits inline. Made at once they leave a text whose module runs as before.
-pub record InlinesIn (how : Inlining) (unit : Unit) (text : List ℕ) (offset : ℕ) (edits : Vec Edit Global) : Type 0 where
+pub record InlinesIn (how : Inlining) (unit : Unit) (text : List ℕ) (offset : ℕ)
+    (edits : Vec Edit Global) : Type 0 where
   pub module_read : Parsed
   pub read : IsReadAs (utf8 text) module_read
   pub inlines : Inlines how unit text module_read offset (Some edits)

@@ -19,21 +19,23 @@ abbrev pub layout_of : {text : List ℕ} → Indent → IsWellTypedModule text �
 layout_of indent m = layout indent m.tree m.text_of.scan.scan.lexemes
 
 -- what is to be said of the gaps that change, at positions of a unit
-abbrev pub changes_of : {text : List ℕ}
+abbrev pub layout_changes : {text : List ℕ}
     → Unit
     → Indent
     → List ℕ
     → IsWellTypedModule text
     → List EditText
-changes_of unit indent characters m =
+layout_changes unit indent characters m =
     let source = m.text_of.scanned in
     map (edit_of indent (width_of unit) characters) (changed_sites indent source.text
     (all_sites (line_roles 0 m.tree) m.text_of.scan.scan.lexemes))
 
--- These edits lay out a text: one for each gap that changes, which it replaces. Made at once they leave the layout, a text of the same module, which runs as before.
-pub record LaysOut (unit : Unit) (indent : Indent) (text : List ℕ) (edits : List Edit) : Type 0 where
+-- These edits lay out a text: one for each gap that changes, which it replaces. Made at once they leave the layout,
+-- a text of the same module, which runs as before.
+pub record LaysOut (unit : Unit) (indent : Indent) (text : List ℕ)
+    (edits : List Edit) : Type 0 where
   pub before : IsWellTypedModule (utf8 text)
-  pub changes : map edit_text edits ≡ changes_of unit indent text before
+  pub changes : map edit_text edits ≡ layout_changes unit indent text before
   pub after : List ℕ
   pub made : patched (width_of unit) text edits ≡ Some after
   pub laid_out : utf8 after ≡ layout_of indent before

@@ -13,7 +13,7 @@ use Rattle.ob0_text.specs.declared.position_types.Unit.{Unit}
 use Rattle.ob0_analysis.specs.Analysed.{Finds, IsModuleIn}
 use Rattle.ob0_analysis.specs.Diagnosed.{IsWellTypedModule}
 use Rattle.ob0_analysis.specs.Texts.{utf8}
-use Rattle.ob0_session_queries.specs.Questions.{AnswersName, AnswersIn, no_answer, place_in, renamable_in, hover_at, location_at, range_at, or_null}
+use Rattle.ob0_session_queries.specs.Questions.{AnswersName, AnswersIn, no_answer, offset_in, renamable_in, hover_at, location_at, range_at, value_or_null}
 use Rattle.ob0_session_queries.specs.declared.questions.NameQuestion.{NameQuestion}
 use Rattle.ob0_session_queries.specs.declared.questions.NameQuestion.TheVariants.{Hover, Definition, References, PrepareRename}
 use Rattle.ob0_analysis.proofs.Scanning.{utf8_of}

@@ -52,33 +52,33 @@ abbrev pub hover_at : Unit → List ℕ → HoverText → Data
 hover_at unit text shown = hover_value shown.text (range_at unit text shown.span)
 
 -- a value, or null
-abbrev pub or_null : Option Data → Data
-or_null (Some value) = value
-or_null None = null
+abbrev pub value_or_null : Option Data → Data
+value_or_null (Some value) = value
+value_or_null None = null
 
 -- the place in bytes
-abbrev pub place_in : Unit → List ℕ → At → ℕ
-place_in unit text at = offset_of (width_of unit) text at.position
+abbrev pub offset_in : Unit → List ℕ → At → ℕ
+offset_in unit text at = offset_of (width_of unit) text at.position
 
 -- all the references and no others, in text order
 abbrev pub AnswersReferences : Unit → List ℕ → At → Bool → Resolution → Data → Type 0
 AnswersReferences unit text at include names value =
     (spans : List Span)
-    × AreReferencesAt names (place_in unit text at) include spans
+    × AreReferencesAt names (offset_in unit text at) include spans
     × (value ≡ array (items_of (map (location_at unit at.uri text) spans)))
 
 -- this value answers the question about a well-typed module
 abbrev pub AnswersIn : Unit → List ℕ → At → NameQuestion → Resolution → Data → Type 0
 AnswersIn unit text at Hover names value =
-    value ≡ or_null (option_map (hover_at unit text) (hover_at_place names (place_in unit text at)))
+    value ≡ value_or_null (option_map (hover_at unit text) (hover_at_place names (offset_in unit text at)))
 AnswersIn unit text at Definition names value =
     value
-    ≡ or_null
-    (option_map (location_at unit at.uri text) (definition_at names (place_in unit text at)))
+    ≡ value_or_null
+    (option_map (location_at unit at.uri text) (definition_at names (offset_in unit text at)))
 AnswersIn unit text at (References include) names value =
     AnswersReferences unit text at include names value
 AnswersIn unit text at PrepareRename names value =
-    value ≡ or_null (option_map (range_at unit text) (renamable_in names (place_in unit text at)))
+    value ≡ value_or_null (option_map (range_at unit text) (renamable_in names (offset_in unit text at)))
 
 -- the answer about every other text
 abbrev pub no_answer : NameQuestion → Data

@@ -11,7 +11,7 @@ ghost use Rattle.ob0_text.specs.Units.{width_of};
 ghost use Rattle.ob0_edits.specs.Ranges.{range_of};
 ghost use Rattle.ob0_refs.specs.Parts.{hover_in};
 ghost use Rattle.ob0_refs.specs.Questions.{AreReferencesAt, hover_at_place, definition_at};
-ghost use Rattle.ob0_session_queries.specs.Questions.{AnswersName, can_be_renamed, hover_at, renamable_in, location_at, range_at, or_null};
+ghost use Rattle.ob0_session_queries.specs.Questions.{AnswersName, can_be_renamed, hover_at, renamable_in, location_at, range_at, value_or_null};
 ghost use Rattle.ob0_session_queries.specs.declared.questions.NameQuestion.TheVariants as asks;
 
 use ob0_analysis::{Analysis, Question, WellTyped, ask};
@@ -19,7 +19,7 @@ use ob0_edits::ranges;
 use ob0_refs::{Of, at, definition, hover, references};
 use ob0_rpc::{DocumentPosition, Id, result_of};
 use ob0_scan::Span;
-use ob0_session_json::places::{HoverText, Location, Locations, MarkupContent};
+use ob0_session_json::places::{HoverResult, Location, Locations, MarkupContent};
 use ob0_text::{Range, TextStore};
 use std::alloc::{AllocError, Global};
 
@@ -78,7 +78,8 @@ struct ReferencesAt {
 impl Question for ReferencesAt {
     type Answer = Vec<Span>;
 
-    ghost answers = { λ q names found. AreReferencesAt names q.offset q.include_declaration found.items };
+    ghost answers = { λ q names found.
+        AreReferencesAt names q.offset q.include_declaration found.items };
 
     fn answer(&self, alloc: Global, module: &WellTyped<'_>) -> Result<Vec<Span>, AllocError> {
         references(alloc, module, self.offset, self.include_declaration)
@@ -124,7 +125,9 @@ pub fn answer_question<T: TextStore>(
     question: NameQuestion,
 ) -> Result<Vec<u8>, AllocError>
     requires { T.content store.now ≡ chars analysis.now }
-    ensures { IfOk result (λ bytes. (value : Data) × AnswersName (T.unit_of store.now) (T.content store.now) (at_seen place.now) question value
+    ensures { IfOk result (λ bytes. (value : Data)
+        × AnswersName (T.unit_of store.now) (T.content store.now) (at_seen place.now)
+        question value
         × Writes (result_message (id_data id.now) value) bytes.items) }
 {
     match question {
@@ -145,7 +148,9 @@ fn hover_answer<T: TextStore>(
     place: &DocumentPosition,
 ) -> Result<Vec<u8>, AllocError>
     requires { T.content store.now ≡ chars analysis.now }
-    ensures { IfOk result (λ bytes. (value : Data) × AnswersName (T.unit_of store.now) (T.content store.now) (at_seen place.now) asks.Hover value
+    ensures { IfOk result (λ bytes. (value : Data)
+        × AnswersName (T.unit_of store.now) (T.content store.now) (at_seen place.now)
+        asks.Hover value
         × Writes (result_message (id_data id.now) value) bytes.items) }
 {
     let offset = store.offset(place.position);
@@ -163,7 +168,9 @@ fn definition_answer<T: TextStore>(
     place: &DocumentPosition,
 ) -> Result<Vec<u8>, AllocError>
     requires { T.content store.now ≡ chars analysis.now }
-    ensures { IfOk result (λ bytes. (value : Data) × AnswersName (T.unit_of store.now) (T.content store.now) (at_seen place.now) asks.Definition value
+    ensures { IfOk result (λ bytes. (value : Data)
+        × AnswersName (T.unit_of store.now) (T.content store.now) (at_seen place.now)
+        asks.Definition value
         × Writes (result_message (id_data id.now) value) bytes.items) }
 {
     let offset = store.offset(place.position);
@@ -182,7 +189,9 @@ fn references_answer<T: TextStore>(
     include_declaration: bool,
 ) -> Result<Vec<u8>, AllocError>
     requires { T.content store.now ≡ chars analysis.now }
-    ensures { IfOk result (λ bytes. (value : Data) × AnswersName (T.unit_of store.now) (T.content store.now) (at_seen place.now) (asks.References include_declaration) value
+    ensures { IfOk result (λ bytes. (value : Data)
+        × AnswersName (T.unit_of store.now) (T.content store.now) (at_seen place.now)
+        (asks.References include_declaration) value
         × Writes (result_message (id_data id.now) value) bytes.items) }
 {
     let uri = place.uri.as_str();
@@ -204,7 +213,9 @@ fn renamable_answer<T: TextStore>(
     place: &DocumentPosition,
 ) -> Result<Vec<u8>, AllocError>
     requires { T.content store.now ≡ chars analysis.now }
-    ensures { IfOk result (λ bytes. (value : Data) × AnswersName (T.unit_of store.now) (T.content store.now) (at_seen place.now) asks.PrepareRename value
+    ensures { IfOk result (λ bytes. (value : Data)
+        × AnswersName (T.unit_of store.now) (T.content store.now) (at_seen place.now)
+        asks.PrepareRename value
         × Writes (result_message (id_data id.now) value) bytes.items) }
 {
     let offset = store.offset(place.position);
@@ -221,7 +232,7 @@ fn hover_or_null<T: TextStore>(
     found: Option<ob0_refs::Hover>,
 ) -> Result<Vec<u8>, AllocError>
     ensures { IfOk result (λ bytes. Writes (result_message (id_data id.now)
-        (or_null (option_map (hover_at (T.unit_of store.now) (T.content store.now))
+        (value_or_null (option_map (hover_at (T.unit_of store.now) (T.content store.now))
         (option_map hover_in found)))) bytes.items) }
 {
     match found {
@@ -230,7 +241,7 @@ fn hover_or_null<T: TextStore>(
                 value: shown.text.as_str(),
             };
             let range = range_of_span(store, shown.span);
-            result_of(alloc, id, &HoverText { contents, range })
+            result_of(alloc, id, &HoverResult { contents, range })
         }
         None => result_of(alloc, id, &()),
     }
@@ -244,7 +255,7 @@ fn location_or_null<T: TextStore>(
     found: Option<Span>,
 ) -> Result<Vec<u8>, AllocError>
     ensures { IfOk result (λ bytes. Writes (result_message (id_data id.now)
-        (or_null
+        (value_or_null
         (option_map (location_at (T.unit_of store.now) uri.now (T.content store.now)) found)))
         bytes.items) }
 {
@@ -264,7 +275,7 @@ fn range_or_null<T: TextStore>(
     found: Option<Span>,
 ) -> Result<Vec<u8>, AllocError>
     ensures { IfOk result (λ bytes. Writes (result_message (id_data id.now)
-        (or_null (option_map (range_at (T.unit_of store.now) (T.content store.now)) found)))
+        (value_or_null (option_map (range_at (T.unit_of store.now) (T.content store.now)) found)))
         bytes.items) }
 {
     match found {

@@ -62,7 +62,8 @@ fn shown(alloc: Global, shape: Shape<'_>) -> Result<String, AllocError> {
 }
 
 const TYPES: &str =
-    "MODULE M; CONST c = 3; TYPE R = RECORD a, b: INTEGER END; VAR v: ARRAY c OF ARRAY 2 OF R; t: BOOLEAN; PROCEDURE P; END P; END M.";
+    "MODULE M; CONST c = 3; TYPE R = RECORD a, b: INTEGER END; VAR v: ARRAY c OF ARRAY 2 OF R; \
+    t: BOOLEAN; PROCEDURE P; END P; END M.";
 
 static TYPE_ROWS: &[(usize, &str)] = &[
     (0, "INTEGER"),
@@ -108,8 +109,10 @@ impl Question for Free {
     }
 }
 
-const NAMES: &str =
-    "MODULE M;\nVAR x: INTEGER; y: INTEGER;\nPROCEDURE P; VAR z: INTEGER; BEGIN z := x END P;\nBEGIN P END M.";
+const NAMES: &str = "MODULE M;\n\
+    VAR x: INTEGER; y: INTEGER;\n\
+    PROCEDURE P; VAR z: INTEGER; BEGIN z := x END P;\n\
+    BEGIN P END M.";
 
 static NAME_ROWS: &[(usize, &str, &str)] = &[
     (7, "y", "14-15"),
@@ -131,12 +134,12 @@ fn captures_are_found(rt: HostRuntime) -> Result<(), Fail> {
 
 /// What the occurrences are bound to where the declaration with an ordinal has another name.
 #[derive(Drop)]
-struct Renamed {
+struct BoundAfterRename {
     declaration: usize,
     new: &'static str,
 }
 
-impl Question for Renamed {
+impl Question for BoundAfterRename {
     type Answer = String;
 
     ghost answers = { λ _ _ _. ⊤ };
@@ -168,7 +171,7 @@ static RENAMED_ROWS: &[(usize, &str, &str)] = &[
 fn occurrences_are_bound_with_another_name(rt: HostRuntime) -> Result<(), Fail> {
     for row in RENAMED_ROWS {
         let (declaration, new, wanted) = *row;
-        let found = said(rt.alloc(), NAMES, &Renamed { declaration, new })?;
+        let found = said(rt.alloc(), NAMES, &BoundAfterRename { declaration, new })?;
         assert!(rt;
             found.as_str() == wanted,
             "{found} of {declaration} as {new}"

@@ -29,23 +29,44 @@ fn made(
     }
 }
 
-const NESTED: &str =
-    "MODULE M;\nVAR x: INTEGER;\nPROCEDURE P;\nVAR y: INTEGER;\nBEGIN y := 1; x := y END P;\nBEGIN P; Write(x) END M.";
+const NESTED: &str = "MODULE M;\n\
+    VAR x: INTEGER;\n\
+    PROCEDURE P;\n\
+    VAR y: INTEGER;\n\
+    BEGIN y := 1; x := y END P;\n\
+    BEGIN P; Write(x) END M.";
 
-const BLOCKS: &str =
-    "MODULE M;\nVAR Q: INTEGER;\nPROCEDURE A;\nPROCEDURE P; BEGIN Q := 7 END P;\nPROCEDURE R; BEGIN Write(2) END R;\nBEGIN P; R END A;\nBEGIN A; Write(Q) END M.";
+const BLOCKS: &str = "MODULE M;\n\
+    VAR Q: INTEGER;\n\
+    PROCEDURE A;\n\
+    PROCEDURE P; BEGIN Q := 7 END P;\n\
+    PROCEDURE R; BEGIN Write(2) END R;\n\
+    BEGIN P; R END A;\n\
+    BEGIN A; Write(Q) END M.";
 
-const RECURSIVE: &str =
-    "MODULE M;\nPROCEDURE F(n: INTEGER);\nBEGIN IF n > 0 THEN Write(n); F(n - 1) END END F;\nBEGIN F(2) END M.";
+const RECURSIVE: &str = "MODULE M;\n\
+    PROCEDURE F(n: INTEGER);\n\
+    BEGIN IF n > 0 THEN Write(n); F(n - 1) END END F;\n\
+    BEGIN F(2) END M.";
 
-const FIELDS: &str =
-    "MODULE M;\nTYPE R = RECORD a, b: INTEGER END;\nVAR r: R; s: RECORD a: INTEGER END; a: INTEGER;\nBEGIN r.a := 1; s.a := 2; a := r.a + s.a; Write(a) END M.";
+const FIELDS: &str = "MODULE M;\n\
+    TYPE R = RECORD a, b: INTEGER END;\n\
+    VAR r: R; s: RECORD a: INTEGER END; a: INTEGER;\n\
+    BEGIN r.a := 1; s.a := 2; a := r.a + s.a; Write(a) END M.";
 
-const PARTS: &str =
-    "MODULE M;\nTYPE P = RECORD x, y: INTEGER END;\nVAR q: ARRAY 2 OF RECORD x: P; n: RECORD x: INTEGER END END;\nBEGIN q[0].x.x := 1; q[q[0].x.x].n.x := 2; q[1].x.y := 3 END M.";
+const PARTS: &str = "MODULE M;\n\
+    TYPE P = RECORD x, y: INTEGER END;\n\
+    VAR q: ARRAY 2 OF RECORD x: P; n: RECORD x: INTEGER END END;\n\
+    BEGIN q[0].x.x := 1; q[q[0].x.x].n.x := 2; q[1].x.y := 3 END M.";
 
-const LOCAL: &str =
-    "MODULE M;\nTYPE R = RECORD a: INTEGER END;\nVAR r: R;\nPROCEDURE P(VAR r: R; s: RECORD a: INTEGER END);\nTYPE R = RECORD b, a: INTEGER END;\nVAR t: R;\nBEGIN r.a := s.a; t.a := t.b END P;\nBEGIN r.a := 1 END M.";
+const LOCAL: &str = "MODULE M;\n\
+    TYPE R = RECORD a: INTEGER END;\n\
+    VAR r: R;\n\
+    PROCEDURE P(VAR r: R; s: RECORD a: INTEGER END);\n\
+    TYPE R = RECORD b, a: INTEGER END;\n\
+    VAR t: R;\n\
+    BEGIN r.a := s.a; t.a := t.b END P;\n\
+    BEGIN r.a := 1 END M.";
 
 /// A text, a place, a new name, and the text then.
 static RENAMED: &[(&str, u64, u64, &str, &str)] = &[
@@ -54,14 +75,20 @@ static RENAMED: &[(&str, u64, u64, &str, &str)] = &[
         2,
         47,
         "G12",
-        "MODULE M;\nPROCEDURE G12(n: INTEGER);\nBEGIN IF n > 0 THEN Write(n); G12(n - 1) END END G12;\nBEGIN G12(2) END M.",
+        "MODULE M;\n\
+         PROCEDURE G12(n: INTEGER);\n\
+         BEGIN IF n > 0 THEN Write(n); G12(n - 1) END END G12;\n\
+         BEGIN G12(2) END M.",
     ),
     (
         RECURSIVE,
         1,
         11,
         "Repeat",
-        "MODULE M;\nPROCEDURE Repeat(n: INTEGER);\nBEGIN IF n > 0 THEN Write(n); Repeat(n - 1) END END Repeat;\nBEGIN Repeat(2) END M.",
+        "MODULE M;\n\
+         PROCEDURE Repeat(n: INTEGER);\n\
+         BEGIN IF n > 0 THEN Write(n); Repeat(n - 1) END END Repeat;\n\
+         BEGIN Repeat(2) END M.",
     ),
     (RECURSIVE, 2, 47, "F", RECURSIVE),
     (
@@ -69,7 +96,13 @@ static RENAMED: &[(&str, u64, u64, &str, &str)] = &[
         4,
         10,
         "Q",
-        "MODULE M;\nVAR Q: INTEGER;\nPROCEDURE A;\nPROCEDURE P; BEGIN Q := 7 END P;\nPROCEDURE Q; BEGIN Write(2) END Q;\nBEGIN P; Q END A;\nBEGIN A; Write(Q) END M.",
+        "MODULE M;\n\
+         VAR Q: INTEGER;\n\
+         PROCEDURE A;\n\
+         PROCEDURE P; BEGIN Q := 7 END P;\n\
+         PROCEDURE Q; BEGIN Write(2) END Q;\n\
+         BEGIN P; Q END A;\n\
+         BEGIN A; Write(Q) END M.",
     ),
     (BLOCKS, 4, 10, "P", "Duplicate 3:10-3:11"),
     (BLOCKS, 3, 10, "R", "Duplicate 4:10-4:11"),
@@ -87,21 +120,30 @@ static RENAMED: &[(&str, u64, u64, &str, &str)] = &[
         2,
         36,
         "b",
-        "MODULE M;\nTYPE R = RECORD a, b: INTEGER END;\nVAR r: R; s: RECORD a: INTEGER END; b: INTEGER;\nBEGIN r.a := 1; s.a := 2; b := r.a + s.a; Write(b) END M.",
+        "MODULE M;\n\
+         TYPE R = RECORD a, b: INTEGER END;\n\
+         VAR r: R; s: RECORD a: INTEGER END; b: INTEGER;\n\
+         BEGIN r.a := 1; s.a := 2; b := r.a + s.a; Write(b) END M.",
     ),
     (
         FIELDS,
         3,
         8,
         "INTEGER",
-        "MODULE M;\nTYPE R = RECORD INTEGER, b: INTEGER END;\nVAR r: R; s: RECORD a: INTEGER END; a: INTEGER;\nBEGIN r.INTEGER := 1; s.a := 2; a := r.INTEGER + s.a; Write(a) END M.",
+        "MODULE M;\n\
+         TYPE R = RECORD INTEGER, b: INTEGER END;\n\
+         VAR r: R; s: RECORD a: INTEGER END; a: INTEGER;\n\
+         BEGIN r.INTEGER := 1; s.a := 2; a := r.INTEGER + s.a; Write(a) END M.",
     ),
     (
         FIELDS,
         3,
         18,
         "b",
-        "MODULE M;\nTYPE R = RECORD a, b: INTEGER END;\nVAR r: R; s: RECORD b: INTEGER END; a: INTEGER;\nBEGIN r.a := 1; s.b := 2; a := r.a + s.b; Write(a) END M.",
+        "MODULE M;\n\
+         TYPE R = RECORD a, b: INTEGER END;\n\
+         VAR r: R; s: RECORD b: INTEGER END; a: INTEGER;\n\
+         BEGIN r.a := 1; s.b := 2; a := r.a + s.b; Write(a) END M.",
     ),
     (FIELDS, 3, 8, "b", "Duplicate 1:19-1:20"),
     (FIELDS, 3, 8, "1a", "BadName"),
@@ -112,7 +154,10 @@ static RENAMED: &[(&str, u64, u64, &str, &str)] = &[
         2,
         25,
         "y",
-        "MODULE M;\nTYPE P = RECORD x, y: INTEGER END;\nVAR q: ARRAY 2 OF RECORD y: P; n: RECORD x: INTEGER END END;\nBEGIN q[0].y.x := 1; q[q[0].y.x].n.x := 2; q[1].y.y := 3 END M.",
+        "MODULE M;\n\
+         TYPE P = RECORD x, y: INTEGER END;\n\
+         VAR q: ARRAY 2 OF RECORD y: P; n: RECORD x: INTEGER END END;\n\
+         BEGIN q[0].y.x := 1; q[q[0].y.x].n.x := 2; q[1].y.y := 3 END M.",
     ),
     (LOCAL, 6, 20, "b", "Duplicate 4:16-4:17"),
     (
@@ -120,14 +165,28 @@ static RENAMED: &[(&str, u64, u64, &str, &str)] = &[
         7,
         8,
         "b",
-        "MODULE M;\nTYPE R = RECORD b: INTEGER END;\nVAR r: R;\nPROCEDURE P(VAR r: R; s: RECORD a: INTEGER END);\nTYPE R = RECORD b, a: INTEGER END;\nVAR t: R;\nBEGIN r.b := s.a; t.a := t.b END P;\nBEGIN r.b := 1 END M.",
+        "MODULE M;\n\
+         TYPE R = RECORD b: INTEGER END;\n\
+         VAR r: R;\n\
+         PROCEDURE P(VAR r: R; s: RECORD a: INTEGER END);\n\
+         TYPE R = RECORD b, a: INTEGER END;\n\
+         VAR t: R;\n\
+         BEGIN r.b := s.a; t.a := t.b END P;\n\
+         BEGIN r.b := 1 END M.",
     ),
     (
         LOCAL,
         6,
         15,
         "b",
-        "MODULE M;\nTYPE R = RECORD a: INTEGER END;\nVAR r: R;\nPROCEDURE P(VAR r: R; s: RECORD b: INTEGER END);\nTYPE R = RECORD b, a: INTEGER END;\nVAR t: R;\nBEGIN r.a := s.b; t.a := t.b END P;\nBEGIN r.a := 1 END M.",
+        "MODULE M;\n\
+         TYPE R = RECORD a: INTEGER END;\n\
+         VAR r: R;\n\
+         PROCEDURE P(VAR r: R; s: RECORD b: INTEGER END);\n\
+         TYPE R = RECORD b, a: INTEGER END;\n\
+         VAR t: R;\n\
+         BEGIN r.a := s.b; t.a := t.b END P;\n\
+         BEGIN r.a := 1 END M.",
     ),
 ];
 
@@ -147,12 +206,12 @@ fn rename_text(
 
 /// The text with another name, or why it has none.
 #[derive(Drop)]
-struct Renamed {
+struct RenamedText {
     place: Position,
     new: &'static str,
 }
 
-impl Question for Renamed {
+impl Question for RenamedText {
     type Answer = String;
 
     ghost answers = { λ _ _ _. ⊤ };
@@ -169,7 +228,7 @@ fn a_well_typed_module_is_renamed_alike(rt: HostRuntime) -> Result<(), Fail> {
     for row in RENAMED {
         let (text, line, character, new, wanted) = *row;
         let place = Position { line, character };
-        let found = said(rt.alloc(), text, &Renamed { place, new })?;
+        let found = said(rt.alloc(), text, &RenamedText { place, new })?;
         assert!(rt;
             found.as_str() == wanted,
             "{found} by {new} at {line}:{character}"
@@ -217,8 +276,10 @@ impl Question for Inlined {
 const LEAST: &str =
     "MODULE M;\nCONST c = -2147483647 - 1;\nVAR x: INTEGER;\nBEGIN x := 0 + c; Write(x) END M.";
 
-const SHADOWED: &str =
-    "MODULE M;\nCONST on = TRUE;\nPROCEDURE P; VAR TRUE, b: BOOLEAN; BEGIN b := on END P;\nBEGIN P END M.";
+const SHADOWED: &str = "MODULE M;\n\
+    CONST on = TRUE;\n\
+    PROCEDURE P; VAR TRUE, b: BOOLEAN; BEGIN b := on END P;\n\
+    BEGIN P END M.";
 
 const COMMENTED: &str = "MODULE M; CONST c (* five *) = 5; (* on *) BEGIN Write(c) END M.";
 
@@ -226,8 +287,11 @@ const SEVERAL: &str =
     "MODULE M; CONST a = 9; c = -5; d = c; BEGIN Write(a - c); Write(c DIV 3) END M.";
 
 /// The value is written in parentheses, one level too many.
-const DEEP: &str =
-    "MODULE M; CONST c = -1; VAR x: INTEGER; BEGIN x := ((((((((((((((((((((((((((((((((((((((((((((((((((((((((((((((((((((((((((((((((((((((((((((((((((((c)))))))))))))))))))))))))))))))))))))))))))))))))))))))))))))))))))))))))))))))))))))))))))))))))))) END M.";
+const DEEP: &str = "MODULE M; CONST c = -1; VAR x: INTEGER; BEGIN x := \
+    ((((((((((((((((((((((((((((((((((((((((((((((((((\
+    ((((((((((((((((((((((((((((((((((((((((((((((((((c\
+    ))))))))))))))))))))))))))))))))))))))))))))))))))\
+    )))))))))))))))))))))))))))))))))))))))))))))))))) END M.";
 
 /// A text, a place, whether everywhere, and the text then.
 static INLINED: &[(&str, u64, u64, bool, &str)] = &[
@@ -236,7 +300,10 @@ static INLINED: &[(&str, u64, u64, bool, &str)] = &[
         3,
         15,
         false,
-        "MODULE M;\nCONST c = -2147483647 - 1;\nVAR x: INTEGER;\nBEGIN x := 0 + (-2147483647 - 1); Write(x) END M.",
+        "MODULE M;\n\
+         CONST c = -2147483647 - 1;\n\
+         VAR x: INTEGER;\n\
+         BEGIN x := 0 + (-2147483647 - 1); Write(x) END M.",
     ),
     (LEAST, 1, 6, false, "NoName"),
     (LEAST, 3, 6, false, "NoName"),
@@ -263,11 +330,13 @@ static INLINED: &[(&str, u64, u64, bool, &str)] = &[
         "MODULE M; CONST t = 1 = 2; VAR b: BOOLEAN; BEGIN b := FALSE END M.",
     ),
     (
-        "MODULE M; CONST c = 1; PROCEDURE P; CONST c = 2; BEGIN Write(c) END P; BEGIN Write(c) END M.",
+        "MODULE M; CONST c = 1; PROCEDURE P; CONST c = 2; BEGIN Write(c) END P; \
+         BEGIN Write(c) END M.",
         0,
         61,
         false,
-        "MODULE M; CONST c = 1; PROCEDURE P; CONST c = 2; BEGIN Write(2) END P; BEGIN Write(c) END M.",
+        "MODULE M; CONST c = 1; PROCEDURE P; CONST c = 2; BEGIN Write(2) END P; \
+         BEGIN Write(c) END M.",
     ),
     (SHADOWED, 2, 46, false, "Shadowed"),
     (SHADOWED, 1, 8, true, "Shadowed"),
@@ -303,11 +372,13 @@ static INLINED: &[(&str, u64, u64, bool, &str)] = &[
         "MODULE M; CONST a = 9;  d = (-5); BEGIN Write(a - (-5)); Write((-5) DIV 3) END M.",
     ),
     (
-        "MODULE M; CONST c = 1; PROCEDURE P; CONST c = 2; PROCEDURE Q; BEGIN Write(c) END Q; BEGIN Q END P; BEGIN Write(c) END M.",
+        "MODULE M; CONST c = 1; PROCEDURE P; CONST c = 2; PROCEDURE Q; BEGIN Write(c) END Q; \
+         BEGIN Q END P; BEGIN Write(c) END M.",
         0,
         42,
         true,
-        "MODULE M; CONST c = 1; PROCEDURE P; CONST  PROCEDURE Q; BEGIN Write(2) END Q; BEGIN Q END P; BEGIN Write(c) END M.",
+        "MODULE M; CONST c = 1; PROCEDURE P; CONST  PROCEDURE Q; BEGIN Write(2) END Q; \
+         BEGIN Q END P; BEGIN Write(c) END M.",
     ),
     (
         "MODULE M; CONST on = TRUE; PROCEDURE P; VAR TRUE: BOOLEAN; BEGIN END P; END M.",
@@ -349,19 +420,57 @@ impl Question for LaidOut {
 
 static LAID_OUT: &[(&str, Indent, &str)] = &[
     (
-        "MODULE M;VAR x:INTEGER;BEGIN x:=-1;IF x<0 THEN Write(x)(* a (* b *) c *)END;WriteLn END M.(* end *)",
+        "MODULE M;VAR x:INTEGER;BEGIN x:=-1;IF x<0 THEN Write(x)(* a (* b *) c *)END;\
+         WriteLn END M.(* end *)",
         Indent::Spaces(2),
-        "MODULE M;\nVAR\n  x: INTEGER;\nBEGIN\n  x := -1;\n  IF x < 0 THEN\n    Write(x) (* a (* b *) c *)\n  END;\n  WriteLn\nEND M. (* end *)\n",
+        "\
+MODULE M;
+VAR
+  x: INTEGER;
+BEGIN
+  x := -1;
+  IF x < 0 THEN
+    Write(x) (* a (* b *) c *)
+  END;
+  WriteLn
+END M. (* end *)
+",
     ),
     (
-        " \r\n(* 😀 *)(* two *)\r\nMODULE M;VAR x:INTEGER;\r(* own line *)BEGIN x := (\r (* inside\r\n*) 1) (* behind *) ;\n\n(* before END *)END M.\n\n (* last *)",
+        " \r\n(* 😀 *)(* two *)\r\n\
+         MODULE M;VAR x:INTEGER;\r\
+         (* own line *)BEGIN x := (\r \
+         (* inside\r\n\
+         *) 1) (* behind *) ;\n\n\
+         (* before END *)END M.\n\n \
+         (* last *)",
         Indent::Spaces(2),
-        "(* 😀 *) (* two *)\nMODULE M;\nVAR\n  x: INTEGER;\n(* own line *)\nBEGIN\n  x := (\n  (* inside\r\n*) 1) (* behind *) ;\n(* before END *)\nEND M.\n(* last *)\n",
+        "(* 😀 *) (* two *)\n\
+         MODULE M;\nVAR\n  x: INTEGER;\n\
+         (* own line *)\nBEGIN\n  x := (\n  \
+         (* inside\r\n\
+         *) 1) (* behind *) ;\n\
+         (* before END *)\nEND M.\n\
+         (* last *)\n",
     ),
     (
-        "MODULE M;CONST a=1;b=-a;TYPE T=RECORD x,y:INTEGER END;PROCEDURE P(VAR t:T;n:INTEGER);BEGIN t.x:=-n+t.y;WHILE ~(n=0)DO P(t,n-1)END END P;END M.",
+        "MODULE M;CONST a=1;b=-a;TYPE T=RECORD x,y:INTEGER END;PROCEDURE P(VAR t:T;n:INTEGER);\
+         BEGIN t.x:=-n+t.y;WHILE ~(n=0)DO P(t,n-1)END END P;END M.",
         Indent::Tab,
-        "MODULE M;\nCONST\n\ta = 1;\n\tb = -a;\nTYPE\n\tT = RECORD x, y: INTEGER END;\n\tPROCEDURE P(VAR t: T; n: INTEGER);\n\tBEGIN\n\t\tt.x := -n + t.y;\n\t\tWHILE ~(n = 0) DO\n\t\t\tP(t, n - 1)\n\t\tEND\n\tEND P;\nEND M.\n",
+        "MODULE M;\n\
+         CONST\n\
+         \ta = 1;\n\
+         \tb = -a;\n\
+         TYPE\n\
+         \tT = RECORD x, y: INTEGER END;\n\
+         \tPROCEDURE P(VAR t: T; n: INTEGER);\n\
+         \tBEGIN\n\
+         \t\tt.x := -n + t.y;\n\
+         \t\tWHILE ~(n = 0) DO\n\
+         \t\t\tP(t, n - 1)\n\
+         \t\tEND\n\
+         \tEND P;\n\
+         END M.\n",
     ),
     (
         "MODULE M; BEGIN ; WriteLn; END M.",
@@ -369,14 +478,49 @@ static LAID_OUT: &[(&str, Indent, &str)] = &[
         "MODULE M;\nBEGIN;\n  WriteLn;\nEND M.\n",
     ),
     (
-        "MODULE M;\nVAR n: INTEGER;\nBEGIN Read(n); REPEAT Write(n); n := n - 1 UNTIL n <= 0 END M.",
+        "MODULE M;\n\
+         VAR n: INTEGER;\n\
+         BEGIN Read(n); REPEAT Write(n); n := n - 1 UNTIL n <= 0 END M.",
         Indent::Spaces(2),
-        "MODULE M;\nVAR\n  n: INTEGER;\nBEGIN\n  Read(n);\n  REPEAT\n    Write(n);\n    n := n - 1\n  UNTIL n <= 0\nEND M.\n",
+        "\
+MODULE M;
+VAR
+  n: INTEGER;
+BEGIN
+  Read(n);
+  REPEAT
+    Write(n);
+    n := n - 1
+  UNTIL n <= 0
+END M.
+",
     ),
     (
-        "MODULE M;VAR a:ARRAY 2 OF INTEGER;PROCEDURE A;PROCEDURE B();END B;BEGIN IF a[0]=1 THEN B() ELSIF a [1]=2 THEN ELSE B;WHILE TRUE DO END END END A;BEGIN A END M.",
+        "MODULE M;VAR a:ARRAY 2 OF INTEGER;PROCEDURE A;PROCEDURE B();END B;\
+         BEGIN IF a[0]=1 THEN B() ELSIF a [1]=2 THEN ELSE B;WHILE TRUE DO END END END A;\
+         BEGIN A END M.",
         Indent::Spaces(2),
-        "MODULE M;\nVAR\n  a: ARRAY 2 OF INTEGER;\n  PROCEDURE A;\n    PROCEDURE B();\n    END B;\n  BEGIN\n    IF a[0] = 1 THEN\n      B()\n    ELSIF a[1] = 2 THEN\n    ELSE\n      B;\n      WHILE TRUE DO\n      END\n    END\n  END A;\nBEGIN\n  A\nEND M.\n",
+        "\
+MODULE M;
+VAR
+  a: ARRAY 2 OF INTEGER;
+  PROCEDURE A;
+    PROCEDURE B();
+    END B;
+  BEGIN
+    IF a[0] = 1 THEN
+      B()
+    ELSIF a[1] = 2 THEN
+    ELSE
+      B;
+      WHILE TRUE DO
+      END
+    END
+  END A;
+BEGIN
+  A
+END M.
+",
     ),
 ];
 

@@ -1,5 +1,5 @@
-//! Faults of worked texts: code, start and end of each, in the order of their places. Which faults a module has, and where,
-//! no contract says.
+//! Faults of worked texts: code, start and end of each, in the order of their places. Which faults a module has, and
+//! where, no contract says.
 
 use crate::asking::reported_faults;
 use ob0_analysis::diagnose;
@@ -57,8 +57,14 @@ static ROWS: &[(&str, &str)] = &[
     ),
     // One of each of ten kinds.
     (
-        "MODULE M;\nCONST k = 1 DIV 0; m = 1;\nVAR i: INTEGER; b: BOOLEAN;\nPROCEDURE P(VAR j: INTEGER); BEGIN j := 1 END Q;\nBEGIN i := b; P(3); P; z := 1; i.f := 1; i[0] := 1; Write(P); m := 2 END M.",
-        "ConstFault 20-27; EndName 110-111; TypeMismatch 124-125; NotVariable 129-130; ArgumentCount 133-134; Undeclared 136-137; NotRecord 145-146; NotArray 155-156; WrongKind 171-172; NotVariable 175-176; ",
+        "MODULE M;\n\
+         CONST k = 1 DIV 0; m = 1;\n\
+         VAR i: INTEGER; b: BOOLEAN;\n\
+         PROCEDURE P(VAR j: INTEGER); BEGIN j := 1 END Q;\n\
+         BEGIN i := b; P(3); P; z := 1; i.f := 1; i[0] := 1; Write(P); m := 2 END M.",
+        "ConstFault 20-27; EndName 110-111; TypeMismatch 124-125; NotVariable 129-130; \
+         ArgumentCount 133-134; Undeclared 136-137; NotRecord 145-146; NotArray 155-156; \
+         WrongKind 171-172; NotVariable 175-176; ",
     ),
     // Types.
     (
@@ -107,39 +113,54 @@ static ROWS: &[(&str, &str)] = &[
         "TypeMismatch 45-49; ",
     ),
     (
-        "MODULE M; BEGIN IF 1 THEN END; WHILE ~(1 < 2) & TRUE DO WriteLn END; REPEAT UNTIL 3 END M.",
+        "MODULE M; BEGIN IF 1 THEN END; WHILE ~(1 < 2) & TRUE DO WriteLn END; \
+         REPEAT UNTIL 3 END M.",
         "TypeMismatch 19-20; TypeMismatch 82-83; ",
     ),
     (
-        "MODULE M; TYPE R = RECORD x, y: INTEGER; a: ARRAY 2 OF BOOLEAN END; VAR r: R; PROCEDURE P(VAR s: R; b: BOOLEAN); BEGIN s.x := 1; s.a[s.x] := b; s.z := 1 END P; BEGIN P(r, TRUE); P(r, r.a[0]); Read(r.x); Write(r.y) END M.",
+        "MODULE M; TYPE R = RECORD x, y: INTEGER; a: ARRAY 2 OF BOOLEAN END; VAR r: R; \
+         PROCEDURE P(VAR s: R; b: BOOLEAN); BEGIN s.x := 1; s.a[s.x] := b; s.z := 1 END P; \
+         BEGIN P(r, TRUE); P(r, r.a[0]); Read(r.x); Write(r.y) END M.",
         "NoField 146-147; ",
     ),
     (
-        "MODULE M; CONST c = 2147483647 + 1; d = -(-2147483647 - 1); e = (1 = 2) & (1 DIV 0 = 1); f = e OR INTEGER; END M.",
+        "MODULE M; CONST c = 2147483647 + 1; d = -(-2147483647 - 1); e = (1 = 2) & (1 DIV 0 = 1); \
+         f = e OR INTEGER; END M.",
         "ConstFault 20-34; ConstFault 40-58; WrongKind 98-105; ",
     ),
     (
-        "MODULE M; VAR x: INTEGER; PROCEDURE P; CONST c = x; END P; BEGIN TRUE := FALSE; INTEGER := 1; Read(1); Read(TRUE); x(1); P(u) END M.",
-        "NotConstant 49-50; NotVariable 65-69; WrongKind 80-87; NotVariable 99-100; NotVariable 108-112; WrongKind 115-116; ArgumentCount 121-122; Undeclared 123-124; ",
+        "MODULE M; VAR x: INTEGER; PROCEDURE P; CONST c = x; END P; BEGIN TRUE := FALSE; \
+         INTEGER := 1; Read(1); Read(TRUE); x(1); P(u) END M.",
+        "NotConstant 49-50; NotVariable 65-69; WrongKind 80-87; NotVariable 99-100; \
+         NotVariable 108-112; WrongKind 115-116; ArgumentCount 121-122; Undeclared 123-124; ",
     ),
     (
         "MODULE M; VAR a: ARRAY 256 OF RECORD f, g: ARRAY 256 OF ARRAY 3 OF Write END; END M.",
         "WrongKind 67-72; ",
     ),
     (
-        "MODULE M; PROCEDURE P(x: INTEGER; VAR y: BOOLEAN); END P; BEGIN P; P(u, TRUE + 1, v); P(TRUE, 1 < 2); Q(~1) END M.",
-        "ArgumentCount 64-65; ArgumentCount 67-68; Undeclared 69-70; Undeclared 82-83; TypeMismatch 88-92; NotVariable 94-99; Undeclared 102-103; TypeMismatch 105-106; ",
+        "MODULE M; PROCEDURE P(x: INTEGER; VAR y: BOOLEAN); END P; BEGIN P; P(u, TRUE + 1, v); \
+         P(TRUE, 1 < 2); Q(~1) END M.",
+        "ArgumentCount 64-65; ArgumentCount 67-68; Undeclared 69-70; Undeclared 82-83; \
+         TypeMismatch 88-92; NotVariable 94-99; Undeclared 102-103; TypeMismatch 105-106; ",
     ),
     (
-        "MODULE M; CONST n = 3; VAR a: ARRAY n * 2 OF INTEGER; b: ARRAY n = 3 OF u; c: ARRAY a[b] OF BOOLEAN; BEGIN Read(n); Read(a); Read(a[n]); Read((a[n])); Read(-a[n]); n[TRUE] := v END M.",
-        "TypeMismatch 63-68; Undeclared 72-73; NotConstant 84-85; NotConstant 86-87; NotVariable 112-113; TypeMismatch 121-122; NotVariable 142-148; NotVariable 156-161; NotVariable 164-165; TypeMismatch 166-170; Undeclared 175-176; ",
+        "MODULE M; CONST n = 3; VAR a: ARRAY n * 2 OF INTEGER; b: ARRAY n = 3 OF u; \
+         c: ARRAY a[b] OF BOOLEAN; BEGIN Read(n); Read(a); Read(a[n]); Read((a[n])); Read(-a[n]); \
+         n[TRUE] := v END M.",
+        "TypeMismatch 63-68; Undeclared 72-73; NotConstant 84-85; NotConstant 86-87; \
+         NotVariable 112-113; TypeMismatch 121-122; NotVariable 142-148; NotVariable 156-161; \
+         NotVariable 164-165; TypeMismatch 166-170; Undeclared 175-176; ",
     ),
     (
-        "MODULE M; VAR x: INTEGER; r: RECORD a: INTEGER END; t: T; BEGIN x[TRUE] := 1; x.f := 1; r.b := TRUE; t[1].f := x END M.",
+        "MODULE M; VAR x: INTEGER; r: RECORD a: INTEGER END; t: T; BEGIN x[TRUE] := 1; x.f := 1; \
+         r.b := TRUE; t[1].f := x END M.",
         "Undeclared 55-56; NotArray 65-66; TypeMismatch 66-70; NotRecord 79-80; NoField 90-91; ",
     ),
     (
-        "MODULE M; TYPE T = ARRAY 2 OF RECORD f: BOOLEAN; g: U; f: INTEGER END; VAR t: T; PROCEDURE P(T: INTEGER; x: T); BEGIN t[T].f := x; t[0].f := T; P(t[1].g, t[2].g) END P; END M.",
+        "MODULE M; TYPE T = ARRAY 2 OF RECORD f: BOOLEAN; g: U; f: INTEGER END; VAR t: T; \
+         PROCEDURE P(T: INTEGER; x: T); BEGIN t[T].f := x; t[0].f := T; P(t[1].g, t[2].g) END P; \
+         END M.",
         "Undeclared 52-53; Duplicate 55-56; WrongKind 108-109; TypeMismatch 141-142; ",
     ),
 ];

@@ -89,11 +89,15 @@ fn push_spans(
     Ok(())
 }
 
-const RECURSIVE: &str =
-    "MODULE M;\nPROCEDURE F(n: INTEGER);\nBEGIN IF n > 0 THEN Write(n); F(n - 1) END END F;\nBEGIN F(2) END M.";
+const RECURSIVE: &str = "MODULE M;\n\
+    PROCEDURE F(n: INTEGER);\n\
+    BEGIN IF n > 0 THEN Write(n); F(n - 1) END END F;\n\
+    BEGIN F(2) END M.";
 
-const FIELDS: &str =
-    "MODULE M;\nTYPE R = RECORD a, b: INTEGER END;\nVAR r: R; s: RECORD a: INTEGER END; a: INTEGER;\nBEGIN r.a := 1; s.a := 2; a := r.a + s.a; Write(a) END M.";
+const FIELDS: &str = "MODULE M;\n\
+    TYPE R = RECORD a, b: INTEGER END;\n\
+    VAR r: R; s: RECORD a: INTEGER END; a: INTEGER;\n\
+    BEGIN r.a := 1; s.a := 2; a := r.a + s.a; Write(a) END M.";
 
 static ROWS: &[(&str, usize, &str)] = &[
     (
@@ -189,7 +193,10 @@ impl Question for Shown {
 }
 
 const KINDS: &str =
-    "MODULE M; CONST c = -3; on = TRUE; TYPE R = RECORD x, y: BOOLEAN END; A = ARRAY 2 OF R; VAR a: ARRAY 3 OF A; r: R; PROCEDURE P(a, b: A; VAR c: BOOLEAN); VAR r: INTEGER; BEGIN r := 1; c := a[0].x END P; PROCEDURE Q; BEGIN r.x := on; P(a[0], a[c + 3], r.x) END Q; BEGIN Q END M.";
+    "MODULE M; CONST c = -3; on = TRUE; TYPE R = RECORD x, y: BOOLEAN END; A = ARRAY 2 OF R; \
+    VAR a: ARRAY 3 OF A; r: R; PROCEDURE P(a, b: A; VAR c: BOOLEAN); VAR r: INTEGER; \
+    BEGIN r := 1; c := a[0].x END P; PROCEDURE Q; BEGIN r.x := on; P(a[0], a[c + 3], r.x) END Q; \
+    BEGIN Q END M.";
 
 const KINDS_SHOWN: &str = "CONST c = -3
 CONST on = TRUE
@@ -233,7 +240,9 @@ PROCEDURE Q()
 
 // Records within arrays, records and parameters, and a type that is declared again.
 const PARTS: &str =
-    "MODULE M; TYPE A = ARRAY 2 OF RECORD x: BOOLEAN END; PROCEDURE P(VAR p, q: RECORD x: A; y, z: RECORD x: INTEGER END END); TYPE A = INTEGER; VAR v: RECORD x: A END; BEGIN p.y.x := v.x END P; END M.";
+    "MODULE M; TYPE A = ARRAY 2 OF RECORD x: BOOLEAN END; PROCEDURE P(VAR p, q: RECORD x: A; \
+    y, z: RECORD x: INTEGER END END); TYPE A = INTEGER; VAR v: RECORD x: A END; \
+    BEGIN p.y.x := v.x END P; END M.";
 
 const PARTS_SHOWN: &str = "TYPE A = ARRAY 2 OF RECORD with 1 fields
 FIELD x: BOOLEAN

@@ -61,40 +61,69 @@ fn name_of(end: End) -> &'static str {
     }
 }
 
-const SHADOWED: &str =
-    "MODULE M;\nVAR Q: INTEGER;\nPROCEDURE A;\nPROCEDURE P; BEGIN Q := 7 END P;\nPROCEDURE R; BEGIN Write(2) END R;\nBEGIN P; R END A;\nBEGIN A; Write(Q) END M.";
+const SHADOWED: &str = "MODULE M;\n\
+    VAR Q: INTEGER;\n\
+    PROCEDURE A;\n\
+    PROCEDURE P; BEGIN Q := 7 END P;\n\
+    PROCEDURE R; BEGIN Write(2) END R;\n\
+    BEGIN P; R END A;\n\
+    BEGIN A; Write(Q) END M.";
 
-const RECURSIVE: &str =
-    "MODULE M;\nPROCEDURE F(n: INTEGER);\nBEGIN IF n > 0 THEN Write(n); F(n - 1) END END F;\nBEGIN F(2) END M.";
+const RECURSIVE: &str = "MODULE M;\n\
+    PROCEDURE F(n: INTEGER);\n\
+    BEGIN IF n > 0 THEN Write(n); F(n - 1) END END F;\n\
+    BEGIN F(2) END M.";
 
-const WHILE: &str =
-    "MODULE M;\nVAR n: INTEGER;\nPROCEDURE P; BEGIN Write(n) END P;\nBEGIN Read(n); WHILE n > 0 DO n := n - 1; WriteLn END; P END M.";
+const WHILE: &str = "MODULE M;\n\
+    VAR n: INTEGER;\n\
+    PROCEDURE P; BEGIN Write(n) END P;\n\
+    BEGIN Read(n); WHILE n > 0 DO n := n - 1; WriteLn END; P END M.";
 
 const REPEAT: &str =
     "MODULE M;\nVAR n: INTEGER;\nBEGIN Read(n); REPEAT Write(n); n := n - 1 UNTIL n <= 0 END M.";
 
-const ALIASES: &str =
-    "MODULE M;\nVAR a: ARRAY 2 OF INTEGER; i: INTEGER;\nPROCEDURE S(VAR p: INTEGER; q: INTEGER; VAR r: INTEGER);\nBEGIN i := 1; p := q + 1; r := p * 10; Write(q) END S;\nBEGIN i := 0; S(a[i], a[i], a[i]); Write(a[0]); Write(a[1]); S(i, i, i); Write(i); a[i] := 0 END M.";
+const ALIASES: &str = "MODULE M;\n\
+    VAR a: ARRAY 2 OF INTEGER; i: INTEGER;\n\
+    PROCEDURE S(VAR p: INTEGER; q: INTEGER; VAR r: INTEGER);\n\
+    BEGIN i := 1; p := q + 1; r := p * 10; Write(q) END S;\n\
+    BEGIN i := 0; S(a[i], a[i], a[i]); Write(a[0]); Write(a[1]); S(i, i, i); Write(i); \
+    a[i] := 0 END M.";
 
-const ACTIVATIONS: &str =
-    "MODULE M;\nPROCEDURE P(n: INTEGER);\nVAR k: INTEGER;\nPROCEDURE Q; BEGIN k := k + n END Q;\nBEGIN IF n > 0 THEN P(n - 1) END; Q; Q; Write(k) END P;\nBEGIN P(2) END M.";
+const ACTIVATIONS: &str = "MODULE M;\n\
+    PROCEDURE P(n: INTEGER);\n\
+    VAR k: INTEGER;\n\
+    PROCEDURE Q; BEGIN k := k + n END Q;\n\
+    BEGIN IF n > 0 THEN P(n - 1) END; Q; Q; Write(k) END P;\n\
+    BEGIN P(2) END M.";
 
-const RECORDS: &str =
-    "MODULE M;\nTYPE P = RECORD x, y: INTEGER; on: BOOLEAN END;\nVAR p, q: P; ps: ARRAY 2 OF P;\nPROCEDURE Set(VAR r: P; s: P); BEGIN r.x := 5; Write(s.x); s.x := 9 END Set;\nBEGIN p.x := 1; q := p; q.x := 2; Set(p, p); Write(p.x); Write(q.x); ps[1] := p; Write(ps[1].x + ps[0].y); IF ~ps[0].on THEN WriteLn END END M.";
+const RECORDS: &str = "MODULE M;\n\
+    TYPE P = RECORD x, y: INTEGER; on: BOOLEAN END;\n\
+    VAR p, q: P; ps: ARRAY 2 OF P;\n\
+    PROCEDURE Set(VAR r: P; s: P); BEGIN r.x := 5; Write(s.x); s.x := 9 END Set;\n\
+    BEGIN p.x := 1; q := p; q.x := 2; Set(p, p); Write(p.x); Write(q.x); ps[1] := p; \
+    Write(ps[1].x + ps[0].y); IF ~ps[0].on THEN WriteLn END END M.";
 
-const ELEMENTS: &str =
-    "MODULE M;\nVAR a: ARRAY 2 OF INTEGER; i: INTEGER;\nBEGIN a[0] := 3; a[1] := -a[0] * a[0]; i := 1; Write(a[i] - 1); i := a[0]; a[i - 1] := 1 DIV 0 END M.";
+const ELEMENTS: &str = "MODULE M;\n\
+    VAR a: ARRAY 2 OF INTEGER; i: INTEGER;\n\
+    BEGIN a[0] := 3; a[1] := -a[0] * a[0]; i := 1; Write(a[i] - 1); i := a[0]; \
+    a[i - 1] := 1 DIV 0 END M.";
 
-const TRUTHS: &str =
-    "MODULE M;\nVAR b: ARRAY 2 OF BOOLEAN; p: BOOLEAN;\nBEGIN b[1] := TRUE; p := b[1] = ~b[0]; IF p & (b[0] # TRUE) THEN Write(1) END;\nIF p OR (1 DIV 0 = 1) THEN Write(2) END; IF b[0] & (1 DIV 0 = 1) OR (1 DIV 0 = 1) THEN Write(3) END END M.";
+const TRUTHS: &str = "MODULE M;\n\
+    VAR b: ARRAY 2 OF BOOLEAN; p: BOOLEAN;\n\
+    BEGIN b[1] := TRUE; p := b[1] = ~b[0]; IF p & (b[0] # TRUE) THEN Write(1) END;\n\
+    IF p OR (1 DIV 0 = 1) THEN Write(2) END; IF b[0] & (1 DIV 0 = 1) OR (1 DIV 0 = 1) THEN \
+    Write(3) END END M.";
 
-const ROWS_OF_ARRAYS: &str =
-    "MODULE M;\nVAR m: ARRAY 2 OF ARRAY 3 OF INTEGER; i: INTEGER;\nBEGIN i := 2; m[1][i] := 4; m[0] := m[1]; m[1][i] := 5; Write(m[0][i]); Write(m[1][2]); Write(m[1][i + 1]) END M.";
+const ROWS_OF_ARRAYS: &str = "MODULE M;\n\
+    VAR m: ARRAY 2 OF ARRAY 3 OF INTEGER; i: INTEGER;\n\
+    BEGIN i := 2; m[1][i] := 4; m[0] := m[1]; m[1][i] := 5; Write(m[0][i]); Write(m[1][2]); \
+    Write(m[1][i + 1]) END M.";
 
 /// A text, its input, how many calls may be open and how many turns a loop may make, and what is shown.
 static ROWS: &[(&str, &[i32], u32, u32, &str)] = &[
     (
-        "MODULE M; BEGIN Write(-7 DIV 3); Write((-7) DIV 3); Write((-7) MOD 3); Write(1 MOD 0) END M.",
+        "MODULE M; BEGIN Write(-7 DIV 3); Write((-7) DIV 3); Write((-7) MOD 3); \
+         Write(1 MOD 0) END M.",
         &[],
         64,
         100_000,
@@ -122,7 +151,12 @@ static ROWS: &[(&str, &[i32], u32, u32, &str)] = &[
         "; Overflow",
     ),
     (
-        "MODULE M;\nVAR x: INTEGER;\nPROCEDURE P;\nVAR y: INTEGER;\nBEGIN y := 1; x := y END P;\nBEGIN P; Write(x) END M.",
+        "MODULE M;\n\
+         VAR x: INTEGER;\n\
+         PROCEDURE P;\n\
+         VAR y: INTEGER;\n\
+         BEGIN y := 1; x := y END P;\n\
+         BEGIN P; Write(x) END M.",
         &[],
         1,
         0,
@@ -147,7 +181,8 @@ static ROWS: &[(&str, &[i32], u32, u32, &str)] = &[
         " -2147483648; Done",
     ),
     (
-        "MODULE M; CONST n = 3; m = n * 2; TYPE T = ARRAY m OF INTEGER; VAR a: T; BEGIN a[m - 1] := n; Write(a[5]); IF TRUE & (m = 6) THEN Write(m) END END M.",
+        "MODULE M; CONST n = 3; m = n * 2; TYPE T = ARRAY m OF INTEGER; VAR a: T; \
+         BEGIN a[m - 1] := n; Write(a[5]); IF TRUE & (m = 6) THEN Write(m) END END M.",
         &[],
         0,
         0,

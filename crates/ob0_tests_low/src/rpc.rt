@@ -1,7 +1,8 @@
 //! Messages from outside: what they mean, and which are none; and the bytes of answers.
 
 use ob0_rpc::{
-    Call, Client, Id, Incoming, OneMember, RpcFault, error, notify, read, request, result_of,
+    Client, ClientRequest, Id, Incoming, OneMember, RpcFault, error, notify, read, request,
+    result_of,
 };
 use ob0_text::{Indent, Position, Range};
 use serde_json::Value;
@@ -84,14 +85,14 @@ fn said_by(indent: Indent) -> &'static str {
     }
 }
 
-/// In a word what a call asks for.
-fn word_of(call: &Call) -> &'static str {
+/// A request, in a word.
+fn word_of(call: &ClientRequest) -> &'static str {
     match call {
-        Call::Initialize(client) => said_of(*client),
-        Call::Shutdown => "shutdown",
-        Call::Hover(_place) => "hover",
-        Call::Definition(_place) => "definition",
-        Call::References {
+        ClientRequest::Initialize(client) => said_of(*client),
+        ClientRequest::Shutdown => "shutdown",
+        ClientRequest::Hover(_place) => "hover",
+        ClientRequest::Definition(_place) => "definition",
+        ClientRequest::References {
             place: _place,
             include_declaration,
         } => {
@@ -101,12 +102,12 @@ fn word_of(call: &Call) -> &'static str {
                 "references"
             }
         }
-        Call::PrepareRename(_place) => "prepare a rename",
-        Call::Rename {
+        ClientRequest::PrepareRename(_place) => "prepare a rename",
+        ClientRequest::Rename {
             place: _place,
             new_name: _name,
         } => "rename",
-        Call::CodeAction {
+        ClientRequest::CodeAction {
             uri: _uri,
             range: _range,
             only,
@@ -120,11 +121,11 @@ fn word_of(call: &Call) -> &'static str {
                 }
             }
         },
-        Call::Formatting { uri: _uri, indent } => said_by(*indent),
+        ClientRequest::Formatting { uri: _uri, indent } => said_by(*indent),
     }
 }
 
-/// In a word what a request asks for.
+/// What a message requests, in a word.
 fn method_word(alloc: Global, method: &str, params: &str) -> &'static str {
     match Value::from_str(alloc, params) {
         Ok(params) => match request(alloc, method, &params) {
@@ -147,12 +148,17 @@ static REQUESTS: &[(&str, &str, &str)] = &[
     ),
     (
         "initialize",
-        "{\"capabilities\":{\"general\":{\"positionEncodings\":[\"utf-32\"]},\"textDocument\":{\"codeAction\":{\"codeActionLiteralSupport\":true},\"rename\":{\"prepareSupport\":1}}}}",
+        "{\"capabilities\":{\"general\":{\"positionEncodings\":[\"utf-32\"]},\
+         \"textDocument\":{\"codeAction\":{\"codeActionLiteralSupport\":true},\
+         \"rename\":{\"prepareSupport\":1}}}}",
         "of a client that can nothing",
     ),
     (
         "initialize",
-        "{\"capabilities\":{\"general\":{\"positionEncodings\":[null,\"utf-8\"]},\"textDocument\":{\"codeAction\":{\"codeActionLiteralSupport\":{}},\"rename\":{\"prepareSupport\":true}},\"workspace\":{\"workspaceEdit\":{\"documentChanges\":true}}}}",
+        "{\"capabilities\":{\"general\":{\"positionEncodings\":[null,\"utf-8\"]},\
+         \"textDocument\":{\"codeAction\":{\"codeActionLiteralSupport\":{}},\
+         \"rename\":{\"prepareSupport\":true}},\
+         \"workspace\":{\"workspaceEdit\":{\"documentChanges\":true}}}}",
         "of a client that can everything",
     ),
     ("shutdown", "null", "shutdown"),
@@ -178,39 +184,46 @@ static REQUESTS: &[(&str, &str, &str)] = &[
     ),
     (
         "textDocument/hover",
-        "{\"position\":{\"character\":0,\"line\":18446744073709551616},\"textDocument\":{\"uri\":\"u\"}}",
+        "{\"position\":{\"character\":0,\"line\":18446744073709551616},\
+         \"textDocument\":{\"uri\":\"u\"}}",
         "bad params",
     ),
     (
         "textDocument/references",
-        "{\"context\":{\"includeDeclaration\":true},\"position\":{\"character\":0,\"line\":18446744073709551615},\"textDocument\":{\"uri\":\"u\"}}",
+        "{\"context\":{\"includeDeclaration\":true},\"position\":{\"character\":0,\
+         \"line\":18446744073709551615},\"textDocument\":{\"uri\":\"u\"}}",
         "references and the declaration",
     ),
     ("textDocument/references", PLACE, "bad params"),
     (
         "textDocument/rename",
-        "{\"newName\":\"x\",\"position\":{\"character\":0,\"line\":0},\"textDocument\":{\"uri\":\"u\"}}",
+        "{\"newName\":\"x\",\"position\":{\"character\":0,\"line\":0},\
+         \"textDocument\":{\"uri\":\"u\"}}",
         "rename",
     ),
     ("textDocument/rename", PLACE, "bad params"),
     (
         "textDocument/codeAction",
-        "{\"range\":{\"end\":{\"character\":0,\"line\":0},\"start\":{\"character\":0,\"line\":0}},\"textDocument\":{\"uri\":\"u\"}}",
+        "{\"range\":{\"end\":{\"character\":0,\"line\":0},\"start\":{\"character\":0,\"line\":0}},\
+         \"textDocument\":{\"uri\":\"u\"}}",
         "bad params",
     ),
     (
         "textDocument/codeAction",
-        "{\"context\":{\"only\":[null]},\"range\":{\"end\":{\"character\":0,\"line\":0},\"start\":{\"character\":0,\"line\":0}},\"textDocument\":{\"uri\":\"u\"}}",
+        "{\"context\":{\"only\":[null]},\"range\":{\"end\":{\"character\":0,\"line\":0},\
+         \"start\":{\"character\":0,\"line\":0}},\"textDocument\":{\"uri\":\"u\"}}",
         "bad params",
     ),
     (
         "textDocument/codeAction",
-        "{\"context\":{\"only\":null},\"range\":{\"end\":{\"character\":0,\"line\":0},\"start\":{\"character\":0,\"line\":0}},\"textDocument\":{\"uri\":\"u\"}}",
+        "{\"context\":{\"only\":null},\"range\":{\"end\":{\"character\":0,\"line\":0},\
+         \"start\":{\"character\":0,\"line\":0}},\"textDocument\":{\"uri\":\"u\"}}",
         "actions",
     ),
     (
         "textDocument/codeAction",
-        "{\"context\":{\"only\":[\"\",\"refactor\"]},\"range\":{\"end\":{\"character\":0,\"line\":0},\"start\":{\"character\":0,\"line\":0}},\"textDocument\":{\"uri\":\"u\"}}",
+        "{\"context\":{\"only\":[\"\",\"refactor\"]},\"range\":{\"end\":{\"character\":0,\
+         \"line\":0},\"start\":{\"character\":0,\"line\":0}},\"textDocument\":{\"uri\":\"u\"}}",
         "actions of two kinds",
     ),
     (
@@ -225,7 +238,8 @@ static REQUESTS: &[(&str, &str, &str)] = &[
     ),
     (
         "textDocument/formatting",
-        "{\"options\":{\"insertSpaces\":true,\"tabSize\":18446744073709551615},\"textDocument\":{\"uri\":\"u\"}}",
+        "{\"options\":{\"insertSpaces\":true,\"tabSize\":18446744073709551615},\
+         \"textDocument\":{\"uri\":\"u\"}}",
         "layout by 16",
     ),
     (
@@ -289,7 +303,8 @@ fn ranges_are_written_as_text(rt: HostRuntime) {
     };
     let answer = result_of(rt.alloc(), &Id::Signed(1), &reached);
     let wanted =
-        "{\"id\":1,\"jsonrpc\":\"2.0\",\"result\":{\"end\":{\"character\":12345,\"line\":10},\"start\":{\"character\":9,\"line\":0}}}";
+        "{\"id\":1,\"jsonrpc\":\"2.0\",\"result\":{\"end\":{\"character\":12345,\"line\":10},\
+         \"start\":{\"character\":9,\"line\":0}}}";
     assert!(rt; is_written(answer, wanted));
     let most = position(u64::MAX, u64::MAX);
     let reached = Range {
@@ -298,7 +313,9 @@ fn ranges_are_written_as_text(rt: HostRuntime) {
     };
     let answer = result_of(rt.alloc(), &Id::Signed(1), &reached);
     let wanted =
-        "{\"id\":1,\"jsonrpc\":\"2.0\",\"result\":{\"end\":{\"character\":18446744073709551615,\"line\":18446744073709551615},\"start\":{\"character\":18446744073709551615,\"line\":18446744073709551615}}}";
+        "{\"id\":1,\"jsonrpc\":\"2.0\",\"result\":{\"end\":{\"character\":18446744073709551615,\
+         \"line\":18446744073709551615},\"start\":{\"character\":18446744073709551615,\
+         \"line\":18446744073709551615}}}";
     assert!(rt; is_written(answer, wanted));
 }
 

@@ -1,7 +1,8 @@
-//! Calls that no other test makes: where a stream ends, a store's own text and unit, documents that are closed, notifications.
+//! Calls that no other test makes: where a stream ends, a store's own text and unit, documents that are closed,
+//! notifications.
 
 use ob0_frame::{FrameFault, Framer};
-use ob0_rpc::{Note, notice};
+use ob0_rpc::{ClientNotification, notice};
 use ob0_text::{Documents, Held, Lines, TextStore, Unit, Whole};
 use serde_json::Value;
 use std::alloc::{AllocError, Global};
@@ -57,11 +58,11 @@ fn a_document_is_there_until_it_is_closed(rt: HostRuntime) -> Result<(), Fail> {
 }
 
 /// In a word what a notification says.
-fn word_of(note: &Note) -> &'static str {
+fn word_of(note: &ClientNotification) -> &'static str {
     match note {
-        Note::Unreadable { uri: None } => "unreadable",
-        Note::Unreadable { uri: Some(_uri) } => "unreadable, of a document",
-        Note::Other => "other",
+        ClientNotification::Unreadable { uri: None } => "unreadable",
+        ClientNotification::Unreadable { uri: Some(_uri) } => "unreadable, of a document",
+        ClientNotification::Other => "other",
         _ => "read",
     }
 }

@@ -3,21 +3,50 @@
 use crate::acts::{Act, Edited, Published, Sight, Story};
 use ob0_text::Unit;
 
-const COUNTS: &str =
-    "MODULE M;\nVAR n: INTEGER;\nPROCEDURE P; BEGIN Write(n) END P;\nBEGIN Read(n); WHILE n > 0 DO n := n - 1; WriteLn END; P END M.\n";
+const COUNTS: &str = "MODULE M;\n\
+    VAR n: INTEGER;\n\
+    PROCEDURE P; BEGIN Write(n) END P;\n\
+    BEGIN Read(n); WHILE n > 0 DO n := n - 1; WriteLn END; P END M.\n";
 
-const RENAMED: &str =
-    "MODULE M;\nVAR k: INTEGER;\nPROCEDURE P; BEGIN Write(k) END P;\nBEGIN Read(k); WHILE k > 0 DO k := k - 1; WriteLn END; P END M.\n";
+const RENAMED: &str = "MODULE M;\n\
+    VAR k: INTEGER;\n\
+    PROCEDURE P; BEGIN Write(k) END P;\n\
+    BEGIN Read(k); WHILE k > 0 DO k := k - 1; WriteLn END; P END M.\n";
 
-const LAID_OUT: &str =
-    "MODULE M;\nVAR\n  n: INTEGER;\n  PROCEDURE P;\n  BEGIN\n    Write(n)\n  END P;\nBEGIN\n  Read(n);\n  WHILE n > 0 DO\n    n := n - 1;\n    WriteLn\n  END;\n  P\nEND M.\n";
+const LAID_OUT: &str = "\
+MODULE M;
+VAR
+  n: INTEGER;
+  PROCEDURE P;
+  BEGIN
+    Write(n)
+  END P;
+BEGIN
+  Read(n);
+  WHILE n > 0 DO
+    n := n - 1;
+    WriteLn
+  END;
+  P
+END M.
+";
 
 /// Nothing is laid out here, and there are comments.
-const CROWDED: &str =
-    "MODULE M;VAR x:INTEGER;BEGIN x:=-1;IF x<0 THEN Write(x)(* a (* b *) c *)END;WriteLn END M.(* end *)";
+const CROWDED: &str = "MODULE M;VAR x:INTEGER;BEGIN x:=-1;IF x<0 THEN Write(x)(* a (* b *) c *)END;\
+    WriteLn END M.(* end *)";
 
-const CROWDED_LAID_OUT: &str =
-    "MODULE M;\nVAR\n  x: INTEGER;\nBEGIN\n  x := -1;\n  IF x < 0 THEN\n    Write(x) (* a (* b *) c *)\n  END;\n  WriteLn\nEND M. (* end *)\n";
+const CROWDED_LAID_OUT: &str = "\
+MODULE M;
+VAR
+  x: INTEGER;
+BEGIN
+  x := -1;
+  IF x < 0 THEN
+    Write(x) (* a (* b *) c *)
+  END;
+  WriteLn
+END M. (* end *)
+";
 
 /// No module: the full stop is missing.
 const FAULTY_TEXT: &str = "MODULE M; END M";
@@ -27,15 +56,19 @@ const NAME: Act = Act::Rename(1, 4, "k");
 const LEAST: &str =
     "MODULE M;\nCONST c = -2147483647 - 1;\nVAR x: INTEGER;\nBEGIN x := 0 + c; Write(x) END M.\n";
 
-const INLINED_HERE: &str =
-    "MODULE M;\nCONST c = -2147483647 - 1;\nVAR x: INTEGER;\nBEGIN x := 0 + (-2147483647 - 1); Write(x) END M.\n";
+const INLINED_HERE: &str = "MODULE M;\n\
+    CONST c = -2147483647 - 1;\n\
+    VAR x: INTEGER;\n\
+    BEGIN x := 0 + (-2147483647 - 1); Write(x) END M.\n";
 
 const INLINED_EVERYWHERE: &str =
     "MODULE M;\nCONST \nVAR x: INTEGER;\nBEGIN x := 0 + (-2147483647 - 1); Write(x) END M.\n";
 
 /// What is written in place of the constant would be bound to a variable.
-const SHADOWED: &str =
-    "MODULE M;\nCONST on = TRUE;\nPROCEDURE P; VAR TRUE, b: BOOLEAN; BEGIN b := on END P;\nBEGIN P END M.\n";
+const SHADOWED: &str = "MODULE M;\n\
+    CONST on = TRUE;\n\
+    PROCEDURE P; VAR TRUE, b: BOOLEAN; BEGIN b := on END P;\n\
+    BEGIN P END M.\n";
 
 const LEAST_MADE: Published = Published {
     version: 1,

@@ -22,14 +22,14 @@ use Rattle.ob0_rpc.specs.Faults.{minus}
 use Rattle.ob0_rpc.specs.Messages.{ReadsContent, meaning, meaning_of}
 use Rattle.ob0_rpc.specs.Shapes.{result_message, error_message}
 use Rattle.ob0_rpc.specs.declared.clients.Client.{Client}
-use Rattle.ob0_session.specs.Actions.{ActionsAsked, ListsActions, Offers, wants_inlining, place_of, actions_value}
+use Rattle.ob0_session.specs.Actions.{RequestedActions, ListsActions, Offers, wants_inlining, actions_offset, actions_value}
 use Rattle.ob0_session.specs.Answers as answers_of
-use Rattle.ob0_session.specs.Answers.{ServerState, Reply, Says, Sends, Reaction, reacts, reaction_to, hears, reaction_to_call, reaction_to_request as requested_in, calls, of_document, lays_out, renames, offers_actions, published, Answers, AnswersInState, AnswersGoingOn, says}
+use Rattle.ob0_session.specs.Answers.{ServerState, Reply, Says, Sends, Reaction, reacts, reaction_to, hears, reaction_to_call, reaction_to_request as requested_in, calls, answers_about, lays_out, renames, offers_actions, published, Answers, AnswersInState, AnswersGoingOn, says}
 use Rattle.ob0_session.specs.Diagnosed.{Complaint, IsWellTypedModule, Reports, ReportsFaults, complaint_of}
 use Rattle.ob0_session.specs.Diagnostics.{Diagnoses, diagnostic_of}
 use Rattle.ob0_session.specs.Texts.{utf8}
 use Rattle.ob0_session.specs.Formatted.{AnswersFormatting}
-use Rattle.ob0_session.specs.Renamed.{RenameAsked, AnswersRenaming}
+use Rattle.ob0_session.specs.Renamed.{RequestedRename, AnswersRenaming}
 use Rattle.ob0_session.specs.Shapes.{Diagnostic, diagnostic_value, edit_value, edits_value, document_edit, workspace_edit, publication}
 use Rattle.ob0_world_rules.specs.Answers.{Inlining, Here, Everywhere}
 use Rattle.ob0_session.specs.declared.server.Phase.TheVariants.{Running}
@@ -260,7 +260,7 @@ renames_read_back : (id : Data) (position : Position) (name uri : List ℕ) (ver
 renames_read_back id position name uri version edits client takes = ap (λ o. unwrap_or o []) (workspace_read_back client uri version edits takes)
 
 -- the request as the session takes it
-abbrev rename_requested : Client → ℕ → List ℕ → Position → List ℕ → ℤ → RenameAsked
+abbrev rename_requested : Client → ℕ → List ℕ → Position → List ℕ → ℤ → RequestedRename
 rename_requested client k uri position name version =
     record { id = number (unsigned k); client = client; at = record { uri = uri; position = position }; version = version; new = name }
 
@@ -287,7 +287,7 @@ abbrev inlining_at : Inlining → Position → Ask
 inlining_at Here position = inline_here position
 inlining_at Everywhere position = inline_all position
 
--- the one that was asked for, of what is offered
+-- the requested one of what is offered
 abbrev requested_for : {A : Type 0} → Inlining → A → A → A
 requested_for Here here everywhere = here
 requested_for Everywhere here everywhere = everywhere
@@ -297,7 +297,7 @@ edits_offered (Some edits) = replacements edits.items
 edits_offered None = []
 
 -- of the actions that are offered that with the title is read
-actions_read_back : (how : Inlining) (position : Position) (requested : ActionsAsked) (here everywhere : Option (Vec Edit Global)) → requested.client.takes_document_changes ≡ true
+actions_read_back : (how : Inlining) (position : Position) (requested : RequestedActions) (here everywhere : Option (Vec Edit Global)) → requested.client.takes_document_changes ≡ true
     → edits_for (inlining_at how position) (result_message requested.id (actions_value requested here everywhere)) ≡ edits_offered (requested_for how here everywhere)
 actions_read_back Here position requested (Some edits) everywhere takes = ap (λ o. unwrap_or o []) (workspace_read_back requested.client requested.uri requested.version edits.items takes)
 actions_read_back Here position requested None (Some other) takes = refl
@@ -311,7 +311,7 @@ none_read_back : (how : Inlining) (position : Position) (id : Data) → edits_fo
 none_read_back Here position id = refl
 none_read_back Everywhere position id = refl
 
--- what is offered is what is answered: the edits of the one that was asked for, or none for the reason why it isn't offered
+-- what is offered is what is answered: the edits of the requested one, or none for the reason why it isn't offered
 offered_here : (unit : Unit) (text : List ℕ) (position : Position) (o : Option (Vec Edit Global)) → Offers Here unit text (place_at unit text position) o → AnswersFor unit text (inline_here position) (edits_offered o)
 offered_here unit text position None refused = inr (inl refused, refl)
 offered_here unit text position (Some found) inlines = inl (found.items, (found, inlines, refl), refl)
@@ -324,16 +324,16 @@ least : (n : ℕ) → min n n ≡ n
 least n = omega arith
 
 -- the place of an empty range is that of its position
-place_is : (unit : Unit) (text : List ℕ) (position : Position) → place_of unit text (empty_at position) ≡ place_at unit text position
+place_is : (unit : Unit) (text : List ℕ) (position : Position) → actions_offset unit text (empty_at position) ≡ place_at unit text position
 place_is unit text position = least (place_at unit text position)
 
-requested_offered : (how : Inlining) (unit : Unit) (text : List ℕ) (position : Position) (here everywhere : Option (Vec Edit Global)) → Offers Here unit text (place_of unit text (empty_at position)) here
-    → Offers Everywhere unit text (place_of unit text (empty_at position)) everywhere → AnswersFor unit text (inlining_at how position) (edits_offered (requested_for how here everywhere))
+requested_offered : (how : Inlining) (unit : Unit) (text : List ℕ) (position : Position) (here everywhere : Option (Vec Edit Global)) → Offers Here unit text (actions_offset unit text (empty_at position)) here
+    → Offers Everywhere unit text (actions_offset unit text (empty_at position)) everywhere → AnswersFor unit text (inlining_at how position) (edits_offered (requested_for how here everywhere))
 requested_offered Here unit text position here everywhere one other = offered_here unit text position here (subst (λ place. Offers Here unit text place here) (place_is unit text position) one)
 requested_offered Everywhere unit text position here everywhere one other = offered_everywhere unit text position everywhere (subst (λ place. Offers Everywhere unit text place everywhere) (place_is unit text position) other)
 
 -- the request as the session takes it
-abbrev actions_requested_at : Client → ℕ → List ℕ → Position → ℤ → ActionsAsked
+abbrev actions_requested_at : Client → ℕ → List ℕ → Position → ℤ → RequestedActions
 actions_requested_at client k uri position version =
     record { id = number (unsigned k); client = client; uri = uri; version = version; range = empty_at position; only = None }
 
@@ -342,7 +342,7 @@ inlined : (how : Inlining) (requested : List SentAsk) (k : ℕ) (uri : List ℕ)
     → Says (offers_actions unit (actions_requested_at client k uri position version) text) sent → Answered requested k (inlining_at how position) unit (Some (InStep version text)) sent
 inlined how requested k uri position client unit version text sent takes literal of (message, (value, how_listed, is), sends) = go how_listed
   where
-    request : ActionsAsked
+    request : RequestedActions
     request = actions_requested_at client k uri position version
 
     with_edits : (edits : List Replacement) → edits_for (inlining_at how position) (result_message (number (unsigned k)) value) ≡ edits → AnswersFor unit text (inlining_at how position) edits
@@ -383,7 +383,7 @@ asks_served requested k uri ask before after sent running same answer =
 -- an ask about a document, where its answer is known for the text of one that is in step
 about_document : (requested : List SentAsk) (k : ℕ) (uri : List ℕ) (ask : Ask) (say : ℤ → List ℕ → Reply) (before after : ServerState) (sent : List (List ℕ)) → IsRunning before → IsAsk requested k uri ask
     → ((version : ℤ) (text : List ℕ) → Says (say version text) sent → Answered requested k ask before.held.unit (Some (InStep version text)) sent)
-    → (o : Option Document) → document_at before.held uri ≡ o → after ≡ (of_document before (number (unsigned k)) o say).after → Says (of_document before (number (unsigned k)) o say).say sent → Served requested (requests k uri ask) before after sent
+    → (o : Option Document) → document_at before.held uri ≡ o → after ≡ (answers_about before (number (unsigned k)) o say).after → Says (answers_about before (number (unsigned k)) o say).say sent → Served requested (requests k uri ask) before after sent
 about_document requested k uri ask say before after sent running of in_step None at same saying =
     asks_served requested k uri ask before after sent running same (refused requested k uri ask before.held.unit (document_at before.held uri) (minus 32803) (codes "unopened") sent of saying (subst (λ o. IsAnswer before.held.unit o ask []) (sym at) refl))
 about_document requested k uri ask say before after sent running of in_step (Some OutOfStep) at same saying =
@@ -397,28 +397,28 @@ request_served : (requested : List SentAsk) (k : ℕ) (uri : List ℕ) (ask : As
 request_served requested k uri (rename position name) params before after sent running of call is saying =
     let id : Data = number (unsigned k) in
     let say : ℤ → List ℕ → Reply = λ version. renames before.held.unit (rename_requested before.client k uri position name version) in
-    let so : reaction_to_call before id (method_of (rename position name)) params ≡ of_document before id (document_at before.held uri) say = ap (calls before id) call in
+    let so : reaction_to_call before id (method_of (rename position name)) params ≡ answers_about before id (document_at before.held uri) say = ap (calls before id) call in
     about_document requested k uri (rename position name) say before after sent running of
     (λ version text. renamed requested k uri position name before.client before.held.unit version text sent running.1 of) (document_at before.held uri) refl
     (is ∙ ap (λ (x : Reaction). x.after) so) (subst (λ (x : Reaction). Says x.say sent) so saying)
 request_served requested k uri (inline_here position) params before after sent running of call is saying =
     let id : Data = number (unsigned k) in
     let say : ℤ → List ℕ → Reply = λ version. offers_actions before.held.unit (actions_requested_at before.client k uri position version) in
-    let so : reaction_to_call before id (method_of (inline_here position)) params ≡ of_document before id (document_at before.held uri) say = ap (calls before id) call in
+    let so : reaction_to_call before id (method_of (inline_here position)) params ≡ answers_about before id (document_at before.held uri) say = ap (calls before id) call in
     about_document requested k uri (inline_here position) say before after sent running of
     (λ version text. inlined Here requested k uri position before.client before.held.unit version text sent running.1 running.2 of) (document_at before.held uri) refl
     (is ∙ ap (λ (x : Reaction). x.after) so) (subst (λ (x : Reaction). Says x.say sent) so saying)
 request_served requested k uri (inline_all position) params before after sent running of call is saying =
     let id : Data = number (unsigned k) in
     let say : ℤ → List ℕ → Reply = λ version. offers_actions before.held.unit (actions_requested_at before.client k uri position version) in
-    let so : reaction_to_call before id (method_of (inline_all position)) params ≡ of_document before id (document_at before.held uri) say = ap (calls before id) call in
+    let so : reaction_to_call before id (method_of (inline_all position)) params ≡ answers_about before id (document_at before.held uri) say = ap (calls before id) call in
     about_document requested k uri (inline_all position) say before after sent running of
     (λ version text. inlined Everywhere requested k uri position before.client before.held.unit version text sent running.1 running.2 of) (document_at before.held uri) refl
     (is ∙ ap (λ (x : Reaction). x.after) so) (subst (λ (x : Reaction). Says x.say sent) so saying)
 request_served requested k uri (format indent) params before after sent running of call is saying =
     let id : Data = number (unsigned k) in
     let say : ℤ → List ℕ → Reply = λ version. lays_out before.held.unit id (indent_read indent) in
-    let so : reaction_to_call before id (method_of (format indent)) params ≡ of_document before id (document_at before.held uri) say = ap (calls before id) call in
+    let so : reaction_to_call before id (method_of (format indent)) params ≡ answers_about before id (document_at before.held uri) say = ap (calls before id) call in
     about_document requested k uri (format indent) say before after sent running of
     (λ version text. formatted requested k uri indent before.held.unit version text sent of) (document_at before.held uri) refl
     (is ∙ ap (λ (x : Reaction). x.after) so) (subst (λ (x : Reaction). Says x.say sent) so saying)

@@ -25,7 +25,7 @@ state_of failed other = other
 
 pub record Begun (unit : Unit) (session : SessionState) : Type 0 where
   pub is : session ≡ serving (begins (client_for unit))
-  pub stands : IsRunningOrFailed session
+  pub running : IsRunningOrFailed session
   pub held : held_by session ≡ none_open unit
 
 pub begins_so : (unit : Unit) (content : List ℕ) (sent : Contents) (session : SessionState) → ReadsContent content (Some (initialize_message unit)) → IsAnswered (serving start) content (bytes sent) session → Begun unit session
@@ -33,5 +33,5 @@ begins_so unit content sent session reads (before, after, was, is, how) =
     let same : start ≡ before = ap (λ s. state_of s start) was in
     let from_start : Answers start content (bytes sent) after = subst (λ s. Answers s content (bytes sent) after) (sym same) how in
     let so : after ≡ begins (client_for unit) = (reacts_so start after content (bytes sent) (initialize_message unit) from_start reads).0 ∙ begun unit in
-    let standing : session ≡ serving (begins (client_for unit)) = is ∙ ap serving so in
-    record { is = standing; stands = subst IsRunningOrFailed (sym standing) (refl, refl, refl); held = ap held_by standing ∙ holds_none unit }
+    let has_begun : session ≡ serving (begins (client_for unit)) = is ∙ ap serving so in
+    record { is = has_begun; running = subst IsRunningOrFailed (sym has_begun) (refl, refl, refl); held = ap held_by has_begun ∙ holds_none unit }

@@ -11,7 +11,7 @@ use Rattle.ob0_world_rules.specs.Edited.{Replacement, edited, after_changes}
 use Rattle.ob0_world_rules.specs.Asks.{Ask}
 use Rattle.ob0_world_rules.specs.Ends.{Open, SentAsk, Editor, numbered, open_at, ToServer, ToEditor, publishes, answers, Ends, new_editor}
 use Rattle.ob0_world_rules.specs.Editing.{opens_document, rewritten, rewrites, changes_text, changes_document, closes_document, asks_about, kept_answer, without_answer, discards, if_same, applies_text, applies_edits, applies_requested, applies_answer}
-use Rattle.ob0_world_rules.specs.Events.{Event, open_document, change_document, close_document, ask_about, serve, take_message, apply, discard, Seen, moved, comes_of, takes}
+use Rattle.ob0_world_rules.specs.Events.{Event, open_document, change_document, close_document, ask_about, serve, take_message, apply, discard, Seen, after_move, comes_of, takes}
 use Rattle.ob0_world_rules.specs.Happens.{ServerTakes, Happens}
 use Rattle.ob0_world_rules.proofs.SameDocument.{found, left, same_from, Same}
 use Rattle.ob0_world_editor.specs.Moves.{AreFew}
@@ -53,21 +53,21 @@ rewritten_within n e uri d text at within =
     put n e uri (rewritten d text) e.openings within (omega arith) (omega arith)
 
 module _ (n : ℕ) (w : Ends) (within : Within n w.editor) where
-  open_within : (uri text : List ℕ) (o : Option Open) → Within (n + 1) (moved w (opens_document w.editor uri text o)).after.editor
+  open_within : (uri text : List ℕ) (o : Option Open) → Within (n + 1) (after_move w (opens_document w.editor uri text o)).after.editor
   open_within uri text (Some d) = more n w.editor within
   open_within uri text None =
       let b : w.editor.openings ≤ n = within.openings in
       put n w.editor uri (record { version = 1; text = text; opening = w.editor.openings + 1 }) (w.editor.openings + 1) within (omega arith) (omega arith)
 
-  change_within : (uri : List ℕ) (how : List TextChange) (o : Option Open) → open_at w.editor uri ≡ o → Within (n + 1) (moved w (changes_document w.editor uri how o)).after.editor
+  change_within : (uri : List ℕ) (how : List TextChange) (o : Option Open) → open_at w.editor uri ≡ o → Within (n + 1) (after_move w (changes_document w.editor uri how o)).after.editor
   change_within uri how None at = more n w.editor within
   change_within uri how (Some d) at = go (after_changes w.editor.unit (Some d.text) how)
     where
-      go : (t : Option (List ℕ)) → Within (n + 1) (moved w (changes_text w.editor uri d how t)).after.editor
+      go : (t : Option (List ℕ)) → Within (n + 1) (after_move w (changes_text w.editor uri d how t)).after.editor
       go None = more n w.editor within
       go (Some text) = rewritten_within n w.editor uri d text at within
 
-  close_within : (uri : List ℕ) (o : Option Open) → Within (n + 1) (moved w (closes_document w.editor uri o)).after.editor
+  close_within : (uri : List ℕ) (o : Option Open) → Within (n + 1) (after_move w (closes_document w.editor uri o)).after.editor
   close_within uri None = more n w.editor within
   close_within uri (Some d) =
       record {
@@ -76,7 +76,7 @@ module _ (n : ℕ) (w : Ends) (within : Within n w.editor) where
         versions = λ q x at. let a : x.version ≤ n = within.versions q x (left w.editor.documents uri q x at) in omega arith;
       }
 
-  ask_within : (uri : List ℕ) (ask : Ask) (o : Option Open) → Within (n + 1) (moved w (asks_about w.editor uri ask o)).after.editor
+  ask_within : (uri : List ℕ) (ask : Ask) (o : Option Open) → Within (n + 1) (after_move w (asks_about w.editor uri ask o)).after.editor
   ask_within uri ask None = more n w.editor within
   ask_within uri ask (Some d) =
       record {

@@ -18,7 +18,7 @@ use Rattle.ob0_world_rules.specs.Edited.{Replacement, edited, after_changes}
 use Rattle.ob0_world_rules.specs.Asks.{Ask}
 use Rattle.ob0_world_rules.specs.Ends.{Open, SentAsk, Editor, numbered, open_at, ToServer, ToEditor, publishes, answers, Ends}
 use Rattle.ob0_world_rules.specs.Editing.{Move, idle, sends, opens_document, changes_text, changes_document, closes_document, asks_about, keeps, has_edits, ApplyOutcome, not_held, drops_answer, makes, kept_answer, without_answer, discards, if_same, applies_text, applies_edits, applies_requested, applies_answer}
-use Rattle.ob0_world_rules.specs.Events.{Is, moved, comes_of, takes, applies, drops, nothing, published, answered}
+use Rattle.ob0_world_rules.specs.Events.{Is, after_move, comes_of, takes, applies, drops, nothing, published, answered}
 use Rattle.ob0_world.specs.declared.events.Seen as seen
 use Rattle.ob0_world.specs.declared.played.Made as made
 use Rattle.ob0_world.specs.Code.{seen_of}
@@ -72,14 +72,14 @@ moves_grow e new (sends f m) (Some c) extends is = (extends.0, ap (λ (x : Edito
 pub grown_sound : (e new : Editor) (q r : Contents) (s : SessionState) → Grows e new → Sound e.requested q r s → Sound new.requested q r s
 grown_sound e new q r s (more, is) sound =
     subst (λ requested. Sound requested q r s) (sym is)
-    (record { heard_all = all_heard_still e.requested more q sound.heard_all; understood_all = all_understood_still e.requested more r sound.understood_all; stands = sound.stands })
+    (record { heard_all = all_heard_still e.requested more q sound.heard_all; understood_all = all_understood_still e.requested more r sound.understood_all; running = sound.running })
 
 pub same_sound : (e new : Editor) (q r : Contents) (s : SessionState) → new.requested ≡ e.requested → Sound e.requested q r s → Sound new.requested q r s
 same_sound e new q r s is sound = subst (λ requested. Sound requested q r s) (sym is) sound
 
 pushed_sound : (requested : List SentAsk) (q r : Contents) (s : SessionState) (c : Vec ℕ Global) (m : ToServer) → SaysToServer requested m c.items → Sound requested q r s → Sound requested (q ++ c ∷ []) r s
 pushed_sound requested q r s c m says sound =
-    record { heard_all = All-push (IsHeard requested) q c sound.heard_all (m, says); understood_all = sound.understood_all; stands = sound.stands }
+    record { heard_all = All-push (IsHeard requested) q c sound.heard_all (m, says); understood_all = sound.understood_all; running = sound.running }
 
 -- the editor has moved, and its message, if any, waits
 pub moved_sound : (e new : Editor) (m : Move) (content : Option (Vec ℕ Global)) (q q' r : Contents) (s : SessionState) (shown : seen.Seen) → Extends e m → Moves m e content new → IsSent q content shown q' → Sound e.requested q r s → Sound new.requested q' r s
@@ -92,7 +92,7 @@ moved_sound e new (sends f m) (Some c) q q' r s shown extends is sent sound =
     (pushed_sound new.requested q r s c m (subst (λ (x : Editor). SaysToServer x.requested m c.items) (sym is.0) is.1)
     (grown_sound e new q r s (moves_grow e new (sends f m) (Some c) extends is) sound))
 
--- the same queues, where more was asked
+-- the same queues after further requests
 queues_grown : (e new : Editor) (q r : Contents) (s : SessionState) (ap_list : List applied.Applied) (md : List made.Made) → Grows e new → Sound e.requested q r s
     → ends_from new q s r ap_list md ≡ record (ends_from e q s r ap_list md) { editor = new }
 queues_grown e new q r s ap_list md (more, is) sound =
@@ -102,7 +102,7 @@ queues_grown e new q r s ap_list md (more, is) sound =
     })
 
 pub moved_happens : (e new : Editor) (m : Move) (content : Option (Vec ℕ Global)) (q q' r : Contents) (s : SessionState) (ap_list : List applied.Applied) (md : List made.Made) (shown : seen.Seen) → Extends e m → Moves m e content new → IsSent q content shown q'
-    → Sound e.requested q r s → Is (moved (ends_from e q s r ap_list md) m) (seen_of shown) (ends_from new q' s r ap_list md)
+    → Sound e.requested q r s → Is (after_move (ends_from e q s r ap_list md) m) (seen_of shown) (ends_from new q' s r ap_list md)
 moved_happens e new idle None q q' r s ap_list md shown extends is sent sound = (sent.0, (λ i. ends_from (is i) (sent.1 i) s r ap_list md))
 moved_happens e new idle (Some c) q q' r s ap_list md shown extends is sent sound = absurd is
 moved_happens e new (sends f m) None q q' r s ap_list md shown extends is sent sound = absurd is
@@ -222,14 +222,14 @@ sent_sound f e new content q q' r s (Err x) extends is sent none sound =
 
 pub sent_happens : {X : Type 0} (f : Editor → Move) (old : Ends) (e new : Editor) (content : Option (Vec ℕ Global)) (q q' r : Contents) (s : SessionState) (ap_list : List applied.Applied) (md : List made.Made) (result : Result seen.Seen X)
     → ends_from e q s r ap_list md ≡ old → Extends e (f e) → Moves (f e) e content new → IfOk result (λ shown. IsSent q content shown q') → Sound e.requested q r s
-    → IfOk result (λ shown. Is (moved old (f old.editor)) (seen_of shown) (ends_from new q' s r ap_list md))
+    → IfOk result (λ shown. Is (after_move old (f old.editor)) (seen_of shown) (ends_from new q' s r ap_list md))
 sent_happens f old e new content q q' r s ap_list md (Ok shown) was extends is sent sound =
-    subst (λ (w : Ends). Is (moved w (f w.editor)) (seen_of shown) (ends_from new q' s r ap_list md)) was (moved_happens e new (f e) content q q' r s ap_list md shown extends is sent sound)
+    subst (λ (w : Ends). Is (after_move w (f w.editor)) (seen_of shown) (ends_from new q' s r ap_list md)) was (moved_happens e new (f e) content q q' r s ap_list md shown extends is sent sound)
 sent_happens f old e new content q q' r s ap_list md (Err x) was extends is sent sound = tt
 
 pub taken_sound : (requested : List SentAsk) (q r rest : Contents) (s : SessionState) (c : Vec ℕ Global) → r ≡ c ∷ rest → Sound requested q r s → Sound requested q rest s
 taken_sound requested q r rest s c is sound =
-    record { heard_all = sound.heard_all; understood_all = All-tail (IsUnderstood requested) c rest (subst (All (IsUnderstood requested)) is sound.understood_all); stands = sound.stands }
+    record { heard_all = sound.heard_all; understood_all = All-tail (IsUnderstood requested) c rest (subst (All (IsUnderstood requested)) is sound.understood_all); running = sound.running }
 
 -- a content that waits for the editor says something to it
 pub taken_says : (requested : List SentAsk) (q r rest : Contents) (s : SessionState) (c : Vec ℕ Global) → r ≡ c ∷ rest → Sound requested q r s → understood requested c.items ≡ None → ⊥

@@ -20,7 +20,7 @@ use Rattle.ob0_world_rules.specs.Happens.{ServerTakes}
 use Rattle.ob0_world_rules.specs.Events.{nothing}
 use Rattle.ob0_world_rules.specs.Events as events
 use Rattle.ob0_world.specs.declared.played.Made as made
-use Rattle.ob0_world.specs.Code.{made_of}
+use Rattle.ob0_world.specs.Code.{publication_of}
 use Rattle.ob0_world.specs.Queues.{Contents, bytes, all_heard, all_understood, IsHeard, IsUnderstood, Sound, IsRunning, IsRunningOrFailed, held_by, ends_from, both_from, made_first, made_for, made_sent}
 use Rattle.ob0_world.specs.Worlds.{IsAnswered, TakesFirst}
 use Rattle.ob0_world.proofs.Answering.{Served, served}
@@ -42,7 +42,7 @@ made_as_sent held requested (c ∷ sent) all =
 
 -- one that serves goes on as what it is
 session_is : (s : SessionState) (before : ServerState) → s ≡ serving before → IsRunningOrFailed s → IsRunning before
-session_is s before is stands = subst IsRunningOrFailed is stands
+session_is s before is running = subst IsRunningOrFailed is running
 
 pub nothing_served : (e : Editor) (q q' r : Contents) (s : SessionState) (ap_list : List applied.Applied) (md : List made.Made) → q ≡ [] → q' ≡ q → ServerTakes (ends_from e q s r ap_list md) (all_heard e.requested q) nothing (ends_from e q' s r ap_list md)
 nothing_served e q q' r s ap_list md none same =
@@ -68,31 +68,31 @@ turn e q rest r s s' content sent first sound (before, after, was, is, how) =
       after = after;
       was = was;
       is = is;
-      served_so = served e.requested heard_first.0 before after content.items (bytes sent) (session_is s before was sound.stands) heard_first.1 how;
+      served_so = served e.requested heard_first.0 before after content.items (bytes sent) (session_is s before was sound.running) heard_first.1 how;
     }
 
 pub rest_sound : (requested : List SentAsk) (q rest r : Contents) (s s' : SessionState) (content : Vec ℕ Global) → q ≡ content ∷ rest → Sound requested q r s → IsRunningOrFailed s' → Sound requested rest r s'
-rest_sound requested q rest r s s' content first sound stands =
-    record { heard_all = All-tail (IsHeard requested) content rest (subst (All (IsHeard requested)) first sound.heard_all); understood_all = sound.understood_all; stands = stands }
+rest_sound requested q rest r s s' content first sound running =
+    record { heard_all = All-tail (IsHeard requested) content rest (subst (All (IsHeard requested)) first sound.heard_all); understood_all = sound.understood_all; running = running }
 
-pub turn_stands : (e : Editor) (q rest : Contents) (s s' : SessionState) (content : Vec ℕ Global) (sent : Contents) → Turn e q rest s s' content sent → IsRunningOrFailed s'
-turn_stands e q rest s s' content sent t = subst IsRunningOrFailed (sym t.is) t.served_so.running
+pub turn_running : (e : Editor) (q rest : Contents) (s s' : SessionState) (content : Vec ℕ Global) (sent : Contents) → Turn e q rest s s' content sent → IsRunningOrFailed s'
+turn_running e q rest s s' content sent t = subst IsRunningOrFailed (sym t.is) t.served_so.running
 
 pub turn_sound : (e : Editor) (q rest r r' : Contents) (s s' : SessionState) (content : Vec ℕ Global) (sent : Contents) (b : Bool) → q ≡ content ∷ rest → Sound e.requested q r s → Turn e q rest s s' content sent → r' ≡ cond b (r ++ sent) r → Sound e.requested rest r' s'
 turn_sound e q rest r r' s s' content sent b first sound t grown =
-    let rested : Sound e.requested rest r s' = rest_sound e.requested q rest r s s' content first sound (turn_stands e q rest s s' content sent t) in
+    let rested : Sound e.requested rest r s' = rest_sound e.requested q rest r s s' content first sound (turn_running e q rest s s' content sent t) in
     record {
       heard_all = rested.heard_all;
       understood_all = all_appended (IsUnderstood e.requested) r r' sent b grown sound.understood_all (each_understood e.requested sent t.served_so.heard.each);
-      stands = rested.stands;
+      running = rested.running;
     }
 
-as_list : (o : Option made.Made) (p : Option Made) → option_map made_of o ≡ p → map made_of (option_to_list o) ≡ option_to_list p
+as_list : (o : Option made.Made) (p : Option Made) → option_map publication_of o ≡ p → map publication_of (option_to_list o) ≡ option_to_list p
 as_list None p is = ap option_to_list is
 as_list (Some m) p is = ap option_to_list is
 
 pub turn_happens : (e : Editor) (q rest r r' : Contents) (s s' : SessionState) (ap_list : List applied.Applied) (md md' : List made.Made) (content : Vec ℕ Global) (sent : Contents) (held : OpenDocuments) (o : Option made.Made) (n : ℕ)
-    → q ≡ content ∷ rest → Turn e q rest s s' content sent → ((st : ServerState) → s' ≡ serving st → held ≡ st.held) → option_map made_of o ≡ made_sent held e.requested sent → r' ≡ r ++ sent → md' ≡ md ++ option_to_list o → n ≡ length sent
+    → q ≡ content ∷ rest → Turn e q rest s s' content sent → ((st : ServerState) → s' ≡ serving st → held ≡ st.held) → option_map publication_of o ≡ made_sent held e.requested sent → r' ≡ r ++ sent → md' ≡ md ++ option_to_list o → n ≡ length sent
     → ServerTakes (ends_from e q s r ap_list md) (all_heard e.requested q) (events.served n) (ends_from e rest s' r' ap_list md')
 turn_happens e q rest r r' s s' ap_list md md' content sent held o n first t references is_made grown more count =
     let w : Ends = ends_from e q s r ap_list md in
@@ -100,7 +100,7 @@ turn_happens e q rest r r' s s' ap_list md md' content sent held o n first t ref
     let all : all_understood e.requested sent ≡ said = t.served_so.heard.all in
     let understood_all : All (IsUnderstood e.requested) sent = each_understood e.requested sent t.served_so.heard.each in
     let here : held ≡ t.after.held = references t.after t.is in
-    let is_first : option_map made_of o ≡ made_first t.after.held said =
+    let is_first : option_map publication_of o ≡ made_first t.after.held said =
     is_made ∙ made_as_sent held e.requested sent understood_all ∙ (λ i. made_first (here i) (all i)) in
     let held_before : held_by s ≡ t.before.held = ap held_by t.was in
     let held_after : held_by s' ≡ after_message (held_by s) t.message = ap held_by t.is ∙ t.served_so.held ∙ ap (λ h. after_message h t.message) (sym held_before) in
@@ -113,7 +113,7 @@ turn_happens e q rest r r' s s' ap_list md md' content sent held o n first t ref
         to_server = all_heard e.requested rest;
         held = held_after i;
         to_editor = (ap (all_understood e.requested) grown ∙ said_append (understood e.requested) r sent ∙ ap (λ x. all_understood e.requested r ++ x) all) i;
-        made = (ap (map made_of) more ∙ map-append made_of md (option_to_list o) ∙ ap (λ x. map made_of md ++ x) (as_list o (made_first t.after.held said) is_first)) i;
+        made = (ap (map publication_of) more ∙ map-append publication_of md (option_to_list o) ∙ ap (λ x. map publication_of md ++ x) (as_list o (made_first t.after.held said) is_first)) i;
       }),
     ) in
     subst (λ x. ServerTakes w x (events.served n) (ends_from e rest s' r' ap_list md'))

@@ -1,4 +1,4 @@
--- Contents that wait say the same once more was asked, and what they say as the queues grow and shrink.
+-- Contents that wait say the same after further requests, and what they say as the queues grow and shrink.
 use Rattle.std.proofs.Common.{◌≡◌, ◌∙◌, ℕ, Bool, true, false, cond, List, [], ◌∷◌, ◌++◌, Option, Some, None, refl, sym, ap, subst}
 use Rattle.std.specs.Prelude.{All, Vec, is_some, filter_map, option_map, option_and_then, codes}
 use Rattle.std.specs.List.{cons_option}
@@ -10,7 +10,7 @@ use Rattle.std.proofs.lemmas.List.Elements.{All-append, All-head, All-tail, All-
 use Rattle.serde_json.specs.Data.{Data}
 use Rattle.serde_json.specs.Find.{get}
 use Rattle.serde_json.specs.Read.{read}
-use Rattle.ob0_world_editor.specs.Heard.{heard, SaysToServer, number_of}
+use Rattle.ob0_world_editor.specs.Heard.{heard, SaysToServer, request_number}
 use Rattle.ob0_world_editor.specs.Understood.{understood, value_understood, answer_understood, answer_to, publication_understood}
 use Rattle.ob0_world_editor.proofs.Hearing.{says_heard}
 use Rattle.ob0_world_rules.specs.Ends.{SentAsk, numbered, ToServer, notifies, requests, ToEditor}
@@ -38,7 +38,7 @@ module _ (requested more : List SentAsk) where
   value_still : (d : Data) (b : Bool) (m : ToEditor) → cond b (option_and_then publication_understood (get (codes "params") d)) (answer_understood requested d) ≡ Some m
       → cond b (option_and_then publication_understood (get (codes "params") d)) (answer_understood (requested ++ more) d) ≡ Some m
   value_still d true m h = h
-  value_still d false m h = answer_still d (option_and_then number_of (get (codes "id") d)) m h
+  value_still d false m h = answer_still d (option_and_then request_number (get (codes "id") d)) m h
 
   understood_still : (content : List ℕ) (m : ToEditor) → understood requested content ≡ Some m → understood (requested ++ more) content ≡ Some m
   unfolding understood

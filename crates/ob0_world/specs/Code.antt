@@ -35,8 +35,8 @@ seen_of (seen.TheVariants.Applied k) = applies k
 seen_of (seen.TheVariants.Dropped k) = drops k
 
 -- a publication of the code
-abbrev pub made_of : made.Made → Made
-made_of m =
+abbrev pub publication_of : made.Made → Made
+publication_of m =
     record {
       uri = string_bytes m.uri;
       version = m.version;
@@ -50,4 +50,4 @@ all_applied p = map applied_of p.applied.items
 
 -- the publications of the code
 abbrev pub all_made : played.Played → List Made
-all_made p = map made_of p.made.items
+all_made p = map publication_of p.made.items

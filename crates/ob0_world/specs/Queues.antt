@@ -1,5 +1,5 @@
--- What the code stores of client and server, and what it means: the view of the code, what it keeps from step to step, and the
--- clauses of private functions. No promise of a public function names these.
+-- What the code stores of client and server, and what it means: the view of the code, what it keeps from step to step,
+-- and the clauses of private functions. No promise of a public function names these.
 -- Rule: none; for contracts: contents that wait, and what they say.
 use Rattle.std.specs.Prelude.{◌≡◌, ◌≤◌, ⊤, ℕ, ℤ, List, [], ◌∷◌, ◌++◌, map, length, All, Bool, true, Option, Some, None, Vec, option_and_then, filter_map}
 use Rattle.std.specs.declared.alloc.Global.{Global}
@@ -18,7 +18,7 @@ use Rattle.ob0_world_rules.specs.Events.{Event, nothing, sent}
 use Rattle.ob0_world_rules.specs.Happens.{Course}
 use Rattle.ob0_world.specs.declared.events.Seen as seen
 use Rattle.ob0_world.specs.declared.played.Made as made
-use Rattle.ob0_world.specs.Code.{made_of, seen_of}
+use Rattle.ob0_world.specs.Code.{publication_of, seen_of}
 use Rattle.ob0_world.specs.Worlds.{Both}
 
 -- contents that wait in a queue
@@ -47,8 +47,8 @@ IsUnderstood requested content = (m : ToEditor) × (understood requested content
 
 -- ---- the session
 
--- A session that has begun with this editor and isn't at its end: it writes the edits of a workspace with the versions of
--- their documents, and offers code actions as literals.
+-- A session that has begun with this editor and isn't at its end: it writes the edits of a workspace with the versions
+-- of their documents, and offers code actions as literals.
 abbrev pub IsRunning : ServerState → Type 0
 IsRunning s =
     (s.phase ≡ Running)
@@ -88,10 +88,11 @@ made_first held (m ∷ ms) = made_for held m
 -- ---- the whole
 
 -- what waits says something, and the session serves unless an allocation has failed
-pub record Sound (requested : List SentAsk) (to_server to_editor : Contents) (session : SessionState) : Type 0 where
+pub record Sound (requested : List SentAsk) (to_server to_editor : Contents)
+    (session : SessionState) : Type 0 where
   pub heard_all : All (IsHeard requested) to_server
   pub understood_all : All (IsUnderstood requested) to_editor
-  pub stands : IsRunningOrFailed session
+  pub running : IsRunningOrFailed session
 
 -- client and server, from what the code stores of them
 abbrev pub ends_from : Editor
@@ -108,7 +109,7 @@ ends_from e to_server session to_editor applied made =
       held = held_by session;
       to_editor = all_understood e.requested to_editor;
       applied = map applied_of applied;
-      made = map made_of made;
+      made = map publication_of made;
     }
 
 -- client and server from what the code keeps

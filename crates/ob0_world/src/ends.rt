@@ -9,7 +9,7 @@ ghost use Rattle.ob0_world_editor.specs.Understood.{understood};
 ghost use Rattle.ob0_world_rules.specs.Events as events;
 ghost use Rattle.ob0_world_rules.specs.Happens.{Happens};
 ghost use Rattle.ob0_world_rules.specs.Events.{open_document, change_document, close_document, ask_about, take_message};
-ghost use Rattle.ob0_world.specs.Code.{event_of, seen_of, made_of};
+ghost use Rattle.ob0_world.specs.Code.{event_of, seen_of, publication_of};
 ghost use Rattle.ob0_world.specs.Queues.{bytes, IsSent, made_for, made_of_document, made_sent};
 ghost use Rattle.ob0_world.specs.Worlds.{new_both, HasCome, IsAnswered, IsTied, MovesServer, SameHistory, TakesFirst};
 
@@ -45,9 +45,11 @@ impl<T: TextStore> Model for Ends<T> {
 
     ghost coded = { Prim.hlevel (codes, documents_code, open_documents_code) };
 
-    ghost view = { λ w. both_from w.editor w.to_server.items w.session w.to_editor.items w.applied.items w.made.items };
+    ghost view = { λ w. both_from w.editor w.to_server.items w.session w.to_editor.items
+        w.applied.items w.made.items };
 
-    ghost invariant = { λ w. Sound w.editor.requested w.to_server.items w.to_editor.items w.session };
+    ghost invariant = { λ w.
+        Sound w.editor.requested w.to_server.items w.to_editor.items w.session };
 }
 
 impl<T: TextStore> Ends<T> {
@@ -151,8 +153,8 @@ impl<T: TextStore> Ends<T> {
         send(&mut self.to_server, content)
     }
 
-    /// The session takes one message, and its replies wait for the editor. What it publishes with a version is made for the
-    /// text that the document has then.
+    /// The session takes one message, and its replies wait for the editor. What it publishes with a version is made for
+    /// the text that the document has then.
     fn serve(&mut self) -> Result<Seen, AllocError>
         ensures ok { IfOk result
             (λ seen. Happens self.old.ends events.serve (seen_of seen) self.new.ends) }
@@ -272,7 +274,7 @@ fn first_made<T: TextStore>(
     sent: &[Vec<u8>],
 ) -> Result<Option<Made>, AllocError>
     ensures { IfOk result
-        (λ made. option_map made_of made ≡ made_sent documents.now editor.now.requested sent.now) }
+        (λ made. option_map publication_of made ≡ made_sent documents.now editor.now.requested sent.now) }
 {
     if sent.is_empty() {
         return Ok(None);
@@ -286,7 +288,7 @@ fn made_of_content<T: TextStore>(
     documents: &Documents<T>,
     content: &[u8],
 ) -> Result<Option<Made>, AllocError>
-    ensures { IfOk result (λ made. option_map made_of made
+    ensures { IfOk result (λ made. option_map publication_of made
         ≡ option_and_then (made_for documents.now) (understood editor.now.requested content.now)) }
 {
     let Some(message) = editor.read(content)? else {
@@ -316,7 +318,7 @@ fn made_with<T: TextStore>(
     version: i64,
     empty: bool,
 ) -> Result<Option<Made>, AllocError>
-    ensures { IfOk result (λ made. option_map made_of made
+    ensures { IfOk result (λ made. option_map publication_of made
         ≡ option_and_then (made_of_document (string_bytes uri) version empty)
         (document_at documents.now (string_bytes uri))) }
 {

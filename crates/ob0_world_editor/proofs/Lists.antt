@@ -12,7 +12,7 @@ use Rattle.ob0_text.specs.declared.edits.Edit.{Edit}
 use Rattle.ob0_rpc.specs.Members.{text_in}
 use Rattle.ob0_world_rules.specs.Edited.{Replacement}
 use Rattle.ob0_world_rules.specs.Edited.{replacement_of, replacements}
-use Rattle.ob0_world_editor.specs.Understood.{edit_in, edits_in, has_none, is_titled, action_in}
+use Rattle.ob0_world_editor.specs.Understood.{edit_in, edits_in, has_none, is_titled, titled_action}
 
 pub left : (xs : List Value) (i : ℕ) (d : Value) → i < length xs → items_view (drop i xs) ≡ item (view (get_or xs i d)) (items_view (drop (i + 1) xs))
 left xs i d h = rw (drop-cons xs i d h, add-one)
@@ -47,14 +47,14 @@ edits_all all done xs i none eq = eq ∙ rw (nothing_left xs i none, append-nil 
 -- ---- actions
 
 pub action_more : (title : List ℕ) (xs : List Value) (i : ℕ) (v : Value) → i < length xs → get_or xs i v ≡ v → is_titled title (text_in (codes "title") (view v)) ≡ false
-    → action_in title (items_view (drop i xs)) ≡ action_in title (items_view (drop (i + 1) xs))
+    → titled_action title (items_view (drop i xs)) ≡ titled_action title (items_view (drop (i + 1) xs))
 action_more title xs i v h at other = rw (left xs i v h, at, other) refl
 
 pub action_found : (title : List ℕ) (xs : List Value) (i : ℕ) (v : Value) → i < length xs → get_or xs i v ≡ v → is_titled title (text_in (codes "title") (view v)) ≡ true
-    → action_in title (items_view (drop i xs)) ≡ Some (view v)
+    → titled_action title (items_view (drop i xs)) ≡ Some (view v)
 action_found title xs i v h at this = rw (left xs i v h, at, this) refl
 
-pub action_none : (title : List ℕ) (xs : List Value) (i : ℕ) → length xs ≤ i → action_in title (items_view (drop i xs)) ≡ None
+pub action_none : (title : List ℕ) (xs : List Value) (i : ℕ) → length xs ≤ i → titled_action title (items_view (drop i xs)) ≡ None
 action_none title xs i none = rw (nothing_left xs i none) refl
 
 -- ---- lengths

@@ -10,16 +10,16 @@ use Rattle.ob0_text.specs.declared.position_types.Range.{Range}
 use Rattle.ob0_text.specs.OpenDocuments.{Opened, Changed, Closed, TextChange, reported_change}
 use Rattle.ob0_rpc.specs.Requesting.{call_of}
 use Rattle.ob0_rpc.specs.Messages.{ReadsContent}
-use Rattle.ob0_rpc.specs.Notes.{change_in, all_changes, change_of, open_of}
+use Rattle.ob0_rpc.specs.Notifications.{change_in, all_changes, change_of, open_of}
 use Rattle.ob0_rpc.specs.Shapes.{notification_message}
 use Rattle.ob0_world_rules.specs.Edited.{whole_text}
 use Rattle.ob0_world_rules.specs.Asks.{Ask, rename, inline_here, inline_all, format}
-use Rattle.ob0_world_editor.specs.Shapes.{request_message, change_by, change_value, change_params, open_params, close_params, params_for, method_of}
+use Rattle.ob0_world_editor.specs.Shapes.{request_message, change_object, change_value, change_params, open_params, close_params, params_for, method_of}
 use Rattle.ob0_world_editor.specs.Heard.{IsNote, IsRequest, call_for}
 
 -- ---- depths
 
-shallow_change : (range : Option Range) (new : List ℕ) → depth (change_by range new) ≤ 3
+shallow_change : (range : Option Range) (new : List ℕ) → depth (change_object range new) ≤ 3
 shallow_change (Some range) new = omega arith
 shallow_change None new = omega arith
 
@@ -39,7 +39,7 @@ shallow_request k uri (format (Spaces n)) = omega arith
 
 -- ---- changes are read as they were written
 
-read_back : (range : Option Range) (new : List ℕ) → change_in (change_by range new) ≡ Some (record { range = range; text = chars new })
+read_back : (range : Option Range) (new : List ℕ) → change_in (change_object range new) ≡ Some (record { range = range; text = chars new })
 read_back (Some range) new = refl
 read_back None new = refl
 
@@ -86,9 +86,9 @@ pub changing_reported : (content uri : List ℕ) (version : ℕ) (cs : List Chan
     → IsNote (Changed uri (pos version) (map reported_change cs)) content
 changing_reported content uri version cs h reads = changed_so content uri version (map change_value cs) (map reported_change cs) h (changes_read_back cs) reads
 
-pub rewriting_reported : (content uri : List ℕ) (version : ℕ) (text : List ℕ) → version < 2 ^ 63 → ReadsContent content (Some (notification_message (codes "textDocument/didChange") (change_params uri version (change_by None text ∷ []))))
+pub rewriting_reported : (content uri : List ℕ) (version : ℕ) (text : List ℕ) → version < 2 ^ 63 → ReadsContent content (Some (notification_message (codes "textDocument/didChange") (change_params uri version (change_object None text ∷ []))))
     → IsNote (Changed uri (pos version) (whole_text (chars text) ∷ [])) content
-rewriting_reported content uri version text h reads = changed_so content uri version (change_by None text ∷ []) (whole_text (chars text) ∷ []) h refl reads
+rewriting_reported content uri version text h reads = changed_so content uri version (change_object None text ∷ []) (whole_text (chars text) ∷ []) h refl reads
 
 pub closing_reported : (content uri : List ℕ) → ReadsContent content (Some (notification_message (codes "textDocument/didClose") (close_params uri))) → IsNote (Closed uri) content
 closing_reported content uri reads =

@@ -9,7 +9,8 @@ use Rattle.ob0_rpc.specs.declared.clients.Client.{Client}
 
 -- {"codeActionLiteralSupport":{}}
 abbrev pub actions_supported : Data
-actions_supported = object (member (codes "codeActionLiteralSupport") (object no_members) no_members)
+actions_supported =
+    object (member (codes "codeActionLiteralSupport") (object no_members) no_members)
 
 -- {"codeAction":{"codeActionLiteralSupport":{}}}
 abbrev pub actions_taken : Data
@@ -41,8 +42,12 @@ capabilities_for Utf8 =
 -- {"id":"initialize","jsonrpc":"2.0","method":"initialize","params":{"capabilities":{..}}}
 abbrev pub initialize_message : Unit → Data
 initialize_message unit =
-    object (member (codes "id") (string (codes "initialize")) (member (codes "jsonrpc") (string (codes "2.0")) (member (codes "method") (string (codes "initialize"))
-    (member (codes "params") (object (member (codes "capabilities") (object (capabilities_for unit)) no_members)) no_members))))
+    object (member (codes "id") (string (codes "initialize"))
+    (member (codes "jsonrpc") (string (codes "2.0"))
+    (member (codes "method") (string (codes "initialize"))
+    (member (codes "params")
+    (object (member (codes "capabilities") (object (capabilities_for unit)) no_members))
+    no_members))))
 
 -- what the server knows of this editor then
 abbrev pub client_for : Unit → Client

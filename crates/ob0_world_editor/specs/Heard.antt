@@ -9,7 +9,7 @@ use Rattle.ob0_text.specs.OpenDocuments.{DocumentEvent, Opened, Changed, Lost, C
 use Rattle.ob0_rpc.specs.Requesting as wire
 use Rattle.ob0_rpc.specs.Requesting.{call_of}
 use Rattle.ob0_rpc.specs.Messages.{ReadsContent, MessageMeaning, not_json, not_a_message, response, request, notice, meaning_of}
-use Rattle.ob0_rpc.specs.Notes.{Notification, exits, opens, changes, closes, unreadable, other, note_of}
+use Rattle.ob0_rpc.specs.Notifications.{Notification, exits, opens, changes, closes, unreadable, other, note_of}
 use Rattle.ob0_world_rules.specs.Asks.{Ask, rename, inline_here, inline_all, format, indent_read}
 use Rattle.ob0_world_rules.specs.Ends.{SentAsk, numbered, ToServer, notifies, requests}
 use Rattle.ob0_world_editor.specs.Shapes.{method_of, empty_at}
@@ -17,15 +17,15 @@ use Rattle.ob0_world_editor.specs.Shapes.{method_of, empty_at}
 -- ---- as a function: the message in a content, where an ask is known by its number
 
 -- the number that a request has as its id
-abbrev pub number_of : Data → Option ℕ
-number_of (number (unsigned k)) = Some k
-number_of (number (negative z)) = None
-number_of (number (float x)) = None
-number_of null = None
-number_of (boolean b) = None
-number_of (string s) = None
-number_of (array ds) = None
-number_of (object ms) = None
+abbrev pub request_number : Data → Option ℕ
+request_number (number (unsigned k)) = Some k
+request_number (number (negative z)) = None
+request_number (number (float x)) = None
+request_number null = None
+request_number (boolean b) = None
+request_number (string s) = None
+request_number (array ds) = None
+request_number (object ms) = None
 
 -- what a notification says to the server
 abbrev pub notification_read : Notification → Option ToServer
@@ -43,7 +43,8 @@ request_read requested k = option_map (λ a. requests k a.uri a.ask) (numbered r
 
 -- what a message says to the server
 abbrev pub message_read : List SentAsk → MessageMeaning → Option ToServer
-message_read requested (request id method params) = option_and_then (request_read requested) (number_of id)
+message_read requested (request id method params) =
+    option_and_then (request_read requested) (request_number id)
 message_read requested (notice method params) = notification_read (note_of method params)
 message_read requested not_json = None
 message_read requested not_a_message = None
@@ -89,7 +90,7 @@ pub record IsNote (note : DocumentEvent) (content : List ℕ) : Type 0 where
   pub reported : note_of method params ≡ sent_as note
   pub fits : HasVersion note
 
--- the content is the request of this number that asks this of a document
+-- the content is the request of this number, with this ask about a document
 pub record IsRequest (k : ℕ) (uri : List ℕ) (ask : Ask) (content : List ℕ) : Type 0 where
   pub json : Data
   pub reads : ReadsContent content (Some json)
@@ -107,4 +108,5 @@ pub record IsAsk (requested : List SentAsk) (k : ℕ) (uri : List ℕ) (ask : As
 -- the content says this to a server
 abbrev pub SaysToServer : List SentAsk → ToServer → List ℕ → Type 0
 SaysToServer requested (notifies note) content = IsNote note content
-SaysToServer requested (requests k uri ask) content = IsRequest k uri ask content × IsAsk requested k uri ask
+SaysToServer requested (requests k uri ask) content =
+    IsRequest k uri ask content × IsAsk requested k uri ask

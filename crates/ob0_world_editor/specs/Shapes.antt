@@ -22,8 +22,10 @@ request_message k method params =
 -- {"languageId":"oberon-0","text":t,"uri":u,"version":v}
 abbrev pub opened_value : List ℕ → ℕ → List ℕ → Data
 opened_value uri version contents =
-    object (member (codes "languageId") (text (codes "oberon-0")) (member (codes "text") (text contents)
-    (member (codes "uri") (text uri) (member (codes "version") (number (unsigned version)) no_members))))
+    object (member (codes "languageId") (text (codes "oberon-0"))
+    (member (codes "text") (text contents)
+    (member (codes "uri") (text uri)
+    (member (codes "version") (number (unsigned version)) no_members))))
 
 -- {"textDocument":{..}} of an opened document
 abbrev pub open_params : List ℕ → ℕ → List ℕ → Data
@@ -31,21 +33,21 @@ open_params uri version contents =
     object (member (codes "textDocument") (opened_value uri version contents) no_members)
 
 -- {"range":R,"text":t}, without `range` for the whole text
-abbrev pub change_by : Option Range → List ℕ → Data
-change_by (Some range) new =
-    object
-    (member (codes "range") (range_value range.start range.end) (member (codes "text") (text new) no_members))
-change_by None new = object (member (codes "text") (text new) no_members)
+abbrev pub change_object : Option Range → List ℕ → Data
+change_object (Some range) new =
+    object (member (codes "range") (range_value range.start range.end)
+    (member (codes "text") (text new) no_members))
+change_object None new = object (member (codes "text") (text new) no_members)
 
 -- a change as JSON
 abbrev pub change_value : Change → Data
-change_value c = change_by c.range (string_bytes c.text)
+change_value c = change_object c.range (string_bytes c.text)
 
 -- {"uri":u,"version":v}
 abbrev pub versioned_value : List ℕ → ℕ → Data
 versioned_value uri version =
-    object
-    (member (codes "uri") (text uri) (member (codes "version") (number (unsigned version)) no_members))
+    object (member (codes "uri") (text uri)
+    (member (codes "version") (number (unsigned version)) no_members))
 
 -- {"contentChanges":[C,..],"textDocument":{"uri":u,"version":v}}
 abbrev pub change_params : List ℕ → ℕ → List Data → Data
@@ -80,7 +82,8 @@ diagnostics_of_none = object (member (codes "diagnostics") (array no_items) no_m
 -- {"context":{"diagnostics":[]},"range":R,"textDocument":{"uri":u}}
 abbrev pub actions_params : List ℕ → Position → Data
 actions_params uri position =
-    object (member (codes "context") diagnostics_of_none (member (codes "range") (range_value position position)
+    object (member (codes "context") diagnostics_of_none
+    (member (codes "range") (range_value position position)
     (member (codes "textDocument") (document_value uri) no_members)))
 
 -- {"insertSpaces":b,"tabSize":n}

@@ -10,7 +10,7 @@ use Rattle.ob0_rpc.specs.Members.{text_in, range_in}
 use Rattle.ob0_world_rules.specs.Edited.{Replacement}
 use Rattle.ob0_world_rules.specs.Asks.{Ask, rename, inline_here, inline_all, format}
 use Rattle.ob0_world_rules.specs.Ends.{SentAsk, numbered, ToEditor, publishes, answers}
-use Rattle.ob0_world_editor.specs.Heard.{number_of}
+use Rattle.ob0_world_editor.specs.Heard.{request_number}
 
 -- ---- publications
 
@@ -62,18 +62,19 @@ is_titled title (Some found) = bytes_eq found title
 is_titled title None = false
 
 -- the first action with this title
-abbrev pub action_in : List ℕ → Items → Option Data
-action_in title no_items = None
-action_in title (item d ds) =
-    if is_titled title (text_in (codes "title") d) then Some d else action_in title ds
+abbrev pub titled_action : List ℕ → Items → Option Data
+titled_action title no_items = None
+titled_action title (item d ds) =
+    if is_titled title (text_in (codes "title") d) then Some d else titled_action title ds
 
 -- the edits of the action with this title
 abbrev pub action_items : List ℕ → Data → Option Items
 action_items title value =
     option_and_then workspace_items
-    (option_and_then (get (codes "edit")) (option_and_then (action_in title) (as_array value)))
+    (option_and_then (get (codes "edit")) (option_and_then (titled_action title) (as_array value)))
 
--- a rename is answered with a WorkspaceEdit, an inlining with actions, of which that with its title is meant, and formatting with a list of edits
+-- a rename is answered with a WorkspaceEdit, an inlining with actions, of which that with its title is meant, and
+-- formatting with a list of edits
 abbrev pub items_for : Ask → Data → Option Items
 items_for (rename position name) value = workspace_items value
 items_for (inline_here position) value = action_items (codes "Inline here") value
@@ -88,12 +89,14 @@ edits_for ask answer =
 
 -- the answer to the request of this number, with its edits
 abbrev pub answer_to : List SentAsk → Data → ℕ → Option ToEditor
-answer_to requested answer k = option_map (λ a. answers k (edits_for a.ask answer)) (numbered requested k)
+answer_to requested answer k =
+    option_map (λ a. answers k (edits_for a.ask answer)) (numbered requested k)
 
 -- an answer to a request that the editor sent
 abbrev pub answer_understood : List SentAsk → Data → Option ToEditor
 answer_understood requested answer =
-    option_and_then (answer_to requested answer) (option_and_then number_of (get (codes "id") answer))
+    option_and_then (answer_to requested answer)
+    (option_and_then request_number (get (codes "id") answer))
 
 -- ---- messages
 

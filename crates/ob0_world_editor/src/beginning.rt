@@ -27,7 +27,8 @@ struct InitializeParams {
 }
 
 impl Written for InitializeParams {
-    ghost value = { λ p. object (member (codes "capabilities") (object (capabilities_for p.capabilities.unit)) no_members) };
+    ghost value = { λ p. object (member (codes "capabilities")
+        (object (capabilities_for p.capabilities.unit)) no_members) };
 
     fn write(&self, out: &mut Vec<u8>) -> Result<(), AllocError> {
         first_member(out, "capabilities", &self.capabilities)?;

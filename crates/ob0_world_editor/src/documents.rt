@@ -2,7 +2,7 @@
 ghost use Rattle.std.specs.Prelude.{◌≡◌, OnOk, string_bytes};
 ghost use Rattle.std.specs.Option.{option_map};
 ghost use Rattle.std.specs.FinMap as map_of;
-ghost use Rattle.ob0_world_editor.specs.Entries.{open_of};
+ghost use Rattle.ob0_world_editor.specs.Entries.{open_document};
 
 use std::alloc::{AllocError, Global};
 use std::collections::BTreeMap;
@@ -25,13 +25,13 @@ pub struct OpenDocuments {
 
 impl Model for OpenDocuments {
     ghost use Rattle.ob0_world_rules.specs.Ends.{EditorDocuments};
-    ghost use Rattle.ob0_world_editor.specs.Entries.{documents_of, open_documents_code};
+    ghost use Rattle.ob0_world_editor.specs.Entries.{editor_documents, open_documents_code};
 
     ghost Value = { EditorDocuments };
 
     ghost coded = { open_documents_code };
 
-    ghost view = { λ documents. documents_of documents.by_uri.entries };
+    ghost view = { λ documents. editor_documents documents.by_uri.entries };
 }
 
 impl OpenDocuments {
@@ -46,7 +46,7 @@ impl OpenDocuments {
 
     /// An open document of the editor.
     pub fn get(&self, uri: &str) -> Option<&Open>
-        ensures { option_map (λ d. open_of d.now) result ≡ map_of.get self.now uri.now }
+        ensures { option_map (λ d. open_document d.now) result ≡ map_of.get self.now uri.now }
     {
         self.by_uri.get(uri)
     }
@@ -54,7 +54,7 @@ impl OpenDocuments {
     /// Opens a document, or replaces an open one.
     pub fn put(&mut self, uri: String, document: Open) -> Result<(), AllocError>
         ensures { OnOk result
-            (self.new ≡ map_of.insert self.old (string_bytes uri) (open_of document)) }
+            (self.new ≡ map_of.insert self.old (string_bytes uri) (open_document document)) }
     {
         self.by_uri.insert(uri, document)?;
         Ok(())

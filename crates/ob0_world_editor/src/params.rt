@@ -4,7 +4,7 @@ ghost use Rattle.serde_json.specs.Data.{array, boolean, member, no_members, numb
 ghost use Rattle.serde_json.specs.View.{items_of};
 ghost use Rattle.ob0_rpc.specs.Appending.{AppendsEach};
 ghost use Rattle.ob0_rpc.specs.Shapes.{json_rpc, text as text_data};
-ghost use Rattle.ob0_world_editor.specs.Shapes.{actions_params, change_by, change_value, close_params, diagnostics_of_none, document_value, open_params, opened_value, options_by, options_value, rename_params, versioned_value};
+ghost use Rattle.ob0_world_editor.specs.Shapes.{actions_params, change_object, change_value, close_params, diagnostics_of_none, document_value, open_params, opened_value, options_by, options_value, rename_params, versioned_value};
 
 use ob0_rpc::{Written, begin_list, end_list, end_object, first_member, next_member, write_item};
 use ob0_text::{Change, Indent, Position, Range};
@@ -19,7 +19,10 @@ pub struct Request<'a, I, P> {
 }
 
 impl<'a, I: Written, P: Written> Written for Request<'a, I, P> {
-    ghost value = { λ r. object (member (codes "id") (I.value r.id) (member (codes "jsonrpc") json_rpc (member (codes "method") (text_data r.method.now) (member (codes "params") (P.value r.params.now) no_members)))) };
+    ghost value = { λ r. object (member (codes "id") (I.value r.id)
+        (member (codes "jsonrpc") json_rpc
+        (member (codes "method") (text_data r.method.now)
+        (member (codes "params") (P.value r.params.now) no_members)))) };
 
     fn write(&self, out: &mut Vec<u8>) -> Result<(), AllocError> {
         first_member(out, "id", &self.id)?;
@@ -105,7 +108,7 @@ pub struct ContentChange<'a> {
 }
 
 impl<'a> Written for ContentChange<'a> {
-    ghost value = { λ c. change_by c.range c.text.now };
+    ghost value = { λ c. change_object c.range c.text.now };
 
     fn write(&self, out: &mut Vec<u8>) -> Result<(), AllocError> {
         match self.range {
@@ -160,7 +163,9 @@ pub struct DidChangeParams<'a, C> {
 }
 
 impl<'a, C: Written> Written for DidChangeParams<'a, C> {
-    ghost value = { λ p. object (member (codes "contentChanges") (C.value p.changes) (member (codes "textDocument") (versioned_value p.document.uri.now p.document.version) no_members)) };
+    ghost value = { λ p. object (member (codes "contentChanges") (C.value p.changes)
+        (member (codes "textDocument") (versioned_value p.document.uri.now p.document.version)
+        no_members)) };
 
     fn write(&self, out: &mut Vec<u8>) -> Result<(), AllocError> {
         first_member(out, "contentChanges", &self.changes)?;
@@ -282,7 +287,9 @@ pub struct FormattingParams<'a> {
 }
 
 impl<'a> Written for FormattingParams<'a> {
-    ghost value = { λ p. object (member (codes "options") (options_by p.options.insert_spaces p.options.tab_size) (member (codes "textDocument") (document_value p.document.uri.now) no_members)) };
+    ghost value = { λ p. object
+        (member (codes "options") (options_by p.options.insert_spaces p.options.tab_size)
+        (member (codes "textDocument") (document_value p.document.uri.now) no_members)) };
 
     fn write(&self, out: &mut Vec<u8>) -> Result<(), AllocError> {
         first_member(out, "options", &self.options)?;

@@ -3,16 +3,17 @@ ghost use Rattle.std.specs.Prelude.{◌≡◌, IfOk, codes, option_map, option_a
 ghost use Rattle.serde_json.specs.Data.{Items};
 ghost use Rattle.serde_json.specs.Find.{get, as_str, as_number, as_i64, as_array};
 ghost use Rattle.serde_json.specs.View.{view, items_view};
-ghost use Rattle.ob0_rpc.specs.Members.{text_in as text_of_member, range_in as range_of_member, position_in as position_of_member, position_of as position_reported, range_of as range_reported, count_in as count_of_member};
+ghost use Rattle.ob0_rpc.specs.Members.{text_in as text_of_member};
 ghost use Rattle.ob0_world_editor.specs.Code.{message_of, ask_of, requested_of};
 ghost use Rattle.ob0_world_rules.specs.Edited.{replacement_of, replacements};
-ghost use Rattle.ob0_world_editor.specs.Heard.{number_of};
-ghost use Rattle.ob0_world_editor.specs.Understood.{understood, value_understood, publication_understood, answer_understood, has_none, edit_in, edits_in, workspace_items, is_titled, action_in, action_items, items_for as items_of_answer, edits_for};
+ghost use Rattle.ob0_world_editor.specs.Heard.{request_number};
+ghost use Rattle.ob0_world_editor.specs.Understood.{understood, value_understood, publication_understood, answer_understood, has_none, edit_in, edits_in, workspace_items, is_titled, titled_action, action_items, items_for as items_of_answer, edits_for};
 ghost use Rattle.ob0_world_rules.specs.Ends.{numbered};
 
 use crate::asks::Ask;
 use crate::editor::SentAsk;
-use ob0_text::{Edit, Position, Range};
+use ob0_rpc::{range_in, text_in};
+use ob0_text::Edit;
 use serde_json::Value;
 use std::alloc::{AllocError, Global};
 
@@ -38,7 +39,8 @@ pub fn read_message(
     content: &[u8],
 ) -> Result<Option<Message>, AllocError>
     ensures { IfOk result
-        (λ found. option_map message_of found ≡ understood (map requested_of requested.now) content.now) }
+        (λ found. option_map message_of found
+        ≡ understood (map requested_of requested.now) content.now) }
 {
     match Value::from_slice(alloc, content) {
         Ok(message) => read_value(alloc, requested, &message),
@@ -133,14 +135,15 @@ fn read_answer(
 }
 
 fn answer_number(answer: &Value) -> Option<u64>
-    ensures { result ≡ option_and_then number_of (get (codes "id") (view answer.now)) }
+    ensures { result ≡ option_and_then request_number (get (codes "id") (view answer.now)) }
 {
     answer.get("id")?.as_u64()
 }
 
 /// Ask `number`; the first has number 1.
 pub fn numbered_ask(requested: &[SentAsk], number: u64) -> Option<&SentAsk>
-    ensures { option_map (λ a. requested_of a.now) result ≡ numbered (map requested_of requested.now) number }
+    ensures { option_map (λ a. requested_of a.now) result
+        ≡ numbered (map requested_of requested.now) number }
 {
     if number == 0 {
         return None;
@@ -206,7 +209,7 @@ fn action_values<'v>(actions: &'v Value, title: &str) -> Option<&'v Vec<Value>>
 }
 
 fn titled<'v>(actions: &'v [Value], title: &str) -> Option<&'v Value>
-    ensures { option_map (λ v. view v.now) result ≡ action_in title.now (items_view actions.now) }
+    ensures { option_map (λ v. view v.now) result ≡ titled_action title.now (items_view actions.now) }
 {
     for action in actions {
         if has_title(action, title) {
@@ -253,38 +256,4 @@ fn edit_of(alloc: Global, value: &Value) -> Result<Option<Edit>, AllocError>
     };
     let text = String::from_str(alloc, text)?;
     Ok(Some(Edit { range, text }))
-}
-
-fn text_in<'v>(value: &'v Value, name: &str) -> Option<&'v str>
-    ensures { option_map (λ s. s.now) result ≡ text_of_member name.now (view value.now) }
-{
-    value.get(name)?.as_str()
-}
-
-fn range_in(value: &Value, name: &str) -> Option<Range>
-    ensures { result ≡ range_of_member name.now (view value.now) }
-{
-    range_of(value.get(name)?)
-}
-
-fn range_of(value: &Value) -> Option<Range>
-    ensures { result ≡ range_reported (view value.now) }
-{
-    let start = position_in(value, "start")?;
-    let end = position_in(value, "end")?;
-    Some(Range { start, end })
-}
-
-fn position_in(value: &Value, name: &str) -> Option<Position>
-    ensures { result ≡ position_of_member name.now (view value.now) }
-{
-    position_of(value.get(name)?)
-}
-
-fn position_of(value: &Value) -> Option<Position>
-    ensures { result ≡ position_reported (view value.now) }
-{
-    let line = value.get("line")?.as_u64()?;
-    let character = value.get("character")?.as_u64()?;
-    Some(Position { line, character })
 }

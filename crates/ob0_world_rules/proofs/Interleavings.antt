@@ -18,7 +18,7 @@ use Rattle.ob0_world_rules.specs.Answers.{IsAnswer}
 use Rattle.ob0_world_rules.specs.Ends.{Open, SentAsk, Answer, Editor, numbered, open_at, ToServer, notifies, requests, ToEditor, publishes, answers, Applied, Made, Ends, start, after_message, will_have, as_open}
 use Rattle.ob0_world_rules.specs.Editing.{opens_document, changes_text, changes_document, closes_document, asks_about, keeps, kept_answer, all_but, without_answer, discards, if_same, applies_text, applies_edits, applies_requested, applies_answer, Move, idle, sends, ApplyOutcome, not_held, drops_answer, makes}
 use Rattle.ob0_world_rules.specs.Serving.{Publishes, cleared, RepliesToNotification, Replies}
-use Rattle.ob0_world_rules.specs.Events.{Event, open_document, change_document, close_document, ask_about, serve, take_message, apply, discard, Seen, moved, takes, comes_of}
+use Rattle.ob0_world_rules.specs.Events.{Event, open_document, change_document, close_document, ask_about, serve, take_message, apply, discard, Seen, after_move, takes, comes_of}
 use Rattle.ob0_world_rules.specs.Happens.{ServerTakes, Happens, Course}
 use Rattle.ob0_world_rules.specs.Headline.{KeepsTheRun, IsRight, IsMadeFor, latest, AreUpToDate, Holds}
 use Rattle.ob0_world_rules.specs.Laws.{EditsPreserveRun}
@@ -31,7 +31,7 @@ use Rattle.ob0_world_rules.proofs.Keeping.{Fits, AnswerFits, HeldFits, AsksSee, 
 -- ---- the editor's events
 
 module _ (unit : Unit) where
-  open_kept : (w : Ends) (uri text : List ℕ) (o : Option Open) → Kept unit w → Kept unit (moved w (opens_document w.editor uri text o)).after
+  open_kept : (w : Ends) (uri text : List ℕ) (o : Option Open) → Kept unit w → Kept unit (after_move w (opens_document w.editor uri text o)).after
   open_kept w uri text (Some d) kept = kept
   open_kept w uri text None kept =
       let d : Open = record { version = 1; text = text; opening = w.editor.openings + 1 } in
@@ -42,15 +42,15 @@ module _ (unit : Unit) where
       (λ was. let known : x.opening ≤ w.editor.openings = kept.openings q x was in omega arith))
       refl refl (put_mirrors w uri d kept.mirror) tt
 
-  change_kept : (w : Ends) (uri : List ℕ) (how : List TextChange) (o : Option Open) → open_at w.editor uri ≡ o → Kept unit w → Kept unit (moved w (changes_document w.editor uri how o)).after
+  change_kept : (w : Ends) (uri : List ℕ) (how : List TextChange) (o : Option Open) → open_at w.editor uri ≡ o → Kept unit w → Kept unit (after_move w (changes_document w.editor uri how o)).after
   change_kept w uri how None is kept = kept
   change_kept w uri how (Some d) is kept = go (after_changes w.editor.unit (Some d.text) how) refl
     where
-      go : (t : Option (List ℕ)) → after_changes w.editor.unit (Some d.text) how ≡ t → Kept unit (moved w (changes_text w.editor uri d how t)).after
+      go : (t : Option (List ℕ)) → after_changes w.editor.unit (Some d.text) how ≡ t → Kept unit (after_move w (changes_text w.editor uri d how t)).after
       go None made = kept
       go (Some text) made = rewrites_kept unit w uri d how text kept is made
 
-  close_kept : (w : Ends) (uri : List ℕ) (o : Option Open) → Kept unit w → Kept unit (moved w (closes_document w.editor uri o)).after
+  close_kept : (w : Ends) (uri : List ℕ) (o : Option Open) → Kept unit w → Kept unit (after_move w (closes_document w.editor uri o)).after
   close_kept w uri None kept = kept
   close_kept w uri (Some d) kept =
       let e : Editor = record w.editor { documents = map_of.remove w.editor.documents uri } in
@@ -58,7 +58,7 @@ module _ (unit : Unit) where
       (λ q x at. kept.openings q x (left w.editor.documents uri q x at))
       refl refl (remove_mirrors w uri kept.mirror) tt
 
-  ask_kept : (w : Ends) (uri : List ℕ) (ask : Ask) (o : Option Open) → open_at w.editor uri ≡ o → Kept unit w → Kept unit (moved w (asks_about w.editor uri ask o)).after
+  ask_kept : (w : Ends) (uri : List ℕ) (ask : Ask) (o : Option Open) → open_at w.editor uri ≡ o → Kept unit w → Kept unit (after_move w (asks_about w.editor uri ask o)).after
   ask_kept w uri ask None is kept = kept
   ask_kept w uri ask (Some d) is kept =
       let a : SentAsk = record { ask = ask; uri = uri; opening = d.opening; version = d.version } in
@@ -81,7 +81,7 @@ module _ (unit : Unit) where
   rest_kept w rest kept fit =
       record { counts = kept.counts; holds = kept.holds; mirror = kept.mirror; openings = kept.openings; requested = kept.requested; answered = fit; answers_held = kept.answers_held; applied = kept.applied; made = kept.made }
 
-  -- an answer with edits fits the document that was asked about
+  -- an answer with edits fits the document of its request
   with_edits : (e : Editor) (k : ℕ) (edit : Replacement) (edits : List Replacement) → Known e k (Fits unit (edit ∷ edits)) → Known e k (λ d. EditsPreserveRun unit d.text (edit ∷ edits))
   with_edits e k edit edits known = record { requested = known.requested; is = known.is; past = known.past; still = λ d same. go d (known.still d same) }
     where
@@ -291,7 +291,7 @@ module _ (unit : Unit) where
       go : (o : Option Document) (d : Open) → o ≡ Some (as_open d) → IsAnswer unit o ask edits → Fits unit edits d
       go o d is may = answer_keeps unit d.text ask edits (subst (λ x. IsAnswer unit x ask edits) is may)
 
-  -- the server, as it takes this message, meets what the editor asked about
+  -- the server, as it takes this message, meets the document of the request
   abbrev Meets : Editor → OpenDocuments → ToServer → Type 0
   Meets e held m = AsksSee e held (m ∷ [])
 
@@ -339,7 +339,7 @@ module _ (unit : Unit) where
   abbrev Unmoved : Ends → Ends → Type 0
   Unmoved w after = (after.held ≡ w.held) × (after.made ≡ w.made)
 
-  move_unmoved : (w : Ends) (m : Move) → Unmoved w (moved w m).after
+  move_unmoved : (w : Ends) (m : Move) → Unmoved w (after_move w m).after
   move_unmoved w idle = (refl, refl)
   move_unmoved w (sends e m) = (refl, refl)
 
@@ -359,8 +359,8 @@ module _ (unit : Unit) where
       subst Both (sym is) (kept, subst (λ made. AreLatest after.held made) (sym unmoved.1) (subst (λ held. AreLatest held w.made) (sym unmoved.0) now))
 
   -- a move of the editor
-  move_kept : (w : Ends) (m : Move) (new : Ends) → new ≡ (moved w m).after → Kept unit (moved w m).after → AreLatest w.held w.made → Both new
-  move_kept w m new is kept now = at_the_editor w (moved w m).after new is kept (move_unmoved w m) now
+  move_kept : (w : Ends) (m : Move) (new : Ends) → new ≡ (after_move w m).after → Kept unit (after_move w m).after → AreLatest w.held w.made → Both new
+  move_kept w m new is kept now = at_the_editor w (after_move w m).after new is kept (move_unmoved w m) now
 
   outcome_kept : (w : Ends) (k : ℕ) (o : ApplyOutcome) (new : Ends) → new ≡ (comes_of w k o).after → Kept unit (comes_of w k o).after → AreLatest w.held w.made → Both new
   outcome_kept w k o new is kept now = at_the_editor w (comes_of w k o).after new is kept (outcome_unmoved w k o) now

@@ -9,7 +9,7 @@ use Rattle.ob0_text.specs.OpenDocuments.{OpenDocuments, Document, InStep, OutOfS
 use Rattle.ob0_world_rules.specs.Ends.{Open, open_at, ToServer, notifies, requests, ToEditor, publishes, answers, Made, Ends, start, after_message, will_have, as_open}
 use Rattle.ob0_world_rules.specs.Editing.{Move, idle, sends, opens_document, changes_document, closes_document, asks_about, kept_answer, ApplyOutcome, not_held, drops_answer, makes, discards, applies_answer}
 use Rattle.ob0_world_rules.specs.Serving.{Publishes, RepliesToNotification, Replies}
-use Rattle.ob0_world_rules.specs.Events.{Event, open_document, change_document, close_document, ask_about, serve, take_message, apply, discard, Seen, EventStep, Is, moved, takes, comes_of}
+use Rattle.ob0_world_rules.specs.Events.{Event, open_document, change_document, close_document, ask_about, serve, take_message, apply, discard, Seen, EventStep, Is, after_move, takes, comes_of}
 use Rattle.ob0_world_rules.specs.Happens.{ServerTakes, Happens, Course}
 use Rattle.ob0_world_rules.specs.Headline.{WasOpen, WasMadeFor}
 use Rattle.ob0_world_rules.proofs.Interleavings.{in_every_interleaving}
@@ -94,7 +94,7 @@ module _ (unit : Unit) where
 
   -- ---- the editor's events
 
-  moved_open : (events : List Event) (e : Event) (w : Ends) (move : Move) → WereOpen events w → Course (start unit) (events ++ e ∷ []) (moved w move).after → WereOpen (events ++ e ∷ []) (moved w move).after
+  moved_open : (events : List Event) (e : Event) (w : Ends) (move : Move) → WereOpen events w → Course (start unit) (events ++ e ∷ []) (after_move w move).after → WereOpen (events ++ e ∷ []) (after_move w move).after
   moved_open events e w idle was run =
       record { reached = run; held = by_more events (e ∷ []) w.held w.to_server was.held; made = made_more events (e ∷ []) w.made was.made }
   moved_open events e w (sends editor m) was run =
@@ -169,16 +169,16 @@ module _ (unit : Unit) where
   event_open : (events : List Event) (w : Ends) (e : Event) (seen : Seen) (new : Ends) → WereOpen events w → Happens w e seen new → Course (start unit) (events ++ e ∷ []) new → WereOpen (events ++ e ∷ []) new
   event_open events w (open_document uri text) seen new was h run =
       let move : Move = opens_document w.editor uri text (open_at w.editor uri) in
-      stepped events (open_document uri text) (moved w move) seen new (moved_open events (open_document uri text) w move was) run h
+      stepped events (open_document uri text) (after_move w move) seen new (moved_open events (open_document uri text) w move was) run h
   event_open events w (change_document uri how) seen new was h run =
       let move : Move = changes_document w.editor uri how (open_at w.editor uri) in
-      stepped events (change_document uri how) (moved w move) seen new (moved_open events (change_document uri how) w move was) run h
+      stepped events (change_document uri how) (after_move w move) seen new (moved_open events (change_document uri how) w move was) run h
   event_open events w (close_document uri) seen new was h run =
       let move : Move = closes_document w.editor uri (open_at w.editor uri) in
-      stepped events (close_document uri) (moved w move) seen new (moved_open events (close_document uri) w move was) run h
+      stepped events (close_document uri) (after_move w move) seen new (moved_open events (close_document uri) w move was) run h
   event_open events w (ask_about uri ask) seen new was h run =
       let move : Move = asks_about w.editor uri ask (open_at w.editor uri) in
-      stepped events (ask_about uri ask) (moved w move) seen new (moved_open events (ask_about uri ask) w move was) run h
+      stepped events (ask_about uri ask) (after_move w move) seen new (moved_open events (ask_about uri ask) w move was) run h
   event_open events w serve seen new was h run = serve_open events serve w w.to_server seen new refl was run h
   event_open events w take_message seen new was h run =
       stepped events take_message (takes w w.to_editor) seen new (takes_open events take_message w w.to_editor was) run h

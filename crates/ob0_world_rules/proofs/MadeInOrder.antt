@@ -12,9 +12,9 @@ use Rattle.ob0_world_rules.specs.Edited.{Replacement, edited, after_changes}
 use Rattle.ob0_world_rules.specs.Asks.{Ask}
 use Rattle.ob0_world_rules.specs.Editing.{Move, idle, sends, opens_document, rewritten, changes_text, changes_document, closes_document, asks_about, kept_answer, without_answer, ApplyOutcome, not_held, drops_answer, makes, discards, if_same, applies_text, applies_edits, applies_requested, applies_answer}
 use Rattle.ob0_world_rules.specs.Serving.{Publishes, Replies}
-use Rattle.ob0_world_rules.specs.Events.{Event, open_document, change_document, close_document, ask_about, serve, take_message, apply, discard, Seen, EventStep, Is, moved, takes, comes_of}
+use Rattle.ob0_world_rules.specs.Events.{Event, open_document, change_document, close_document, ask_about, serve, take_message, apply, discard, Seen, EventStep, Is, after_move, takes, comes_of}
 use Rattle.ob0_world_rules.specs.Happens.{ServerTakes, Happens, Course}
-use Rattle.ob0_world_rules.specs.MadeInOrder.{Announced, announced_at, announced_by, announced_in_move, announced_in_outcome, announced_at_event, AreAnnounced, named_by, named_in, name_of, AreMadeOf, AreMadeInOrder}
+use Rattle.ob0_world_rules.specs.MadeInOrder.{Announced, announced_at, announced_by, announced_in_move, announced_in_outcome, announced_at_event, AreAnnounced, versions_announced, named_in, name_of, AreMadeOf, AreMadeInOrder}
 use Rattle.ob0_world_rules.proofs.UriLaws.{get_put, uri_itself}
 use Rattle.ob0_world_rules.proofs.Interleavings.{in_every_interleaving}
 use Rattle.ob0_world_rules.proofs.MadeFor.{course_push}
@@ -47,10 +47,10 @@ announcing_push (x ∷ events) w announced between e seen new (s, mid, later, fi
   ap (λ ts. ts ++ announced_at_event between e) is ∙ append_assoc (announced_at_event w x) later (announced_at_event between e),
 )
 
--- ---- a message names the document that it tells of
+-- ---- a message names the document that it reports
 
 abbrev Names : Editor → ToServer → Type 0
-Names e m = map name_of (announced_by e m) ≡ named_by m
+Names e m = map name_of (announced_by e m) ≡ versions_announced m
 
 abbrev MoveNames : Move → Type 0
 MoveNames idle = ⊤
@@ -122,9 +122,9 @@ Awaits held (requests number uri ask) now = now ≡ []
 abbrev Pending : OpenDocuments → List ToServer → List Announced → Type 0
 Pending held [] waiting = waiting ≡ []
 Pending held (m ∷ queue) waiting =
-    (now : List Announced) × (later : List Announced) × (waiting ≡ now ++ later) × (Awaits held m now × (map name_of now ≡ named_by m)) × Pending (after_message held m) queue later
+    (now : List Announced) × (later : List Announced) × (waiting ≡ now ++ later) × (Awaits held m now × (map name_of now ≡ versions_announced m)) × Pending (after_message held m) queue later
 
-pending_push : (held : OpenDocuments) (queue : List ToServer) (m : ToServer) (waiting now : List Announced) → Pending held queue waiting → Awaits (fold after_message held queue) m now × (map name_of now ≡ named_by m) → Pending held (queue ++ m ∷ []) (waiting ++ now)
+pending_push : (held : OpenDocuments) (queue : List ToServer) (m : ToServer) (waiting now : List Announced) → Pending held queue waiting → Awaits (fold after_message held queue) m now × (map name_of now ≡ versions_announced m) → Pending held (queue ++ m ∷ []) (waiting ++ now)
 pending_push held [] m waiting now is awaits = (now, [], ap (λ ts. ts ++ now) is ∙ sym (append-nil now), awaits, refl)
 pending_push held (x ∷ queue) m waiting now (first, later, is, so, rest) awaits =
     (first, later ++ now, ap (λ ts. ts ++ now) is ∙ append_assoc first later now, so, pending_push (after_message held x) queue m later now rest awaits)
@@ -146,7 +146,7 @@ pending_sent held queue e m waiting pending names mirror =
 pending_named : (held : OpenDocuments) (queue : List ToServer) (waiting : List Announced) → Pending held queue waiting → map name_of waiting ≡ named_in queue
 pending_named held [] waiting is = ap (map name_of) is
 pending_named held (m ∷ queue) waiting (now, later, is, so, rest) =
-    ap (map name_of) is ∙ map-append name_of now later ∙ ap (λ ns. ns ++ map name_of later) so.1 ∙ ap (λ ns. named_by m ++ ns) (pending_named (after_message held m) queue later rest)
+    ap (map name_of) is ∙ map-append name_of now later ∙ ap (λ ns. ns ++ map name_of later) so.1 ∙ ap (λ ns. versions_announced m ++ ns) (pending_named (after_message held m) queue later rest)
 
 -- ---- what is made as a message is taken
 
@@ -188,7 +188,7 @@ module _ (announced waiting : List Announced) where
   stays : (w : Ends) → AreMadeOf w.made announced → Pending w.held w.to_server waiting → Next announced waiting [] w
   stays w made_of pending = record { done = announced; awaits = waiting; parts = append-nil (announced ++ waiting); made_of = made_of; pending = pending }
 
-  move_next : (w : Ends) (move : Move) → MoveNames move → AreMadeOf w.made announced → Pending w.held w.to_server waiting → Mirrors (moved w move).after → Next announced waiting (announced_in_move move) (moved w move).after
+  move_next : (w : Ends) (move : Move) → MoveNames move → AreMadeOf w.made announced → Pending w.held w.to_server waiting → Mirrors (after_move w move).after → Next announced waiting (announced_in_move move) (after_move w move).after
   move_next w idle names made_of pending mirror = stays w made_of pending
   move_next w (sends e m) names made_of pending mirror =
       record {
@@ -235,16 +235,16 @@ module _ (announced waiting : List Announced) where
   event_next : (w : Ends) (e : Event) (seen : Seen) (new : Ends) → AreMadeOf w.made announced → Pending w.held w.to_server waiting → Mirrors new → Happens w e seen new → Next announced waiting (announced_at_event w e) new
   event_next w (open_document uri text) seen new made_of pending mirror h =
       let move : Move = opens_document w.editor uri text (open_at w.editor uri) in
-      stepped (announced_in_move move) (moved w move) seen new (move_next w move (opens_names w.editor uri text (open_at w.editor uri)) made_of pending) mirror h
+      stepped (announced_in_move move) (after_move w move) seen new (move_next w move (opens_names w.editor uri text (open_at w.editor uri)) made_of pending) mirror h
   event_next w (change_document uri how) seen new made_of pending mirror h =
       let move : Move = changes_document w.editor uri how (open_at w.editor uri) in
-      stepped (announced_in_move move) (moved w move) seen new (move_next w move (changes_names w.editor uri how (open_at w.editor uri)) made_of pending) mirror h
+      stepped (announced_in_move move) (after_move w move) seen new (move_next w move (changes_names w.editor uri how (open_at w.editor uri)) made_of pending) mirror h
   event_next w (close_document uri) seen new made_of pending mirror h =
       let move : Move = closes_document w.editor uri (open_at w.editor uri) in
-      stepped (announced_in_move move) (moved w move) seen new (move_next w move (closes_names w.editor uri (open_at w.editor uri)) made_of pending) mirror h
+      stepped (announced_in_move move) (after_move w move) seen new (move_next w move (closes_names w.editor uri (open_at w.editor uri)) made_of pending) mirror h
   event_next w (ask_about uri ask) seen new made_of pending mirror h =
       let move : Move = asks_about w.editor uri ask (open_at w.editor uri) in
-      stepped (announced_in_move move) (moved w move) seen new (move_next w move (asks_names w.editor uri ask (open_at w.editor uri)) made_of pending) mirror h
+      stepped (announced_in_move move) (after_move w move) seen new (move_next w move (asks_names w.editor uri ask (open_at w.editor uri)) made_of pending) mirror h
   event_next w serve seen new made_of pending mirror h = serve_next w w.to_server seen new made_of pending refl h
   event_next w take_message seen new made_of pending mirror h =
       stepped [] (takes w w.to_editor) seen new (λ _. takes_next w w.to_editor made_of pending) mirror h

@@ -17,7 +17,7 @@ use Rattle.ob0_layout.specs.Sites.{EditText, edit_text, edit_of, changed_sites, 
 use Rattle.ob0_layout.specs.LineRoles.{line_roles}
 use Rattle.ob0_session_offers.specs.Diagnosed.{IsTextOf, IsWellTypedModule}
 use Rattle.ob0_session_offers.specs.Texts.{utf8}
-use Rattle.ob0_session_offers.specs.Layouts.{LaysOut, IsTooLongLaidOut, changes_of, layout_of}
+use Rattle.ob0_session_offers.specs.Layouts.{LaysOut, IsTooLongLaidOut, layout_changes, layout_of}
 use Rattle.ob0_world_rules.specs.Edited.{Replacement, replacements}
 use Rattle.ob0_world_rules.proofs.Trees.{same_tree}
 
@@ -43,7 +43,7 @@ module _ (text : List ℕ) (m n : IsWellTypedModule (utf8 text)) where
   one_layout : (indent : Indent) → layout_of indent m ≡ layout_of indent n
   one_layout indent = λ i. layout indent (one_module i) (one_lexing i)
 
-  one_change : (unit : Unit) (indent : Indent) → changes_of unit indent text m ≡ changes_of unit indent text n
+  one_change : (unit : Unit) (indent : Indent) → layout_changes unit indent text m ≡ layout_changes unit indent text n
   one_change unit indent = λ i. map (edit_of indent (width_of unit) text) (changed_sites indent (one_source i).text (all_sites (line_roles 0 (one_module i)) (one_lexing i)))
 
 -- by the bytes of their texts too

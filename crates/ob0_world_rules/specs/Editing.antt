@@ -55,7 +55,8 @@ abbrev pub asks_about : Editor → List ℕ → Ask → Option Open → Move
 asks_about e uri ask (Some d) =
     let requested : SentAsk
     = record { ask = ask; uri = uri; opening = d.opening; version = d.version } in
-    sends (record e { requested = e.requested ++ requested ∷ [] }) (requests (suc (length e.requested)) uri ask)
+    sends (record e { requested = e.requested ++ requested ∷ [] })
+    (requests (suc (length e.requested)) uri ask)
 asks_about e uri ask None = idle
 
 -- there is an edit
@@ -122,7 +123,9 @@ applies_requested e edits (Some requested) =
     applies_edits e edits requested.uri (if_same requested (open_at e requested.uri))
 applies_requested e edits None = drops_answer e
 
--- the edits of answer k are made of the document, where that is the same as when it was requested; else the answer is dropped
+-- the edits of answer k are made of the document, where that is the same as when it was requested; else the answer is
+-- dropped
 abbrev pub applies_answer : Editor → ℕ → Option (List Replacement) → ApplyOutcome
-applies_answer e k (Some edits) = applies_requested (without_answer e k) edits (numbered e.requested k)
+applies_answer e k (Some edits) =
+    applies_requested (without_answer e k) edits (numbered e.requested k)
 applies_answer e k None = not_held

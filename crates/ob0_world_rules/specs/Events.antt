@@ -43,9 +43,9 @@ abbrev pub nothing_happens : Ends → EventStep
 nothing_happens w = record { seen = nothing; after = w }
 
 -- the editor's move
-abbrev pub moved : Ends → Move → EventStep
-moved w idle = nothing_happens w
-moved w (sends e message) =
+abbrev pub after_move : Ends → Move → EventStep
+after_move w idle = nothing_happens w
+after_move w (sends e message) =
     record { seen = sent; after = record w { editor = e; to_server = w.to_server ++ message ∷ [] } }
 
 -- the editor takes the first message that waits for it

@@ -3,7 +3,7 @@
 use Rattle.std.specs.Prelude.{◌≡◌, List, [], ◌∷◌, ◌++◌, length}
 use Rattle.ob0_world_rules.specs.Ends.{open_at, ToServer, ToEditor, Made, Ends, after_message}
 use Rattle.ob0_world_rules.specs.Editing.{opens_document, changes_document, closes_document, asks_about, kept_answer, discards, applies_answer}
-use Rattle.ob0_world_rules.specs.Events.{Event, open_document, change_document, close_document, ask_about, serve, take_message, apply, discard, Seen, nothing, served, Is, moved, takes, comes_of}
+use Rattle.ob0_world_rules.specs.Events.{Event, open_document, change_document, close_document, ask_about, serve, take_message, apply, discard, Seen, nothing, served, Is, after_move, takes, comes_of}
 use Rattle.ob0_world_rules.specs.Serving.{Replies}
 
 -- the server takes the first message that waits for it, and sends what it replies
@@ -25,13 +25,13 @@ ServerTakes w (message ∷ rest) seen new =
 -- At w this event shows what is seen, and leaves what is new.
 abbrev pub Happens : Ends → Event → Seen → Ends → Type 0
 Happens w (open_document uri text) seen new =
-    Is (moved w (opens_document w.editor uri text (open_at w.editor uri))) seen new
+    Is (after_move w (opens_document w.editor uri text (open_at w.editor uri))) seen new
 Happens w (change_document uri how) seen new =
-    Is (moved w (changes_document w.editor uri how (open_at w.editor uri))) seen new
+    Is (after_move w (changes_document w.editor uri how (open_at w.editor uri))) seen new
 Happens w (close_document uri) seen new =
-    Is (moved w (closes_document w.editor uri (open_at w.editor uri))) seen new
+    Is (after_move w (closes_document w.editor uri (open_at w.editor uri))) seen new
 Happens w (ask_about uri ask) seen new =
-    Is (moved w (asks_about w.editor uri ask (open_at w.editor uri))) seen new
+    Is (after_move w (asks_about w.editor uri ask (open_at w.editor uri))) seen new
 Happens w serve seen new = ServerTakes w w.to_server seen new
 Happens w take_message seen new = Is (takes w w.to_editor) seen new
 Happens w (apply k) seen new =

@@ -23,9 +23,10 @@ pub record KeepsTheRun (a : Applied) : Type 0 where
 abbrev pub IsRight : Made → Type 0
 IsRight m = IsEmptyIfCorrect m.text m.empty
 
--- at some moment, when the first of the events have happened and the others haven't, the editor has this document open, with this
--- version and this text
-pub record WasOpen (unit : Unit) (events : List Event) (uri : List ℕ) (version : ℤ) (text : List ℕ) : Type 0 where
+-- at some moment, when the first of the events have happened and the others haven't, the editor has this document open,
+-- with this version and this text
+pub record WasOpen (unit : Unit) (events : List Event) (uri : List ℕ) (version : ℤ)
+    (text : List ℕ) : Type 0 where
   pub before : List Event
   pub following : List Event
   pub parts : events ≡ before ++ following
@@ -41,14 +42,14 @@ abbrev pub WasMadeFor : Unit → List Event → Made → Type 0
 WasMadeFor unit events m = WasOpen unit events m.uri m.version m.text
 
 -- the later one, if there is one
-abbrev pub or_else : Option Made → Option Made → Option Made
-or_else (Some later) this = Some later
-or_else None this = this
+abbrev pub later_of : Option Made → Option Made → Option Made
+later_of (Some later) this = Some later
+later_of None this = this
 
 -- the last publication for a uri
 abbrev pub latest : List ℕ → List Made → Option Made
 latest uri [] = None
-latest uri (m ∷ ms) = or_else (latest uri ms) (if bytes_eq m.uri uri then Some m else None)
+latest uri (m ∷ ms) = later_of (latest uri ms) (if bytes_eq m.uri uri then Some m else None)
 
 -- there is one, and it was made for this version and this text
 abbrev pub IsMadeFor : ℤ → List ℕ → Option Made → Type 0
@@ -75,8 +76,10 @@ pub record Holds (w : Ends) : Type 0 where
   -- when no message waits for it, the latest diagnostics of each open document are those of its present text
   pub latest_made : w.to_server ≡ [] → AreUpToDate w.editor w.made
 
--- What a list of events leaves, from the beginning on: these edits were applied and these publications made, in this order.
-pub record Headline (unit : Unit) (events : List Event) (applied : List Applied) (made : List Made) : Type 0 where
+-- What a list of events leaves, from the beginning on: these edits were applied and these publications made, in this
+-- order.
+pub record Headline (unit : Unit) (events : List Event) (applied : List Applied)
+    (made : List Made) : Type 0 where
   pub end : Ends
   -- the events lead to this end, and to no other
   pub course : Course (start unit) events end

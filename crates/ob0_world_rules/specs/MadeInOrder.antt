@@ -76,22 +76,22 @@ AreMadeOf [] (t ∷ announced) = ⊥
 AreMadeOf (m ∷ made) [] = ⊥
 
 -- the uri and the version of the document that a message announces
-abbrev pub named_by : ToServer → List (List ℕ × ℤ)
-named_by (notifies (Opened uri version text)) = (uri, version) ∷ []
-named_by (notifies (Changed uri version how)) = (uri, version) ∷ []
-named_by (notifies (Lost uri)) = []
-named_by (notifies (Closed uri)) = []
-named_by (requests number uri ask) = []
+abbrev pub versions_announced : ToServer → List (List ℕ × ℤ)
+versions_announced (notifies (Opened uri version text)) = (uri, version) ∷ []
+versions_announced (notifies (Changed uri version how)) = (uri, version) ∷ []
+versions_announced (notifies (Lost uri)) = []
+versions_announced (notifies (Closed uri)) = []
+versions_announced (requests number uri ask) = []
 
 abbrev pub named_in : List ToServer → List (List ℕ × ℤ)
 named_in [] = []
-named_in (message ∷ queue) = named_by message ++ named_in queue
+named_in (message ∷ queue) = versions_announced message ++ named_in queue
 
 abbrev pub name_of : Announced → List ℕ × ℤ
 name_of t = (t.uri, pos t.document.version)
 
--- The documents that the editor announced are those that the publications were made for, one for each and in this order, and
--- after them those of the messages that still wait for the server, one for each that announces a document.
+-- The documents that the editor announced are those that the publications were made for, one for each and in this
+-- order, and after them those of the messages that still wait for the server, one for each that announces a document.
 pub record AreMadeInOrder (unit : Unit) (events : List Event) (made : List Made) : Type 0 where
   pub announced : List Announced
   pub waiting : List Announced

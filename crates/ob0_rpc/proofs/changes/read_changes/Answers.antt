@@ -2,7 +2,7 @@ use Rattle.std.proofs.Common.{◌∙◌, length, option_and_then, option_map, sy
 use Rattle.std.proofs.lemmas.List.{map-append}
 use Rattle.serde_json.specs.View.{items_view}
 use Rattle.ob0_text.specs.OpenDocuments.{reported_change}
-use Rattle.ob0_rpc.specs.Notes.{all_changes}
+use Rattle.ob0_rpc.specs.Notifications.{all_changes}
 use Rattle.ob0_rpc.proofs.Lists.{changes_more, changes_none, changes_all, no_value, Values}
 use Rattle.ob0_rpc.proofs.changes.read_changes.Goals as goal
 

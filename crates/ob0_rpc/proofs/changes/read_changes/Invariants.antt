@@ -2,7 +2,7 @@ use Rattle.std.proofs.Common.{◌≡◌, ◌++◌, length, map, option_map}
 use Rattle.std.specs.Vec.Iter.{into_iter_items, into_iter_len}
 use Rattle.serde_json.specs.View.{items_view}
 use Rattle.ob0_text.specs.OpenDocuments.{reported_change}
-use Rattle.ob0_rpc.specs.Notes.{all_changes}
+use Rattle.ob0_rpc.specs.Notifications.{all_changes}
 use Rattle.ob0_rpc.proofs.changes.read_changes.Given as goal
 
 -- the changes so far, before those of the entries that are left

@@ -1,6 +1,6 @@
 use Rattle.std.proofs.Common.{◌∙◌, ℕ, List, Option, inl, inr, refl, subst, sym}
 use Rattle.std.proofs.lemmas.Result.{IfOk-weaker}
-use Rattle.ob0_session_edits.specs.Actions.{FindsInlinings, actions_requested, place_of}
+use Rattle.ob0_session_edits.specs.Actions.{FindsInlinings, actions_requested, actions_offset}
 use Rattle.ob0_session_edits.specs.declared.actions.Inlinings.{Inlinings}
 use Rattle.ob0_session_edits.proofs.actions.code_actions.Goals as goal
 
@@ -12,7 +12,7 @@ returns-in-Some g c =
     let unit = g.T.TextStore.unit_of c.args.store.now in
     let text : List ℕ = g.T.TextStore.content c.args.store.now in
     let requested = actions_requested c.args.request.now in
-    let offset = place_of unit text requested.range in
+    let offset = actions_offset unit text requested.range in
     let found = subst (λ (a : Option Inlinings). FindsInlinings unit text offset a) c.in-Some.is c.in_ok-found.ensures in
     IfOk-weaker c.list_actions.result _ _ (λ bytes sent. (
       _,
@@ -25,6 +25,6 @@ returns-in-None g c =
     let unit = g.T.TextStore.unit_of c.args.store.now in
     let text : List ℕ = g.T.TextStore.content c.args.store.now in
     let requested = actions_requested c.args.request.now in
-    let offset = place_of unit text requested.range in
+    let offset = actions_offset unit text requested.range in
     let unfit = subst (λ (a : Option Inlinings). FindsInlinings unit text offset a) c.in-None.is c.in_ok-found.ensures in
     IfOk-weaker c.no_actions-in-None.result _ _ (λ bytes sent. (_, (_, inr (inr unfit, refl), refl), sent)) c.no_actions-in-None.ensures

@@ -6,7 +6,7 @@ use Rattle.ob0_rpc.specs.Writing.{Writes}
 use Rattle.ob0_text.specs.RefusalTexts.{refusal_text}
 use Rattle.ob0_text.specs.declared.edits.Edit.{Edit}
 use Rattle.ob0_text.specs.declared.refusals.EditRefusal.{EditRefusal}
-use Rattle.ob0_session_edits.specs.Renamed.{requested_of, edits_for_client}
+use Rattle.ob0_session_edits.specs.Renamed.{rename_requested, edits_for_client}
 use Rattle.ob0_rename.specs.InTexts.{FindsNewName}
 use Rattle.ob0_session_json.specs.Shapes.{edit_refused}
 use Rattle.ob0_session_edits.proofs.renaming.rename_symbol.Goals as goal
@@ -15,7 +15,7 @@ pub returns-in-Ok : goal.returns-in-Ok
 returns-in-Ok g c =
     let unit = g.T.TextStore.unit_of c.args.store.now in
     let text : List ℕ = g.T.TextStore.content c.args.store.now in
-    let requested = requested_of c.args.request.now in
+    let requested = rename_requested c.args.request.now in
     let found = subst (λ (a : Option (Result (Vec Edit Global) EditRefusal)). FindsNewName unit text requested.at.position requested.new a) c.in-Some.is c.in_ok-outcome.ensures in
     let renames = subst (λ (o : Result (Vec Edit Global) EditRefusal). FindsNewName unit text requested.at.position requested.new (Some o)) c.in-Ok.is found in
     let is = ap (edits_for_client requested) c.as_slice.ensures.value in
@@ -29,7 +29,7 @@ pub returns-in-Err : goal.returns-in-Err
 returns-in-Err g c =
     let unit = g.T.TextStore.unit_of c.args.store.now in
     let text : List ℕ = g.T.TextStore.content c.args.store.now in
-    let requested = requested_of c.args.request.now in
+    let requested = rename_requested c.args.request.now in
     let found = subst (λ (a : Option (Result (Vec Edit Global) EditRefusal)). FindsNewName unit text requested.at.position requested.new a) c.in-Some.is c.in_ok-outcome.ensures in
     let why = subst (λ (o : Result (Vec Edit Global) EditRefusal). FindsNewName unit text requested.at.position requested.new (Some o)) c.in-Err.is found in
     IfOk-weaker c.refused_because.result _ _ (λ bytes sent. (edit_refused requested.id (refusal_text c.in-Err.refusal), inr (inl (c.in-Err.refusal, why, refl)), sent)) c.refused_because.ensures
@@ -38,6 +38,6 @@ pub returns-in-None : goal.returns-in-None
 returns-in-None g c =
     let unit = g.T.TextStore.unit_of c.args.store.now in
     let text : List ℕ = g.T.TextStore.content c.args.store.now in
-    let requested = requested_of c.args.request.now in
+    let requested = rename_requested c.args.request.now in
     let found = subst (λ (a : Option (Result (Vec Edit Global) EditRefusal)). FindsNewName unit text requested.at.position requested.new a) c.in-None.is c.in_ok-outcome.ensures in
     IfOk-weaker c.refused_ill_typed.result _ _ (λ bytes sent. (edit_refused requested.id (codes "ill-typed"), inr (inr (found, refl)), sent)) c.refused_ill_typed.ensures

@@ -5,7 +5,7 @@ use Rattle.ob0_scan.specs.declared.lexeme.Span.{Span}
 use Rattle.ob0_refs.specs.Questions.{definition_at}
 use Rattle.ob0_scope_rules.specs.Resolution.{Resolution}
 use Rattle.serde_json.specs.Data.{null}
-use Rattle.ob0_session_queries.specs.Questions.{location_at, or_null}
+use Rattle.ob0_session_queries.specs.Questions.{location_at, value_or_null}
 use Rattle.ob0_session_queries.proofs.Naming.{FoundOf, found_of, null_can_be_sent}
 use Rattle.ob0_session_queries.proofs.questions.definition_answer.Goals as goal
 
@@ -19,7 +19,7 @@ returns-in-Some g c =
     let same = there.2 ∙ ap (definition_at there.0) c.offset-offset.ensures in
     IfOk-weaker c.location_or_null.result _ _ (λ bytes sent. (
       _,
-      inl (there.0, there.1, (λ i. or_null (option_map (location_at unit (c.as_str.ensures.value i) text) (same i)))),
+      inl (there.0, there.1, (λ i. value_or_null (option_map (location_at unit (c.as_str.ensures.value i) text) (same i)))),
       sent,
     )) c.location_or_null.ensures
 

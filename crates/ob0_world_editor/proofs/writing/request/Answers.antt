@@ -10,32 +10,32 @@ use Rattle.ob0_world_editor.proofs.writing.request.Goals as goal
 
 pub returns-in-Rename : goal.returns-in-Rename
 returns-in-Rename c =
-    let asked = rename c.in-Rename.position (string_bytes c.in-Rename.name) in
+    let this_ask = rename c.in-Rename.position (string_bytes c.in-Rename.name) in
     let sent = rw c.as_str-new_name.ensures.value at c.send.ensures in
     rw c.in-Rename.is
-    (if_ok c.send.result (λ content writes. ask_requested content.items c.args.number c.args.uri.now asked (writes (shallow_request c.args.number c.args.uri.now asked)).reads) sent)
+    (if_ok c.send.result (λ content writes. ask_requested content.items c.args.number c.args.uri.now this_ask (writes (shallow_request c.args.number c.args.uri.now this_ask)).reads) sent)
 
 pub returns-in-InlineHere : goal.returns-in-InlineHere
 returns-in-InlineHere c =
-    let asked = inline_here c.in-InlineHere.position in
+    let this_ask = inline_here c.in-InlineHere.position in
     rw c.in-InlineHere.is
-    (if_ok c.send-in-InlineHere.result (λ content writes. ask_requested content.items c.args.number c.args.uri.now asked (writes (shallow_request c.args.number c.args.uri.now asked)).reads)
+    (if_ok c.send-in-InlineHere.result (λ content writes. ask_requested content.items c.args.number c.args.uri.now this_ask (writes (shallow_request c.args.number c.args.uri.now this_ask)).reads)
     c.send-in-InlineHere.ensures)
 
 pub returns-in-InlineAll : goal.returns-in-InlineAll
 returns-in-InlineAll c =
-    let asked = inline_all c.in-InlineAll.position in
+    let this_ask = inline_all c.in-InlineAll.position in
     rw c.in-InlineAll.is
-    (if_ok c.send-in-InlineAll.result (λ content writes. ask_requested content.items c.args.number c.args.uri.now asked (writes (shallow_request c.args.number c.args.uri.now asked)).reads)
+    (if_ok c.send-in-InlineAll.result (λ content writes. ask_requested content.items c.args.number c.args.uri.now this_ask (writes (shallow_request c.args.number c.args.uri.now this_ask)).reads)
     c.send-in-InlineAll.ensures)
 
 pub returns-in-Format : goal.returns-in-Format
 returns-in-Format c =
-    let asked = format c.in-Format.indent in
+    let this_ask = format c.in-Format.indent in
     let message : Data → Data = λ d. request_message c.args.number (codes "textDocument/formatting") (object (member (codes "options") d (member (codes "textDocument") (document_value c.args.uri.now) no_members))) in
     let is = ap message c.of-options.ensures in
     rw c.in-Format.is
     (if_ok c.send-in-Format.result (λ content writes.
-    ask_requested content.items c.args.number c.args.uri.now asked
-    (subst (λ d. ReadsContent content.items (Some d)) is (writes (subst (λ d. depth d ≤ 127) (sym is) (shallow_request c.args.number c.args.uri.now asked))).reads))
+    ask_requested content.items c.args.number c.args.uri.now this_ask
+    (subst (λ d. ReadsContent content.items (Some d)) is (writes (subst (λ d. depth d ≤ 127) (sym is) (shallow_request c.args.number c.args.uri.now this_ask))).reads))
     c.send-in-Format.ensures)

@@ -6,7 +6,7 @@ use Rattle.ob0_rpc.specs.Seen.{id_data, kinds_seen}
 use Rattle.ob0_rpc.specs.declared.clients.Client.{Client}
 use Rattle.ob0_text.specs.OpenDocuments.{OpenDocuments, InStep, OutOfStep}
 use Rattle.ob0_text.specs.declared.position_types.Unit.{Unit}
-use Rattle.ob0_session_edits.specs.Actions.{ActionsAsked, AnswersActions}
+use Rattle.ob0_session_edits.specs.Actions.{RequestedActions, AnswersActions}
 use Rattle.ob0_session.specs.Answers.{ServerState, requests_actions, offers_actions}
 use Rattle.ob0_session.specs.Seen.{Reacts}
 use Rattle.ob0_session.proofs.Answering.{of_held, stays_with}
@@ -21,7 +21,7 @@ returns-in_ok-keep-in-Some-InStep g c =
     let there = rw c.in-Some-InStep.field-0-is at c.in-Some-InStep.ensures.held in
     let unit = (rw c.in-Some-InStep.field-0-is at c.in-Some-InStep.ensures.unit) ∙ ap (λ (h : OpenDocuments). h.unit) is in
     let text = g.T.TextStore.content c.in-Some-InStep.text.now in
-    let requested : Client → ActionsAsked = λ who. record { id = id; client = who; uri = c.args.uri.now; version = c.in-Some-InStep.version; range = c.args.range; only = kinds_seen c.args.only.now } in
+    let requested : Client → RequestedActions = λ who. record { id = id; client = who; uri = c.args.uri.now; version = c.in-Some-InStep.version; range = c.args.range; only = kinds_seen c.args.only.now } in
     let answer = rw (to_z-of_z {w = w64} {z = c.in-Some-InStep.version} (search rules)) at c.in_ok-answer-in-Some-InStep.ensures in
     let for_unit = subst (λ (u : Unit). AnswersActions u (requested c.self.inside.client) text answer.0) unit answer.1 in
     let for_client = subst (λ (who : Client). AnswersActions s.held.unit (requested who) text answer.0) client for_unit in

@@ -7,7 +7,7 @@ use Rattle.ob0_rpc.specs.declared.clients.Client.{Client}
 use Rattle.ob0_text.specs.OpenDocuments.{OpenDocuments, InStep, OutOfStep, document_at}
 use Rattle.ob0_text.specs.declared.position_types.Unit.{Unit}
 use Rattle.ob0_session.specs.Answers.{ServerState, requests_rename, renames}
-use Rattle.ob0_session_edits.specs.Renamed.{RenameAsked, AnswersRenaming}
+use Rattle.ob0_session_edits.specs.Renamed.{RequestedRename, AnswersRenaming}
 use Rattle.ob0_session.specs.Seen.{Reacts}
 use Rattle.ob0_session.proofs.Answering.{of_held, stays_with}
 use Rattle.ob0_session.proofs.server.Server.rename.Goals as goal
@@ -22,7 +22,7 @@ returns-in_ok-keep-in-Some-InStep g c =
     let there = (rw c.in-Some-InStep.field-0-is at c.in-Some-InStep.ensures.held) ∙ ap (document_at c.take-kept.new.self) c.as_str-uri.ensures.value in
     let unit = (rw c.in-Some-InStep.field-0-is at c.in-Some-InStep.ensures.unit) ∙ ap (λ (h : OpenDocuments). h.unit) is in
     let text = g.T.TextStore.content c.in-Some-InStep.text.now in
-    let requested : Client → RenameAsked = λ who. record { id = id; client = who; at = place; version = c.in-Some-InStep.version; new = c.args.new.now } in
+    let requested : Client → RequestedRename = λ who. record { id = id; client = who; at = place; version = c.in-Some-InStep.version; new = c.args.new.now } in
     let answer = rw (to_z-of_z {w = w64} {z = c.in-Some-InStep.version} (search rules)) at c.in_ok-answer-in-Some-InStep.ensures in
     let for_unit = subst (λ (u : Unit). AnswersRenaming u (requested c.self.inside.client) text answer.0) unit answer.1 in
     let for_client = subst (λ (who : Client). AnswersRenaming s.held.unit (requested who) text answer.0) client for_unit in

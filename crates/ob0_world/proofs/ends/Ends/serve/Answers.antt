@@ -7,7 +7,7 @@ use Rattle.ob0_world_rules.specs.Happens.{ServerTakes}
 use Rattle.ob0_world_rules.specs.Events as events
 use Rattle.ob0_world.specs.Queues.{IsRunningOrFailed, bytes, both_from, ends_from, made_sent}
 use Rattle.ob0_world.specs.Worlds.{Both, IsAnswered, TakesFirst}
-use Rattle.ob0_world.proofs.Serving.{turn, rest_sound, turn_stands, turn_sound, turn_happens, turn_taken}
+use Rattle.ob0_world.proofs.Serving.{turn, rest_sound, turn_running, turn_sound, turn_happens, turn_taken}
 use Rattle.ob0_world.proofs.ends.Ends.serve.Goals as goal
 use Rattle.ob0_world.proofs.ends.Ends.serve.Goals.{in-Some-made+in_ok-push, in_default-made}
 
@@ -18,7 +18,7 @@ invariant_of-self-in_err-sent g c =
 pub invariant_of-self-in_err-made : goal.invariant_of-self-in_err-made
 invariant_of-self-in_err-made g c =
     rest_sound c.self.inside.editor.requested c.self.inside.to_server.items c.pop_front.new.self.items c.self.inside.to_editor.items c.self.inside.session c.answer.new.session c.in-Some.content c.in-Some.ensures.items c.self.invariant
-    (turn_stands c.self.inside.editor c.self.inside.to_server.items c.pop_front.new.self.items c.self.inside.session c.answer.new.session c.in-Some.content c.in_ok-sent.sent.items
+    (turn_running c.self.inside.editor c.self.inside.to_server.items c.pop_front.new.self.items c.self.inside.session c.answer.new.session c.in-Some.content c.in_ok-sent.sent.items
     (turn c.self.inside.editor c.self.inside.to_server.items c.pop_front.new.self.items c.self.inside.to_editor.items c.self.inside.session c.answer.new.session c.in-Some.content c.in_ok-sent.sent.items c.in-Some.ensures.items c.self.invariant
     (subst (λ x. IsAnswered c.self.inside.session x (bytes c.in_ok-sent.sent.items) c.answer.new.session) c.as_slice.ensures.value c.in_ok-sent.ensures.ok)))
 

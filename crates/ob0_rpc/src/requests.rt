@@ -1,4 +1,4 @@
-//! What requests ask.
+//! Requests of the client (LSP 3.17), by method and params.
 ghost use Rattle.std.specs.Prelude.{◌≡◌, IfOk, max, min, option_map, option_and_then, map, string_bytes, codes};
 ghost use Rattle.serde_json.specs.Find.{get};
 ghost use Rattle.serde_json.specs.View.{view, items_view};
@@ -23,7 +23,7 @@ pub struct DocumentPosition {
 
 /// A request of a known method.
 #[derive(Drop)]
-pub enum Call {
+pub enum ClientRequest {
     Initialize(Client),
     Shutdown,
     Hover(DocumentPosition),
@@ -49,20 +49,24 @@ pub enum Call {
     },
 }
 
-/// Reads a request by its method. `initialize` asks only that its params are an object, and `shutdown` for nothing.
-pub fn request(alloc: Global, method: &str, params: &Value) -> Result<Call, RpcFault>
+/// Reads a request by its method. `initialize` requires params that are an object, `shutdown` requires nothing.
+pub fn request(alloc: Global, method: &str, params: &Value) -> Result<ClientRequest, RpcFault>
     ensures { Requests (call_of method.now (view params.now)) result }
 {
     if method == "initialize" {
         initialize(params)
     } else if method == "shutdown" {
-        Ok(Call::Shutdown)
+        Ok(ClientRequest::Shutdown)
     } else {
         request_of_language(alloc, method, params)
     }
 }
 
-fn request_of_language(alloc: Global, method: &str, params: &Value) -> Result<Call, RpcFault>
+fn request_of_language(
+    alloc: Global,
+    method: &str,
+    params: &Value,
+) -> Result<ClientRequest, RpcFault>
     ensures { Requests (language_call_of method.now (view params.now)) result }
 {
     if method == "textDocument/hover" {
@@ -84,44 +88,44 @@ fn request_of_language(alloc: Global, method: &str, params: &Value) -> Result<Ca
     }
 }
 
-fn initialize(params: &Value) -> Result<Call, RpcFault>
+fn initialize(params: &Value) -> Result<ClientRequest, RpcFault>
     ensures { Requests (or_bad (initialize_of (view params.now))) result }
 {
     if params.is_object() {
-        Ok(Call::Initialize(client_of(params)))
+        Ok(ClientRequest::Initialize(client_of(params)))
     } else {
         Err(RpcFault::BadParams)
     }
 }
 
-fn hover(alloc: Global, params: &Value) -> Result<Call, RpcFault>
+fn hover(alloc: Global, params: &Value) -> Result<ClientRequest, RpcFault>
     ensures { Requests (or_bad (option_map asks.hover (at_of (view params.now)))) result }
 {
     let Some(place) = place_of(alloc, params)? else {
         return Err(RpcFault::BadParams);
     };
-    Ok(Call::Hover(place))
+    Ok(ClientRequest::Hover(place))
 }
 
-fn definition(alloc: Global, params: &Value) -> Result<Call, RpcFault>
+fn definition(alloc: Global, params: &Value) -> Result<ClientRequest, RpcFault>
     ensures { Requests (or_bad (option_map asks.definition (at_of (view params.now)))) result }
 {
     let Some(place) = place_of(alloc, params)? else {
         return Err(RpcFault::BadParams);
     };
-    Ok(Call::Definition(place))
+    Ok(ClientRequest::Definition(place))
 }
 
-fn prepare_rename(alloc: Global, params: &Value) -> Result<Call, RpcFault>
+fn prepare_rename(alloc: Global, params: &Value) -> Result<ClientRequest, RpcFault>
     ensures { Requests (or_bad (option_map asks.prepare_rename (at_of (view params.now)))) result }
 {
     let Some(place) = place_of(alloc, params)? else {
         return Err(RpcFault::BadParams);
     };
-    Ok(Call::PrepareRename(place))
+    Ok(ClientRequest::PrepareRename(place))
 }
 
-fn references(alloc: Global, params: &Value) -> Result<Call, RpcFault>
+fn references(alloc: Global, params: &Value) -> Result<ClientRequest, RpcFault>
     ensures { Requests (or_bad (references_of (view params.now))) result }
 {
     let Some(place) = place_of(alloc, params)? else {
@@ -130,13 +134,13 @@ fn references(alloc: Global, params: &Value) -> Result<Call, RpcFault>
     let Some(include_declaration) = includes_declaration(params) else {
         return Err(RpcFault::BadParams);
     };
-    Ok(Call::References {
+    Ok(ClientRequest::References {
         place,
         include_declaration,
     })
 }
 
-fn rename(alloc: Global, params: &Value) -> Result<Call, RpcFault>
+fn rename(alloc: Global, params: &Value) -> Result<ClientRequest, RpcFault>
     ensures { Requests (or_bad (rename_of (view params.now))) result }
 {
     let Some(place) = place_of(alloc, params)? else {
@@ -146,10 +150,10 @@ fn rename(alloc: Global, params: &Value) -> Result<Call, RpcFault>
         return Err(RpcFault::BadParams);
     };
     let new_name = String::from_str(alloc, new_name)?;
-    Ok(Call::Rename { place, new_name })
+    Ok(ClientRequest::Rename { place, new_name })
 }
 
-fn code_action(alloc: Global, params: &Value) -> Result<Call, RpcFault>
+fn code_action(alloc: Global, params: &Value) -> Result<ClientRequest, RpcFault>
     ensures { Requests (or_bad (code_action_of (view params.now))) result }
 {
     let Some(uri) = uri_of(params) else {
@@ -162,10 +166,10 @@ fn code_action(alloc: Global, params: &Value) -> Result<Call, RpcFault>
     let Some(only) = kinds_of(alloc, params.get("context"))? else {
         return Err(RpcFault::BadParams);
     };
-    Ok(Call::CodeAction { uri, range, only })
+    Ok(ClientRequest::CodeAction { uri, range, only })
 }
 
-fn formatting(alloc: Global, params: &Value) -> Result<Call, RpcFault>
+fn formatting(alloc: Global, params: &Value) -> Result<ClientRequest, RpcFault>
     ensures { Requests (or_bad (formatting_of (view params.now))) result }
 {
     let Some(uri) = uri_of(params) else {
@@ -175,7 +179,7 @@ fn formatting(alloc: Global, params: &Value) -> Result<Call, RpcFault>
     let Some(indent) = indent_of(params) else {
         return Err(RpcFault::BadParams);
     };
-    Ok(Call::Formatting { uri, indent })
+    Ok(ClientRequest::Formatting { uri, indent })
 }
 
 fn place_of(alloc: Global, params: &Value) -> Result<Option<DocumentPosition>, AllocError>
@@ -219,7 +223,7 @@ fn spaces_of(size: u64) -> u8
     size.min(16).max(1) as u8
 }
 
-/// The kinds that a context asks for; None where it can't be read.
+/// The kinds that a context requests; None where it can't be read.
 fn kinds_of(
     alloc: Global,
     context: Option<&Value>,

@@ -1,7 +1,7 @@
 use Rattle.std.proofs.Common.{◌≡◌, ◌++◌, drop, map, option_map, string_bytes}
 use Rattle.serde_json.specs.View.{items_view}
 use Rattle.ob0_rpc.specs.Requesting.{texts_of}
-use Rattle.ob0_rpc.proofs.calls.texts_of.Given as goal
+use Rattle.ob0_rpc.proofs.requests.texts_of.Given as goal
 
 -- the texts so far, before those of the items that are left
 abbrev pub invariant-loop-item : goal.invariant-loop-item

@@ -7,7 +7,7 @@ use Rattle.ob0_session.specs.Answers.{ServerState, answers_name, requests_name}
 use Rattle.ob0_session_queries.specs.Questions.{AnswersName}
 use Rattle.ob0_session.specs.Seen.{Reacts}
 use Rattle.ob0_session.proofs.Answering.{of_held, stays_with}
-use Rattle.ob0_session.proofs.server.Server.answer_name_query.Goals as goal
+use Rattle.ob0_session.proofs.server.Server.query.Goals as goal
 
 pub returns-in_ok-keep-in-Some-InStep : goal.returns-in_ok-keep-in-Some-InStep
 returns-in_ok-keep-in-Some-InStep g c =

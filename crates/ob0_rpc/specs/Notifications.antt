@@ -21,8 +21,8 @@ pub data Notification : Type 0 where
   other : Notification
 
 -- the range that a change has, or that it has none; none where it can't be read
-abbrev pub range_by : Option Data → Option (Option Range)
-range_by found =
+abbrev pub changed_range : Option Data → Option (Option Range)
+changed_range found =
     if is_absent found then Some None else option_map Some (option_and_then range_of found)
 
 -- a change, where its range and its text can be read
@@ -33,7 +33,7 @@ change_by None text = None
 
 -- A change of a range, or of the whole text.
 abbrev pub change_in : Data → Option TextChange
-change_in entry = change_by (range_by (get (codes "range") entry)) (text_in (codes "text") entry)
+change_in entry = change_by (changed_range (get (codes "range") entry)) (text_in (codes "text") entry)
 
 -- all changes; none where one of them can't be read
 abbrev pub all_changes : Items → Option (List TextChange)

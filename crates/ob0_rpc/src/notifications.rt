@@ -2,7 +2,7 @@
 ghost use Rattle.std.specs.Prelude.{◌≡◌, IfOk};
 ghost use Rattle.serde_json.specs.View.{view};
 ghost use Rattle.ob0_rpc.specs.Members.{uri_of as uri_in, version_of as version_in, text_of as text_in};
-ghost use Rattle.ob0_rpc.specs.Notes.{open_of, change_of, close_of, changes_of as changes_in};
+ghost use Rattle.ob0_rpc.specs.Notifications.{open_of, change_of, close_of, changes_of as changes_in};
 ghost use Rattle.ob0_rpc.specs.Seen.{ReportsAs, seen_note};
 
 use crate::changes::read_changes;
@@ -14,7 +14,7 @@ use std::alloc::{AllocError, Global};
 
 /// A notification.
 #[derive(Drop)]
-pub enum Note {
+pub enum ClientNotification {
     Exit,
     Open {
         uri: String,
@@ -37,11 +37,11 @@ pub enum Note {
 }
 
 /// Reads a notification by its method, and takes its texts out of the params. The only fault is running out of memory.
-pub fn notice(alloc: Global, method: &str, params: Value) -> Result<Note, RpcFault>
+pub fn notice(alloc: Global, method: &str, params: Value) -> Result<ClientNotification, RpcFault>
     ensures { ReportsAs method.now (view params) result }
 {
     if method == "exit" {
-        Ok(Note::Exit)
+        Ok(ClientNotification::Exit)
     } else if method == "textDocument/didOpen" {
         Ok(read_open(alloc, params)?)
     } else if method == "textDocument/didChange" {
@@ -49,49 +49,49 @@ pub fn notice(alloc: Global, method: &str, params: Value) -> Result<Note, RpcFau
     } else if method == "textDocument/didClose" {
         Ok(read_close(alloc, &params)?)
     } else {
-        Ok(Note::Other)
+        Ok(ClientNotification::Other)
     }
 }
 
-fn read_open(alloc: Global, params: Value) -> Result<Note, AllocError>
+fn read_open(alloc: Global, params: Value) -> Result<ClientNotification, AllocError>
     ensures { IfOk result (λ note. seen_note note
         ≡ open_of (uri_in (view params)) (version_in (view params)) (text_in (view params))) }
 {
     let Some(uri) = uri_of(&params) else {
-        return Ok(Note::Unreadable { uri: None });
+        return Ok(ClientNotification::Unreadable { uri: None });
     };
     let uri = String::from_str(alloc, uri)?;
     match (version_of(&params), into_document_text(params)) {
-        (Some(version), Some(text)) => Ok(Note::Open { uri, version, text }),
-        _ => Ok(Note::Unreadable { uri: Some(uri) }),
+        (Some(version), Some(text)) => Ok(ClientNotification::Open { uri, version, text }),
+        _ => Ok(ClientNotification::Unreadable { uri: Some(uri) }),
     }
 }
 
-fn read_change(alloc: Global, params: Value) -> Result<Note, AllocError>
+fn read_change(alloc: Global, params: Value) -> Result<ClientNotification, AllocError>
     ensures { IfOk result (λ note. seen_note note
         ≡ change_of (uri_in (view params)) (version_in (view params)) (changes_in (view params))) }
 {
     let Some(uri) = uri_of(&params) else {
-        return Ok(Note::Unreadable { uri: None });
+        return Ok(ClientNotification::Unreadable { uri: None });
     };
     let uri = String::from_str(alloc, uri)?;
     match (version_of(&params), read_changes(alloc, params)?) {
-        (Some(version), Some(changes)) => Ok(Note::Change {
+        (Some(version), Some(changes)) => Ok(ClientNotification::Change {
             uri,
             version,
             changes,
         }),
-        _ => Ok(Note::Unreadable { uri: Some(uri) }),
+        _ => Ok(ClientNotification::Unreadable { uri: Some(uri) }),
     }
 }
 
-fn read_close(alloc: Global, params: &Value) -> Result<Note, AllocError>
+fn read_close(alloc: Global, params: &Value) -> Result<ClientNotification, AllocError>
     ensures { IfOk result (λ note. seen_note note ≡ close_of (uri_in (view params.now))) }
 {
     match uri_of(params) {
-        Some(uri) => Ok(Note::Close {
+        Some(uri) => Ok(ClientNotification::Close {
             uri: String::from_str(alloc, uri)?,
         }),
-        None => Ok(Note::Unreadable { uri: None }),
+        None => Ok(ClientNotification::Unreadable { uri: None }),
     }
 }
