@@ -26,7 +26,7 @@ import harness  # noqa: E402
 WORDS = ("check:", "run:", "rename", "messages:", "program: help", "examples")
 LARGEST = 1_100_000  # bytes of a file or an input; what is longer is left to bin/ob0
 COMMANDS = ("check", "run", "rename")
-STEP = 15  # seconds between two lines while the program is compiled
+STEP = 15  # seconds between two lines while the program is compiled and run
 
 
 class Unknown(Exception):
@@ -104,7 +104,8 @@ def compiled(cases):
         for it in ("cases", "modules"):
             os.mkdir(os.path.join(room, it))
         names, flags = cases.write(room)
-        words = ["rt", "try", *flags, "--cases", os.path.join(room, "cases")]
+        # (one step: the interpreter beside the compiled program runs nothing that reads arguments, and takes most of a second to say so)
+        words = ["rt", "try", "--steps", "1", *flags, "--cases", os.path.join(room, "cases")]
         timer, shown = common.Timer(), time.monotonic()
         with tempfile.TemporaryFile() as out, tempfile.TemporaryFile() as err:
             how = {"cwd": os.path.join(common.TOP, "crates", "ob0"), "stdin": subprocess.DEVNULL, "stdout": out, "stderr": err}
@@ -127,6 +128,8 @@ def play(function):
     """Plays a test: None where it passed, else why it didn't."""
     try:
         function()
+    except FileNotFoundError as why:
+        return Unknown("the built program") if why.filename == harness.BINARY else why
     except Exception as why:  # pylint: disable=broad-except
         return why
     return None
