@@ -5,7 +5,8 @@
 #   make package           packs the proved program: a Debian package and a .tar.gz with the same tree, in bin/
 #   make install PREFIX=.. copies that tree to PREFIX: the program, manual page, completions, editor files, pages and examples
 #   make uninstall PREFIX=.. removes what was installed there
-#   make test              the gate (every proof from nothing) and the end-to-end tests
+#   make test              the gate (every proof; the kit keeps what passed before on this machine) and the end-to-end tests
+#   make test ANEW=1       the same, and every proof from nothing
 #   make help              prints these lines
 # (where bin/ob0 is there and up to date, build, package, install and demo need no toolchain)
 # and beside them:
@@ -29,7 +30,7 @@ help:
 	@sed -n '/^#/!q; s/^# \{0,1\}//p' Makefile
 
 test: python
-	@$(PYTHON) tools/test.py
+	@$(PYTHON) tools/test.py $(if $(ANEW),--anew)
 
 build: python
 	@$(PYTHON) tools/build.py

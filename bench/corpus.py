@@ -198,6 +198,11 @@ def uses(count, on_line=False):
     return lines_of("MODULE Uses; VAR x: INTEGER;", [f"x:={at % 10}" for at in range(count)], on_line)
 
 
+def chain(count):
+    """One variable that is used so often in one sum, in as few bytes as can be."""
+    return "MODULE Uses; VAR x: INTEGER; BEGIN x:=" + "x+" * (count - 2) + "x END Uses.\n"
+
+
 def fields(count, on_line=False):
     """One field of a record that is used so often."""
     return lines_of("MODULE Uses; VAR r:RECORD x:INTEGER END;", [f"r.x:={at % 10}" for at in range(count)], on_line)

@@ -3,7 +3,8 @@
 
   bench/run.py [WORD..]   the measurements whose names hold one of the words; with no word all of them
 
-The variable BESIDE may name another program with the same commands: runs are then timed in it too."""
+The variable BESIDE may name another program with the same commands: runs, keys and the largest messages are then measured in it
+too."""
 import ctypes
 import os
 import re
@@ -529,37 +530,42 @@ def halves(what, cost, first, second):
 @measure("rename: a long name for one that is used all over 1 MB, beside half of the uses and half of the name")
 def renamed_to_a_long_name():
     def cost(uses, letters):
-        ask = {"newName": "y" * letters, "position": place(0, 18)}
-        return asked(corpus.uses(uses, False), "rename", ask, b"TooLong", 1)
+        ask = {"newName": "y" * letters, "position": place(0, 17)}
+        return asked(corpus.chain(uses), "rename", ask, b"TooLong", 1)
 
-    halves("uses and letters", cost, COUNTS[1], 8_000_000)
+    halves("uses and letters", cost, 500_000, 8_000_000)
 
 
 @measure("serve: a change on each line in one note, beside half of the changes and half of the lines")
 def changed_on_each_line():
     def cost(changes, lines):
+        """From the first line on, and at the first again after the last."""
         text = "MODULE M; VAR x: INTEGER; BEGIN\n" + "x:=x+1;\n" * lines + "END M.\n"
-        replaced = [{"range": extent(f"{1 + at}:0-{1 + at}:1"), "text": "x"} for at in range(changes)]
+        replaced = [{"range": extent(f"{1 + at % lines}:0-{1 + at % lines}:1"), "text": "x"} for at in range(changes)]
         talk = lambda more: frames([initialize(), did_open(text), *more, SHUTDOWN, EXIT])
         found, opening = (best(3, lambda more=more: Timed([BINARY, "serve"], talk(more))) for more in ([did_change(replaced, version=2)], []))
         return max(found.processor - opening.processor, 1e-4), found.memory
 
-    halves("changes and lines", cost, 50_000, 100_000)
+    halves("changes and lines", cost, 128_000, 128_000)
 
 
 @measure("serve: one message of 16 MiB, beside one of 8")
 def largest_message():
-    def each(make, size):
-        one = make()
+    """Where BESIDE names another program, the time and the peak memory by its own."""
+
+    def each(one, size, program=BINARY):
         content = b"[" + (one + b",") * ((size - 3) // (len(one) + 1)) + b"0]"
         given = b"Content-Length: %d\r\n\r\n" % len(content) + content
-        found = best(3, lambda: Timed([BINARY, "serve"], given))
+        found = best(3, lambda: Timed([program, "serve"], given))
         return found.processor, found.memory
 
-    makes = {"numbers": lambda: b"0", "objects": lambda: b"{}", "objects in 124 others": lambda: b'{"":' * 124 + b"0" + b"}" * 124}
-    for name, make in makes.items():
-        (half, low), (whole, high) = each(make, 8 * MIB), each(make, 16 * MIB - 64)
+    values = {"numbers": b"0", "objects": b"{}", "objects of an object": b'{"a":{}}', "objects in 124 others": b'{"":' * 124 + b"0" + b"}" * 124}
+    for name, one in values.items():
+        (half, low), (whole, high) = each(one, 8 * MIB), each(one, 16 * MIB - 64)
         said(f"a message of {name}", f"{whole:7.3f} s, ratio {whole / half / 2:.2f}; {megabytes(high)}, of half of it {megabytes(low)}")
+        if os.environ.get("BESIDE"):
+            seconds, memory = each(one, 16 * MIB - 64, os.environ["BESIDE"])
+            said(f"a message of {name}, beside", f"{seconds:7.3f} s  {megabytes(memory)}  ratios {whole / seconds:.2f} and {high / memory:.2f}")
 
 
 @measure("rename: from the request to the end of its answer, on 1 MiB")

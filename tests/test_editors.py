@@ -1,6 +1,7 @@
-"""Real editors, without a screen, each set up by the commands and lines of its page in editors/: Neovim by its own client,
-Emacs by eglot and by lsp-mode, Vim by ALE and by YouCompleteMe, Kate by its plugin (on a screen that nobody sees). Kakoune,
-which has no client, is in test_syntax_files.py.
+"""Real editors without a screen, each set up by the commands and lines of its page in editors/.
+
+Neovim is driven by its own client, Emacs by eglot and by lsp-mode, Vim by ALE and by YouCompleteMe, Kate by its plugin (on a screen
+that nobody sees). Kakoune, which has no client, is in test_syntax_files.py.
 
 A test of an editor that isn't here is left out, by name; `make editors` installs them all."""
 import functools
@@ -22,6 +23,7 @@ ENDED = {"code": 0, "signal": 0}
 def play(editor, words, steps, text, given, set_up=lambda room: None, in_terminal=False, more=None):
     """What an editor found in these steps on a file with this text, with what else is given to it: pairs of a step and
     what was found."""
+    harness.need_program()
     with tempfile.TemporaryDirectory() as room:
         own = at_home(room, editor)
         set_up(room)
@@ -395,6 +397,7 @@ def lsp_mode_format():
 @test("VS Code: the extension, with stand-ins for the editor, starts the server, and its tasks check and run")
 def vscode():
     want("Node")
+    harness.need_program()
     with tempfile.TemporaryDirectory() as room:
         own = at_home(room, "vscode")
         file = os.path.join(room, "it's a.mod")

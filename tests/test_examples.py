@@ -1,6 +1,7 @@
-"""The modules of examples/: each is checked without a fault, prints what its file .out has on the numbers of its file .in, ends as
-its file .err tells where it has one, and is laid out as the server lays it out. (What they print was written down by other means
-than this program.)"""
+"""The modules of examples/: checks, runs and layouts.
+
+Each is checked without a fault, prints what its file .out has on the numbers of its file .in, ends as its file .err says where it
+has one, and is laid out as the server lays it out. (What they print was written down by other means than this program.)"""
 import os
 
 from harness import TOP, Server, did_open, ends, examples, holds, run, same, test, text_of

@@ -1,6 +1,7 @@
-"""Memory that is refused: each allocation of the program in turn, alone and with all after it, and each of the framer and of the
-worlds of an editor and a server in the tests of the crates. `make faults` does the same in longer conversations and in the other
-tests of the crates."""
+"""Each allocation of the program, the framer and the worlds refused in turn, alone and with all after it.
+
+The framer and the worlds of an editor and a server are in the tests of the crates. `make faults` does the same in longer
+conversations and in the other tests of the crates."""
 import conversations
 import failing
 import refused_tests

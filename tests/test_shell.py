@@ -1,5 +1,4 @@
-"""What belongs to the program in a shell: completions for bash, zsh and fish, the manual page, and the commands
-in README.md and the pages of the editors."""
+"""In a shell: completions for bash, zsh and fish, the manual page, and the commands of README.md and the editors' pages."""
 import os
 import pty
 import re

@@ -1,5 +1,6 @@
-"""The sources of the repository: each mutant, a file of edits that the prover has to refuse, fits the file that it changes; and no
-file of tests imports another."""
+"""The sources of the repository: mutants fit the files that they change, and no file of tests imports another.
+
+A mutant is a file of edits that the prover has to refuse."""
 import glob
 import os
 import re

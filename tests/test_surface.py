@@ -1,5 +1,4 @@
-"""The list of public functions: it is of the sources that stand here, and each function that another crate uses has a wrong
-body that the prover refuses, or a reason why it has none."""
+"""docs/SURFACE.md is of the present sources, and each function that another crate uses has a mutant, or a reason why not."""
 import os
 import shutil
 import subprocess

@@ -1,5 +1,6 @@
-"""The files of editors/ that colour, detect and indent: each has the words of the scanner and of the language, and each is
-read by the tool that uses it, where that is here."""
+"""The files of editors/ that colour, detect and indent.
+
+Each has the words of the scanner and of the language, and each is read by the tool that uses it, where that is here."""
 import functools
 import json
 import os

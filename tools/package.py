@@ -70,7 +70,8 @@ def moment():
 def git(*words):
     how = {"cwd": TOP, "stdout": subprocess.PIPE, "stderr": subprocess.DEVNULL, "stdin": subprocess.DEVNULL}
     try:
-        return subprocess.run(["git", *words], check=False, **how).stdout.decode().strip()
+        # (also by sudo, in a folder of somebody else)
+        return subprocess.run(["git", "-c", f"safe.directory={TOP}", *words], check=False, **how).stdout.decode().strip()
     except OSError:
         return ""
 
@@ -317,10 +318,13 @@ def main(words):
     room = os.path.expanduser(prefix)
     if root:
         room = os.path.join(root, room.lstrip("/"))
-    if command == "uninstall":
-        return uninstall(room)
-    need_program()
-    return package() if command == "package" else install(room)
+    try:
+        if command == "uninstall":
+            return uninstall(room)
+        need_program()
+        return package() if command == "package" else install(room)
+    except PermissionError as why:
+        return common.stop(f"{why.filename} can't be written or removed: use sudo, or a folder of your own (PREFIX=~/.local)", 1)
 
 
 if __name__ == "__main__":

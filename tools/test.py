@@ -1,8 +1,10 @@
 #!/usr/bin/env python3
-"""The whole test: the gate (`rt ci`: every proof, the edits that must fail, the tests, the program as two compilers build
-it), and then the end-to-end tests on the program that the gate built.
+"""The whole test: the gate (`rt ci`), and then the end-to-end tests on the program that the gate built.
 
-The last line is 'N passed, M failed' over both; it also goes into bin/results."""
+  tools/test.py [--anew]   with --anew nothing is taken that an earlier run on this machine passed
+
+The gate is every proof, the edits that must fail, the tests, and the program as two compilers build it. The last line is
+'N passed, M failed' over both; it also goes into bin/results."""
 import os
 import re
 import shutil
@@ -50,13 +52,13 @@ def jobs():
     return {"RT_JOBS": str(max(1, min(processors, memory // 3_500_000_000)))}
 
 
-def gate(timer):
+def gate(timer, flags):
     """The gate's counts. The program that it builds becomes bin/ob0: it is not proved a second time."""
     linked = os.path.join(TOP, "crates", "ob0", "out", "ob0")
     for old in (linked, common.BINARY):
         if os.path.exists(old):
             os.remove(old)
-    counts = stream(["rt", "ci"], timer, **jobs())
+    counts = stream(["rt", "ci", *flags], timer, **jobs())
     if os.path.isfile(linked):
         common.keep(linked, f"{counts[0]} passed, {counts[1]} failed")
     return counts
@@ -79,7 +81,7 @@ def say_missing():
         print(f"missing: {', '.join(others)}. `make editors` installs them; without, the tests that want them are left out, by name", flush=True)
 
 
-def main():
+def main(flags):
     timer = common.Timer()
     os.makedirs(os.path.dirname(RESULTS), exist_ok=True)
     if os.path.exists(RESULTS):
@@ -89,7 +91,7 @@ def main():
     common.need("rt")
     say_missing()
     print("== the gate", flush=True)
-    passed, failed = gate(timer)
+    passed, failed = gate(timer, flags)
     print(f"== the gate: {passed} passed, {failed} failed, {timer}, of the processors {common.clock(spent())}", flush=True)
     print("== end to end", flush=True)
     if os.path.isfile(common.BINARY):
@@ -106,4 +108,4 @@ def main():
 
 
 if __name__ == "__main__":
-    sys.exit(main())
+    sys.exit(main([it for it in sys.argv[1:] if it == "--anew"]))

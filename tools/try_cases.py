@@ -1,13 +1,18 @@
 #!/usr/bin/env python3
-"""Runs the tables of `check`, `run` and `rename` on the program before anything is proved: `rt try` compiles it once, without its
-proofs, and runs it on each case.
+"""Runs the tables of `check`, `run` and `rename` on the program before anything is proved.
 
   tools/try_cases.py [WORD..]   the tests whose names hold one of the words; with no word those of check, run, edits and messages
 
-The cases are those of the end-to-end tests: what these would run is noted, all of it is run at once, and then the tests are
-played with what came. A test that wants something else than these commands on a small file (a conversation, a device, a file
-that isn't there, what an earlier run printed) is left out, by name. Whether an output ends with a line feed isn't seen. The last
-line is 'N passed, M failed'."""
+The cases are those of the end-to-end tests: what these would run is noted, all of it is run by `rt try`, which compiles the program
+without its proofs, and then the tests are played with what came. A test that wants something else than these commands on a small
+file (a conversation, a device, a file that isn't there, what an earlier run printed) is left out, by name. Whether an output ends
+with a line feed isn't seen. The last line is 'N passed, M failed'.
+
+What takes time is the compile (some 100 seconds of a processor) and then 0.7 seconds for each case, whatever it does: `rt try` makes
+the program ready for an interpreter too, each time, which then runs nothing that reads arguments. So the cases are dealt out to as
+many `rt try` as every second processor carries, each with a compile of its own; and all but a few of the modules that are to be
+checked are opened in one conversation, whose diagnostics are those that `check` prints."""
+import json
 import os
 import re
 import subprocess
@@ -23,10 +28,13 @@ for folder in ("tests", os.path.join("tests", "lib")):
 
 import harness  # noqa: E402
 
-WORDS = ("check:", "run:", "rename", "messages:", "program: help", "examples")
+WORDS = ("check:", "run:", "rename", "messages:", "examples")
 LARGEST = 1_100_000  # bytes of a file or an input; what is longer is left to bin/ob0
 COMMANDS = ("check", "run", "rename")
-STEP = 15  # seconds between two lines while the program is compiled
+STEP = 15  # seconds between two lines while the program is compiled and run
+CHECKED = 8  # how many modules are checked by the command, before the others are opened in one conversation
+MEMORY = 3_500_000_000  # bytes for each `rt try`
+CHECK = ("check", "FILE")
 
 
 class Unknown(Exception):
@@ -37,7 +45,7 @@ class Cases:
     """What the tests run, and what came of it."""
 
     def __init__(self):
-        self.wanted, self.found, self.noting = {}, {}, True
+        self.wanted, self.found, self.opened, self.noting = {}, {}, [], True
 
     def run(self, words, given=b"", stack=None, cwd=None):
         """In place of `harness.run`: the words, the input and the files that they name."""
@@ -59,13 +67,42 @@ class Cases:
             raise Unknown("what an earlier run printed")
         return self.found[key]
 
+    def note(self, name, function):
+        """Notes what a test runs. Where it wants what can't be had, nothing of it is run, and the reason is given with its name."""
+        before = dict(self.wanted)
+        why = play(function)
+        if not isinstance(why, (Unknown, harness.Skipped)):
+            return name, None
+        self.wanted = before
+        return name, why
+
     def unless_noting(self, check):
         """A check of the harness, which holds nothing while the cases are noted."""
         return lambda *words, **named: None if self.noting else check(*words, **named)
 
-    def write(self, room):
-        """Writes the cases as files for `rt try`, and returns their names and the flags that give it the modules that are run. It
-        copies each of these for each case: so a module is there once, and where a case reads no input it is the module itself."""
+    def put_together(self):
+        """Takes the modules that are to be checked, but for a few, out of the cases and into one conversation, a case by itself."""
+        checks = [it for it in self.wanted if it[0] == CHECK and is_text(it[1]) and not it[2]]
+        self.opened = checks[CHECKED:]
+        for it in self.opened:
+            del self.wanted[it]
+        if self.opened:
+            opens = [harness.did_open(text.decode(), uri=f"file:///{at}") for at, (_, text, _) in enumerate(self.opened)]
+            self.wanted[("serve",), harness.frames([harness.initialize(), *opens, harness.SHUTDOWN, harness.EXIT])] = None
+
+    def take_opened(self, said):
+        """What `check` prints of each module that was opened, by its diagnostics."""
+        contents = [json.loads(it) for it in harness.unframed(said)]
+        for it in (it["params"] for it in contents if "params" in it):
+            at = int(it["uri"].rpartition("/")[2])
+            starts = [(found["range"]["start"], found) for found in it["diagnostics"]]
+            lines = [f"{start['line']}:{start['character']}: {found['code']}: {found['message']}\n" for start, found in starts]
+            self.found[self.opened[at]] = harness.Ended("".join(lines).encode(), b"", 1 if lines else 0)
+
+    def write(self, room, lanes):
+        """Writes the cases as files for `rt try`, dealt out to so many folders, and returns their names and the flags that give it
+        the modules that are run. It copies each of these for each case: so a module is there once, and where a case reads no input
+        it is the module itself."""
         names, modules = {}, {}
         for at, (words, *texts) in enumerate(self.wanted):
             name, content, module = f"case{at:04}", texts[-1], "{}"
@@ -75,7 +112,7 @@ class Cases:
                 content = texts[0]
             line = [module if it == "FILE" else it for it in words]
             for ending, text in (("", content), (".args", "\n".join(line).encode())):
-                with open(os.path.join(room, "cases", name + ending), "wb") as file:
+                with open(os.path.join(room, f"cases{at % lanes}", name + ending), "wb") as file:
                     file.write(text)
             names[name] = (words, *texts)
         flags = []
@@ -94,39 +131,79 @@ class Cases:
         for it in re.finditer(rb"^case=(case\d{4}) run=(\w+)(?: status=(\d+))?[^\n]*\n", err, re.M):
             name, how, status = it[1].decode(), it[2], it[3]
             said, before = err[before : it.start()], it.end()
-            if how == b"ended" and name in names:
+            if how == b"ended" and names[name][0] == ("serve",):
+                self.take_opened(printed[name].rstrip(b"\n"))
+            elif how == b"ended":
                 self.found[names[name]] = harness.Ended(printed.get(name, b""), said, int(status))
+            else:
+                self.found[names[name]] = harness.Ended(b"", it[0] + said, None)
+
+
+def is_text(content):
+    """Whether an editor can open this."""
+    try:
+        content.decode()
+    except UnicodeDecodeError:
+        return False
+    return len(content) < 10_000
+
+
+def lanes_for(count):
+    """How many `rt try` are run side by side: each is two processes while it compiles."""
+    memory = os.sysconf("SC_PAGE_SIZE") * os.sysconf("SC_PHYS_PAGES")
+    return max(1, min(len(os.sched_getaffinity(0)) // 2, memory // MEMORY, count // 8))
 
 
 def compiled(cases):
     """Runs all that is wanted, and notes what came."""
+    cases.put_together()
+    lanes, timer = lanes_for(len(cases.wanted)), common.Timer()
     with tempfile.TemporaryDirectory() as room:
-        for it in ("cases", "modules"):
+        for it in ("modules", *(f"cases{lane}" for lane in range(lanes))):
             os.mkdir(os.path.join(room, it))
-        names, flags = cases.write(room)
-        words = ["rt", "try", *flags, "--cases", os.path.join(room, "cases")]
-        timer, shown = common.Timer(), time.monotonic()
-        with tempfile.TemporaryFile() as out, tempfile.TemporaryFile() as err:
-            how = {"cwd": os.path.join(common.TOP, "crates", "ob0"), "stdin": subprocess.DEVNULL, "stdout": out, "stderr": err}
-            with subprocess.Popen(words, **how) as process:
-                while process.poll() is None:
-                    time.sleep(0.2)
-                    if time.monotonic() - shown > STEP:
-                        shown = time.monotonic()
-                        print(f"[{timer}] compiling, and running {len(names)} cases", flush=True)
-            for it in (out, err):
-                it.seek(0)
-            said, noted = out.read(), err.read()
-        cases.take(said, noted, names)
-        if not any(it in cases.found for it in names.values()):
-            common.stop(f"rt try ran no case:\n{noted.decode(errors='replace')[-2000:]}", 1)
-        print(f"[{timer}] compiled once, and {len(names)} cases run", flush=True)
+        names, flags = cases.write(room, lanes)
+        started = [Try(flags, os.path.join(room, f"cases{lane}")) for lane in range(lanes)]
+        shown = time.monotonic()
+        while any(it.is_running() for it in started):
+            time.sleep(0.2)
+            if time.monotonic() - shown > STEP:
+                shown = time.monotonic()
+                print(f"[{timer}] compiling, and {sum(it.ended() for it in started)} of {len(names)} cases run", flush=True)
+        for it in started:
+            cases.take(*it.said(), names)
+        if not cases.found:
+            common.stop(f"rt try ran no case:\n{started[0].said()[1].decode(errors='replace')[-2000:]}", 1)
+        for it in {*cases.wanted, *cases.opened} - {*cases.found}:
+            cases.found[it] = harness.Ended(b"", b"rt try ended before, or the conversation did", None)
+        print(f"[{timer}] compiled, and {len(names)} cases run; {len(cases.opened)} modules checked in one conversation", flush=True)
+
+
+class Try:
+    """One `rt try` on a folder of cases."""
+
+    def __init__(self, flags, folder):
+        self.out, self.err = tempfile.TemporaryFile(), tempfile.TemporaryFile()
+        how = {"cwd": os.path.join(common.TOP, "crates", "ob0"), "stdin": subprocess.DEVNULL, "stdout": self.out, "stderr": self.err}
+        self.process = subprocess.Popen(["rt", "try", *flags, "--cases", folder], **how)
+
+    def is_running(self):
+        return self.process.poll() is None
+
+    def said(self):
+        """What it has printed on both outputs."""
+        return [os.pread(it.fileno(), os.fstat(it.fileno()).st_size, 0) for it in (self.out, self.err)]
+
+    def ended(self):
+        """How many cases have ended."""
+        return len(re.findall(rb"^case=", self.said()[1], re.M))
 
 
 def play(function):
     """Plays a test: None where it passed, else why it didn't."""
     try:
         function()
+    except FileNotFoundError as why:
+        return Unknown("the built program") if why.filename == harness.BINARY else why
     except Exception as why:  # pylint: disable=broad-except
         return why
     return None
@@ -146,17 +223,17 @@ def main(words):
     chosen = [(name, function) for name, function in harness.TESTS if any(name.startswith(it) if it in WORDS else it in name for it in words or WORDS)]
     if not chosen:
         common.stop("no test has one of these words in its name")
-    for _, function in chosen:
-        play(function)
+    left_out = dict(cases.note(*it) for it in chosen)
     cases.noting = False
     compiled(cases)
-    return judge(chosen)
+    return judge(chosen, {name: why for name, why in left_out.items() if why})
 
 
 def without_last_line_feed(found, out, status, err=""):
     """In place of `harness.ends`: `rt try` shows an output that lacks its last line feed with one."""
-    plain = lambda it: (it if isinstance(it, bytes) else it.encode()).rstrip(b"\n")
-    got, wanted = (plain(found.out), found.err, found.status), (plain(out), err.encode(), status)
+    as_bytes = lambda it: it if isinstance(it, bytes) else it.encode()
+    plain = lambda it: as_bytes(it).rstrip(b"\n")
+    got, wanted = (plain(found.out), found.err, found.status), (plain(out), as_bytes(err), status)
     harness.same(got, wanted, "standard output, standard error and the status")
 
 
@@ -167,10 +244,10 @@ class Conversation:
         raise Unknown("a conversation")
 
 
-def judge(chosen):
+def judge(chosen, left_out):
     passed, failed = 0, 0
     for name, function in chosen:
-        why = play(function)
+        why = left_out.get(name) or play(function)
         if why is None:
             passed += 1
             print(f"ok       {name}")

@@ -50,6 +50,12 @@ def leave_out(why, is_required=False):
     raise Skipped(why)
 
 
+def need_program():
+    """Leaves this test out where there is no program yet."""
+    if not os.path.exists(BINARY):
+        raise Skipped("it runs the program")
+
+
 def shown(value, most=600):
     text = value if isinstance(value, str) else repr(value)
     return text if len(text) <= most else f"{text[:most]}.. ({len(text)} in all)"
@@ -198,6 +204,7 @@ class Ended:
 
 def run(words, given=b"", stack=None, cwd=None):
     """Runs the program with these words on this standard input, all at once, under a stack of so many kilobytes."""
+    need_program()
     words = [BINARY, *words]
     if stack:
         words = ["sh", "-c", f'ulimit -S -s {stack}; exec "$@"', "sh", *words]
