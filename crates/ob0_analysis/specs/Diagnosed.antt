@@ -118,7 +118,8 @@ ReportsFaults text reported =
 -- nothing is reported exactly of a well-typed module
 abbrev pub Reports : List ℕ → List Complaint → Type 0
 Reports text reported =
-    (IsWellTypedModule text × (reported ≡ [])) ⊎ (¬ IsWellTypedModule text × ReportsFaults text reported)
+    (IsWellTypedModule text × (reported ≡ []))
+    ⊎ (¬ IsWellTypedModule text × ReportsFaults text reported)
 
 -- ---- laws
 

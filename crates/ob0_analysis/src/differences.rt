@@ -28,7 +28,7 @@ impl Difference {
     }
 }
 
-/// So many bytes are compared together, as long as they are the same.
+/// The number of bytes that are compared together, as long as they are the same.
 const PIECE: usize = 256;
 
 /// How many bytes two texts have in common at the beginning.

@@ -39,7 +39,8 @@ impl Model for ModuleParts {
 
     ghost view = { λ m. resolution_by (parsed_by m.tokens m.tree) m.bindings };
 
-    ghost invariant = { λ m. IsParsed (parsed_by m.tokens m.tree) × (IsResolution (resolution_by (parsed_by m.tokens m.tree) m.bindings) × AreTypesOf (resolution_by (parsed_by m.tokens m.tree) m.bindings) m.types) };
+    ghost invariant = { λ m. let r = resolution_by (parsed_by m.tokens m.tree) m.bindings in
+        IsParsed r.module_read × (IsResolution r × AreTypesOf r m.types) };
 }
 
 impl ModuleParts {

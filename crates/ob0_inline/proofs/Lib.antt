@@ -3,6 +3,7 @@ pub mod ModuleTexts
 pub mod OnOccurrences
 pub mod Alone
 pub mod UsesStand
+pub mod OccurrenceAt
 pub mod AtUses
 pub mod TakenOut
 pub mod WordsLeft

@@ -98,7 +98,8 @@ fn is_hidden(
     ordinal: usize,
 ) -> Result<bool, AllocError>
     ensures { IfOk result (λ hidden.
-        hidden ≡ list_any (λ k. same_ordinal (binds (named_tree_of names.now.module_read) k) constant
+        hidden
+        ≡ list_any (λ k. same_ordinal (binds (named_tree_of names.now.module_read) k) constant
         && not (same_ordinal (sees (named_tree_of names.now.module_read) k name.now) ordinal))
         (range_with_len 0 (length (bindings (named_tree_of names.now.module_read))))) }
 {

@@ -1,4 +1,4 @@
--- What is shown of a name, by what its declaration binds it to.
+-- The hover text of a name, by what its declaration binds it to.
 -- Rule: docs/PROTOCOL.md, JSON shapes 3.
 use Rattle.std.specs.Prelude.{ℕ, ◌+◌, ◌-◌, Bool, true, false, List, [], ◌∷◌, drop, map, nat_lt, if◌then◌else◌, Option, Some, None, option_and_then}
 use Rattle.ob0_tree.specs.declared.tree.Role.TheVariants as role
@@ -42,7 +42,8 @@ abbrev pub object_hover : Name → List Name → Object Shape Signature → Opti
 object_hover name following (a_constant v) = constant_hover name v
 object_hover name following (a_type s) = Some (named_type_text name (type_text s))
 object_hover name following (a_variable s) = Some (variable_text name (type_text s))
-object_hover name following (a_procedure fs) = Some (procedure_text name (parameters_hover following fs))
+object_hover name following (a_procedure fs) =
+    Some (procedure_text name (parameters_hover following fs))
 object_hover name following (a_standard s) = Some (predeclared_text name)
 
 -- the names that are declared after what has this ordinal, in text order

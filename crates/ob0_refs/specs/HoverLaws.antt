@@ -1,4 +1,4 @@
--- Laws of what is shown of procedures.
+-- Laws of the hover texts of procedures.
 -- Rule: none; laws of hover texts.
 use Rattle.std.specs.Prelude.{◌≡◌, ℕ, List, [], ◌++◌, ◌∷◌, Some, length, map, take}
 use Rattle.std.specs.List.{All}

@@ -42,7 +42,7 @@ FieldsAreRenamedThere =
     → IsOnField r offset span k index
     → IsRenamedThere r offset span k
 
--- In a well-typed module a field is shown at each of its places.
+-- In a well-typed module a field has a hover text at each of its places.
 abbrev pub FieldsHaveHovers : Type 0
 FieldsHaveHovers =
     (r : Resolution) (offset k index : ℕ) (span : Span)

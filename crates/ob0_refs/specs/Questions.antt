@@ -97,10 +97,10 @@ row_hover r row =
       text = field_text (text_at r.module_read.source row.token) (type_text row.of.shape);
     }
 
--- what is shown of the field at a place, where it is declared and where it is selected
+-- the hover text of the field at a place, where it is declared and where it is selected
 abbrev pub field_hover : Resolution → ℕ → Option HoverText
 field_hover r offset = option_map (row_hover r) (field_row_at r offset)
 
--- what is shown at a place: of a name, or else of a field
+-- the hover text at a place: that of a name, or else that of a field
 abbrev pub hover_at_place : Resolution → ℕ → Option HoverText
 hover_at_place r offset = or_else (name_hover_at r.module_read offset) (field_hover r offset)

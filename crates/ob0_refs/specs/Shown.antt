@@ -1,4 +1,4 @@
--- What is shown of the name at a place: what its declaration binds it to.
+-- The hover text of the name at a place: what its declaration binds it to.
 -- Rule: docs/PROTOCOL.md, Requests on documents 4, JSON shapes 3.
 use Rattle.std.specs.Prelude.{ℕ, List, Option, option_map, option_and_then}
 use Rattle.ob0_scan.specs.declared.lexeme.Span.{Span}
@@ -9,7 +9,7 @@ use Rattle.ob0_scope.specs.declared.naming.Named as named
 use Rattle.ob0_types_rules.specs.Bindings.{declared_object}
 use Rattle.ob0_refs.specs.Declarations.{name_hover}
 
--- what is shown, and where the name is
+-- the hover text, and where the name is
 pub record HoverText : Type 0 where
   pub span : Span
   pub text : List ℕ
@@ -20,6 +20,6 @@ hover_of m n =
     option_map (λ text. record { span = span_at m.source n.token; text = text })
     (name_hover m n (declared_object (named_tree_of m) n.ordinal))
 
--- what is shown at a place: nothing where no name is, at a field and at the module's name
+-- the hover text at a place: none where no name is, at a field and at the module's name
 abbrev pub name_hover_at : Parsed → ℕ → Option HoverText
 name_hover_at m offset = option_and_then (hover_of m) (name_on m offset)

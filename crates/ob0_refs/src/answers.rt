@@ -19,7 +19,7 @@ pub struct At {
     pub of: Of,
 }
 
-/// What is shown of a name, and where the name is.
+/// The hover text of a name, and where the name is.
 #[derive(Drop)]
 pub struct Hover {
     pub span: Span,

@@ -1,4 +1,4 @@
-//! What is shown at a place: of a name, or else of a field.
+//! The hover text at a place: that of a name, or else that of a field.
 
 ghost use Rattle.std.specs.Prelude.{◌≡◌, IfOk, option_map};
 ghost use Rattle.ob0_refs.specs.Parts.{hover_in};
@@ -13,7 +13,7 @@ use ob0_tree::text_at;
 use ob0_types::{FieldRow, WellTyped, field_row_at};
 use std::alloc::{AllocError, Global};
 
-/// What is shown at a place, where it lies in a name or at its end: of a name its declaration, and of a field its type,
+/// The hover text at a place, where it lies in a name or at its end: of a name its declaration, and of a field its type,
 /// where it is declared and where it is selected. None elsewhere.
 pub fn hover(
     alloc: Global,
@@ -28,7 +28,7 @@ pub fn hover(
     }
 }
 
-/// What is shown of the field that `at` finds at a place.
+/// The hover text of the field that `at` finds at a place.
 fn hover_field(
     alloc: Global,
     well_typed: &WellTyped<'_>,

@@ -1,4 +1,4 @@
-//! What is shown at a place.
+//! The hover text at a place.
 
 ghost use Rattle.std.specs.Prelude.{◌≡◌, IfOk, Some, option_map};
 ghost use Rattle.ob0_refs.specs.Parts.{hover_in};
@@ -11,8 +11,8 @@ use ob0_scope_rules::token_span;
 use ob0_types::WellTyped;
 use std::alloc::{AllocError, Global};
 
-/// What is shown of the name that a place is on, where it lies in the name or at its end. A closing name of a procedure
-/// shows the procedure. None where there is no name, at a field and at the module's name.
+/// The hover text of the name that a place is on, where it lies in the name or at its end. A closing name of a procedure
+/// has that of the procedure. None where there is no name, at a field and at the module's name.
 pub(crate) fn hover(
     alloc: Global,
     well_typed: &WellTyped<'_>,

@@ -1,8 +1,8 @@
-//! The texts that are shown of names.
+//! The hover texts of names.
 
 ghost use Rattle.std.specs.Prelude.{◌≡◌, ◌++◌, ℕ, IfOk, OnOk, map, string_bytes};
 ghost use Rattle.ob0_values.specs.Values.{FieldShapes, Shape, array_shape, record_shape};
-ghost use Rattle.ob0_refs.specs.Hovers.{by_text, constant_text as constant_shown, named_type_text as type_shown, parameter_text, parameters_text, predeclared_text as predeclared_shown, procedure_text as procedure_shown, truth_text, type_text, fields_count, variable_text as variable_shown};
+ghost use Rattle.ob0_refs.specs.Hovers.{by_text, constant_text, fields_count, named_type_text, parameter_text, parameters_text, predeclared_text, procedure_text, truth_text, type_text, variable_text};
 ghost use Rattle.ob0_refs.specs.Parameters.{parameter_in};
 
 use ob0_values::Scalar;
@@ -34,9 +34,9 @@ pub(crate) fn record_text(alloc: Global, fields: usize) -> Result<String, AllocE
     format!(in alloc; "RECORD with {fields} fields")
 }
 
-/// What is shown of a constant.
+/// The hover text of a constant.
 pub(crate) fn constant_text(alloc: Global, name: &str, value: Scalar) -> Result<String, AllocError>
-    ensures { IfOk result (λ text. string_bytes text ≡ constant_shown name.now value) }
+    ensures { IfOk result (λ text. string_bytes text ≡ constant_text name.now value) }
 {
     match value {
         Scalar::Number(n) => format!(in alloc; "CONST {name} = {n}"),
@@ -53,35 +53,35 @@ fn truth_word(b: bool) -> &'static str
     if b { "TRUE" } else { "FALSE" }
 }
 
-/// What is shown of a type, whose text is known.
+/// The hover text of a type, whose text is known.
 pub(crate) fn named_type_text(alloc: Global, name: &str, of: &str) -> Result<String, AllocError>
-    ensures { IfOk result (λ text. string_bytes text ≡ type_shown name.now of.now) }
+    ensures { IfOk result (λ text. string_bytes text ≡ named_type_text name.now of.now) }
 {
     format!(in alloc; "TYPE {name} = {of}")
 }
 
-/// What is shown of a variable or parameter of a type.
+/// The hover text of a variable or parameter of a type.
 pub(crate) fn variable_text(alloc: Global, name: &str, of: &str) -> Result<String, AllocError>
-    ensures { IfOk result (λ text. string_bytes text ≡ variable_shown name.now of.now) }
+    ensures { IfOk result (λ text. string_bytes text ≡ variable_text name.now of.now) }
 {
     format!(in alloc; "VAR {name}: {of}")
 }
 
-/// What is shown of a predeclared name.
+/// The hover text of a predeclared name.
 pub(crate) fn predeclared_text(alloc: Global, name: &str) -> Result<String, AllocError>
-    ensures { IfOk result (λ text. string_bytes text ≡ predeclared_shown name.now) }
+    ensures { IfOk result (λ text. string_bytes text ≡ predeclared_text name.now) }
 {
     format!(in alloc; "predeclared {name}")
 }
 
-/// What is shown of a procedure.
+/// The hover text of a procedure.
 pub(crate) fn procedure_text(
     alloc: Global,
     name: &str,
     parameters: &[Parameter<'_>],
 ) -> Result<String, AllocError>
     ensures { IfOk result
-        (λ text. string_bytes text ≡ procedure_shown name.now (map parameter_in parameters.now)) }
+        (λ text. string_bytes text ≡ procedure_text name.now (map parameter_in parameters.now)) }
 {
     let list = parameters_text(alloc, parameters)?;
     let list = list.as_str();

@@ -12,7 +12,7 @@ pub fn fields_are_renamed_there()
     ensures { FieldsAreRenamedThere }
 {}
 
-/// In a well-typed module a field is shown where it is declared and where it is selected.
+/// In a well-typed module a field has a hover text where it is declared and where it is selected.
 pub fn fields_have_hovers()
     ensures { FieldsHaveHovers }
 {}

@@ -1,4 +1,4 @@
-//! The texts that are shown of names, by what their declarations are.
+//! The hover texts of names, by what their declarations are.
 
 ghost use Rattle.std.specs.Prelude.{◌≡◌, ◌++◌, ◌+◌, ◌-◌, ◌∷◌, [], IfOk, OnOk, Some, drop, map, option_and_then, option_map, string_bytes};
 ghost use Rattle.ob0_tree.specs.Parsed.{tree_of};
@@ -24,7 +24,7 @@ use ob0_tree::text_at;
 use ob0_types_table::{Formal, Known, Object, TypeId};
 use std::alloc::{AllocError, Global};
 
-/// What is shown of a name. None where its declaration is nothing.
+/// The hover text of a name. None where its declaration is nothing.
 pub fn name_text(
     alloc: Global,
     known: &Known,
@@ -84,7 +84,7 @@ fn variable_line(alloc: Global, known: &Known, name: &str, of: TypeId) -> Result
     variable_text(alloc, name, of.as_str())
 }
 
-/// What is shown of a field of a type.
+/// The hover text of a field of a type.
 pub fn field_line(
     alloc: Global,
     known: &Known,

@@ -118,7 +118,7 @@ pub fn types_of<'t>(alloc: Global, resolved: &'t Resolved<'t>) -> Result<ModuleT
     })
 }
 
-/// The fields of a module that fits.
+/// The fields of a well-typed module.
 fn known_fields<'t>(
     alloc: Global,
     resolved: &'t Resolved<'t>,

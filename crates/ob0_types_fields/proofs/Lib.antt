@@ -6,6 +6,8 @@ pub mod OwnedModules
 pub mod OwnedTokens
 pub mod MarkWalks
 pub mod MarkPaths
+pub mod FieldLookups
+pub mod PlainExpressions
 pub mod MarkedFields
 pub mod GroupWalks
 pub mod DeclaredWalks

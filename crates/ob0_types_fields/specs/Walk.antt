@@ -3,7 +3,10 @@
 use Rattle.std.specs.Prelude.{ℕ, List, Option}
 use Rattle.ob0_tree.specs.Tree.{Tree, field, index, item, selector}
 use Rattle.ob0_types_rules.specs.Expressions.{Meanings}
-use Rattle.ob0_types_table.specs.KnownTables.{declared_in}
+use Rattle.ob0_types_table.specs.declared.known.RecordShape.{RecordShape}
+use Rattle.ob0_types_table.specs.declared.known.TypeEntry.TheVariants as made
+use Rattle.ob0_types_table.specs.KnownTables.{declared_in, shapes_of}
+use Rattle.ob0_types_table.specs.Tables.{made_shape}
 use Rattle.ob0_types_rules.specs.WellTyped.{Signature}
 use Rattle.ob0_values.specs.Values.{Shape}
 use Rattle.ob0_types_fields.specs.declared.owning.Owning.{Owning}
@@ -12,6 +15,10 @@ use Rattle.ob0_types_fields.specs.Owned.{mark, marked, owner, token_objects}
 -- what identifiers at tokens mean, by the table of declarations
 abbrev pub meaning_in : Owning → Meanings ℕ Shape Signature
 meaning_in w = token_objects (declared_in w.known.now) w.resolved.now
+
+-- the type that a record of the table is
+abbrev pub shape_in : Owning → RecordShape → Shape
+shape_in w r = made_shape (shapes_of w.known.now) (made.Record r)
 
 -- the fields that one selector selects
 abbrev pub marked_at : {P : Type 0}

@@ -1,16 +1,18 @@
 //! The walk over a module that finds its fields: where records declare them, and where selectors select them.
 
-ghost use Rattle.std.specs.Prelude.{◌≡◌, ◌++◌, ◌+◌, IfOk, length, option_and_then, option_map};
+ghost use Rattle.std.specs.Prelude.{◌≡◌, ◌++◌, ◌+◌, [], ℕ, IfOk, Some, length, option_and_then, option_map, true};
 ghost use Rattle.ob0_tree.specs.View.{expression_of, simple_of, term_of, factor_of, designator_of, selector_of, assignment_of, call_of, arguments_in, statement_of, if_of, elsifs_in, sequence_in, body_of, block_of, procedure_of};
 ghost use Rattle.ob0_types_rules.specs.Declarations.{block_constructors, procedure_constructors};
 ghost use Rattle.ob0_scope_rules.specs.Resolution.{ordinal_in};
 ghost use Rattle.ob0_types_table.specs.FieldPlaces.{field_selected};
 ghost use Rattle.ob0_types_table.specs.KnownTables.{declared_in, shapes_of};
 ghost use Rattle.ob0_types_table.specs.Tables.{type_shape};
+ghost use Rattle.ob0_types_rules.specs.Expressions.{Meanings};
 ghost use Rattle.ob0_types_rules.specs.Typing.{element_type, field_type, object_type};
-ghost use Rattle.ob0_values.specs.Values.{integer_shape};
+ghost use Rattle.ob0_types_rules.specs.WellTyped.{Signature};
+ghost use Rattle.ob0_values.specs.Values.{Shape, integer_shape};
 ghost use Rattle.ob0_types_fields.specs.Owned.{mark, marked, marked_block, marked_procedure, owner, passed};
-ghost use Rattle.ob0_types_fields.specs.Walk.{marked_at, meaning_in};
+ghost use Rattle.ob0_types_fields.specs.Walk.{marked_at, meaning_in, shape_in};
 
 use crate::declared::{formals, types, variables};
 use ob0_scope_rules::Resolved;
@@ -18,7 +20,7 @@ use ob0_tree::{
     Assignment, Block, Call, Designator, Elsif, Expression, Factor, If, Procedure, Selector,
     Simple, Statement, Term, text_at,
 };
-use ob0_types_table::{Known, Object, TypeId, scalar_type};
+use ob0_types_table::{Known, Object, Parts, RecordShape, TypeId, scalar_type};
 use std::alloc::AllocError;
 
 /// Tokens of fields, each with the ordinal of its record.
@@ -67,11 +69,35 @@ impl<'a, 't> Owning<'a, 't> {
         let Some(base) = base else {
             return Ok(None);
         };
-        let text = text_at(self.resolved.tokens(), name);
-        if let Some(selected) = self.known.field_of(base, text) {
-            found.push((name, selected.ordinal))?;
+        match self.known.parts(base) {
+            Parts::Record(shape) => self.select_in(found, shape, name),
+            Parts::Integer => Ok(None),
+            Parts::Boolean => Ok(None),
+            Parts::Array(_) => Ok(None),
+            Parts::Faulty => Ok(None),
         }
-        Ok(self.known.field(base, text))
+    }
+
+    /// The same of a record. The name is looked up once, for the field's type: the ordinal is that of the record.
+    fn select_in(
+        &self,
+        found: &mut FieldTokens,
+        shape: &RecordShape,
+        name: usize,
+    ) -> Result<Option<TypeId>, AllocError>
+        ensures found { IfOk result (λ _. found.new.items
+            ≡ found.old.items
+            ++ mark name (owner (Some (shape_in self.now shape.now))
+            ((meaning_in self.now).written name))) }
+        ensures following { IfOk result (λ t.
+            option_map (type_shape (shapes_of self.now.known.now)) t
+            ≡ field_type (shape_in self.now shape.now) ((meaning_in self.now).written name)) }
+    {
+        let Some(of) = shape.fields.find(text_at(self.resolved.tokens(), name)) else {
+            return Ok(None);
+        };
+        found.push((name, shape.ordinal))?;
+        Ok(Some(of))
     }
 
     /// The type of an array's elements.
@@ -92,6 +118,9 @@ impl<'a, 't> Owning<'a, 't> {
         ensures { IfOk result (λ _. found.new.items
             ≡ found.old.items ++ marked (meaning_in self.now) (expression_of e.now)) }
     {
+        if is_plain(e) {
+            return Ok(());
+        }
         self.simple(found, &e.left)?;
         if let Some(compared) = &e.compared {
             self.simple(found, &compared.right)?;
@@ -141,6 +170,9 @@ impl<'a, 't> Owning<'a, 't> {
         ensures { IfOk result (λ _. found.new.items
             ≡ found.old.items ++ marked (meaning_in self.now) (designator_of d.now)) }
     {
+        if d.selectors.is_empty() {
+            return Ok(());
+        }
         let mut at = self.value_type(d.name);
         for s in &d.selectors {
             at = self.selector(found, at, s)?;
@@ -317,5 +349,52 @@ impl<'a, 't> Owning<'a, 't> {
     {
         formals(found, made, &p.formals)?;
         self.block(found, made, &p.block)
+    }
+}
+
+/// Whether an expression is one factor that selects nothing: such a one is passed at once. So most are.
+fn is_plain(e: &Expression) -> bool
+    ensures { result ≡ true
+        → (m : Meanings ℕ Shape Signature)
+        → marked m (expression_of e.now) ≡ [] }
+{
+    match &e.compared {
+        Some(_) => false,
+        None => is_plain_simple(&e.left),
+    }
+}
+
+fn is_plain_simple(s: &Simple) -> bool
+    ensures { result ≡ true
+        → (m : Meanings ℕ Shape Signature)
+        → marked m (simple_of s.now) ≡ [] }
+{
+    if !s.more.is_empty() {
+        return false;
+    }
+    is_plain_term(&s.first)
+}
+
+fn is_plain_term(t: &Term) -> bool
+    ensures { result ≡ true
+        → (m : Meanings ℕ Shape Signature)
+        → marked m (term_of t.now) ≡ [] }
+{
+    if !t.more.is_empty() {
+        return false;
+    }
+    is_plain_factor(&t.first)
+}
+
+fn is_plain_factor(f: &Factor) -> bool
+    ensures { result ≡ true
+        → (m : Meanings ℕ Shape Signature)
+        → marked m (factor_of f.now) ≡ [] }
+{
+    match f {
+        Factor::Designator(d) => d.selectors.is_empty(),
+        Factor::Integer(_) => true,
+        Factor::Parenthesised(_) => false,
+        Factor::Not(_) => false,
     }
 }

@@ -5,8 +5,8 @@ use Rattle.ob0_scope.specs.NamesAtPlaces.{name_on}
 use Rattle.ob0_inline.proofs.AtUses.{no_use, use_found, use_is_one}
 use Rattle.ob0_inline.proofs.uses.use_at.Goals as goal
 
-pub returns-in-Some-constant-clause-at : goal.returns-in-Some-constant-clause-at
-returns-in-Some-constant-clause-at c =
+pub returns-in-Some-occurrence_at-clause-at : goal.returns-in-Some-occurrence_at-clause-at
+returns-in-Some-occurrence_at-clause-at c =
     let r = c.args.«module».now in
     let back = c.resolved-names.ensures.value in
     use_found r c.resolved-names.ensures.well_typed c.args.offset c.in-Some.found c.in-Some-occurrence_at.occurrence c.in-Some-constant.value
@@ -14,8 +14,8 @@ returns-in-Some-constant-clause-at c =
     (ap (λ (q : Resolution). position_from (λ i. i == c.in-Some.found.token) 0 q.uses) (sym back) ∙ (sym c.occurrence_at.ensures ∙ c.in-Some-occurrence_at.is))
     c.in-Some-constant.ensures
 
-pub returns-in-Some-constant-clause-is_use : goal.returns-in-Some-constant-clause-is_use
-returns-in-Some-constant-clause-is_use c =
+pub returns-in-Some-occurrence_at-clause-is_use : goal.returns-in-Some-occurrence_at-clause-is_use
+returns-in-Some-occurrence_at-clause-is_use c =
     let r = c.args.«module».now in
     let back = c.resolved-names.ensures.value in
     λ u e. use_is_one r c.resolved-names.ensures.well_typed c.args.offset _ u

@@ -1,12 +1,15 @@
-use Rattle.std.proofs.Common.{◌≡◌, ◌++◌, IfOk, sym, ap, ◌∙◌, subst}
+use Rattle.std.proofs.Common.{◌≡◌, ◌++◌, IfOk, sym, ap, ◌∙◌, subst, append-nil}
+use Rattle.std.specs.Vec.{vec_len}
 use Rattle.ob0_tree.proofs.Viewed.{designator_made, simple_parts, term_parts}
 use Rattle.ob0_tree.specs.declared.tree.Simple.{out-Simple}
 use Rattle.ob0_tree.specs.declared.tree.Term.{out-Term}
-use Rattle.ob0_types_fields.specs.Owned.{marked}
+use Rattle.ob0_types_rules.specs.Typing.{object_type}
+use Rattle.ob0_types_fields.specs.Owned.{marked, marked_path}
 use Rattle.ob0_types_fields.specs.Walk.{meaning_in}
-use Rattle.ob0_tree.specs.View.{items_of, addend_of, multiplier_of, term_of, factor_of}
+use Rattle.ob0_tree.specs.View.{items_of, addend_of, multiplier_of, selector_of, term_of, factor_of}
 use Rattle.ob0_types_fields.proofs.MarkWalks.{walk_ends, after_two}
 use Rattle.ob0_types_fields.proofs.MarkPaths.{path_goes_on}
+use Rattle.ob0_types_fields.proofs.PlainExpressions.{is_nothing}
 use Rattle.ob0_types_fields.proofs.owning.Owning.+expressions.Goals as goal
 
 pub factor-returns-in-Designator : goal.factor-returns-in-Designator
@@ -32,3 +35,16 @@ term-returns t c =
 
 pub designator-loop-s-preserved : goal.designator-loop-s-preserved
 designator-loop-s-preserved t c = path_goes_on _ _ _ c.loop-s.invariant c.loop-s-test.true c.s-item.is c.in_ok-at.ensures.found c.in_ok-at.ensures.following
+
+pub designator-returns-then-is_empty : goal.designator-returns-then-is_empty
+designator-returns-then-is_empty t c =
+    let d = c.args.d.now in
+    let m = meaning_in c.args.self.now in
+    let none = is_nothing d.selectors.items (vec_len d.selectors) c.is_empty.result d.selectors.ok.0 c.is_empty.ensures c.if-is_empty.true in
+    sym (append-nil c.args.found.now.items)
+    ∙ ap (λ xs. c.args.found.now.items ++ marked_path m (object_type (m.object_for d.name)) (items_of selector_of xs)) (sym none)
+
+pub expression-returns-then-is_plain : goal.expression-returns-then-is_plain
+expression-returns-then-is_plain t c =
+    sym (append-nil c.args.found.now.items)
+    ∙ ap (λ z. c.args.found.now.items ++ z) (sym (c.is_plain.ensures c.if-is_plain.true (meaning_in c.args.self.now)))

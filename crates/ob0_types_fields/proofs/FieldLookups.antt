@@ -1,0 +1,29 @@
+-- A record has a type for a name exactly where it has a place for it, and then the name selects a field of it.
+use Rattle.std.proofs.Common.{◌≡◌, ℕ, zero, suc, Bool, true, false, if◌then◌else◌, List, Option, Some, None, option_map, refl, sym, ap, ◌∙◌}
+use Rattle.ob0_scope_rules.specs.Names.{Name, same_name}
+use Rattle.ob0_types_rules.specs.Typing.{shape_of_field}
+use Rattle.ob0_types_table.specs.declared.known.FieldOf.{FieldOf}
+use Rattle.ob0_types_table.specs.FieldPlaces.{place_of_field}
+use Rattle.ob0_types_fields.specs.Owned.{mark, owner}
+use Rattle.ob0_values.specs.Values.{FieldShapes, Shape, next_field_shape, no_field_shape, record_shape}
+
+-- the record with the ordinal k, where a field has a place in it
+abbrev owner_with : ℕ → Option ℕ → Option ℕ
+owner_with k o = option_map (λ (f : FieldOf). f.ordinal) (option_map (λ i. record { ordinal = k; index = i }) o)
+
+one_further : (k : ℕ) (o : Option ℕ) → owner_with k (option_map suc o) ≡ owner_with k o
+one_further k None = refl
+one_further k (Some i) = refl
+
+owner_at : (k : ℕ) (fs : FieldShapes) (x : Name) → owner (Some (record_shape k fs)) x ≡ option_map (λ _. k) (shape_of_field fs x)
+owner_at k no_field_shape x = refl
+owner_at k (next_field_shape y s rest) x = by_test (same_name x y) (owner_at k rest x)
+  where
+    by_test : (b : Bool) → owner_with k (place_of_field rest x) ≡ option_map (λ _. k) (shape_of_field rest x)
+        → owner_with k (if b then Some 0 else option_map suc (place_of_field rest x)) ≡ option_map (λ _. k) (if b then Some s else shape_of_field rest x)
+    by_test true later = refl
+    by_test false later = one_further k (place_of_field rest x) ∙ later
+
+-- what is noted of a name, by the type that it has in a record
+pub marked_by_type : (k : ℕ) (fs : FieldShapes) (x : Name) (name : ℕ) (t : Option Shape) → t ≡ shape_of_field fs x → mark name (owner (Some (record_shape k fs)) x) ≡ mark name (option_map (λ _. k) t)
+marked_by_type k fs x name t e = ap (mark name) (owner_at k fs x ∙ ap (option_map (λ _. k)) (sym e))
