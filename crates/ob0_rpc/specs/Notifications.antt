@@ -33,7 +33,8 @@ change_by None text = None
 
 -- A change of a range, or of the whole text.
 abbrev pub change_in : Data → Option TextChange
-change_in entry = change_by (changed_range (get (codes "range") entry)) (text_in (codes "text") entry)
+change_in entry =
+    change_by (changed_range (get (codes "range") entry)) (text_in (codes "text") entry)
 
 -- all changes; none where one of them can't be read
 abbrev pub all_changes : Items → Option (List TextChange)

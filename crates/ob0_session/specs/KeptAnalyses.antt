@@ -24,7 +24,9 @@ KeepsOnly old new = (uri text : List ℕ) → KeepsAnalysis new uri text → Kee
 -- what is kept was kept before, and for another document than this
 abbrev pub KeepsOthers : Analyses → List ℕ → Analyses → Type 0
 KeepsOthers old document new =
-    (uri text : List ℕ) → KeepsAnalysis new uri text → KeepsAnalysis old uri text × (uri ≡ document → ⊥)
+    (uri text : List ℕ)
+    → KeepsAnalysis new uri text
+    → KeepsAnalysis old uri text × (uri ≡ document → ⊥)
 
 -- what is kept was kept before, or is of this text for this document
 abbrev pub KeepsAlso : Analyses → List ℕ → List ℕ → Analyses → Type 0

@@ -104,7 +104,10 @@ action_values requested how (Some edits) = action_of requested how edits.items �
 action_values requested how None = []
 
 -- inlining here precedes inlining everywhere
-abbrev pub actions_value : RequestedActions → Option (Vec Edit Global) → Option (Vec Edit Global) → Data
+abbrev pub actions_value : RequestedActions
+    → Option (Vec Edit Global)
+    → Option (Vec Edit Global)
+    → Data
 actions_value requested here everywhere =
     array (items_of
     (action_values requested Here here ++ action_values requested Everywhere everywhere))

@@ -70,7 +70,9 @@ AnswersReferences unit text at include names value =
 -- this value answers the question about a well-typed module
 abbrev pub AnswersIn : Unit → List ℕ → At → NameQuestion → Resolution → Data → Type 0
 AnswersIn unit text at Hover names value =
-    value ≡ value_or_null (option_map (hover_at unit text) (hover_at_place names (offset_in unit text at)))
+    value
+    ≡ value_or_null
+    (option_map (hover_at unit text) (hover_at_place names (offset_in unit text at)))
 AnswersIn unit text at Definition names value =
     value
     ≡ value_or_null
@@ -78,7 +80,9 @@ AnswersIn unit text at Definition names value =
 AnswersIn unit text at (References include) names value =
     AnswersReferences unit text at include names value
 AnswersIn unit text at PrepareRename names value =
-    value ≡ value_or_null (option_map (range_at unit text) (renamable_in names (offset_in unit text at)))
+    value
+    ≡ value_or_null
+    (option_map (range_at unit text) (renamable_in names (offset_in unit text at)))
 
 -- the answer about every other text
 abbrev pub no_answer : NameQuestion → Data

@@ -274,7 +274,8 @@ fn first_made<T: TextStore>(
     sent: &[Vec<u8>],
 ) -> Result<Option<Made>, AllocError>
     ensures { IfOk result
-        (λ made. option_map publication_of made ≡ made_sent documents.now editor.now.requested sent.now) }
+        (λ made. option_map publication_of made
+        ≡ made_sent documents.now editor.now.requested sent.now) }
 {
     if sent.is_empty() {
         return Ok(None);

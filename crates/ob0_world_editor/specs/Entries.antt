@@ -9,11 +9,13 @@ use Rattle.ob0_world_rules.specs.Ends.{Open, EditorDocuments}
 
 -- an open document of the code
 abbrev pub open_document : stored.Open → Open
-open_document d = record { version = d.version; text = chars (string_bytes d.text); opening = d.opening }
+open_document d =
+    record { version = d.version; text = chars (string_bytes d.text); opening = d.opening }
 
 -- the open documents as a map from uris
 abbrev pub editor_documents : {A : Type 0} → List (String A × stored.Open) → EditorDocuments
-editor_documents entries = map_of.from_entries (map (λ e. (string_bytes e.0, open_document e.1)) entries)
+editor_documents entries =
+    map_of.from_entries (map (λ e. (string_bytes e.0, open_document e.1)) entries)
 
 -- the code of an open document
 abbrev pub open_code : Coded Open

@@ -209,7 +209,8 @@ fn action_values<'v>(actions: &'v Value, title: &str) -> Option<&'v Vec<Value>>
 }
 
 fn titled<'v>(actions: &'v [Value], title: &str) -> Option<&'v Value>
-    ensures { option_map (λ v. view v.now) result ≡ titled_action title.now (items_view actions.now) }
+    ensures { option_map (λ v. view v.now) result
+        ≡ titled_action title.now (items_view actions.now) }
 {
     for action in actions {
         if has_title(action, title) {
