@@ -1,6 +1,6 @@
 # What a fresh machine with the toolchain needs:
 #   make demo              plays a conversation with the server: with bin/ob0 where that is proved and up to date, else with
-#                          the program compiled without its proofs, in a minute or two
+#                          the program compiled without its proofs, in about two minutes
 #   make build             proves and builds the program, bin/ob0
 #   make package           packs the proved program: a Debian package and a .tar.gz with the same tree, in bin/
 #   make install PREFIX=.. copies that tree to PREFIX: the program, manual page, completions, editor files, pages and examples
@@ -11,7 +11,7 @@
 # (where bin/ob0 is there and up to date, build, package, install and demo need no toolchain)
 # and beside them:
 #   make editors           installs the editors and tools that the end-to-end tests want, by apt-get
-#   make try               the tables of check, run and rename, with the program compiled without its proofs, in some minutes
+#   make try               the tables of check, run and rename, with the program compiled without its proofs, in two to three minutes
 #   make end-to-end        the end-to-end tests alone, on bin/ob0
 #   make faults            what takes longer: memory refused at each allocation, two long conversations, many random runs; WORDS=".." names some
 #   make wrong-bodies      tries each crate's wrong bodies, all at once where that can be; CRATE="NAME.." names some
