@@ -90,7 +90,7 @@ Exit status:
   4  the file can't be read or isn't UTF-8, or the output can't be written
   5  out of memory";
 
-/// What a command line asks for.
+/// What a command line requests.
 #[derive(Clone, Copy, Debug, Drop, PartialEq, Eq)]
 pub enum CommandLine<'a> {
     /// One conversation over standard input and output.
@@ -113,7 +113,7 @@ pub enum CommandLine<'a> {
     },
 }
 
-/// Why a command line asks for nothing.
+/// Why a command line requests nothing.
 #[derive(Debug, Drop, thiserror::Error)]
 pub enum CommandFault {
     /// The words are refused, or they ask for help or the version.

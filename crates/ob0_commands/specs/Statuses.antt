@@ -23,7 +23,8 @@ StopsPrinting f = (f ≡ fault.Write) ⊎ (f ≡ fault.Memory)
 abbrev pub StopsPrintingFaults : List ℕ → FileFault → Type 0
 StopsPrintingFaults file f = ((f ≡ fault.Utf8) × ¬ (IsUtf8 file)) ⊎ StopsPrinting f
 
--- why reading fails: what is read can't be read, or isn't what it has to be, for which it has one name; or an allocation failed
+-- why reading fails: what is read can't be read, or isn't what it has to be, for which it has one name; or an
+-- allocation failed
 abbrev pub StopsReading : FileFault → FileFault → Type 0
 StopsReading name f = (f ≡ name) ⊎ (f ≡ fault.Memory)
 

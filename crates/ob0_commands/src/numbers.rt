@@ -12,7 +12,8 @@ use crate::reading::read_input;
 use std::alloc::{AllocError, Global};
 use std::io::Read;
 
-/// Reads the numbers of the input: whole numbers of 32 bits, digits with an optional `-` before them, between white space.
+/// Reads the numbers of the input: whole numbers of 32 bits, digits with an optional `-` before them, between white
+/// space.
 pub fn read_numbers<R: Read>(alloc: Global, input: &mut R) -> Result<Vec<i32>, FileFault>
     ensures numbers { IfOk result
         (λ numbers. IfSome (R.remaining input.old) (λ text. WritesNumbers text numbers.items)) }

@@ -7,7 +7,8 @@ use Rattle.serde_json.specs.Data.{Data, Members, member, no_members, null}
 use Rattle.serde_json.specs.Read.{of_json}
 use Rattle.serde_json.specs.Written.{comma_if, compact_text, outline}
 
--- the value's text reads as the value: its whole numbers are of 64 bits, it has each member once, in order, and its texts are UTF-8
+-- the value's text reads as the value: its whole numbers are of 64 bits, it has each member once, in order,
+-- and its texts are UTF-8
 pub record IsReadBack (value : Data) : Type 0 where
   pub reads : of_json (outline value) ≡ Some value
   pub numbers : HasNumbers (outline value)

@@ -83,7 +83,7 @@ client_of params = record {
       ∷ []) params);
 }
 
--- `initialize` asks only that its params are an object
+-- `initialize` requires only that its params are an object
 abbrev pub initialize_of : Data → Option ClientRequest
 initialize_of params =
     if is_some (as_object params) then Some (initialize (client_of params)) else None

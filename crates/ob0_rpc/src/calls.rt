@@ -1,4 +1,4 @@
-//! What requests ask.
+//! Requests of the client (LSP 3.17), by method and params.
 ghost use Rattle.std.specs.Prelude.{◌≡◌, IfOk, max, min, option_map, option_and_then, map, string_bytes, codes};
 ghost use Rattle.serde_json.specs.Find.{get};
 ghost use Rattle.serde_json.specs.View.{view, items_view};
@@ -219,7 +219,7 @@ fn spaces_of(size: u64) -> u8
     size.min(16).max(1) as u8
 }
 
-/// The kinds that a context asks for; None where it can't be read.
+/// The kinds that a context requests; None where it can't be read.
 fn kinds_of(
     alloc: Global,
     context: Option<&Value>,

@@ -11,7 +11,7 @@ use serde_json::Value;
 pub struct Client {
     /// It offers positions that count bytes of UTF-8.
     pub counts_utf8: bool,
-    /// It asks where a rename would work before it asks for one.
+    /// It sends `prepareRename` before it requests a rename.
     pub prepares_renames: bool,
     /// It takes code actions that aren't commands.
     pub takes_literal_actions: bool,

@@ -1,4 +1,4 @@
-//! What the members of params hold.
+//! What the members of params and results hold.
 ghost use Rattle.std.specs.Prelude.{◌≡◌, option_map, string_bytes};
 ghost use Rattle.std.specs.Str.{chars};
 ghost use Rattle.serde_json.specs.Find.{as_str, get};

@@ -13,8 +13,8 @@ use ob0_text::{Change, Documents, Held, TextStore};
 use std::alloc::{AllocError, Global};
 use std::marker::Model;
 
-/// The open documents, and analyses of their texts. Contracts see the documents alone: an analysis that is kept is of the
-/// text that its document has, since what changes a text takes the analysis of the text before out.
+/// The open documents, and analyses of their texts. Contracts see the documents alone: an analysis that is kept is of
+/// the text that its document has, since what changes a text takes the analysis of the text before out.
 #[derive(Drop)]
 pub struct AnalysedDocuments<T: TextStore> {
     alloc: Global,

@@ -48,8 +48,8 @@ impl Analyses {
         Some(analysis)
     }
 
-    /// Keeps the analysis of a document, and drops those that weren't used for longest where there is too much in all. One
-    /// that is too much alone isn't kept.
+    /// Keeps the analysis of a document, and drops those that weren't used for longest where there is too much in all.
+    /// One that is too much alone isn't kept.
     pub fn put(&mut self, uri: &str, analysis: Analysis) -> Result<(), AllocError>
         ensures { KeepsAlso self.old uri.now analysis self.new }
     {

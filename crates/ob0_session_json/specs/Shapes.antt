@@ -17,7 +17,7 @@ synchronisation =
     object (member (codes "change") (number (unsigned 2))
     (member (codes "openClose") (boolean true) no_members))
 
--- {"prepareProvider":true} for a client that asks where a rename would work before it asks for one
+-- {"prepareProvider":true} for a client that sends `prepareRename` before it requests a rename
 abbrev pub rename_provider : Bool → Data
 rename_provider prepares =
     if prepares
@@ -37,7 +37,8 @@ last_members client =
     (rename_provider client.prepares_renames)
     (member (codes "textDocumentSync") synchronisation no_members))
 
--- "documentFormattingProvider":true,"hoverProvider":true, and "positionEncoding":"utf-8" for a client that offers that; then those
+-- "documentFormattingProvider":true,"hoverProvider":true, and "positionEncoding":"utf-8" for a client that offers
+-- that; then those
 abbrev pub further_members : Client → Members
 further_members client =
     member (codes "documentFormattingProvider") (boolean true)
@@ -46,7 +47,8 @@ further_members client =
     then member (codes "positionEncoding") (text (codes "utf-8")) (last_members client)
     else last_members client))
 
--- "definitionProvider":true and those, and before them "codeActionProvider":{..} for a client that takes actions that aren't commands
+-- "definitionProvider":true and those, and before them "codeActionProvider":{..} for a client that takes actions
+-- that aren't commands
 abbrev pub server_capabilities : Client → Data
 server_capabilities client =
     let members = member (codes "definitionProvider") (boolean true) (further_members client) in

@@ -9,7 +9,7 @@ use ob0_rpc::{Id, error};
 use ob0_text::EditRefusal;
 use std::alloc::{AllocError, Global};
 
-/// The refusal of a request that asks for edits.
+/// The refusal of a request for edits.
 pub fn refused(alloc: Global, id: &Id, said: &str) -> Result<Vec<u8>, AllocError>
     ensures { IfOk result (λ bytes. Writes (edit_refused (id_data id.now) said.now) bytes.items) }
 {

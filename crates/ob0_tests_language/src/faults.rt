@@ -1,5 +1,5 @@
-//! Faults of worked texts: code, start and end of each, in the order of their places. Which faults a module has, and where,
-//! no contract says.
+//! Faults of worked texts: code, start and end of each, in the order of their places. Which faults a module has, and
+//! where, no contract says.
 
 use crate::asking::reported_faults;
 use ob0_analysis::diagnose;

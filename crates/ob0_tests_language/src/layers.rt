@@ -61,7 +61,7 @@ fn is_well_typed(alloc: Global, module: &Module<'_>) -> bool {
     }
 }
 
-/// Whether the module has this nesting and so many identifiers.
+/// Whether the module has this nesting and this many identifiers.
 fn is_shaped(alloc: Global, module: &Module<'_>, nesting: u32, count: usize) -> bool {
     match module.identifiers(alloc) {
         Ok(identifiers) => module.nesting() == nesting && identifiers.len() == count,

@@ -1,5 +1,5 @@
-//! Tests of the low layers: streams, texts, lexemes, numbers and messages. They test what no contract says, and examples with
-//! known answers.
+//! Tests of the low layers: streams, texts, lexemes, numbers and messages. They test what no contract says, and
+//! examples with known answers.
 #![tactic(auto)]
 
 #[cfg(test)]

@@ -1,4 +1,5 @@
-//! Texts that are changed at one place: scanned again, they have the tokens, comments and faults of a scan from nothing.
+//! Texts that are changed at one place: scanned again, they have the tokens, comments and faults of a scan from
+//! nothing.
 
 ghost use Rattle.std.specs.Prelude.{◌≡◌, ◌++◌, IfOk, string_bytes};
 
@@ -13,7 +14,7 @@ use std::test::Fail;
 /// What comes of scanning a changed text again, beside a scan of it from nothing.
 #[derive(Clone, Copy, Debug, Drop, PartialEq, Eq)]
 enum RescanOutcome {
-    /// Both give the same, and so many tokens and comments are read again.
+    /// Both give the same, and this many tokens and comments are read again.
     Read(usize),
     /// Both refuse it for the same faults.
     Refused,
@@ -164,7 +165,8 @@ fn a_comment_is_opened_in_front(rt: HostRuntime) -> Result<(), Fail> {
     Ok(())
 }
 
-/// Whether the tokens stay of the same kinds where `other` comes in place of `middle`. None where one of the texts has faults.
+/// Whether the tokens stay of the same kinds where `other` comes in place of `middle`. None where one of the texts has
+/// faults.
 fn kinds_stay(
     alloc: Global,
     front: &str,
@@ -251,7 +253,8 @@ fn random_change(alloc: Global, numbers: &mut Numbers) -> Result<RescanOutcome, 
     )
 }
 
-/// How many of some random changes are read, and how many are refused. None where one of them is read differently from nothing.
+/// How many of some random changes are read, and how many are refused. None where one of them is read differently from
+/// nothing.
 fn random_changes(alloc: Global, count: usize) -> Result<Option<(usize, usize)>, AllocError> {
     let mut numbers = Numbers { seed: 1 };
     let mut read: usize = 0;

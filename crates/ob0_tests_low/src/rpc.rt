@@ -124,7 +124,7 @@ fn word_of(call: &Call) -> &'static str {
     }
 }
 
-/// In a word what a request asks for.
+/// What a message requests, in a word.
 fn method_word(alloc: Global, method: &str, params: &str) -> &'static str {
     match Value::from_str(alloc, params) {
         Ok(params) => match request(alloc, method, &params) {

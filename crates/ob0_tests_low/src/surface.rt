@@ -1,4 +1,5 @@
-//! Calls that no other test makes: where a stream ends, a store's own text and unit, documents that are closed, notifications.
+//! Calls that no other test makes: where a stream ends, a store's own text and unit, documents that are closed,
+//! notifications.
 
 use ob0_frame::{FrameFault, Framer};
 use ob0_rpc::{Note, notice};

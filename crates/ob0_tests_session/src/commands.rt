@@ -7,7 +7,7 @@ use ob0_text::Position;
 use std::alloc::Global;
 use std::process::Abort;
 
-/// How an empty file is checked where so many flushes succeed, and how many bytes are handed on.
+/// How an empty file is checked where `flushes` flushes succeed, and how many bytes are passed on.
 fn checked(alloc: Global, flushes: u32) -> (u8, usize) {
     let (mut printed, mut reported) = (Count::new(512, flushes), Count::new(512, 1));
     let mut out = Flushed::new(Counter {
@@ -72,7 +72,7 @@ fn a_module_is_run_and_renamed(rt: HostRuntime) {
     assert!(rt; renamed(rt.alloc(), 0) == (1, 0));
 }
 
-/// In a word what a command line asks for.
+/// What a command line requests, in a word.
 fn line_of(alloc: Global, words: &[&str]) -> &'static str {
     match command(alloc, words) {
         Ok(CommandLine::Serve) => "serve",

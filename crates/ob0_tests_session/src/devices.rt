@@ -1,8 +1,8 @@
-//! A reader and a writer that fail when they are reported to.
+//! A reader and a writer that fail after some calls.
 
 use std::io::{self, Read, Write};
 
-/// A reader of these bytes, so many a call at most, which fails once it has been called so often.
+/// A reader of these bytes, `most` a call, which fails once its calls are used up.
 #[derive(Drop)]
 pub struct Source<'a> {
     pub bytes: &'a [u8],
@@ -21,8 +21,8 @@ impl<'a> Read for Source<'a> {
     }
 }
 
-/// How many bytes were written, how many of them are handed on, for how many more there is room, and how many flushes are
-/// left.
+/// How many bytes were written, how many of them are passed on, for how many more there is room, and how many flushes
+/// are left.
 #[derive(Clone, Copy)]
 pub struct Count {
     pub written: usize,
@@ -32,6 +32,7 @@ pub struct Count {
 }
 
 impl Count {
+    /// Nothing is written yet.
     pub fn new(room: usize, flushes_left: u32) -> Count {
         Count {
             written: 0,
@@ -42,7 +43,7 @@ impl Count {
     }
 }
 
-/// A writer that only counts. It fails where no room is left, and hands on what was written only where it is flushed.
+/// A writer that only counts. It fails where no room is left, and passes on what was written only where it is flushed.
 #[derive(Drop)]
 pub struct Counter<'a> {
     pub count: &'a mut Count,

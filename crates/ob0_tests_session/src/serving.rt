@@ -22,8 +22,8 @@ const BAD_HEAD: &[u8] = b"Content-Length: 75\r\n\r\n\
     {\"id\":1,\"jsonrpc\":\"2.0\",\"method\":\"initialize\",\"params\":{\"capabilities\":{}}}\
     Content-Length: x\r\n\r\n";
 
-/// A conversation that ends somehow: its bytes up to a length, by pieces of a size, read so often, with room for so many bytes
-/// and with so many flushes.
+/// How a conversation ends: the first `len` of its bytes are read, in pieces of `given` bytes by `reads` reads at most,
+/// and its writer has room for `room` bytes and takes `flushes` flushes.
 struct ServeEnd {
     bytes: &'static [u8],
     len: usize,
@@ -109,8 +109,8 @@ static ENDS: &[ServeEnd] = &[
     },
 ];
 
-/// How a conversation ends over this writer, and whether the devices know afterwards that all was flushed and which of them
-/// failed.
+/// How a conversation ends over this writer, and whether the devices know afterwards that all was flushed and which of
+/// them failed.
 fn conversed(alloc: Global, end: &ServeEnd, count: &mut Count) -> (Result<u8, ServeFault>, bool) {
     let mut reader = Noted::new(Source {
         bytes: &end.bytes[..end.len.min(end.bytes.len())],
@@ -124,14 +124,15 @@ fn conversed(alloc: Global, end: &ServeEnd, count: &mut Count) -> (Result<u8, Se
     (result, is_reported && writer.flushed())
 }
 
-/// Whether a conversation ends by a write that failed, where only so many flushes succeed.
+/// Whether a conversation ends by a write that failed, where only `flushes` flushes succeed.
 fn breaks_off(alloc: Global, end: &ServeEnd, flushes: u32) -> bool {
     let mut count = Count::new(end.room, flushes);
     let (result, _flushed) = conversed(alloc, end, &mut count);
     result == Err(ServeFault::Write)
 }
 
-/// Whether a conversation ends as it is to end, with all that was written handed on, where just so many flushes succeed.
+/// Whether a conversation ends as it is to end, with all that was written passed on, where just its number of flushes
+/// succeed.
 fn ends_flushed(alloc: Global, end: &ServeEnd) -> bool {
     let mut count = Count::new(end.room, end.flushes);
     conversed(alloc, end, &mut count) == (end.result, true) && count.handed_on == count.written

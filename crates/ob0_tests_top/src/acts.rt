@@ -32,7 +32,7 @@ pub enum Act {
 pub enum Sight {
     Nothing,
     Sent,
-    /// The server took a message, and sent so many.
+    /// The server took a message, and sent this many.
     Served(usize),
     /// The editor took diagnostics, of a well-typed text or of another.
     Published(bool),
@@ -308,7 +308,8 @@ fn played(alloc: Global, unit: Unit, events: &[Event]) -> Extent {
     }
 }
 
-/// What so many events leave, made one by one, or those before one whose allocation fails; None where no world can be made.
+/// What the first `most` events leave, made one by one, or those before one whose allocation fails; None where no world
+/// can be made.
 fn stepped_through(alloc: Global, unit: Unit, events: &[Event], most: u64) -> Option<Extent> {
     let mut world: World<Lines> = match begun(alloc, unit) {
         Ok(world) => world,
@@ -388,7 +389,8 @@ fn counted(story: &Story, extent: &Extent) -> Option<EventCounts> {
     })
 }
 
-/// What comes of so many events, made one by one; it is made for a second time where an allocation fails in the first.
+/// What comes of the first events, made one by one; it is made for a second time where an allocation fails in the
+/// first.
 fn counted_again(
     alloc: Global,
     story: &Story,
@@ -404,8 +406,8 @@ fn counted_again(
     counted(story, &extent)
 }
 
-/// What comes of a story that is played up to an event whose allocation fails, or to its end. None where it isn't what comes
-/// of as many events made one by one, or not the first that the story is to leave.
+/// What comes of a story that is played up to an event whose allocation fails, or to its end. None where it isn't what
+/// comes of as many events made one by one, or not the first that the story is to leave.
 pub fn left(alloc: Global, story: &Story) -> Option<EventCounts> {
     let Ok(events) = events_again(alloc, story) else {
         return None;

@@ -85,7 +85,7 @@ module _ (bs new starts front back added : List ℕ) (len from to kept moved : �
   abbrev pub rest : List ℕ
   rest = take (length back - (moved - kept)) back
 
-  -- the starts after the change, where there are so many
+  -- the starts after the change, where there are that many
   later_starts : moved ≤ length starts → drop moved starts ≡ map (from_end len) (reverse rest)
   later_starts few =
       let both : length starts ≡ length front + length back = ap length (sym parts) ∙ length-starts_in len front back in

@@ -25,7 +25,8 @@ pub fn offset_in(text: &str, table: &LineTable, unit: Unit, position: Position) 
     place_in(text, table, unit, position).offset
 }
 
-/// Where a range starts and ends, in bytes. Where it ends in the line in which it starts, the end is looked for from the start on.
+/// Where a range starts and ends, in bytes. Where it ends in the line in which it starts, the end is looked for from
+/// the start on.
 pub fn bounds_in(text: &str, table: &LineTable, unit: Unit, range: Range) -> (usize, usize)
     requires { HasLines text.now table.now }
     ensures start { result.0 ≡ offset_of (width_of unit) (chars text.now) range.start }
@@ -81,8 +82,8 @@ pub fn positions_in(
     Ok(positions)
 }
 
-/// The offsets of positions. Each is looked for from the one before it, where both are in one line, and else from the start
-/// of its line.
+/// The offsets of positions. Each is looked for from the one before it, where both are in one line, and else from the
+/// start of its line.
 pub fn offsets_in(
     alloc: Global,
     text: &str,

@@ -287,7 +287,7 @@ abbrev inlining_at : Inlining → Position → Ask
 inlining_at Here position = inline_here position
 inlining_at Everywhere position = inline_all position
 
--- the one that was asked for, of what is offered
+-- the requested one of what is offered
 abbrev requested_for : {A : Type 0} → Inlining → A → A → A
 requested_for Here here everywhere = here
 requested_for Everywhere here everywhere = everywhere
@@ -311,7 +311,7 @@ none_read_back : (how : Inlining) (position : Position) (id : Data) → edits_fo
 none_read_back Here position id = refl
 none_read_back Everywhere position id = refl
 
--- what is offered is what is answered: the edits of the one that was asked for, or none for the reason why it isn't offered
+-- what is offered is what is answered: the edits of the requested one, or none for the reason why it isn't offered
 offered_here : (unit : Unit) (text : List ℕ) (position : Position) (o : Option (Vec Edit Global)) → Offers Here unit text (place_at unit text position) o → AnswersFor unit text (inline_here position) (edits_offered o)
 offered_here unit text position None refused = inr (inl refused, refl)
 offered_here unit text position (Some found) inlines = inl (found.items, (found, inlines, refl), refl)

@@ -92,7 +92,7 @@ moved_sound e new (sends f m) (Some c) q q' r s shown extends is sent sound =
     (pushed_sound new.requested q r s c m (subst (λ (x : Editor). SaysToServer x.requested m c.items) (sym is.0) is.1)
     (grown_sound e new q r s (moves_grow e new (sends f m) (Some c) extends is) sound))
 
--- the same queues, where more was asked
+-- the same queues after further requests
 queues_grown : (e new : Editor) (q r : Contents) (s : SessionState) (ap_list : List applied.Applied) (md : List made.Made) → Grows e new → Sound e.requested q r s
     → ends_from new q s r ap_list md ≡ record (ends_from e q s r ap_list md) { editor = new }
 queues_grown e new q r s ap_list md (more, is) sound =

@@ -1,4 +1,4 @@
--- Contents that wait say the same once more was asked, and what they say as the queues grow and shrink.
+-- Contents that wait say the same after further requests, and what they say as the queues grow and shrink.
 use Rattle.std.proofs.Common.{◌≡◌, ◌∙◌, ℕ, Bool, true, false, cond, List, [], ◌∷◌, ◌++◌, Option, Some, None, refl, sym, ap, subst}
 use Rattle.std.specs.Prelude.{All, Vec, is_some, filter_map, option_map, option_and_then, codes}
 use Rattle.std.specs.List.{cons_option}

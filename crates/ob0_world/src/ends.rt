@@ -153,8 +153,8 @@ impl<T: TextStore> Ends<T> {
         send(&mut self.to_server, content)
     }
 
-    /// The session takes one message, and its replies wait for the editor. What it publishes with a version is made for the
-    /// text that the document has then.
+    /// The session takes one message, and its replies wait for the editor. What it publishes with a version is made for
+    /// the text that the document has then.
     fn serve(&mut self) -> Result<Seen, AllocError>
         ensures ok { IfOk result
             (λ seen. Happens self.old.ends events.serve (seen_of seen) self.new.ends) }

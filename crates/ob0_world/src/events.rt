@@ -11,7 +11,7 @@ pub enum Event {
     /// The editor makes these changes in order, each of the result of the one before.
     ChangeDoc { uri: String, changes: Vec<Change> },
     CloseDoc { uri: String },
-    /// The editor asks this of a document. Asks that are sent are numbered from 1.
+    /// The editor sends this ask about a document. Asks that are sent are numbered from 1.
     Ask { uri: String, ask: Ask },
     /// The server takes one message, and sends what it answers.
     Serve,
@@ -30,7 +30,7 @@ pub enum Seen {
     Nothing,
     /// The editor sent a message.
     Sent,
-    /// The server took a message, and sent so many.
+    /// The server took a message, and sent this many.
     Served(usize),
     /// The editor took diagnostics.
     Published { uri: String, empty: bool },

@@ -43,8 +43,8 @@ impl<T: TextStore> Model for World<T> {
 }
 
 impl<T: TextStore> World<T> {
-    /// No document is open and no message waits. The editor has initialized the session, as a client that takes edits with the
-    /// versions of their documents and code actions as literals. Both count positions in UTF-16 units.
+    /// No document is open and no message waits. The editor has initialized the session, as a client that takes edits
+    /// with the versions of their documents and code actions as literals. Both count positions in UTF-16 units.
     pub fn new(alloc: Global) -> Result<World<T>, WorldFault>
         ensures start { IfOk result (λ w. w ≡ new_world Utf16) }
         ensures err { IfErr result (λ fault. fault ≡ Memory) }
@@ -74,7 +74,8 @@ impl<T: TextStore> World<T> {
         self.steps
     }
 
-    /// Makes one event happen. The server is a session: its turn is one `Session::step` on the first content that waits.
+    /// Makes one event happen. The server is a session: its turn is one `Session::step` on the first content that
+    /// waits.
     pub fn step(&mut self, event: &Event) -> Result<Seen, WorldFault>
         requires few { self.old.steps < 2 ^ 63 - 1 }
         ensures ok { IfOk result

@@ -90,7 +90,7 @@ pub record IsNote (note : DocumentEvent) (content : List ℕ) : Type 0 where
   pub reported : note_of method params ≡ sent_as note
   pub fits : HasVersion note
 
--- the content is the request of this number that asks this of a document
+-- the content is the request of this number, with this ask about a document
 pub record IsRequest (k : ℕ) (uri : List ℕ) (ask : Ask) (content : List ℕ) : Type 0 where
   pub json : Data
   pub reads : ReadsContent content (Some json)

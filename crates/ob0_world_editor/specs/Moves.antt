@@ -15,7 +15,7 @@ use Rattle.ob0_world_editor.specs.declared.applied.Applying as applying
 use Rattle.ob0_world_editor.specs.declared.editor.HeldAnswer as answer
 use Rattle.ob0_world_editor.specs.declared.editor.Rewritten as rewritten
 
--- there is room for one more of all that is counted
+-- one more of all that is counted can be counted
 pub record AreFew (e : Editor) : Type 0 where
   pub openings : e.openings < 2 ^ 63 - 1
   pub asks : length e.requested < 2 ^ 63 - 1

@@ -73,7 +73,8 @@ action_items title value =
     option_and_then workspace_items
     (option_and_then (get (codes "edit")) (option_and_then (action_in title) (as_array value)))
 
--- a rename is answered with a WorkspaceEdit, an inlining with actions, of which that with its title is meant, and formatting with a list of edits
+-- a rename is answered with a WorkspaceEdit, an inlining with actions, of which that with its title is meant, and
+-- formatting with a list of edits
 abbrev pub items_for : Ask → Data → Option Items
 items_for (rename position name) value = workspace_items value
 items_for (inline_here position) value = action_items (codes "Inline here") value

@@ -11,7 +11,7 @@ pub struct Applied {
 /// What became of an answer that was to be applied.
 #[derive(Drop)]
 pub enum Applying {
-    /// No such answer is held.
+    /// No such answer is stored.
     NotHeld,
     /// The document isn't the one of the request any more.
     Dropped,

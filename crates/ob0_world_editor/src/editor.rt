@@ -158,7 +158,7 @@ impl Editor {
         Ok(Some(content))
     }
 
-    /// Asks this of a document; the content is the request. None where it isn't open.
+    /// Requests this about a document; the content is the request. None where it isn't open.
     pub fn ask(&mut self, uri: &str, ask: &Ask) -> Result<Option<Vec<u8>>, AllocError>
         requires { AreFew self.old }
         ensures ok { IfOk result (λ content. Moves
@@ -204,8 +204,8 @@ impl Editor {
         Ok(true)
     }
 
-    /// Makes the edits of answer `k`, where the document is the same opening with the same version as when it was requested
-    /// about; the content is the notification. Else the answer is dropped.
+    /// Makes the edits of answer `k`, where the document is the same opening with the same version as when it was
+    /// requested about; the content is the notification. Else the answer is dropped.
     pub fn apply(&mut self, k: u64) -> Result<Applying, AllocError>
         requires { AreFew self.old }
         ensures ok { IfOk result (λ applying. ComesOf
@@ -222,7 +222,7 @@ impl Editor {
         }
     }
 
-    /// Lets answer `k` go, and says whether it was held.
+    /// Drops answer `k`, and returns whether it was stored.
     pub fn discard(&mut self, k: u64) -> bool
         ensures held { result ≡ is_some (kept_answer k self.old.answers) }
         ensures after { self.new ≡ without_answer self.old k }
@@ -240,7 +240,8 @@ impl Editor {
         Some(answer.edits)
     }
 
-    /// The document of the request, with these edits made; None where it isn't the same any more, or the edits can't be made.
+    /// The document of the request, with these edits made; None where it isn't the same any more, or the edits can't be
+    /// made.
     fn rewritten(&self, k: u64, edits: &[Edit]) -> Result<Option<Rewritten>, AllocError>
         requires { AreFew self.now }
         ensures { IfOk result (λ rewritten. IsRewritten self.now

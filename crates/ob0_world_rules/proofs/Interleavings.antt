@@ -81,7 +81,7 @@ module _ (unit : Unit) where
   rest_kept w rest kept fit =
       record { counts = kept.counts; holds = kept.holds; mirror = kept.mirror; openings = kept.openings; requested = kept.requested; answered = fit; answers_held = kept.answers_held; applied = kept.applied; made = kept.made }
 
-  -- an answer with edits fits the document that was asked about
+  -- an answer with edits fits the document of its request
   with_edits : (e : Editor) (k : ℕ) (edit : Replacement) (edits : List Replacement) → Known e k (Fits unit (edit ∷ edits)) → Known e k (λ d. EditsPreserveRun unit d.text (edit ∷ edits))
   with_edits e k edit edits known = record { requested = known.requested; is = known.is; past = known.past; still = λ d same. go d (known.still d same) }
     where
@@ -291,7 +291,7 @@ module _ (unit : Unit) where
       go : (o : Option Document) (d : Open) → o ≡ Some (as_open d) → IsAnswer unit o ask edits → Fits unit edits d
       go o d is may = answer_keeps unit d.text ask edits (subst (λ x. IsAnswer unit x ask edits) is may)
 
-  -- the server, as it takes this message, meets what the editor asked about
+  -- the server, as it takes this message, meets the document of the request
   abbrev Meets : Editor → OpenDocuments → ToServer → Type 0
   Meets e held m = AsksSee e held (m ∷ [])
 

@@ -22,7 +22,7 @@ use Rattle.ob0_world_rules.proofs.SameDocument.{Known, Later, still_known, later
 abbrev pub Fits : Unit → List Replacement → Open → Type 0
 Fits unit edits d = (edits ≡ []) ⊎ EditsPreserveRun unit d.text edits
 
--- an answer on its way fits the document that was asked about, where that is still the same
+-- an answer on its way fits the document of its request, where that is still the same
 abbrev pub AnswerFits : Unit → Editor → ToEditor → Type 0
 AnswerFits unit e (publishes uri version empty) = ⊤
 AnswerFits unit e (answers k edits) = Known e k (Fits unit edits)
@@ -31,7 +31,7 @@ AnswerFits unit e (answers k edits) = Known e k (Fits unit edits)
 abbrev pub HeldFits : Unit → Editor → Answer → Type 0
 HeldFits unit e a = Known e a.number (λ d. EditsPreserveRun unit d.text a.edits)
 
--- the server, as it takes an ask, will hold the document that was asked about, where that is still the same
+-- the server, as it takes an ask, will hold the document of the request, where that is still the same
 abbrev pub AsksSee : Editor → OpenDocuments → List ToServer → Type 0
 AsksSee e held [] = ⊤
 AsksSee e held (notifies note ∷ rest) = AsksSee e (after_event held note) rest

@@ -47,7 +47,7 @@ announcing_push (x ∷ events) w announced between e seen new (s, mid, later, fi
   ap (λ ts. ts ++ announced_at_event between e) is ∙ append_assoc (announced_at_event w x) later (announced_at_event between e),
 )
 
--- ---- a message names the document that it tells of
+-- ---- a message names the document that it reports
 
 abbrev Names : Editor → ToServer → Type 0
 Names e m = map name_of (announced_by e m) ≡ named_by m

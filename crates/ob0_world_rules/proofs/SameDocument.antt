@@ -1,4 +1,4 @@
--- The hard step: a document that is the same opening with the same version as when it was asked about has the text
+-- The hard step: a document that is the same opening with the same version as at its request has the text
 -- that it had then. No event makes such a document of another one, since opening numbers are fresh and versions rise.
 use Rattle.std.proofs.Common.{◌≡◌, ◌∙◌, ℕ, zero, suc, ◌+◌, ◌≤◌, Bool, true, false, cond, List, [], ◌∷◌, ◌++◌, length, refl, sym, ap, arith, ◌&&◌}
 use Rattle.std.specs.Prelude.{Option, Some, None, slice_get, ◌==◌}
@@ -15,7 +15,7 @@ pub record Past (e : Editor) (a : SentAsk) : Type 0 where
   pub known : a.opening ≤ e.openings
   pub risen : (d : Open) → open_at e a.uri ≡ Some d → d.opening ≡ a.opening → a.version ≤ d.version
 
--- the document that was asked about is d, the same opening with the same version
+-- the document of the request is d, the same opening with the same version
 pub record Same (e : Editor) (a : SentAsk) (d : Open) : Type 0 where
   pub at : open_at e a.uri ≡ Some d
   pub opening : d.opening ≡ a.opening
@@ -105,7 +105,7 @@ left docs uri q d h = go (bytes_eq q uri) (sym (get_removed docs uri q) ∙ h)
     go true h = absurd (none-some d h)
     go false h = h
 
--- a fresh opening is the same as none that was asked about
+-- a fresh opening is the same as that of no request
 pub later_open : (e : Editor) (uri : List ℕ) (new : Open) → new.opening ≡ e.openings + 1 → Later e (record e { documents = map_of.insert e.documents uri new; openings = e.openings + 1 })
 later_open e uri new fresh =
     record {
@@ -123,7 +123,7 @@ later_open e uri new fresh =
         let equal : e.openings + 1 ≡ a.opening = sym fresh ∙ ap (λ y. y.opening) is ∙ opening in
         omega arith
 
--- a version that rose is the same as none that was asked about
+-- a version that rose is the same as that of no request
 pub later_rewrite : (e : Editor) (uri : List ℕ) (d : Open) (text : List ℕ) → open_at e uri ≡ Some d
     → Later e (record e { documents = map_of.insert e.documents uri (record { version = d.version + 1; text = text; opening = d.opening }) })
 later_rewrite e uri d text was_open =

@@ -123,7 +123,8 @@ applies_requested e edits (Some requested) =
     applies_edits e edits requested.uri (if_same requested (open_at e requested.uri))
 applies_requested e edits None = drops_answer e
 
--- the edits of answer k are made of the document, where that is the same as when it was requested; else the answer is dropped
+-- the edits of answer k are made of the document, where that is the same as when it was requested; else the answer is
+-- dropped
 abbrev pub applies_answer : Editor → ℕ → Option (List Replacement) → ApplyOutcome
 applies_answer e k (Some edits) =
     applies_requested (without_answer e k) edits (numbered e.requested k)

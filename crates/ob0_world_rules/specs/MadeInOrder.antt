@@ -90,8 +90,8 @@ named_in (message ∷ queue) = named_by message ++ named_in queue
 abbrev pub name_of : Announced → List ℕ × ℤ
 name_of t = (t.uri, pos t.document.version)
 
--- The documents that the editor announced are those that the publications were made for, one for each and in this order, and
--- after them those of the messages that still wait for the server, one for each that announces a document.
+-- The documents that the editor announced are those that the publications were made for, one for each and in this
+-- order, and after them those of the messages that still wait for the server, one for each that announces a document.
 pub record AreMadeInOrder (unit : Unit) (events : List Event) (made : List Made) : Type 0 where
   pub announced : List Announced
   pub waiting : List Announced

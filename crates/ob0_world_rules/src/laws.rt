@@ -32,8 +32,8 @@ pub fn made_for_the_editor()
     ensures { MadeForTheEditor }
 {}
 
-/// The n-th publication with a version was made for the n-th document that the editor announced to the server: an opened, changed
-/// or edited one, in that opening, with its version and text.
+/// The n-th publication with a version was made for the n-th document that the editor announced to the server: an
+/// opened, changed or edited one, in that opening, with its version and text.
 pub fn made_in_order()
     ensures { MadeInOrder }
 {}
