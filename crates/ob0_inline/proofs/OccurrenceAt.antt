@@ -55,4 +55,4 @@ halved high is token (Ok k) a h =
     ap Some (omega arith) ∙ sym (is_first 0 high is token 0 k a found.0 found.1)
 halved high is token (Err n) a h =
     let found = searched is token (Err n) h (rises 0 high is a) in
-    sym (is_nowhere is token 0 (none_equal is token n found.1.0 found.1.1))
+    sym (is_nowhere is token 0 (none_equal is token n found.1 found.2))

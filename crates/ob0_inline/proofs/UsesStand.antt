@@ -173,7 +173,7 @@ above low high [] j i a e = absurd (cc)
 above low high (x ∷ is) zero i a e = subst (λ n. low ≤ n) (inside e) a.0
 above low high (x ∷ is) (suc j) i a e = let more = above (x + 1) high is j i a.1 e in omega (arith, more, a.0)
 
-not_equal : (i p : ℕ) → i ≢ p → (i == p) ≡ false
+pub not_equal : (i p : ℕ) → i ≢ p → (i == p) ≡ false
 not_equal i p h = (elim (i == p) as (λ b. (i == p) ≡ b → b ≡ false) [ true ↦ (λ e. absurd (h (eqb-true i p e))) | false ↦ (λ e. refl) ]) refl
 
 next_same : (j k : ℕ) → (j == k) ≡ (suc j == suc k)

@@ -1,5 +1,5 @@
 -- A record has a type for a name exactly where it has a place for it, and then the name selects a field of it.
-use Rattle.std.proofs.Common.{◌≡◌, ℕ, zero, suc, Bool, true, false, if◌then◌else◌, List, Option, Some, None, option_map, refl, sym, ap, ◌∙◌}
+use Rattle.std.proofs.Common.{◌≡◌, ℕ, suc, Bool, true, false, if◌then◌else◌, Option, Some, None, option_map, refl, sym, ap, ◌∙◌}
 use Rattle.ob0_scope_rules.specs.Names.{Name, same_name}
 use Rattle.ob0_types_rules.specs.Typing.{shape_of_field}
 use Rattle.ob0_types_table.specs.declared.known.FieldOf.{FieldOf}

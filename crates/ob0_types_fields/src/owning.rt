@@ -93,11 +93,13 @@ impl<'a, 't> Owning<'a, 't> {
             option_map (type_shape (shapes_of self.now.known.now)) t
             ≡ field_type (shape_in self.now shape.now) ((meaning_in self.now).written name)) }
     {
-        let Some(of) = shape.fields.find(text_at(self.resolved.tokens(), name)) else {
-            return Ok(None);
-        };
-        found.push((name, shape.ordinal))?;
-        Ok(Some(of))
+        match shape.fields.find(text_at(self.resolved.tokens(), name)) {
+            None => Ok(None),
+            Some(of) => {
+                found.push((name, shape.ordinal))?;
+                Ok(Some(of))
+            }
+        }
     }
 
     /// The type of an array's elements.
@@ -369,10 +371,11 @@ fn is_plain_simple(s: &Simple) -> bool
         → (m : Meanings ℕ Shape Signature)
         → marked m (simple_of s.now) ≡ [] }
 {
-    if !s.more.is_empty() {
-        return false;
+    if s.more.is_empty() {
+        is_plain_term(&s.first)
+    } else {
+        false
     }
-    is_plain_term(&s.first)
 }
 
 fn is_plain_term(t: &Term) -> bool
@@ -380,10 +383,11 @@ fn is_plain_term(t: &Term) -> bool
         → (m : Meanings ℕ Shape Signature)
         → marked m (term_of t.now) ≡ [] }
 {
-    if !t.more.is_empty() {
-        return false;
+    if t.more.is_empty() {
+        is_plain_factor(&t.first)
+    } else {
+        false
     }
-    is_plain_factor(&t.first)
 }
 
 fn is_plain_factor(f: &Factor) -> bool

@@ -1,4 +1,4 @@
-use Rattle.std.proofs.Common.{sym, ap, ◌∙◌}
+use Rattle.std.proofs.Common.{ap, ◌∙◌}
 use Rattle.std.specs.Vec.{vec_len}
 use Rattle.ob0_tree.specs.View.{factor_of}
 use Rattle.ob0_types_fields.specs.Owned.{marked}

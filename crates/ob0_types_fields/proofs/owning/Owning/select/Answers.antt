@@ -1,4 +1,4 @@
-use Rattle.std.proofs.Common.{◌≡◌, ◌++◌, IfOk, Option, Some, option_and_then, option_map, sym, ap, ◌∙◌, subst, append-nil}
+use Rattle.std.proofs.Common.{◌≡◌, ◌++◌, IfOk, Option, Some, option_and_then, option_map, sym, ap, ◌∙◌, subst}
 use Rattle.ob0_types_rules.specs.Typing.{field_type}
 use Rattle.ob0_types_table.specs.KnownTables.{shapes_of}
 use Rattle.ob0_types_table.specs.Parts.{parts_shape}

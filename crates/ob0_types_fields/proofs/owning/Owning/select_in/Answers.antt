@@ -25,18 +25,18 @@ returns-in-None-clause-following c =
     let fs = fields_shape shapes c.args.shape.now.fields in
     c.in-None.ensures.shape shapes ∙ ap (shape_of_field fs) (c.text_at.ensures ∙ ap (λ s. text_at s c.args.name) c.tokens.ensures)
 
-pub returns-clause-found : goal.returns-clause-found
-returns-clause-found c =
+pub returns-in_ok-push-in-Some-clause-found : goal.returns-in_ok-push-in-Some-clause-found
+returns-in_ok-push-in-Some-clause-found c =
     let w = c.args.self.now in
     let shapes = shapes_of w.known.now in
     let fs = fields_shape shapes c.args.shape.now.fields in
     let x = (meaning_in w).written c.args.name in
     let text = c.text_at.ensures ∙ ap (λ s. text_at s c.args.name) c.tokens.ensures in
     let typed : option_map (type_shape shapes) (Some c.in-Some.of) ≡ shape_of_field fs x = c.in-Some.ensures.shape shapes ∙ ap (shape_of_field fs) text in
-    c.in_ok-push.ensures.pushed ∙ ap (λ z. c.args.found.now.items ++ z) (sym (marked_by_type c.args.shape.now.ordinal fs x c.args.name (Some (type_shape shapes c.in-Some.of)) typed))
+    c.in_ok-push-in-Some.ensures.items ∙ ap (λ z. c.args.found.now.items ++ z) (sym (marked_by_type c.args.shape.now.ordinal fs x c.args.name (Some (type_shape shapes c.in-Some.of)) typed))
 
-pub returns-clause-following : goal.returns-clause-following
-returns-clause-following c =
+pub returns-in_ok-push-in-Some-clause-following : goal.returns-in_ok-push-in-Some-clause-following
+returns-in_ok-push-in-Some-clause-following c =
     let w = c.args.self.now in
     let shapes = shapes_of w.known.now in
     let fs = fields_shape shapes c.args.shape.now.fields in
