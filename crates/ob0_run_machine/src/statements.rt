@@ -244,10 +244,10 @@ fn statement<F: Fn(&mut Machine<'_>, usize, &Level<'_>) -> Result<(), Stop>>(
     }
 }
 
-/// Statements in order. Loops execute their bodies by this, without a call.
+/// Statements in order. Loops and procedures execute their bodies by this, without a call.
 #[inline(always)]
 #[cycle(execution)]
-fn in_order<F: Fn(&mut Machine<'_>, usize, &Level<'_>) -> Result<(), Stop>>(
+pub(crate) fn in_order<F: Fn(&mut Machine<'_>, usize, &Level<'_>) -> Result<(), Stop>>(
     statements: &[Instruction],
     level: &Level<'_>,
     turns: u32,
