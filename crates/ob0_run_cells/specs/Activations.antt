@@ -115,8 +115,10 @@ abbrev pub place_parameter : {N : Type 0} → Mode → N → ℕ → Placed N �
 place_parameter by_value x n p =
     record p { placing = (x, in_slot (held 0 p.cells)) ∷ p.placing; cells = p.cells + n }
 place_parameter by_place x n p =
-    record p
-    { placing = (x, in_slot (by_reference 0 p.reference_places)) ∷ p.placing; reference_places = suc p.reference_places }
+    record p {
+      placing = (x, in_slot (by_reference 0 p.reference_places)) ∷ p.placing;
+      reference_places = suc p.reference_places;
+    }
 
 -- parameters, placed one after the other
 abbrev pub place_parameters : {N : Type 0} → List (TypedParameter N) → Placed N → Placed N

@@ -25,7 +25,8 @@ abbrev pub HaveNumbers : List ℤ → Type 0
 HaveNumbers cells = (a : ℕ) → machine.fits (machine.cell_at cells a) ≡ true
 
 -- a state of lowered code with the cells of a store of given types, and the same input and output
-pub record Represents (typing : StoreTyping) (low : execution.MachineState) (s : State) : Type 0 where
+pub record Represents (typing : StoreTyping) (low : execution.MachineState) (s : State)
+    : Type 0 where
   pub store_fits : StoreFits typing s.store
   pub same_cells : low.cells ≡ all_cells s.store
   pub same_input : low.input ≡ s.input
@@ -83,7 +84,8 @@ CallsRepresent {N} checked targets b =
     { cells = p.cells }) (b.enters x args s)
 
 -- a body of a module that is checked, whose variables are in their slots and whose procedures have their targets
-pub record ShowsBody {N : Type 0} (checked : Typed N) (slots : N → Slot) (targets : N → Target) (b : Body N) : Type 0 where
+pub record ShowsBody {N : Type 0} (checked : Typed N) (slots : N → Slot) (targets : N → Target)
+    (b : Body N) : Type 0 where
   pub names_fit : MeaningsFit b.typing checked b.active
   pub variables_in_slots : (x : N) (p : Place)
       → b.active.object_for x ≡ Some (a_variable p)

@@ -166,7 +166,8 @@ SumsLower =
     → NumberLeads checked slots n (addends_left rest) (value_of_simple (sum None e rest))
     × NumberLeads checked slots n (addends_left rest)
     (value_of_simple (sum (Some sign.Plus) e rest))
-    × NumberLeads checked slots (lowered.negative n) (addends_left rest) (value_of_simple (sum (Some sign.Minus) e rest)))
+    × NumberLeads checked slots (lowered.negative n) (addends_left rest)
+    (value_of_simple (sum (Some sign.Minus) e rest)))
     × ((t : lowered.Truth)
     → TruthMeans checked slots t (value_of_term e)
     → TruthLeads checked slots t (addends_left rest) (value_of_simple (sum None e rest)))
@@ -207,12 +208,18 @@ ExpressionsLower =
 abbrev pub RelationsLower : Type 0
 RelationsLower =
     (checked : Typed Label) (slots : Label → Slot) (d e : Tree Label simple)
-    → ((r : Relation) (m n : lowered.Number) → NumberMeans checked slots m (value_of_simple d) → NumberMeans checked slots n (value_of_simple e)
-    → TruthMeans checked slots (lowered.related (relation_of r) m n) (value_of_expression (compares d (one (relates r e)))))
-    × ((t u : lowered.Truth) → TruthMeans checked slots t (value_of_simple d) → TruthMeans checked slots u (value_of_simple e)
+    → ((r : Relation) (m n : lowered.Number)
+    → NumberMeans checked slots m (value_of_simple d)
+    → NumberMeans checked slots n (value_of_simple e)
+    → TruthMeans checked slots (lowered.related (relation_of r) m n)
+    (value_of_expression (compares d (one (relates r e)))))
+    × ((t u : lowered.Truth)
+    → TruthMeans checked slots t (value_of_simple d)
+    → TruthMeans checked slots u (value_of_simple e)
     → TruthMeans checked slots (lowered.same t u)
     (value_of_expression (compares d (one (relates relation.Equal e))))
-    × TruthMeans checked slots (lowered.different t u) (value_of_expression (compares d (one (relates relation.NotEqual e)))))
+    × TruthMeans checked slots (lowered.different t u)
+    (value_of_expression (compares d (one (relates relation.NotEqual e)))))
 
 -- an array or a record is a designator, in parentheses or not
 abbrev pub BlocksLower : Type 0

@@ -104,8 +104,10 @@ SequencesLower =
     (checked : Typed Label) (slots : Label → Slot) (targets : Label → Target)
     (rest : Tree Label (items further_statement)) (cs : lowered.Instructions)
     → FurtherMean checked slots targets cs rest
-    → ((a : Tree Label statement) (c : lowered.Instruction) → StatementMeans checked slots targets c a
-    → SequenceMeans checked slots targets (lowered.before c cs) (runs a rest) × FurtherMean checked slots targets (lowered.before c cs) (more (then_statement a) rest))
+    → ((a : Tree Label statement) (c : lowered.Instruction)
+    → StatementMeans checked slots targets c a
+    → SequenceMeans checked slots targets (lowered.before c cs) (runs a rest)
+    × FurtherMean checked slots targets (lowered.before c cs) (more (then_statement a) rest))
     × SequenceMeans checked slots targets cs (runs empty rest)
     × FurtherMean checked slots targets cs (more (then_statement empty) rest)
 

@@ -57,7 +57,7 @@ seen_inward : (d : ℕ) (s : Site) → site_depth s ≤ d → seen_from (suc d) 
 seen_inward d site.Nowhere le = refl
 seen_inward d (site.Module offset) le = refl
 seen_inward d (site.Held at offset) le = let e : suc d - at ≡ suc (d - at) = omega arith in ap (λ up. in_slot (held up offset)) e
-seen_inward d (site.Lent at index) le = let e : suc d - at ≡ suc (d - at) = omega arith in ap (λ up. in_slot (by_reference up index)) e
+seen_inward d (site.ByReference at index) le = let e : suc d - at ≡ suc (d - at) = omega arith in ap (λ up. in_slot (by_reference up index)) e
 seen_inward d (site.Procedure at index) le = let e : suc d - at ≡ suc (d - at) = omega arith in ap (λ up. at_target (record { procedure = index; up = up })) e
 
 reports_inward : (d : ℕ) (s : Site) (w : Whereabouts) → LocatesAs d s w → LocatesAs (suc d) s (inward_whereabouts w)

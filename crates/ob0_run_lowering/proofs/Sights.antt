@@ -164,15 +164,15 @@ pub places_as : (w v : VisibleSites) (f g : Frame) (first second : Placed Label 
 places_as w v f g first second same a = subst (λ (step : Placed Label → Placed Label). Places w v f step g) (λ i p. same p i) a
 
 -- one name
-pub place-by_reference : (w v : VisibleSites) (f g : Frame) (size_of : Label → ℕ) (o : Option ℕ) (name : Name) → ((k : ℕ) → site_at v.sites.items k ≡ put_at o (site.Lent f.depth f.references) (site_at w.sites.items) k) → Follows w v → g ≡ record f { references = f.references + 1 }
+pub place-by_reference : (w v : VisibleSites) (f g : Frame) (size_of : Label → ℕ) (o : Option ℕ) (name : Name) → ((k : ℕ) → site_at v.sites.items k ≡ put_at o (site.ByReference f.depth f.references) (site_at w.sites.items) k) → Follows w v → g ≡ record f { references = f.references + 1 }
     → Places w v f (place_one (slots_at f.depth) size_of by_place (as_label as_names o name)) g
 place-by_reference w v f g size_of o name put follows is =
     let none : f.depth - f.depth ≡ 0 = omega arith in
-    let seen : seen_from f.depth (site.Lent f.depth f.references) ≡ in_slot (by_reference 0 f.references) = ap (λ up. in_slot (by_reference up f.references)) none in
+    let seen : seen_from f.depth (site.ByReference f.depth f.references) ≡ in_slot (by_reference 0 f.references) = ap (λ up. in_slot (by_reference up f.references)) none in
     subst (λ (z : Frame). Places w v f (place_one (slots_at f.depth) size_of by_place (as_label as_names o name)) z) (sym is)
     record {
       placed = λ p h. record {
-        holds = holds_bound w.sites.items v.sites.items f.depth p.placing o name (site.Lent f.depth f.references) (in_slot (by_reference 0 p.reference_places)) (le_refl f.depth, seen ∙ ap (λ n. in_slot (by_reference 0 n)) h.reference_places) put h.holds;
+        holds = holds_bound w.sites.items v.sites.items f.depth p.placing o name (site.ByReference f.depth f.references) (in_slot (by_reference 0 p.reference_places)) (le_refl f.depth, seen ∙ ap (λ n. in_slot (by_reference 0 n)) h.reference_places) put h.holds;
         cells = h.cells;
         reference_places = ap (λ n. n + 1) h.reference_places ∙ omega arith;
       };

@@ -34,7 +34,8 @@ pub record BlockState : Type 0 where
   pub next : ℕ
 
 -- the procedures and statements that are left fit there, and all that they see is known and held
-pub record Ready (t : Tables) (sites : List Site) (depth : ℕ) (s : BlockState) (statements : Tree Label (maybe body)) (ps : Tree Label (items procedure)) : Type 0 where
+pub record Ready (t : Tables) (sites : List Site) (depth : ℕ) (s : BlockState)
+    (statements : Tree Label (maybe body)) (ps : Tree Label (items procedure)) : Type 0 where
   pub declared_there : AreDeclared (declared_in t) s.env
   pub matches : Matches s.env s.placing
   pub holds : LocatesAll sites depth s.placing
@@ -54,7 +55,8 @@ AllMean table most s code statements ps =
 
 -- procedures are lowered, of which some are left: where what is left means what is there, all do, and no activation has more
 -- cells than is known of then
-pub record Goes (t : Tables) (w v : Lowering) (depth : ℕ) (ps left : Tree Label (items procedure)) : Type 0 where
+pub record Goes (t : Tables) (w v : Lowering) (depth : ℕ) (ps left : Tree Label (items procedure))
+    : Type 0 where
   pub on : (s : BlockState) (statements : Tree Label (maybe body))
       → Ready t w.sight.sites.items depth s statements ps
       → (now : BlockState) × Ready t v.sight.sites.items depth now statements left
@@ -69,7 +71,8 @@ pub record Goes (t : Tables) (w v : Lowering) (depth : ℕ) (ps left : Tree Labe
   pub grown : Grown w.procedures.items v.procedures.items
 
 -- a block is lowered to its cells and its statements
-pub record LowersBlock (t : Tables) (w v : Lowering) (f : Frame) (b : Tree Label block) (entry : Routine) : Type 0 where
+pub record LowersBlock (t : Tables) (w v : Lowering) (f : Frame) (b : Tree Label block)
+    (entry : Routine) : Type 0 where
   pub means : (env : TypeEnvironment Label) (p : Placed Label) (k : ℕ)
       → Matches env p.placing
       → IsFrame w.sight.sites.items f p

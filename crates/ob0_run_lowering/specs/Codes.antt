@@ -25,7 +25,9 @@ pub data ExpressionCode : Type 0 where
   no_code : ExpressionCode
 
 -- the code of a value of a type
-abbrev pub CodeMeans : Typed Label → (Label → Slot) → ExpressionCode → Shape → Evaluated Label Value → Type 0
+abbrev pub CodeMeans : Typed Label → (Label → Slot) → ExpressionCode → Shape
+    → Evaluated Label Value
+    → Type 0
 CodeMeans checked slots (a_number n) integer_shape value = NumberMeans checked slots n value
 CodeMeans checked slots (a_truth t) boolean_shape value = TruthMeans checked slots t value
 CodeMeans checked slots (a_block q n) (array_shape k m s) value =
@@ -69,7 +71,10 @@ operated o (a_number m) (a_number n) = a_number (lowered.operation o m n)
 operated _ _ _ = no_code
 
 -- an operation on two truth values
-abbrev pub combined : (lowered.Truth → lowered.Truth → lowered.Truth) → ExpressionCode → ExpressionCode → ExpressionCode
+abbrev pub combined : (lowered.Truth → lowered.Truth → lowered.Truth)
+    → ExpressionCode
+    → ExpressionCode
+    → ExpressionCode
 combined operation (a_truth t) (a_truth u) = a_truth (operation t u)
 combined _ _ _ = no_code
 

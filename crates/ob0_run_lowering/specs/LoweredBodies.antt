@@ -66,7 +66,8 @@ SequenceLowers scene cs a =
     (λ checked slots targets. SequenceMeans checked slots targets cs a)
 
 -- the statements after the first
-abbrev pub FurtherLower : Scene → lowered.Instructions → Tree Label (items further_statement) → Type 0
+abbrev pub FurtherLower : Scene → lowered.Instructions → Tree Label (items further_statement)
+    → Type 0
 FurtherLower scene cs rest =
     InScene scene (λ checked. statements_fit checked rest)
     (λ checked slots targets. FurtherMean checked slots targets cs rest)

@@ -61,17 +61,25 @@ LowersTruth scene e t =
 -- the place of a variable with its selectors, and its type
 abbrev pub Locates : Scene → ℕ → Tree ℕ (items selector) → TypedPlace → Type 0
 Locates scene x path l =
-    WhereSeen scene (λ checked slots. (s : Shape) → variable_type checked (Some (label_in scene.resolved.now x, in_labels scene.resolved.now path)) ≡ Some s
-    → (type_shape (shapes_of scene.types.now) l.of ≡ s) × PlaceMeans checked slots (place_of l.place) s (place_of_designator (label_in scene.resolved.now x) (in_labels scene.resolved.now path)))
+    WhereSeen scene (λ checked slots. (s : Shape)
+    → variable_type checked
+    (Some (label_in scene.resolved.now x, in_labels scene.resolved.now path)) ≡ Some s
+    → (type_shape (shapes_of scene.types.now) l.of ≡ s)
+    × PlaceMeans checked slots (place_of l.place) s
+    (place_of_designator (label_in scene.resolved.now x) (in_labels scene.resolved.now path)))
 
 -- the same of an expression that is a designator alone
 abbrev pub LocatesAlone : Scene → Tree ℕ expression → TypedPlace → Type 0
 LocatesAlone scene e l =
-    WhereSeen scene (λ checked slots. (s : Shape) → variable_type checked (designated (in_labels scene.resolved.now e)) ≡ Some s
-    → (type_shape (shapes_of scene.types.now) l.of ≡ s) × IsAt checked slots (place_of l.place) s (in_labels scene.resolved.now e))
+    WhereSeen scene (λ checked slots. (s : Shape)
+    → variable_type checked (designated (in_labels scene.resolved.now e)) ≡ Some s
+    → (type_shape (shapes_of scene.types.now) l.of ≡ s)
+    × IsAt checked slots (place_of l.place) s (in_labels scene.resolved.now e))
 
 -- an argument for a parameter that it fits
 abbrev pub LowersArgument : Scene → Formal → Tree ℕ expression → Argument → Type 0
 LowersArgument scene f e a =
-    WhereSeen scene (λ checked slots. argument_fits checked (formal_in (shapes_of scene.types.now) f) (in_labels scene.resolved.now e) ≡ true
-    → ArgumentMeans checked slots (formal_in (shapes_of scene.types.now) f) (argument_of a) (in_labels scene.resolved.now e))
+    WhereSeen scene (λ checked slots. argument_fits checked
+    (formal_in (shapes_of scene.types.now) f) (in_labels scene.resolved.now e) ≡ true
+    → ArgumentMeans checked slots (formal_in (shapes_of scene.types.now) f) (argument_of a)
+    (in_labels scene.resolved.now e))

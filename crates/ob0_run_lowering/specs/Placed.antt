@@ -34,7 +34,7 @@ abbrev pub site_depth : Site → ℕ
 site_depth site.Nowhere = 0
 site_depth (site.Module offset) = 0
 site_depth (site.Held at offset) = at
-site_depth (site.Lent at index) = at
+site_depth (site.ByReference at index) = at
 site_depth (site.Procedure at index) = at
 
 -- a site says where something is that is somewhere, as it is seen from a depth
@@ -86,8 +86,10 @@ abbrev pub place_one : (ℕ → Slot) → (Label → ℕ) → Mode → Label →
 place_one at size_of by_value x p =
     record p { placing = (x, in_slot (at p.cells)) ∷ p.placing; cells = p.cells + size_of x }
 place_one at size_of by_place x p =
-    record p
-    { placing = (x, in_slot (by_reference 0 p.reference_places)) ∷ p.placing; reference_places = suc p.reference_places }
+    record p {
+      placing = (x, in_slot (by_reference 0 p.reference_places)) ∷ p.placing;
+      reference_places = suc p.reference_places;
+    }
 
 -- names of one declaration, placed one by one
 abbrev pub place_each : (ℕ → Slot) → (Label → ℕ) → Mode → List Label → Placed Label → Placed Label
@@ -156,7 +158,8 @@ pub record IsFrame (sites : List Site) (f : Frame) (p : Placed Label) : Type 0 w
   pub reference_places : f.references ≡ p.reference_places
 
 -- a step places something more in an activation
-pub record Places (w v : VisibleSites) (f : Frame) (step : Placed Label → Placed Label) (g : Frame) : Type 0 where
+pub record Places (w v : VisibleSites) (f : Frame) (step : Placed Label → Placed Label) (g : Frame)
+    : Type 0 where
   pub placed : (p : Placed Label) → IsFrame w.sites.items f p → IsFrame v.sites.items g (step p)
   pub follows : Follows w v
   pub depth : g.depth ≡ f.depth

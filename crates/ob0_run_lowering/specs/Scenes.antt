@@ -21,7 +21,7 @@ abbrev pub seen_from : ℕ → Site → Whereabouts
 seen_from depth site.Nowhere = nowhere
 seen_from depth (site.Module offset) = in_slot (of_module offset)
 seen_from depth (site.Held at offset) = in_slot (held (depth - at) offset)
-seen_from depth (site.Lent at index) = in_slot (by_reference (depth - at) index)
+seen_from depth (site.ByReference at index) = in_slot (by_reference (depth - at) index)
 seen_from depth (site.Procedure at index) =
     at_target (record { procedure = index; up = depth - at })
 
@@ -57,7 +57,8 @@ pub record HasSmall (scene : Scene) : Type 0 where
 
 -- A scene is right for what names mean in a body, for the slots of its variables and the targets of its procedures: what is
 -- bound there is what its declaration is, and is where the scene has it.
-pub record Sees (scene : Scene) (checked : Typed Label) (slots : Label → Slot) (targets : Label → Target) : Type 0 where
+pub record Sees (scene : Scene) (checked : Typed Label) (slots : Label → Slot)
+    (targets : Label → Target) : Type 0 where
   pub bound : (x : Label) (o : Object Shape Signature)
       → checked.object_for x ≡ Some o
       → object_at scene.types.now x ≡ Some o

@@ -21,7 +21,7 @@ pub enum Site {
     /// A variable, at an offset in the cells of an activation.
     Held(usize, usize),
     /// A VAR parameter of an activation, by its index among these.
-    Lent(usize, usize),
+    ByReference(usize, usize),
     /// A procedure that is declared in an activation (0 for the module), by its index in the program.
     Procedure(usize, usize),
 }
@@ -76,7 +76,7 @@ impl<'s, 'k, 't> Scene<'s, 'k, 't> {
             Site::Nowhere => (0, 0),
             Site::Module(_) => (0, 0),
             Site::Held(_, _) => (0, 0),
-            Site::Lent(_, _) => (0, 0),
+            Site::ByReference(_, _) => (0, 0),
         }
     }
 
@@ -88,7 +88,7 @@ impl<'s, 'k, 't> Scene<'s, 'k, 't> {
         match self.site(name) {
             Site::Module(offset) => Place::Variable(Variable::Module(offset)),
             Site::Held(at, offset) => held(self.depth.saturating_sub(at), offset),
-            Site::Lent(at, index) => lent(self.depth.saturating_sub(at), index),
+            Site::ByReference(at, index) => by_reference(self.depth.saturating_sub(at), index),
             Site::Nowhere => Place::Variable(Variable::Module(0)),
             Site::Procedure(_, _) => Place::Variable(Variable::Module(0)),
         }
@@ -107,11 +107,11 @@ fn held(up: usize, offset: usize) -> Place
 }
 
 /// Where a VAR parameter of the activation so many levels out leads.
-fn lent(up: usize, index: usize) -> Place
+fn by_reference(up: usize, index: usize) -> Place
     ensures { place_of result ≡ slot_place (slots.by_reference up index) }
 {
     if up == 0 {
-        Place::Variable(Variable::Lent(index))
+        Place::Variable(Variable::ByReference(index))
     } else {
         Place::Passed(up, index)
     }

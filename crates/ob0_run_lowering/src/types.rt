@@ -184,7 +184,9 @@ impl<'k> Model for Types<'k> {
 
     ghost view = { λ t. t.known.now };
 
-    ghost invariant = { λ t. LayOut (shapes_of t.known.now) t.layouts.items × ((k : ℕ) (n : ℤ) → declared_in t.known.now k ≡ Some (a_constant (number n)) → machine.fits n ≡ true) };
+    ghost invariant = { λ t. LayOut (shapes_of t.known.now) t.layouts.items
+        × ((k : ℕ) (n : ℤ) → declared_in t.known.now k ≡ Some (a_constant (number n))
+        → machine.fits n ≡ true) };
 }
 
 impl<'k> Types<'k> {

@@ -176,7 +176,7 @@ impl VisibleSites {
             let Some(references) = frame.references.checked_add(1) else {
                 return Err(AllocError);
             };
-            self.bind(ordinal, Site::Lent(frame.depth, frame.references))?;
+            self.bind(ordinal, Site::ByReference(frame.depth, frame.references))?;
             return Ok(Frame {
                 depth: frame.depth,
                 cells: frame.cells,

@@ -22,7 +22,8 @@ pub data MachineProgress : Type 0 where
   stopped : Halt → List OutputItem → MachineProgress
 
 -- what an evaluation gives, used in a state
-abbrev pub use_in : {A : Type 0} → MachineState → StepResult A → (A → MachineProgress) → MachineProgress
+abbrev pub use_in : {A : Type 0} → MachineState → StepResult A → (A → MachineProgress)
+    → MachineProgress
 use_in s (gives a) next = next a
 use_in s (ends e) next = stopped e s.output
 
@@ -32,7 +33,10 @@ continue_with (running s) next = next s
 continue_with (stopped e out) next = stopped e out
 
 -- one of two ways, by a condition
-abbrev pub choose : MachineState → StepResult Bool → (MachineState → MachineProgress) → (MachineState → MachineProgress) → MachineProgress
+abbrev pub choose : MachineState → StepResult Bool
+    → (MachineState → MachineProgress)
+    → (MachineState → MachineProgress)
+    → MachineProgress
 choose s (gives true) when_true when_false = when_true s
 choose s (gives false) when_true when_false = when_false s
 choose s (ends e) when_true when_false = stopped e s.output
@@ -91,7 +95,10 @@ pass_all ls [] done = gives done
 pass_all ls (a ∷ as_given) done = pass ls a done >>= pass_all ls as_given
 
 -- a loop evaluates its condition; where it is TRUE and t turns were made, it ends with TurnBound; else one more turn is made
-abbrev pub turns : ℕ → (MachineState → StepResult Bool) → (MachineState → MachineProgress) → MachineState → MachineProgress
+abbrev pub turns : ℕ → (MachineState → StepResult Bool)
+    → (MachineState → MachineProgress)
+    → MachineState
+    → MachineProgress
 turns zero condition statements s =
     choose s (condition s) (λ s'. stopped TurnBound s'.output) running
 turns (suc t) condition statements s =
@@ -100,7 +107,10 @@ turns (suc t) condition statements s =
 
 -- REPEAT makes a turn and then evaluates its condition: TRUE ends the statement; FALSE ends it with TurnBound where no more
 -- turns may be made, t more after this one; else one more turn is made
-abbrev pub turns_until : ℕ → (MachineState → StepResult Bool) → (MachineState → MachineProgress) → MachineState → MachineProgress
+abbrev pub turns_until : ℕ → (MachineState → StepResult Bool)
+    → (MachineState → MachineProgress)
+    → MachineState
+    → MachineProgress
 turns_until zero condition turn s =
     continue_with (turn s)
     (λ s'. choose s' (condition s') running (λ s''. stopped TurnBound s''.output))
@@ -146,7 +156,10 @@ unfoldable mutual
   execute_all enter t ls (before a rest) s =
       continue_with (execute enter t ls a s) (execute_all enter t ls rest)
 
-  pub execute_branches : CallEffect → ℕ → Levels → Branches → (MachineState → MachineProgress) → MachineState → MachineProgress
+  pub execute_branches : CallEffect → ℕ → Levels → Branches
+      → (MachineState → MachineProgress)
+      → MachineState
+      → MachineProgress
   execute_branches enter t ls no_branch otherwise s = otherwise s
   execute_branches enter t ls (branch c body rest) otherwise s =
       choose s (truth ls s.cells c) (execute_all enter t ls body)

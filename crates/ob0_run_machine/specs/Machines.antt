@@ -72,7 +72,8 @@ abbrev pub executed_all : ℕ → Levels → Instructions → Doing
 executed_all t ls as_listed enters s = execute_all enters t ls as_listed s
 
 -- a step of the machine does what `doing` says, where calls do what they say
-pub record MachineDoes (post : Post) (r : Result (Unit {0}) Stop) (m m' : Machine) (doing : Doing) : Type 0 where
+pub record MachineDoes (post : Post) (r : Result (Unit {0}) Stop) (m m' : Machine) (doing : Doing)
+    : Type 0 where
   pub as_defined : (enters : CallEffect)
       → Performs post enters
       → MachineSteps r m' (doing enters (state_of m))

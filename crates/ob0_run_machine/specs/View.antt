@@ -47,7 +47,7 @@ operator_of operator.Remainder = lowered.remainder
 abbrev pub variable_of : Variable → lowered.Place
 variable_of (variable.Module offset) = lowered.in_module offset
 variable_of (variable.Here offset) = lowered.here offset
-variable_of (variable.Lent index) = lowered.passed 0 index
+variable_of (variable.ByReference index) = lowered.passed 0 index
 
 abbrev pub row_of : Row → lowered.Place
 row_of r =

@@ -16,7 +16,7 @@ pub enum Operator {
 pub enum Variable {
     Module(usize),
     Here(usize),
-    Lent(usize),
+    ByReference(usize),
 }
 
 /// Where a variable or a part of one is.

@@ -15,7 +15,7 @@ use crate::code::{
 };
 use crate::ending::Ending;
 use crate::evaluated::{Evaluated, flat, unpacked};
-use crate::level::{Level, base_at, lent_at, passed_at};
+use crate::level::{Level, base_at, passed_at, var_parameter_at};
 use crate::operators::{
     add, alike, compare, divide, element_at, forward, is_true, modulo, multiply, negative, operate,
     subtract,
@@ -41,7 +41,7 @@ pub(crate) fn variable_at(variable: Variable, level: &Level<'_>) -> usize
     match variable {
         Variable::Module(offset) => offset,
         Variable::Here(offset) => forward(level.base, offset),
-        Variable::Lent(index) => lent_at(level, index),
+        Variable::ByReference(index) => var_parameter_at(level, index),
     }
 }
 

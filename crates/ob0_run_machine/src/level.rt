@@ -56,7 +56,7 @@ pub(crate) fn base_at(level: &Level<'_>, up: usize) -> usize
 
 /// Where a VAR parameter of an activation leads.
 #[inline(always)]
-pub(crate) fn lent_at(level: &Level<'_>, index: usize) -> usize
+pub(crate) fn var_parameter_at(level: &Level<'_>, index: usize) -> usize
     ensures { result ≡ slice_index_or (innermost (levels_of level.now)).addresses index 0 }
 {
     match level.addresses.get(index) {
@@ -71,6 +71,6 @@ pub(crate) fn passed_at(level: &Level<'_>, up: usize, index: usize) -> usize
 {
     match outside(level, up) {
         None => 0,
-        Some(level) => lent_at(level, index),
+        Some(level) => var_parameter_at(level, index),
     }
 }

@@ -21,8 +21,9 @@ use crate::machine::{Item, Machine, copy, store};
 use crate::operators::as_cell;
 use crate::passing::pass_all;
 
+/// An assignment to any place. It is a function, so that `statement` stays small enough to be inlined.
 #[tactic(auto, unfolding(crate::specs::Execution::execute))]
-#[inline(always)]
+#[inline(never)]
 fn store_number(
     place: &Place,
     n: &Number,
@@ -78,8 +79,9 @@ fn update(
     Ok(())
 }
 
+/// An assignment of a truth value: a function for the same reason.
 #[tactic(auto, unfolding(crate::specs::Execution::execute))]
-#[inline(always)]
+#[inline(never)]
 fn store_truth(
     place: &Place,
     t: &Truth,
@@ -244,10 +246,10 @@ fn statement<F: Fn(&mut Machine<'_>, usize, &Level<'_>) -> Result<(), Stop>>(
     }
 }
 
-/// Statements in order. Loops execute their bodies by this, without a call.
+/// Statements in order. Loops and procedures execute their bodies by this, without a call.
 #[inline(always)]
 #[cycle(execution)]
-fn in_order<F: Fn(&mut Machine<'_>, usize, &Level<'_>) -> Result<(), Stop>>(
+pub(crate) fn in_order<F: Fn(&mut Machine<'_>, usize, &Level<'_>) -> Result<(), Stop>>(
     statements: &[Instruction],
     level: &Level<'_>,
     turns: u32,

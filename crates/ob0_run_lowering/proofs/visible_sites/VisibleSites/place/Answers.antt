@@ -17,7 +17,7 @@ returns-then-by_place c =
     let next : c.in-Some.references ≡ f.references + 1 = omega (arith, c.in-Some.ensures) in
     subst (λ b. Places c.args.self.now c.bind.new.self f (place_one (slots_at f.depth) size_of (mode_of b) (label_in r c.args.name)) (record { depth = f.depth; cells = f.cells; references = c.in-Some.references })) (sym c.if-by_place.true)
     (place-by_reference c.args.self.now c.bind.new.self f (record { depth = f.depth; cells = f.cells; references = c.in-Some.references }) size_of (ordinal_in r.ordinals c.args.name) (text_at r.module_read.source c.args.name)
-    (λ k. c.in_ok-bind.ensures.sites k ∙ ap (λ o. put_at o (site.Lent f.depth f.references) (site_at c.args.self.now.sites.items) k) c.ordinal_at-ordinal.ensures)
+    (λ k. c.in_ok-bind.ensures.sites k ∙ ap (λ o. put_at o (site.ByReference f.depth f.references) (site_at c.args.self.now.sites.items) k) c.ordinal_at-ordinal.ensures)
     c.in_ok-bind.ensures.follows (ap (λ n. record f { references = n }) next))
 
 pub returns : goal.returns
