@@ -21,13 +21,13 @@ pub trait Output: Write {
     fn put_all(&mut self, bytes: &[u8]) -> io::Result<()>
         ensures bytes { OnOk result
             (Appends (Self.contents self.old) (Self.contents self.new) bytes.now) }
-        ensures failed { output_failed self.new ≡ (output_failed self.old || is_err result) };
+        ensures failed { has_failed self.new ≡ (has_failed self.old || is_err result) };
 
     /// Flushes, and remembers whether this succeeded.
     fn hand_on(&mut self) -> io::Result<()>
         ensures bytes { Keeps (Self.contents self.old) (Self.contents self.new) }
         ensures flushed { OnOk result (is_flushed self.new ≡ true) }
-        ensures failed { output_failed self.new ≡ (output_failed self.old || is_err result) };
+        ensures failed { has_failed self.new ≡ (has_failed self.old || is_err result) };
 }
 
 /// A device, whether it has been flushed since something was last written to it, and whether it has failed.
