@@ -60,7 +60,8 @@ pub record ReadsOn (old : Scanned) (from removed added : ℕ) (s t : Scanner) : 
   pub comments_new : All (λ (c : Span). IsNew old from removed added c) comments
 
 -- after the change, at the end of the text or where an old token or comment begins again; with the old ones from there on
-pub record IsMet (old : Scanned) (end from removed added at : ℕ) (tokens : List Token) (comments : List Span) : Type 0 where
+pub record IsMet (old : Scanned) (end from removed added at : ℕ) (tokens : List Token)
+    (comments : List Span) : Type 0 where
   pub following : from + added ≤ at
   pub tokens_are : tokens ≡ back_tokens (at + removed - added) old.tokens
   pub comments_are : comments ≡ back_comments (at + removed - added) old.comments
@@ -81,7 +82,8 @@ with_between old new removed added b = record {
 }
 
 -- what lies between the old tokens and comments that a new text goes on to have
-pub record IsBetween (old : Scanned) (new : List ℕ) (from removed added : ℕ) (b : Between) : Type 0 where
+pub record IsBetween (old : Scanned) (new : List ℕ) (from removed added : ℕ) (b : Between)
+    : Type 0 where
   pub tokens_ordered : b.front.tokens ≤ b.following.tokens
   pub tokens_inside : b.following.tokens ≤ length old.tokens
   pub comments_ordered : b.front.comments ≤ b.following.comments
