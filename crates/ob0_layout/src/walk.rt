@@ -5,13 +5,13 @@ ghost use Rattle.ob0_layout.specs.declared.line_role.LineRole.TheVariants.{Begin
 ghost use Rattle.ob0_layout.specs.LineRoles.{line_roles, deeper, sign_role, separated};
 ghost use Rattle.ob0_tree.specs.Parsed.{tree_of};
 ghost use Rattle.ob0_tree.specs.Tree.{then_name};
-ghost use Rattle.ob0_tree.specs.View.{items_of, expression_of, simple_of, term_of, factor_of, selector_of, designator_of, assignment_of, arguments_in, call_of, statement_of, if_of, elsifs_in, sequence_in, type_of, record_in, fields_of, section_of, formals_of, constants_of, types_of, variables_of, body_of, procedure_of, block_of};
+ghost use Rattle.ob0_tree.specs.View.{items_of, expression_of, compound_of, simple_of, term_of, factor_of, selector_of, designator_of, assignment_of, arguments_in, call_of, statement_of, if_of, elsifs_in, sequence_in, type_of, record_in, fields_of, section_of, formals_of, constants_of, types_of, variables_of, body_of, procedure_of, block_of};
 
 use crate::line_role::LineRole;
 use ob0_tree::{
-    Assignment, Block, Call, Constant, Designator, Elsif, Expression, Factor, Fields, If, Module,
-    Names, Procedure, RecordType, Section, Selector, Sign, Simple, Statement, Term,
-    TypeDeclaration, Variables, WrittenType,
+    Assignment, Block, Call, Compound, Constant, Designator, Elsif, Expression, Factor, FieldGroup,
+    Fields, If, Module, Names, Procedure, RecordType, Repeat, Section, Selector, Sign, Simple,
+    Statement, Term, TypeDeclaration, Variables, While, WrittenType,
 };
 use std::alloc::{AllocError, Global};
 
@@ -50,8 +50,18 @@ fn expression(out: &mut Vec<LineRole>, e: &Expression) -> Result<(), AllocError>
     ensures { IfOk result
         (λ _. out.new.items ≡ out.old.items ++ line_roles 0 (expression_of e.now)) }
 {
-    simple(out, &e.left)?;
-    if let Some(compared) = &e.compared {
+    match e {
+        Expression::Factor(f) => factor(out, f),
+        Expression::Compound(c) => compound(out, c),
+    }
+}
+
+#[cycle(expressions)]
+fn compound(out: &mut Vec<LineRole>, c: &Compound) -> Result<(), AllocError>
+    ensures { IfOk result (λ _. out.new.items ≡ out.old.items ++ line_roles 0 (compound_of c.now)) }
+{
+    simple(out, &c.left)?;
+    if let Some(compared) = &c.compared {
         plain(out)?;
         simple(out, &compared.right)?;
     }
@@ -180,6 +190,7 @@ fn statement(out: &mut Vec<LineRole>, level: u32, s: &Statement) -> Result<(), A
         Statement::Call(c) => call(out, level, c),
         Statement::If(i) => branches(out, level, i),
         Statement::While(w) => {
+            let w: &While = w;
             out.push(LineRole::Begins(level))?;
             expression(out, &w.condition)?;
             plain(out)?;
@@ -187,6 +198,7 @@ fn statement(out: &mut Vec<LineRole>, level: u32, s: &Statement) -> Result<(), A
             begin(out, level)
         }
         Statement::Repeat(r) => {
+            let r: &Repeat = r;
             out.push(LineRole::Begins(level))?;
             sequence(out, deeper(level), &r.body)?;
             out.push(LineRole::Begins(level))?;
@@ -322,6 +334,7 @@ fn fields(out: &mut Vec<LineRole>, f: &Fields) -> Result<(), AllocError>
     match f {
         Fields::Empty => Ok(()),
         Fields::Listed(l) => {
+            let l: &FieldGroup = l;
             names(out, LineRole::Plain, &l.names)?;
             plain(out)?;
             written_type(out, &l.written)
