@@ -9,9 +9,9 @@ ghost use Rattle.ob0_tree.specs.View.{items_of, expression_of, compound_of, simp
 
 use crate::line_role::LineRole;
 use ob0_tree::{
-    Assignment, Block, Call, Compound, Constant, Designator, Elsif, Expression, Factor, FieldGroup,
-    Fields, If, Module, Names, Procedure, RecordType, Repeat, Section, Selector, Sign, Simple,
-    Statement, Term, TypeDeclaration, Variables, While, WrittenType,
+    Assignment, Block, Call, Compound, Constant, Designator, Elsif, Expression, Factor, Fields, If,
+    Module, Names, Procedure, RecordType, Section, Selector, Sign, Simple, Statement, Term,
+    TypeDeclaration, Variables, WrittenType,
 };
 use std::alloc::{AllocError, Global};
 
@@ -190,7 +190,6 @@ fn statement(out: &mut Vec<LineRole>, level: u32, s: &Statement) -> Result<(), A
         Statement::Call(c) => call(out, level, c),
         Statement::If(i) => branches(out, level, i),
         Statement::While(w) => {
-            let w: &While = w;
             out.push(LineRole::Begins(level))?;
             expression(out, &w.condition)?;
             plain(out)?;
@@ -198,7 +197,6 @@ fn statement(out: &mut Vec<LineRole>, level: u32, s: &Statement) -> Result<(), A
             begin(out, level)
         }
         Statement::Repeat(r) => {
-            let r: &Repeat = r;
             out.push(LineRole::Begins(level))?;
             sequence(out, deeper(level), &r.body)?;
             out.push(LineRole::Begins(level))?;
@@ -334,7 +332,6 @@ fn fields(out: &mut Vec<LineRole>, f: &Fields) -> Result<(), AllocError>
     match f {
         Fields::Empty => Ok(()),
         Fields::Listed(l) => {
-            let l: &FieldGroup = l;
             names(out, LineRole::Plain, &l.names)?;
             plain(out)?;
             written_type(out, &l.written)

@@ -2,7 +2,7 @@ use Rattle.std.proofs.Common.{◌≡◌, ◌+◌, List, [], ◌∷◌, ◌++◌,
 use Rattle.ob0_tree.proofs.Viewed as tree
 use Rattle.ob0_tree.specs.Tree as sort
 use Rattle.ob0_tree.specs.Tree.{Tree, branches, repeat_loop, while_loop}
-use Rattle.ob0_tree.specs.View.{else_in, elsif_of, expression_of, items_of, sequence_listed, statement_of}
+use Rattle.ob0_tree.specs.View.{assignment_of, else_in, elsif_of, expression_of, if_of, items_of, sequence_listed, statement_of}
 use Rattle.ob0_tree.specs.declared.tree.Elsif.{Elsif}
 use Rattle.ob0_tree.specs.declared.tree.If.{out-If}
 use Rattle.ob0_tree.specs.declared.tree.Statement as written
@@ -53,7 +53,7 @@ branches-returns-in-None t c =
     let whole = branches_end (sequence_of c.new.result.items) last c.loop-part.invariant c.loop-part-test.false (none_otherwise scene r i.otherwise c.new.result.items c.in-None.is c.new.ensures.items) in
     let P : List Elsif → Type 0 = λ parts. StatementLowers scene made (branches (in_labels r (expression_of i.condition)) (in_labels r (sequence_listed i.then.items)) (in_labels r (items_of elsif_of parts)) last) in
     let Q : Tree Label sort.statement → Type 0 = λ a. StatementLowers scene made a in
-    let R : lowered.Instruction → Type 0 = λ code. StatementLowers scene code (in_labels r (statement_of (written.If c.args.i.now))) in
+    let R : lowered.Instruction → Type 0 = λ code. StatementLowers scene code (in_labels r (if_of c.args.i.now)) in
     subst R (sym (if_rolled (record { branches = c.loop-part.branches; otherwise = c.new.result }))) (subst Q (sym (ap (in_labels r) (tree.if_parts c.args.i.now))) (subst P c.deref-part-items.ensures.value whole))
 
 pub branches-returns-in_ok-otherwise-in-Some : goal.branches-returns-in_ok-otherwise-in-Some
@@ -67,7 +67,7 @@ branches-returns-in_ok-otherwise-in-Some t c =
     let whole = branches_end (sequence_of otherwise.items) last c.loop-part.invariant c.loop-part-test.false (some_otherwise scene r i.otherwise c.in-Some.statements otherwise.items c.in-Some.is c.in_ok-otherwise-in-Some.ensures) in
     let P : List Elsif → Type 0 = λ parts. StatementLowers scene made (branches (in_labels r (expression_of i.condition)) (in_labels r (sequence_listed i.then.items)) (in_labels r (items_of elsif_of parts)) last) in
     let Q : Tree Label sort.statement → Type 0 = λ a. StatementLowers scene made a in
-    let R : lowered.Instruction → Type 0 = λ code. StatementLowers scene code (in_labels r (statement_of (written.If c.args.i.now))) in
+    let R : lowered.Instruction → Type 0 = λ code. StatementLowers scene code (in_labels r (if_of c.args.i.now)) in
     subst R (sym (if_rolled (record { branches = c.loop-part.branches; otherwise = otherwise }))) (subst Q (sym (ap (in_labels r) (tree.if_parts c.args.i.now))) (subst P c.deref-part-items.ensures.value whole))
 
 pub sequence-loop-s-init : goal.sequence-loop-s-init
