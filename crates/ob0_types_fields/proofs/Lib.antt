@@ -1,3 +1,9 @@
+pub mod NamesMeant
+pub mod Bare
+pub mod AgreeingFields
+pub mod AgreeingModules
+pub mod ByToken
+pub mod WorkedFields
 pub mod OwnedStatements
 pub mod OwnedTypes
 pub mod DeclaredInOrder
