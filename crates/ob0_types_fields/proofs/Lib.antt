@@ -13,7 +13,7 @@ pub mod OwnedTokens
 pub mod MarkWalks
 pub mod MarkPaths
 pub mod FieldLookups
-pub mod PlainExpressions
+pub mod AloneFactors
 pub mod MarkedFields
 pub mod GroupWalks
 pub mod DeclaredWalks
