@@ -9,7 +9,7 @@ import tempfile
 import xml.etree.ElementTree
 
 import snippets
-from harness import TOP, examples, holds, same, test, text_of, want
+from harness import TOP, examples, holds, need_program, same, test, text_of, want
 from homes import at_home, run_in_terminal, run_plainly, write
 from screen import Screen
 
@@ -210,6 +210,7 @@ END R.
 
 def by_vim(editor, words, name):
     """Vim's files, in Vim or Neovim: file types, colours, :make, indentation."""
+    need_program()
     with tempfile.TemporaryDirectory() as room:
         own = at_home(room, editor)
         rc = os.path.join(room, "rc.vim")
@@ -257,6 +258,7 @@ def in_neovim():
 @test("syntax files: Emacs's mode: file types, colours, indentation, index, check and run")
 def in_emacs():
     want("Emacs")
+    need_program()
     with tempfile.TemporaryDirectory() as room:
         own = at_home(room, "emacs")
         own.update(OB0_TOP=TOP, OB0_EXAMPLES=json.dumps([os.path.join(TOP, it) for it in examples()]))
@@ -273,6 +275,7 @@ def in_emacs():
 @test("syntax files: Kakoune's file type, and faults that come and go by its lint")
 def in_kakoune():
     want("Kakoune")
+    need_program()
     with tempfile.TemporaryDirectory() as room:
         own = at_home(room, "kakoune")
         write(os.path.join(room, ".config", "kak", "kakrc"), "\n".join(snippets.snippets("kakoune", "kak")))
