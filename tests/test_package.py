@@ -80,6 +80,25 @@ def packed():
         same(status, 0, said)
 
 
+@test("package: README's lines install the packages")
+def as_readme_says():
+    want_proved()
+    made("package")
+    page = text_of("README.md").partition("**From a package.**")[2]
+    by_apt, by_tar = [it[4:].partition("  #")[0].strip() for it in page.splitlines() if it.startswith("    sudo ")][:2]
+    with tempfile.TemporaryDirectory() as room:
+        # (without sudo, by apt as a plan alone, and into a folder of the test's own)
+        same((by_apt.count("sudo apt install "), by_tar.count("sudo tar "), by_tar.count("/usr/local")), (1, 1, 1), f"{by_apt}; {by_tar}")
+        line = by_tar.replace("sudo ", "").replace("/usr/local", room)
+        status, said = run_plainly(["sh", "-e", "-c", line], dict(os.environ), os.path.join(TOP, "bin"))
+        found = paths_in(room)
+        same((status, found), (0, paths_in(placed(os.path.join(room, "other")))), said)
+        if shutil.which("apt-get"):
+            line = by_apt.replace("sudo apt install ", "apt-get install --simulate ")
+            status, said = run_plainly(["sh", "-e", "-c", line], dict(os.environ), os.path.join(TOP, "bin"))
+            holds(status == 0 and "Inst ob0 " in said, said)
+
+
 LIBC = "Package: libc6\nStatus: install ok installed\nVersion: {}\nArchitecture: amd64\nMaintainer: x <x@example.org>\nDescription: x\n"
 
 

@@ -104,9 +104,17 @@ def kate():
                 holds(it in said, f"no {it} in what was shown of {file}: {said}")
 
 
+@test("syntax files: the line of Qt Creator's page copies Kate's")
+def qtcreator():
+    line = re.search(r"`(mkdir [^`]*)`", text_of("editors", "qtcreator", "README.md"))[1]
+    with tempfile.TemporaryDirectory() as room:
+        same(run_plainly(["sh", "-e", "-c", line], {**os.environ, "HOME": room}, TOP), (0, ""), line)
+        same(text_of(room, ".local/share/org.kde.syntax-highlighting/syntax/oberon0.xml"), text_of("editors", "kate", "oberon0.xml"), line)
+
+
 @test("syntax files: GtkSourceView's, by the library")
 def gtksourceview():
-    want("GtkSourceView", "PyGObject")
+    want("GtkSourceView", "PyGObject", "MIME types")
     with tempfile.TemporaryDirectory() as room:
         own = at_home(room, "gtksourceview")
         file = os.path.join(room, "sample.Mod")
@@ -311,7 +319,9 @@ def settings():
         import tomllib
     except ImportError:
         return
-    helix = tomllib.loads(text_of("editors", "helix", "languages.toml"))
+    with tempfile.TemporaryDirectory() as room:
+        at_home(room, "helix")
+        helix = tomllib.loads(text_of(room, ".config", "helix", "languages.toml"))
     same(helix["language-server"]["ob0"], {"command": "ob0", "args": ["serve"]}, "Helix's server")
     same(helix["language"][0]["language-servers"], ["ob0"], "Helix's language")
     kak = tomllib.loads(text_of("editors", "kakoune", "kak-lsp.toml"))["language"]["ob0"]
