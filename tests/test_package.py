@@ -324,4 +324,7 @@ def others():
             kinds = [run_plainly(["gio", "info", "-a", "standard::content-type", it], environment, work)[1].split()[-1] for it in ("New.mod", "go.mod")]
             same(kinds[0], "text/x-oberon0", "the type of a module")
             same(kinds[1], "text/plain", "the type of go.mod, which is Go's")
-        same(gzip.decompress(open(os.path.join(usr, "share/man/man1/ob0.1.gz"), "rb").read()).decode(), text_of("share", "ob0.1"), "the manual page")
+        unpacked = lambda at: gzip.decompress(open(os.path.join(usr, at), "rb").read()).decode()
+        same(unpacked("share/man/man1/ob0.1.gz"), text_of("share", "ob0.1"), "the manual page")
+        words = lambda text: [it for it in text.split() if it not in "-*"]
+        same(words(unpacked("share/doc/ob0/changelog.gz").partition("medium\n")[2].partition("\n -- ")[0]), words(text_of("CHANGELOG.md").partition("yet\n")[2]), "the changes")

@@ -104,12 +104,11 @@ def kate():
                 holds(it in said, f"no {it} in what was shown of {file}: {said}")
 
 
-@test("syntax files: the line of Qt Creator's page copies Kate's")
+@test("syntax files: the lines of Qt Creator's page copy Kate's")
 def qtcreator():
-    line = re.search(r"`(mkdir [^`]*)`", text_of("editors", "qtcreator", "README.md"))[1]
     with tempfile.TemporaryDirectory() as room:
-        same(run_plainly(["sh", "-e", "-c", line], {**os.environ, "HOME": room}, TOP), (0, ""), line)
-        same(text_of(room, ".local/share/org.kde.syntax-highlighting/syntax/oberon0.xml"), text_of("editors", "kate", "oberon0.xml"), line)
+        at_home(room, "qtcreator")
+        same(text_of(room, ".local/share/org.kde.syntax-highlighting/syntax/oberon0.xml"), text_of("editors", "kate", "oberon0.xml"), "the file")
 
 
 @test("syntax files: GtkSourceView's, by the library")
