@@ -114,14 +114,15 @@ class Cases:
             self.found[it] = printed[at] if printed[at].status else renamed(it[1].decode(), answers[at])
 
     def write(self, room, lanes):
-        """Writes the cases as files for `rt try`, dealt out to so many folders, and returns their names and the flags that give it
-        the modules that are run. It copies each of these for each case: so a module is there once, and where a case reads no input
-        it is the module itself."""
-        names, modules = {}, {}
+        """Writes the cases as files for `rt try`, dealt out to so many folders, and returns their names and for each folder the
+        flags that give it the modules that are run. It copies each of these for each case: so a module is there once, and where a
+        case reads no input it is the module itself."""
+        names, modules, flags = {}, {}, [{} for _ in range(lanes)]
         for at, (words, *texts) in enumerate(self.wanted):
             name, content, module = f"case{at:04}", texts[-1], "{}"
             if len(texts) > 1 and words[0] == "run":
                 module = modules.setdefault(texts[0], f"module{len(modules):03}.mod")
+                flags[at % lanes][module] = os.path.join(room, "modules", module)
             elif len(texts) > 1:
                 content = texts[0]
             line = [module if it == "FILE" else it for it in words]
@@ -129,13 +130,10 @@ class Cases:
                 with open(os.path.join(room, f"cases{at % lanes}", name + ending), "wb") as file:
                     file.write(text)
             names[name] = (words, *texts)
-        flags = []
         for text, name in modules.items():
-            path = os.path.join(room, "modules", name)
-            with open(path, "wb") as file:
+            with open(os.path.join(room, "modules", name), "wb") as file:
                 file.write(text)
-            flags += ["--data", f"{name}={path}"]
-        return names, flags
+        return names, [[word for pair in it.items() for word in ("--data", "=".join(pair))] for it in flags]
 
     def take(self, out, err, names):
         """Takes what `rt try` printed: the output of each case after a line with its name, and lines on each."""
@@ -200,7 +198,7 @@ def compiled(cases):
         for it in ("modules", *(f"cases{lane}" for lane in range(lanes))):
             os.mkdir(os.path.join(room, it))
         names, flags = cases.write(room, lanes)
-        started = [Try(flags, os.path.join(room, f"cases{lane}")) for lane in range(lanes)]
+        started = [Try(flags[lane], os.path.join(room, f"cases{lane}")) for lane in range(lanes)]
         shown = time.monotonic()
         while any(it.is_running() for it in started):
             time.sleep(0.2)
