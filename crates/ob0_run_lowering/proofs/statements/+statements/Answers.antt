@@ -1,4 +1,4 @@
-use Rattle.std.proofs.Common.{◌≡◌, ◌+◌, List, [], ◌∷◌, ◌++◌, sym, ap, ◌∙◌, subst}
+use Rattle.std.proofs.Common.{◌≡◌, ℕ, ◌+◌, List, [], ◌∷◌, ◌++◌, sym, ap, ◌∙◌, subst}
 use Rattle.ob0_tree.proofs.Viewed as tree
 use Rattle.ob0_tree.specs.Tree as sort
 use Rattle.ob0_tree.specs.Tree.{Tree, branches, repeat_loop, while_loop}
@@ -91,7 +91,7 @@ sequence-returns t c =
 pub statement-returns-in_ok-assignment-in-Assign : goal.statement-returns-in_ok-assignment-in-Assign
 statement-returns-in_ok-assignment-in-Assign t c =
     let scene = c.args.scene.now in
-    let P : Tree Label sort.statement → Type 0 = λ a. StatementLowers scene (code.statement_of c.in_ok-assignment-in-Assign.field-0) (in_labels scene.resolved.now a) in
+    let P : Tree ℕ sort.statement → Type 0 = λ a. StatementLowers scene (code.statement_of c.in_ok-assignment-in-Assign.field-0) (in_labels scene.resolved.now a) in
     subst P (ap assignment_of c.deref.ensures ∙ sym (ap statement_of c.in-Assign.is)) c.in_ok-assignment-in-Assign.ensures
 
 pub statement-returns-in_ok-call-in-Call : goal.statement-returns-in_ok-call-in-Call
@@ -103,7 +103,7 @@ statement-returns-in_ok-call-in-Call t c =
 pub statement-returns-in_ok-branches-in-If : goal.statement-returns-in_ok-branches-in-If
 statement-returns-in_ok-branches-in-If t c =
     let scene = c.args.scene.now in
-    let P : Tree Label sort.statement → Type 0 = λ a. StatementLowers scene (code.statement_of c.in_ok-branches-in-If.field-0) (in_labels scene.resolved.now a) in
+    let P : Tree ℕ sort.statement → Type 0 = λ a. StatementLowers scene (code.statement_of c.in_ok-branches-in-If.field-0) (in_labels scene.resolved.now a) in
     subst P (ap if_of c.deref-in-If.ensures ∙ sym (ap statement_of c.in-If.is)) c.in_ok-branches-in-If.ensures
 
 pub statement-returns-in_ok-body-in-While : goal.statement-returns-in_ok-body-in-While

@@ -1,4 +1,4 @@
-use Rattle.std.proofs.Common.{◌≡◌, IfOk, option_and_then, option_map, sym, ap, ◌∙◌, subst}
+use Rattle.std.proofs.Common.{◌≡◌, IfOk, option_map, sym, ap, ◌∙◌, subst}
 use Rattle.ob0_tree.proofs.Viewed.{designator_made, simple_parts, term_parts}
 use Rattle.ob0_tree.specs.declared.tree.Addend.{out-Addend}
 use Rattle.ob0_tree.specs.declared.tree.Comparison.{out-Comparison}
@@ -6,8 +6,8 @@ use Rattle.ob0_tree.specs.declared.tree.Compound.{out-Compound}
 use Rattle.ob0_tree.specs.declared.tree.Simple.{out-Simple}
 use Rattle.ob0_tree.specs.declared.tree.Term.{out-Term}
 use Rattle.ob0_tree.specs.Tree.{compares, one, relates}
-use Rattle.ob0_tree.specs.View.{items_of, compound_of, expression_of, addend_of, multiplier_of, selector_of, term_of, factor_of, simple_of}
-use Rattle.ob0_types_rules.specs.InLabels.{in_labels, label_in}
+use Rattle.ob0_tree.specs.View.{items_of, compound_of, expression_of, addend_of, multiplier_of, selector_of, factor_of, simple_of}
+use Rattle.ob0_types_rules.specs.InLabels.{in_labels}
 use Rattle.ob0_types_table.specs.KnownTables.{shapes_of}
 use Rattle.ob0_types_rules.proofs.TreeParts.{addend_parts, compound_alone, compound_related}
 use Rattle.ob0_run_lowering.specs.Codes.{added, multiplied, related, signed}
