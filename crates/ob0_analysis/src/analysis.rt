@@ -132,7 +132,11 @@ impl Analysis {
         requires { found.alike ≡ true → IsFound (NoTree found.rescan.tokens refusal) }
         ensures { IfOk result (λ a. a ≡ found.rescan.tokens.text) }
     {
-        let RescanInPlace { rescan, alike } = found;
+        let RescanInPlace {
+            rescan,
+            alike,
+            same_names: _,
+        } = found;
         if !alike {
             return Analysis::of_tokens(alloc, rescan.tokens);
         }
@@ -160,7 +164,11 @@ impl Analysis {
         requires { found.alike ≡ true → IsParsed (parsed_by found.rescan.tokens tree) }
         ensures { IfOk result (λ a. a ≡ found.rescan.tokens.text) }
     {
-        let RescanInPlace { rescan, alike } = found;
+        let RescanInPlace {
+            rescan,
+            alike,
+            same_names: _,
+        } = found;
         if alike {
             Analysis::of_tree(alloc, rescan.tokens, tree)
         } else {
