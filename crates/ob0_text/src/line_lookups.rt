@@ -72,7 +72,7 @@ pub fn positions_in(
     ensures { IfOk result (λ positions. positions.items
         ≡ map (position_of (width_of unit) (chars text.now)) offsets.now) }
 {
-    let mut positions = Vec::new(alloc);
+    let mut positions = Vec::with_capacity(alloc, offsets.len())?;
     let mut place = START;
     for offset in offsets {
         let from = nearest_before(text, table, place, *offset);

@@ -85,9 +85,14 @@ fn add_starts(
 
 /// Whether a line starts after the byte `last`, where `next` comes next. Between CR and LF none does.
 #[tactic(auto, unfolding(crate::specs::Texts::ends_line, crate::specs::Texts::starts_with_lf))]
+#[inline(always)]
 fn parts_lines(last: u8, next: Option<u8>) -> bool
     ensures { result ≡ ends_line last (option_to_list next) }
 {
+    // Most bytes of a text are above CR, so this one test passes them.
+    if b'\r' < last {
+        return false;
+    }
     match next {
         Some(next) => last == b'\n' || (last == b'\r' && next != b'\n'),
         None => last == b'\n' || last == b'\r',

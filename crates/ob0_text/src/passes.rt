@@ -179,6 +179,11 @@ fn past_ascii(text: &str, unit: Unit, from: PassState, offset: usize) -> PassSta
     let (mut line, mut character, mut reached) = (from.line, from.character, from.offset);
     while reached < end {
         let byte = bytes[reached];
+        if b'\r' < byte && byte < 128 {
+            reached += 1;
+            character += 1;
+            continue;
+        }
         if 128 <= byte || byte == b'\r' {
             break;
         }

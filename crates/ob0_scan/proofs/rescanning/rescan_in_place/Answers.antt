@@ -1,4 +1,4 @@
-use Rattle.std.proofs.Common.{◌≡◌, ◌-◌, List, ap, ◌∙◌, take, drop}
+use Rattle.std.proofs.Common.{◌-◌, List, ap, ◌∙◌, take, drop}
 use Rattle.ob0_scan.specs.declared.lexeme.Token.{Token}
 use Rattle.ob0_scan.specs.Scanned.{Scanned}
 use Rattle.ob0_scan.specs.Reused.{kinds, names_in}

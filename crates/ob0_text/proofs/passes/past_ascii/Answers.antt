@@ -17,3 +17,12 @@ loop-reached-preserved c =
       within = omega arith;
       onward = omega arith;
     }
+
+pub loop-reached-preserved-then-byte-lt128 : goal.loop-reached-preserved-then-byte-lt128
+loop-reached-preserved-then-byte-lt128 c =
+    let byte = ap (λ bs. get_or bs c.loop-reached.reached 0) c.as_bytes-bytes.ensures.value in
+    let above = c.if-byte-gt13.true in record {
+      counted = counted_past_ascii c.args.unit c.args.text.now _ _ _ c.loop-reached.invariant.counted (omega arith) (omega (arith, byte, c.if-byte-lt128.true)) (λ e. omega (arith, byte, e, above)) (λ e. omega (arith, byte, e, above));
+      within = omega arith;
+      onward = omega arith;
+    }
