@@ -16,6 +16,7 @@ use Rattle.ob0_values.specs.Values.{FieldShapes, Shape, Value, array_shape, bool
 use Rattle.ob0_types_fields.specs.Fields.{FieldNames, record_of}
 use Rattle.ob0_rename_laws.specs.FieldLaws.{KeepsApart}
 use Rattle.std.proofs.lemmas.Bool.{eqb-true}
+use Rattle.ob0_types_fields.proofs.NamesMeant.{named}
 
 -- a type with its fields under other names
 abbrev mutual

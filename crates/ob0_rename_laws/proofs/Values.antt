@@ -8,6 +8,7 @@ use Rattle.ob0_values.specs.Values.{Members, Place, Step, Store, Value, Values, 
 use Rattle.ob0_types_fields.specs.Fields.{FieldNames}
 use Rattle.ob0_rename_laws.specs.FieldLaws.{KeepsApart}
 use Rattle.ob0_rename_laws.proofs.Apart.{choose-map}
+use Rattle.ob0_types_fields.proofs.Bare.{bare}
 
 -- a field with the ordinal of its record before its name: no two records have one name
 abbrev pub tagged : FieldNames
