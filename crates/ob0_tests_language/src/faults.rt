@@ -205,22 +205,22 @@ static CHANGES: &[(&str, &str)] = &[
     ),
 ];
 
-fn reported_after(alloc: Global, old: &str, new: &str) -> Result<String, AllocError> {
+/// Whether a changed text has the faults that an analysis of it from nothing finds.
+fn is_as_new(alloc: Global, old: &str, new: &str) -> Result<bool, AllocError> {
     let analysis = Analysis::of(alloc, old)?.after(alloc, new)?;
     let faults = analysis.diagnoses(alloc)?;
-    reported_faults(alloc, faults.as_slice())
+    let found = reported_faults(alloc, faults.as_slice())?;
+    let faults = diagnose(alloc, new)?;
+    let wanted = reported_faults(alloc, faults.as_slice())?;
+    Ok(found.as_str() == wanted.as_str())
 }
 
 #[test]
 fn a_changed_text_has_the_faults_of_a_new_one(rt: HostRuntime) -> Result<(), Fail> {
     for row in CHANGES {
-        let (old, new) = *row;
-        for (from, to) in [(old, new), (new, old)] {
-            let faults = diagnose(rt.alloc(), to)?;
-            let wanted = reported_faults(rt.alloc(), faults.as_slice())?;
-            let found = reported_after(rt.alloc(), from, to)?;
-            assert!(rt; found.as_str() == wanted.as_str(), "{found} in {to}");
-        }
+        let (a, b) = *row;
+        assert!(rt; is_as_new(rt.alloc(), a, b)?, "{b}");
+        assert!(rt; is_as_new(rt.alloc(), b, a)?, "{a}");
     }
     Ok(())
 }
