@@ -1,4 +1,4 @@
-"""The wrong bodies of the crates: files of lines 'file: PATH', 'old: TEXT' and 'new: TEXT', in must-fail/ (the gate tries
+"""The mutants of the crates: files of lines 'file: PATH', 'old: TEXT' and 'new: TEXT', in must-fail/ (the gate tries
 those) and in wrong-bodies/ (`make wrong-bodies` tries both)."""
 import os
 import re
@@ -9,7 +9,7 @@ PLACES = ("must-fail", "wrong-bodies")
 
 
 class Edit:
-    """One wrong body: the lines that it changes, and the functions that these belong to."""
+    """One mutant: the lines that it changes, and the functions that these belong to."""
 
     def __init__(self, crate, place, name):
         self.crate, self.name = crate, f"{place}/{name}"
@@ -23,7 +23,7 @@ class Edit:
 
 
 def edits_of(crate, source=None):
-    """A crate's wrong bodies, of both places."""
+    """A crate's mutants, of both places."""
     found = []
     for place in PLACES:
         folder = os.path.join(common.TOP, "crates", crate, place)
