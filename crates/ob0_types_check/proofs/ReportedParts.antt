@@ -101,8 +101,8 @@ module _ {T : Type 0} (facts : Facts T) where
 
   -- a name without selectors
   pub nothing_selected : (x : Operand T) (xs : List Selector) → length xs ≡ 0 → reported_selectors facts x (items_of selector_of xs) ≡ right x
-  nothing_selected x [] none = selected_ended x
-  nothing_selected x (s ∷ xs) none = absurd (omega arith)
+  nothing_selected x [] e = selected_ended x
+  nothing_selected x (s ∷ xs) e = absurd (omega arith)
 
   pub constant_reported : (e : Tree ℕ expression) → reported_constant facts e ≡ (reported_expression facts e >>= evaluated facts)
   unfolding reported_constant
