@@ -19,7 +19,7 @@ use std::alloc::{AllocError, Global};
 pub fn line_roles(alloc: Global, module: &Module) -> Result<Vec<LineRole>, AllocError>
     ensures { IfOk result (λ out. out.items ≡ line_roles 0 (tree_of module.now)) }
 {
-    let mut out = Vec::new(alloc);
+    let mut out = Vec::with_capacity(alloc, module.tokens().tokens().len())?;
     out.push(LineRole::Begins(0))?;
     plain(&mut out)?;
     plain(&mut out)?;
