@@ -145,7 +145,7 @@ fn write_text(out: &mut Vec<u8>, text: &str) -> Result<(), AllocError>
     write_piece(out, b"\"")
 }
 
-fn write_escaped(out: &mut Vec<u8>, text: &[u8]) -> Result<(), AllocError>
+pub(crate) fn write_escaped(out: &mut Vec<u8>, text: &[u8]) -> Result<(), AllocError>
     ensures { OnOk result (out.new.items ≡ out.old.items ++ escape text.now) }
 {
     if is_plain(text) {
