@@ -3,13 +3,13 @@
 ghost use Rattle.std.specs.Prelude.{◌≡◌, IfOk, map};
 ghost use Rattle.ob0_edits.specs.Replaced.{span_at};
 ghost use Rattle.ob0_text.specs.Units.{width_of};
-ghost use Rattle.ob0_edits.specs.Ranges.{range_of};
+ghost use Rattle.ob0_edits.specs.Ranges.{bounds, range_of};
 
 use ob0_scan::{Span, Token};
 use ob0_text::{Range, TextStore};
 use std::alloc::{AllocError, Global};
 
-/// The ranges of spans, found in two passes over the text where the spans are in text order.
+/// The ranges of spans, found in one pass over the text where the spans are in text order.
 pub fn ranges<T: TextStore>(
     alloc: Global,
     store: &T,
@@ -18,30 +18,28 @@ pub fn ranges<T: TextStore>(
     ensures { IfOk result (λ ranges. ranges.items
         ≡ map (range_of (width_of (T.unit_of store.now)) (T.content store.now)) spans.now) }
 {
-    let starts = starts(alloc, spans)?;
-    let ends = ends(alloc, spans)?;
-    let from = store.positions(alloc, &starts)?;
-    let to = store.positions(alloc, &ends)?;
-    let mut ranges = Vec::new(alloc);
+    let bounds = bounds(alloc, spans)?;
+    let positions = store.positions(alloc, &bounds)?;
+    let mut ranges = Vec::with_capacity(alloc, spans.len())?;
     for i in 0..spans.len() {
         ranges.push(Range {
-            start: from[i],
-            end: to[i],
+            start: positions[2 * i],
+            end: positions[2 * i + 1],
         })?;
     }
     Ok(ranges)
 }
 
-fn starts(alloc: Global, spans: &[Span]) -> Result<Vec<usize>, AllocError>
-    ensures { IfOk result (λ offsets. offsets.items ≡ map (λ span. span.start) spans.now) }
+/// Where spans start and end, one span after another.
+fn bounds(alloc: Global, spans: &[Span]) -> Result<Vec<usize>, AllocError>
+    ensures { IfOk result (λ offsets. offsets.items ≡ bounds spans.now) }
 {
-    spans.iter().map(|span| span.start).collect(alloc)
-}
-
-fn ends(alloc: Global, spans: &[Span]) -> Result<Vec<usize>, AllocError>
-    ensures { IfOk result (λ offsets. offsets.items ≡ map (λ span. span.end) spans.now) }
-{
-    spans.iter().map(|span| span.end).collect(alloc)
+    let mut offsets = Vec::new(alloc);
+    for span in spans {
+        offsets.push(span.start)?;
+        offsets.push(span.end)?;
+    }
+    Ok(offsets)
 }
 
 /// Where the tokens with these numbers are.

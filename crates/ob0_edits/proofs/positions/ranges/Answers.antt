@@ -2,7 +2,7 @@ use Rattle.std.proofs.Common.{map, ap, ◌∙◌}
 use Rattle.ob0_scan.specs.declared.lexeme.Span.{Span}
 use Rattle.ob0_text.specs.Texts.{position_of}
 use Rattle.ob0_text.specs.Units.{width_of}
-use Rattle.ob0_edits.proofs.Ranged.{position_at, range_further}
+use Rattle.ob0_edits.proofs.Ranged.{ends_there, range_further, starts_there}
 use Rattle.ob0_edits.proofs.positions.ranges.Goals as goal
 
 pub loop-i-preserved : goal.loop-i-preserved
@@ -11,8 +11,8 @@ loop-i-preserved g c =
     let unit = g.T.TextStore.unit_of c.args.store.now in
     let spans = c.args.spans.now in
     let none : Span = record { start = 0; end = 0 } in
-    let from = c.in_ok-from.ensures ∙ ap (map (position_of (width_of unit) content)) c.deref.ensures.value in
-    let to = c.in_ok-to.ensures ∙ ap (map (position_of (width_of unit) content)) c.deref-2.ensures.value in
-    let a = c.index.ensures ∙ position_at unit content spans c.loop-i.i c.loop-i-test.true none (λ (x : Span). x.start) c.in_ok-starts.starts.items c.in_ok-from.from.items c.index.result.now from c.in_ok-starts.ensures in
-    let b = c.index-in-loop-i.ensures ∙ position_at unit content spans c.loop-i.i c.loop-i-test.true none (λ (x : Span). x.end) c.in_ok-ends.ends.items c.in_ok-to.to.items c.index-in-loop-i.result.now to c.in_ok-ends.ensures in
+    let positions = c.in_ok-positions.positions.items in
+    let all = c.in_ok-positions.ensures ∙ ap (map (position_of (width_of unit) content)) c.deref.ensures.value in
+    let a = c.index.ensures ∙ starts_there unit content spans c.loop-i.i c.loop-i-test.true none c.in_ok-bounds.bounds.items positions all c.in_ok-bounds.ensures c.index.result.now in
+    let b = c.index-2.ensures ∙ ends_there unit content spans c.loop-i.i c.loop-i-test.true none c.in_ok-bounds.bounds.items positions all c.in_ok-bounds.ensures c.index-2.result.now in
     c.in_ok-push.ensures.items ∙ range_further unit content spans c.loop-i.i c.loop-i-test.true none c.loop-i.ranges.items _ c.loop-i.invariant (λ j. record { start = a j; end = b j })
