@@ -1,7 +1,7 @@
 #!/usr/bin/env python3
 """Runs the end-to-end tests on bin/ob0 (or on the program that the variable OB0 names).
 
-  tests/run.py [WORD..]   the tests whose names hold each of the words; with no word all of them
+  tests/run.py [WORD..]   the tests whose names hold one of the words; with no word all of them
   tests/run.py --list     their names
 
 A test that wants an editor or another program that isn't here is left out, by name; where words are given and there is no
@@ -57,7 +57,8 @@ def all_tried(places):
 
 def main(words):
     load()
-    chosen = [at for at, (name, _) in enumerate(harness.TESTS) if all(word in name for word in words if word != "--list")]
+    given = [it for it in words if it != "--list"]
+    chosen = [at for at, (name, _) in enumerate(harness.TESTS) if not given or any(it in name for it in given)]
     if "--list" in words:
         for at in chosen:
             print(harness.TESTS[at][0])

@@ -1,6 +1,9 @@
 """What the program does where memory runs out, or where a reader or writer fails, at each byte of the first conversation."""
 import os
+import resource
+import signal
 import subprocess
+import tempfile
 
 import conversations
 import corpus
@@ -132,3 +135,17 @@ def writer():
         how = {"stdout": device, "stderr": subprocess.PIPE, "timeout": harness.SECONDS, "check": False}
         ran = subprocess.run([harness.BINARY, "serve"], input=frames(TALK), **how)
     same((ran.stderr, ran.returncode), (b"fault: Write\n", 4))
+
+
+@test("devices: a limit on the size of files, whose signal ends the program where nobody ignores it")
+def limit_of_files():
+    for handler, wanted in ((signal.SIG_DFL, (b"", -signal.SIGXFSZ)), (signal.SIG_IGN, (b"fault: Write\n", 4))):
+
+        def limit(handler=handler):
+            resource.setrlimit(resource.RLIMIT_FSIZE, (0, 0))
+            signal.signal(signal.SIGXFSZ, handler)
+
+        with tempfile.TemporaryFile() as out:
+            how = {"stdout": out, "stderr": subprocess.PIPE, "timeout": harness.SECONDS, "check": False, "restore_signals": False}
+            ran = subprocess.run([harness.BINARY, "serve"], input=frames(TALK), preexec_fn=limit, **how)
+        same((ran.stderr, ran.returncode), wanted)

@@ -135,9 +135,13 @@ def renamed():
     through_command(RENAMES)
 
 
-@test("rename: a field of a record")
+@test("rename: a field of a record, through `serve`")
 def field_renamed():
     through_serve(FIELD_RENAMES)
+
+
+@test("rename: a field of a record, through the command")
+def field_renamed_by_command():
     through_command(FIELD_RENAMES)
 
 

@@ -1,5 +1,6 @@
-"""The package: what `make package` makes, unpacked and installed, with editors and shells that find it in an empty home."""
+"""The package: what `make package` makes, installed, removed and unpacked, with editors and shells that find it in an empty home."""
 import gzip
+import json
 import os
 import re
 import shutil
@@ -9,7 +10,7 @@ import tempfile
 import time
 
 import common
-from harness import TOP, holds, same, test, text_of, want, want_proved
+from harness import TOP, examples, holds, leave_out, same, test, text_of, want, want_proved
 from homes import run_plainly, write
 from screen import Screen
 
@@ -77,6 +78,51 @@ def packed():
         want("lintian")
         status, said = run_plainly(["lintian", "--fail-on", "error", deb], dict(os.environ), room)
         same(status, 0, said)
+
+
+@test("package: README's lines install the packages")
+def as_readme_says():
+    want_proved()
+    made("package")
+    page = text_of("README.md").partition("**From a package.**")[2]
+    by_apt, by_tar = [it[4:].partition("  #")[0].strip() for it in page.splitlines() if it.startswith("    sudo ")][:2]
+    with tempfile.TemporaryDirectory() as room:
+        # (without sudo, by apt as a plan alone, and into a folder of the test's own)
+        same((by_apt.count("sudo apt install "), by_tar.count("sudo tar "), by_tar.count("/usr/local")), (1, 1, 1), f"{by_apt}; {by_tar}")
+        line = by_tar.replace("sudo ", "").replace("/usr/local", room)
+        status, said = run_plainly(["sh", "-e", "-c", line], dict(os.environ), os.path.join(TOP, "bin"))
+        found = paths_in(room)
+        same((status, found), (0, paths_in(placed(os.path.join(room, "other")))), said)
+        if shutil.which("apt-get"):
+            line = by_apt.replace("sudo apt install ", "apt-get install --simulate ")
+            status, said = run_plainly(["sh", "-e", "-c", line], dict(os.environ), os.path.join(TOP, "bin"))
+            holds(status == 0 and "Inst ob0 " in said, said)
+
+
+LIBC = "Package: libc6\nStatus: install ok installed\nVersion: {}\nArchitecture: amd64\nMaintainer: x <x@example.org>\nDescription: x\n"
+
+
+@test("package: dpkg installs it in a root of its own, where libc6 is new enough, and removing it leaves nothing")
+def by_dpkg():
+    want_proved()
+    if os.geteuid() or not shutil.which("dpkg"):
+        leave_out("it wants dpkg, and to be root")
+    made("package")
+    with tempfile.TemporaryDirectory() as room:
+        admin = os.path.join(room, "var", "lib", "dpkg")
+        for it in ("available", "info/format", "updates/x", "triggers/Unincorp"):
+            write(os.path.join(admin, it), "1\n" if it == "info/format" else "")
+        os.unlink(os.path.join(admin, "updates", "x"))
+        words = ["dpkg", f"--root={room}", "--log=/dev/null", "--force-bad-path"]
+        for version, well in (("2.31", False), ("2.36", True)):
+            write(os.path.join(admin, "status"), LIBC.format(version))
+            status, said = run_plainly([*words, "--install", packages()[1]], dict(os.environ), room)
+            same(status == 0, well, f"with libc6 {version}: {said}")
+        same(paths_in(os.path.join(room, "usr")), paths_in(placed(os.path.join(room, "other"))), "the files")
+        shutil.rmtree(os.path.join(room, "other"))
+        status, said = run_plainly([*words, "--remove", "ob0"], dict(os.environ), room)
+        same((status, [it for it in paths_in(room) if not it.startswith("var/")]), (0, []), f"what is left: {said}")
+        holds("ob0" not in text_of(admin, "status"), "dpkg knows of it still")
 
 
 @test("package: it says what was proved, the packed program is the proved one, and the links of its pages hold")
@@ -176,11 +222,12 @@ def in_shells():
 
 
 def seen_by_vim(words, environment, work, name):
-    """Vim's or Neovim's file type of a new file before and after it is saved, and of an example."""
+    """Vim's or Neovim's file type of a new file once it is saved, and of each example."""
     report = os.path.join(work, "report")
+    opened = [[f"edit {os.path.join(TOP, it)}", "call add(r, &filetype)"] for it in examples()]
     steps = [
         "let r = []", "edit new.mod", "call setline(1, ['MODULE N;', 'BEGIN x := 1 END N.'])", "silent write", "call add(r, &filetype)",
-        f"edit {os.path.join(TOP, 'examples', 'Gcd.mod')}", "call add(r, &filetype)", "call add(r, exists(':Ob0Run'))", "call add(r, &shiftwidth)",
+        *(step for it in opened for step in it), "call add(r, exists(':Ob0Run'))", "call add(r, &shiftwidth)",
         f"call writefile([json_encode(r)], '{report}')", "qall!",
     ]  # fmt: skip
     script = os.path.join(work, "steps.vim")
@@ -190,22 +237,23 @@ def seen_by_vim(words, environment, work, name):
         while not (os.path.exists(report) and os.path.getsize(report)) and time.monotonic() < end:
             screen.read(0.1)
         holds(os.path.exists(report), f"{name} said nothing: {screen.drawn[-500:]!r}")
-    return text_of(report).strip().replace(" ", "")
+    types = json.loads(text_of(report))
+    same(types, ["ob0"] * (1 + len(opened)) + [2, 2], f"what {name} takes the files as, whether it has :Ob0Run, and the width of a level")
 
 
-@test("package: Neovim and its server, on a new file and an example, in an empty home")
+@test("package: Neovim and its server, on a new file and each example, in an empty home")
 def in_neovim():
     want("Neovim")
     with tempfile.TemporaryDirectory() as room:
         usr = placed(room)
         environment, work = own(room, usr), os.path.join(room, "work")
         os.makedirs(work)
-        same(seen_by_vim(["nvim", "-i", "NONE", "-n"], environment, work, "Neovim"), '["ob0","ob0",2,2]')
+        seen_by_vim(["nvim", "-i", "NONE", "-n"], environment, work, "Neovim")
         with Screen(["nvim", "-i", "NONE", "-n", "new.mod"], environment, work) as screen:
             screen.shows(b"Undeclared|not declared", "the diagnostics of the new file")
 
 
-@test("package: Vim, on a new file and an example, in an empty home")
+@test("package: Vim, on a new file and each example, in an empty home")
 def in_vim():
     want("Vim")
     with tempfile.TemporaryDirectory() as room:
@@ -214,10 +262,10 @@ def in_vim():
         os.makedirs(work)
         # (Debian's Vim reads /usr/share/vim/vimfiles, and the tree's folder is given instead)
         words = ["vim.nox", "-i", "NONE", "-n", "--cmd", f"set packpath^={usr}/share/vim/vimfiles"]
-        same(seen_by_vim(words, environment, work, "Vim"), '["ob0","ob0",2,2]')
+        seen_by_vim(words, environment, work, "Vim")
 
 
-@test("package: Emacs, on a new file and an example, in an empty home")
+@test("package: Emacs, on a new file and each example, in an empty home")
 def in_emacs():
     want("Emacs")
     with tempfile.TemporaryDirectory() as room:
@@ -227,7 +275,7 @@ def in_emacs():
         report = os.path.join(work, "report")
         steps = f"""(let (r)
           (find-file "new.mod") (insert "MODULE N;\\nBEGIN x := 1 END N.\\n") (save-buffer) (push major-mode r)
-          (find-file "{TOP}/examples/Gcd.mod") (push major-mode r)
+          (dolist (it '({' '.join(json.dumps(os.path.join(TOP, it)) for it in examples())})) (find-file it) (push major-mode r))
           (write-region (prin1-to-string (nreverse r)) nil "{report}"))"""
         # (Emacs looks for packages below each site-lisp of its load path: the tree's is put there)
         environment["EMACSLOADPATH"] = os.path.join(usr, "share", "emacs", "site-lisp") + ":"
@@ -236,10 +284,10 @@ def in_emacs():
             while not (os.path.exists(report) and os.path.getsize(report)) and time.monotonic() < end:
                 screen.read(0.1)
             holds(os.path.exists(report), f"Emacs said nothing: {screen.drawn[-500:]!r}")
-        same(text_of(report), "(ob0-mode ob0-mode)")
+        same(text_of(report), f"({' '.join(['ob0-mode'] * (1 + len(examples())))})")
 
 
-@test("package: Kakoune, on a new file and an example, in an empty home")
+@test("package: Kakoune, on a new file and each example, in an empty home")
 def in_kakoune():
     want("Kakoune")
     with tempfile.TemporaryDirectory() as room:
@@ -251,10 +299,12 @@ def in_kakoune():
         shutil.copytree("/usr/share/kak", runtime, symlinks=True, ignore=shutil.ignore_patterns("doc"))
         shutil.copytree(os.path.join(usr, "share", "kak"), runtime, dirs_exist_ok=True)
         environment["KAKOUNE_RUNTIME"] = runtime
-        script = f"""edit new.mod; execute-keys 'iMODULE N; END N.<esc>'; write; echo -to-file '{work}/one' %opt{{filetype}}
-          edit '{TOP}/examples/Gcd.mod'; echo -to-file '{work}/two' %opt{{filetype}}; kill!"""
+        names = [os.path.basename(it) for it in examples()]
+        opened = [f"edit '{os.path.join(TOP, it)}'; echo -to-file '{work}/type of {os.path.basename(it)}' %opt{{filetype}}" for it in examples()]
+        script = f"""edit new.mod; execute-keys 'iMODULE N; END N.<esc>'; write; echo -to-file '{work}/type of new.mod' %opt{{filetype}}
+          {'; '.join(opened)}; kill!"""
         status, said = run_plainly(["timeout", "60", "kak", "-ui", "dummy", "-e", script], environment, work)
-        same((text_of(work, "one"), text_of(work, "two")), ("ob0", "ob0"), said)
+        same({text_of(work, f"type of {it}") for it in ("new.mod", *names)}, {"ob0"}, said)
 
 
 @test("package: nano, GtkSourceView and a desktop take their files")
@@ -274,4 +324,7 @@ def others():
             kinds = [run_plainly(["gio", "info", "-a", "standard::content-type", it], environment, work)[1].split()[-1] for it in ("New.mod", "go.mod")]
             same(kinds[0], "text/x-oberon0", "the type of a module")
             same(kinds[1], "text/plain", "the type of go.mod, which is Go's")
-        same(gzip.decompress(open(os.path.join(usr, "share/man/man1/ob0.1.gz"), "rb").read()).decode(), text_of("share", "ob0.1"), "the manual page")
+        unpacked = lambda at: gzip.decompress(open(os.path.join(usr, at), "rb").read()).decode()
+        same(unpacked("share/man/man1/ob0.1.gz"), text_of("share", "ob0.1"), "the manual page")
+        words = lambda text: [it for it in text.split() if it not in "-*"]
+        same(words(unpacked("share/doc/ob0/changelog.gz").partition("medium\n")[2].partition("\n -- ")[0]), words(text_of("CHANGELOG.md").partition("yet\n")[2]), "the changes")

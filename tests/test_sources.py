@@ -41,3 +41,22 @@ def named_files():
     for page in pages:
         found = re.findall(r"\b(?:tests|tools|bench)/[\w./]*\w", text_of(page))
         same([it for it in found if not os.path.exists(os.path.join(TOP, it))], [], f"what {page} names and isn't there")
+
+
+# pages whose names in backticks are those of functions, definitions, types and files
+CITING = ["docs/PROMISES.md", "docs/ARCHITECTURE.md", "docs/GLOSSARY.md", "docs/PROVING.md", "CONTRIBUTING.md"]
+# words in backticks that name no part of the sources: of the kit, of commands, or examples
+OTHERS = {"FILE", "NAME", "WORDS", "XWritten", "Lts", "tidy"}
+
+
+@test("sources: the names that the pages on promises, architecture, words and proofs cite are in the sources")
+def cited_names():
+    files = [it for part in ("src", "specs", "proofs") for it in glob.glob(os.path.join(TOP, "crates", "*", part, "**", "*"), recursive=True)]
+    files += glob.glob(os.path.join(TOP, "t*", "**", "*.py"), recursive=True)
+    words = {word for it in files if os.path.isfile(it) for word in re.findall(r"\w+", text_of(it))}
+    words |= {word for it in files for word in re.findall(r"\w+", os.path.relpath(it, TOP))} | {*common.listed()} | OTHERS
+    words |= {word for names in common.listed().values() for word in names}
+    for page in CITING:
+        text = re.sub(r"^```.*?^```$", "", text_of(page), flags=re.M | re.S)
+        cited = {it for it in re.findall(r"`([A-Za-z]\w*(?:::\w+)?)`", text)}
+        same(sorted(it for it in cited if not all(word in words for word in it.split("::"))), [], f"what {page} cites and isn't there")

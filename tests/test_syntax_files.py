@@ -9,7 +9,7 @@ import tempfile
 import xml.etree.ElementTree
 
 import snippets
-from harness import TOP, examples, holds, same, test, text_of, want
+from harness import TOP, examples, holds, need_program, same, test, text_of, want
 from homes import at_home, run_in_terminal, run_plainly, write
 from screen import Screen
 
@@ -104,9 +104,16 @@ def kate():
                 holds(it in said, f"no {it} in what was shown of {file}: {said}")
 
 
+@test("syntax files: the lines of Qt Creator's page copy Kate's")
+def qtcreator():
+    with tempfile.TemporaryDirectory() as room:
+        at_home(room, "qtcreator")
+        same(text_of(room, ".local/share/org.kde.syntax-highlighting/syntax/oberon0.xml"), text_of("editors", "kate", "oberon0.xml"), "the file")
+
+
 @test("syntax files: GtkSourceView's, by the library")
 def gtksourceview():
-    want("GtkSourceView", "PyGObject")
+    want("GtkSourceView", "PyGObject", "MIME types")
     with tempfile.TemporaryDirectory() as room:
         own = at_home(room, "gtksourceview")
         file = os.path.join(room, "sample.Mod")
@@ -210,6 +217,7 @@ END R.
 
 def by_vim(editor, words, name):
     """Vim's files, in Vim or Neovim: file types, colours, :make, indentation."""
+    need_program()
     with tempfile.TemporaryDirectory() as room:
         own = at_home(room, editor)
         rc = os.path.join(room, "rc.vim")
@@ -257,6 +265,7 @@ def in_neovim():
 @test("syntax files: Emacs's mode: file types, colours, indentation, index, check and run")
 def in_emacs():
     want("Emacs")
+    need_program()
     with tempfile.TemporaryDirectory() as room:
         own = at_home(room, "emacs")
         own.update(OB0_TOP=TOP, OB0_EXAMPLES=json.dumps([os.path.join(TOP, it) for it in examples()]))
@@ -273,6 +282,7 @@ def in_emacs():
 @test("syntax files: Kakoune's file type, and faults that come and go by its lint")
 def in_kakoune():
     want("Kakoune")
+    need_program()
     with tempfile.TemporaryDirectory() as room:
         own = at_home(room, "kakoune")
         write(os.path.join(room, ".config", "kak", "kakrc"), "\n".join(snippets.snippets("kakoune", "kak")))
@@ -308,7 +318,9 @@ def settings():
         import tomllib
     except ImportError:
         return
-    helix = tomllib.loads(text_of("editors", "helix", "languages.toml"))
+    with tempfile.TemporaryDirectory() as room:
+        at_home(room, "helix")
+        helix = tomllib.loads(text_of(room, ".config", "helix", "languages.toml"))
     same(helix["language-server"]["ob0"], {"command": "ob0", "args": ["serve"]}, "Helix's server")
     same(helix["language"][0]["language-servers"], ["ob0"], "Helix's language")
     kak = tomllib.loads(text_of("editors", "kakoune", "kak-lsp.toml"))["language"]["ob0"]

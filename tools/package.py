@@ -121,7 +121,8 @@ def proved():
 
 def changelog(number):
     """Debian's form of CHANGELOG.md."""
-    lines = [it[2:] for it in read("CHANGELOG.md").decode().splitlines() if it.startswith("- ")]
+    page = read("CHANGELOG.md").decode().partition("\n- ")[2]
+    lines = [" ".join(it.split()) for it in page.split("\n- ")]
     date = subprocess.run(
         ["date", "-u", "-R", "-d", f"@{moment()}"], stdout=subprocess.PIPE, env={**os.environ, "LC_ALL": "C"}, check=True
     ).stdout.decode()

@@ -11,7 +11,8 @@ with a line feed isn't seen. The last line is 'N passed, M failed'.
 What takes time is the compile (some 100 seconds of a processor) and then 0.7 seconds for each case, whatever it does: `rt try` makes
 the program ready for an interpreter too, each time, which then runs nothing that reads arguments. So the cases are dealt out to as
 many `rt try` as every second processor carries, each with a compile of its own; and all but a few of the modules that are to be
-checked are opened in one conversation, whose diagnostics are those that `check` prints."""
+checked are opened in one conversation, whose diagnostics are those that `check` prints, and all but a few of the renamings are
+requested there: the edits of the answer make the text that `rename` prints, and a refusal is the one that it names."""
 import json
 import os
 import re
@@ -33,6 +34,7 @@ LARGEST = 1_100_000  # bytes of a file or an input; what is longer is left to bi
 COMMANDS = ("check", "run", "rename")
 STEP = 15  # seconds between two lines while the program is compiled and run
 CHECKED = 8  # how many modules are checked by the command, before the others are opened in one conversation
+RENAMED = 6  # how many renamings are made by the command, before the others are requested in that conversation
 MEMORY = 3_500_000_000  # bytes for each `rt try`
 CHECK = ("check", "FILE")
 
@@ -45,7 +47,7 @@ class Cases:
     """What the tests run, and what came of it."""
 
     def __init__(self):
-        self.wanted, self.found, self.opened, self.noting = {}, {}, [], True
+        self.wanted, self.found, self.opened, self.requested, self.noting = {}, {}, [], [], True
 
     def run(self, words, given=b"", stack=None, cwd=None):
         """In place of `harness.run`: the words, the input and the files that they name."""
@@ -57,9 +59,9 @@ class Cases:
             with open(os.path.join(cwd or ".", words[at]), "rb") as file:
                 texts.append(file.read())
             plain[at] = "FILE"
-        if stack or len(given) > LARGEST or (words[:1] == ["serve"] and not wants_help) or any("\n" in it or not it for it in words):
-            raise Unknown("a conversation, a long input or other words")
         key = (tuple(plain), *texts, bytes(given))
+        if stack or len(given) > LARGEST or (words[:1] == ["serve"] and not wants_help) or not (can_be_case(key) or can_be_requested(key)):
+            raise Unknown("a conversation, a long input or other words")
         if self.noting:
             self.wanted[key] = None
             return harness.Ended(b"", b"", 0)
@@ -81,33 +83,46 @@ class Cases:
         return lambda *words, **named: None if self.noting else check(*words, **named)
 
     def put_together(self):
-        """Takes the modules that are to be checked, but for a few, out of the cases and into one conversation, a case by itself."""
+        """Takes the modules that are to be checked and the renamings, but for a few, out of the cases and into one conversation, a
+        case by itself."""
         checks = [it for it in self.wanted if it[0] == CHECK and is_text(it[1]) and not it[2]]
+        renamings = [it for it in self.wanted if can_be_requested(it)]
+        by_command = [it for it in renamings if can_be_case(it)][:RENAMED]
         self.opened = checks[CHECKED:]
-        for it in self.opened:
+        self.requested = [it for it in renamings if it not in by_command]
+        for it in self.opened + self.requested:
             del self.wanted[it]
-        if self.opened:
-            opens = [harness.did_open(text.decode(), uri=f"file:///{at}") for at, (_, text, _) in enumerate(self.opened)]
-            self.wanted[("serve",), harness.frames([harness.initialize(), *opens, harness.SHUTDOWN, harness.EXIT])] = None
+        contents = [harness.did_open(text.decode(), uri=f"file:///{at}") for at, (_, text, _) in enumerate(self.opened + self.requested)]
+        for at, ((_, _, line, column, new), _, _) in enumerate(self.requested, len(self.opened)):
+            where = {"position": harness.place(int(line), int(column)), "textDocument": {"uri": f"file:///{at}"}}
+            contents.append(harness.request(at, "textDocument/rename", {**where, "newName": new}))
+        if contents:
+            begin = harness.initialize("begin")
+            self.wanted[("serve",), harness.frames([begin, *contents, harness.SHUTDOWN, harness.EXIT])] = None
 
-    def take_opened(self, said):
-        """What `check` prints of each module that was opened, by its diagnostics."""
-        contents = [json.loads(it) for it in harness.unframed(said)]
+    def take_conversation(self, said):
+        """What `check` prints of each module that was opened, by its diagnostics, and `rename` by the answer to the request."""
+        contents, printed = [json.loads(it) for it in harness.unframed(said)], {}
         for it in (it["params"] for it in contents if "params" in it):
             at = int(it["uri"].rpartition("/")[2])
             starts = [(found["range"]["start"], found) for found in it["diagnostics"]]
             lines = [f"{start['line']}:{start['character']}: {found['code']}: {found['message']}\n" for start, found in starts]
-            self.found[self.opened[at]] = harness.Ended("".join(lines).encode(), b"", 1 if lines else 0)
+            printed[at] = harness.Ended("".join(lines).encode(), b"", 1 if lines else 0)
+        self.found.update((it, printed[at]) for at, it in enumerate(self.opened))
+        answers = {it["id"]: it for it in contents if "id" in it}
+        for at, it in enumerate(self.requested, len(self.opened)):
+            self.found[it] = printed[at] if printed[at].status else renamed(it[1].decode(), answers[at])
 
     def write(self, room, lanes):
-        """Writes the cases as files for `rt try`, dealt out to so many folders, and returns their names and the flags that give it
-        the modules that are run. It copies each of these for each case: so a module is there once, and where a case reads no input
-        it is the module itself."""
-        names, modules = {}, {}
+        """Writes the cases as files for `rt try`, dealt out to so many folders, and returns their names and for each folder the
+        flags that give it the modules that are run. It copies each of these for each case: so a module is there once, and where a
+        case reads no input it is the module itself."""
+        names, modules, flags = {}, {}, [{} for _ in range(lanes)]
         for at, (words, *texts) in enumerate(self.wanted):
             name, content, module = f"case{at:04}", texts[-1], "{}"
             if len(texts) > 1 and words[0] == "run":
                 module = modules.setdefault(texts[0], f"module{len(modules):03}.mod")
+                flags[at % lanes][module] = os.path.join(room, "modules", module)
             elif len(texts) > 1:
                 content = texts[0]
             line = [module if it == "FILE" else it for it in words]
@@ -115,13 +130,10 @@ class Cases:
                 with open(os.path.join(room, f"cases{at % lanes}", name + ending), "wb") as file:
                     file.write(text)
             names[name] = (words, *texts)
-        flags = []
         for text, name in modules.items():
-            path = os.path.join(room, "modules", name)
-            with open(path, "wb") as file:
+            with open(os.path.join(room, "modules", name), "wb") as file:
                 file.write(text)
-            flags += ["--data", f"{name}={path}"]
-        return names, flags
+        return names, [[word for pair in it.items() for word in ("--data", "=".join(pair))] for it in flags]
 
     def take(self, out, err, names):
         """Takes what `rt try` printed: the output of each case after a line with its name, and lines on each."""
@@ -132,7 +144,7 @@ class Cases:
             name, how, status = it[1].decode(), it[2], it[3]
             said, before = err[before : it.start()], it.end()
             if how == b"ended" and names[name][0] == ("serve",):
-                self.take_opened(printed[name].rstrip(b"\n"))
+                self.take_conversation(printed[name].rstrip(b"\n"))
             elif how == b"ended":
                 self.found[names[name]] = harness.Ended(printed.get(name, b""), said, int(status))
             else:
@@ -146,6 +158,30 @@ def is_text(content):
     except UnicodeDecodeError:
         return False
     return len(content) < 10_000
+
+
+def can_be_case(key):
+    """Whether `rt try` takes these words: one a line, and none empty."""
+    return all(it and "\n" not in it for it in key[0])
+
+
+def can_be_requested(key):
+    """Whether this is a renaming of a small text at a place."""
+    words = key[0]
+    is_renaming = len(words) == 5 and words[:2] == ("rename", "FILE") and words[2].isdigit() and words[3].isdigit()
+    return is_renaming and is_text(key[1]) and b"\r" not in key[1] and not key[2]
+
+
+def renamed(text, answer):
+    """What `rename` prints, by the answer to the request: the refusal, or the text with the edits, each on one line."""
+    if "error" in answer:
+        return harness.Ended(b"", f"refused: {answer['error']['message']}\n".encode(), 1)
+    lines = [it.encode("utf-16-le") for it in text.split("\n")]
+    for edit in reversed([edit for edits in answer["result"]["changes"].values() for edit in edits]):
+        start, end = edit["range"]["start"], edit["range"]["end"]
+        line = lines[start["line"]]
+        lines[start["line"]] = line[: 2 * start["character"]] + edit["newText"].encode("utf-16-le") + line[2 * end["character"] :]
+    return harness.Ended("\n".join(it.decode("utf-16-le") for it in lines).encode(), b"", 0)
 
 
 def lanes_for(count):
@@ -162,7 +198,7 @@ def compiled(cases):
         for it in ("modules", *(f"cases{lane}" for lane in range(lanes))):
             os.mkdir(os.path.join(room, it))
         names, flags = cases.write(room, lanes)
-        started = [Try(flags, os.path.join(room, f"cases{lane}")) for lane in range(lanes)]
+        started = [Try(flags[lane], os.path.join(room, f"cases{lane}")) for lane in range(lanes)]
         shown = time.monotonic()
         while any(it.is_running() for it in started):
             time.sleep(0.2)
@@ -173,9 +209,10 @@ def compiled(cases):
             cases.take(*it.said(), names)
         if not cases.found:
             common.stop(f"rt try ran no case:\n{started[0].said()[1].decode(errors='replace')[-2000:]}", 1)
-        for it in {*cases.wanted, *cases.opened} - {*cases.found}:
+        for it in {*cases.wanted, *cases.opened, *cases.requested} - {*cases.found}:
             cases.found[it] = harness.Ended(b"", b"rt try ended before, or the conversation did", None)
-        print(f"[{timer}] compiled, and {len(names)} cases run; {len(cases.opened)} modules checked in one conversation", flush=True)
+        said = f"{len(cases.opened)} modules checked and {len(cases.requested)} renamings requested in one conversation"
+        print(f"[{timer}] compiled, and {len(names)} cases run; {said}", flush=True)
 
 
 class Try:

@@ -210,6 +210,25 @@ back_again start near far (x ∷ xs) h = ⊎_elim
     (λ following. ap (back_of start far) (back_here start near x xs following))
     (cases_lt (start x) near)
 
+-- those from the first on that doesn't begin before a place begin there or later
+pub back_later : {X : Type 0} (start : X → ℕ) (place : ℕ) (xs : List X) → Ascending start xs → All (λ x. place ≤ start x) (back_of start place xs)
+back_later start place [] h = All-nil (λ x. place ≤ start x)
+back_later {X} start place (x ∷ xs) h = ⊎_elim
+    (λ before. All-same (λ y. place ≤ start y) (back_of start place (x ∷ xs)) (back_of start place xs) (back_further start place x xs before) (back_later start place xs h.1))
+    (λ following. All-same (λ y. place ≤ start y) (back_of start place (x ∷ xs)) (x ∷ xs) (back_here start place x xs following)
+    (All-cons (λ y. place ≤ start y) x xs following (All-weaker (λ y. start x < start y) (λ y. place ≤ start y) (λ y later. omega (arith, following, later)) xs h.0)))
+    (cases_lt (start x) place)
+
+-- those before the first that fails a test pass it
+front_more : {X : Type 0} (q : X → Bool) (x : X) (xs : List X) (b : Bool) → q x ≡ b → All (λ y. q y ≡ true) (take (prefix_len q xs) xs) → All (λ y. q y ≡ true) (take (prefix_len q (x ∷ xs)) (x ∷ xs))
+front_more q x xs true e more = All-same (λ y. q y ≡ true) (take (prefix_len q (x ∷ xs)) (x ∷ xs)) (x ∷ take (prefix_len q xs) xs) (ap (λ n. take n (x ∷ xs)) (cond-true (q x) (1 + prefix_len q xs) 0 e ∙ one_more (prefix_len q xs)))
+    (All-cons (λ y. q y ≡ true) x (take (prefix_len q xs) xs) e more)
+front_more q x xs false e more = All-same (λ y. q y ≡ true) (take (prefix_len q (x ∷ xs)) (x ∷ xs)) [] (ap (λ n. take n (x ∷ xs)) (cond-false (q x) (1 + prefix_len q xs) 0 e)) (All-nil (λ y. q y ≡ true))
+
+pub front_all : {X : Type 0} (q : X → Bool) (xs : List X) → All (λ x. q x ≡ true) (take (prefix_len q xs) xs)
+front_all q [] = All-nil (λ x. q x ≡ true)
+front_all q (x ∷ xs) = front_more q x xs (q x) refl (front_all q xs)
+
 -- whether the first begins at a place
 abbrev pub first_at : {X : Type 0} → (X → ℕ) → ℕ → List X → Bool
 first_at start place [] = false

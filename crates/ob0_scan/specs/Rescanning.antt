@@ -88,6 +88,9 @@ pub record IsBetween (old : Scanned) (new : List ℕ) (from removed added : ℕ)
   pub tokens_inside : b.following.tokens ≤ length old.tokens
   pub comments_ordered : b.front.comments ≤ b.following.comments
   pub comments_inside : b.following.comments ≤ length old.comments
+  pub tokens_before : All (λ (t : Token). t.span.end ≤ from) (take b.front.tokens old.tokens)
+  pub tokens_after : All (λ (t : Token). from + removed ≤ t.span.start)
+      (drop b.following.tokens old.tokens)
   pub tokens_move : All (λ (t : Token). IsMovable removed added t.span)
       (drop b.following.tokens old.tokens)
   pub comments_move : All (λ (c : Span). IsMovable removed added c)

@@ -1,12 +1,12 @@
 -- What a scan of a changed text takes over from the scan of the text before.
 -- Rule: none; for contracts of `rescan`.
-use Rattle.std.specs.Prelude.{◌≡◌, ◌≢◌, ℕ, ◌+◌, ◌-◌, ◌≤◌, List, ◌++◌, length, map, take, drop, nat_lt}
+use Rattle.std.specs.Prelude.{◌≡◌, ◌≢◌, ℕ, ◌+◌, ◌-◌, ◌≤◌, List, [], ◌++◌, length, map, take, drop, nat_lt}
 use Rattle.std.specs.List.{All, prefix_len}
 use Rattle.ob0_scan.specs.declared.lexeme.Span.{Span}
 use Rattle.ob0_scan.specs.declared.lexeme.Token.{Token}
 use Rattle.ob0_scan.specs.declared.lexeme.TokenKind.{TokenKind}
 use Rattle.ob0_scan.specs.declared.lexeme.TokenKind.TheVariants as kind
-use Rattle.ob0_scan.specs.Scanned.{Scanned}
+use Rattle.ob0_scan.specs.Scanned.{Scanned, spanned}
 
 -- So many bytes of the old text from a place on gave way to so many others: the new one is as the old before them and after them.
 pub record IsReplaced (old new : List ℕ) (from removed added : ℕ) : Type 0 where
@@ -23,6 +23,17 @@ valueless k = k
 -- what the tokens of a text are, one after the other, whatever the values of integers
 abbrev pub kinds : List Token → List TokenKind
 kinds tokens = map (λ (t : Token). valueless t.kind) tokens
+
+-- how a token is written that is an identifier; nothing of any other
+abbrev pub name_of : TokenKind → List ℕ → List ℕ
+name_of kind.Identifier text = text
+name_of (kind.Integer value) text = []
+name_of (kind.Reserved word) text = []
+name_of (kind.Symbol symbol) text = []
+
+-- how the identifiers among tokens of a text are written, one after the other, with nothing for each other token
+abbrev pub names_in : List ℕ → List Token → List (List ℕ)
+names_in text tokens = map (λ (t : Token). name_of t.kind (spanned text t.span)) tokens
 
 -- a span after the change is moved by what was added less what was removed
 abbrev pub moved : ℕ → ℕ → Span → Span

@@ -1,15 +1,15 @@
 //! Scans a text that was changed at one place, and takes over what an older scan found before the change and after it.
 
-ghost use Rattle.std.specs.Prelude.{◌≡◌, ◌+◌, ◌-◌, ◌<◌, ◌≤◌, ◌^◌, ◌||◌, ◌++◌, true, IfOk, IfErr, OnOk, length, map, take, drop, nat_lt, option_copied};
+ghost use Rattle.std.specs.Prelude.{◌≡◌, ℕ, List, [], false, ◌+◌, ◌-◌, ◌<◌, ◌≤◌, ◌^◌, ◌||◌, ◌++◌, true, IfOk, IfErr, OnOk, length, map, take, drop, nat_lt, option_copied};
 ghost use Rattle.std.specs.List.{All, prefix_len};
 ghost use Rattle.ob0_scan.specs.declared.lexeme.Span.{Span};
 ghost use Rattle.ob0_scan.specs.declared.lexeme.Token.{Token};
-ghost use Rattle.ob0_scan.specs.declared.lexeme.TokenKind.TheVariants.{Integer};
+ghost use Rattle.ob0_scan.specs.declared.lexeme.TokenKind.TheVariants.{Identifier, Integer};
 ghost use Rattle.ob0_scan.specs.declared.rescanning.NotRescanned.TheVariants as rescanned;
-ghost use Rattle.ob0_scan.specs.Scanned.{IsScanOf};
+ghost use Rattle.ob0_scan.specs.Scanned.{IsScanOf, spanned};
 ghost use Rattle.ob0_scan.specs.Refused.{IsRightRefusal, IsRightRefusalOver};
 ghost use Rattle.ob0_scan.specs.UnderWay.{IsUnderWay};
-ghost use Rattle.ob0_scan.specs.Reused.{IsReplaced, Reuses, kinds, moved, moved_token, tokens_before_change, comments_before_change, back_tokens, back_comments, valueless};
+ghost use Rattle.ob0_scan.specs.Reused.{IsReplaced, Reuses, kinds, moved, moved_token, tokens_before_change, comments_before_change, back_tokens, back_comments, valueless, name_of, names_in};
 ghost use Rattle.ob0_scan.specs.Rescanning.{token_end, comment_end, last_end, token_begins, comment_begins, IsMovable, ReadsOn, IsMet, IsBetween};
 
 use crate::fault::{Fault, ScanRefusal};
@@ -211,6 +211,73 @@ impl Between {
     {
         are_alike(&self.tokens, &old[self.front.tokens..self.following.tokens])
     }
+
+    /// Whether the identifiers between are written as the old ones in whose place they come.
+    fn has_names_of(&self, new_text: &str, old: &Tokens) -> bool
+        requires ordered { self.now.front.tokens ≤ self.now.following.tokens }
+        requires inside { self.now.following.tokens ≤ length old.now.tokens }
+        ensures { result ≡ true → names_in new_text.now self.now.tokens.items
+            ≡ names_in old.now.text (take (self.now.following.tokens - self.now.front.tokens)
+            (drop self.now.front.tokens old.now.tokens)) }
+    {
+        let replaced = &old.tokens()[self.front.tokens..self.following.tokens];
+        have_same_names(
+            new_text.as_bytes(),
+            &self.tokens,
+            old.text().as_bytes(),
+            replaced,
+        )
+    }
+}
+
+/// Whether the identifiers among tokens of two texts are written alike, one after the other.
+fn have_same_names(new_text: &[u8], new: &[Token], old_text: &[u8], old: &[Token]) -> bool
+    ensures { result ≡ true → names_in new_text.now new.now ≡ names_in old_text.now old.now }
+{
+    if new.len() != old.len() {
+        return false;
+    }
+    for index in 0..new.len() {
+        if !is_same_name(new_text, new[index], old_text, old[index]) {
+            return false;
+        }
+    }
+    true
+}
+
+/// Whether two tokens are identifiers that are written alike, or both are none.
+fn is_same_name(new_text: &[u8], new: Token, old_text: &[u8], old: Token) -> bool
+    ensures { result ≡ true → name_of new.kind (spanned new_text.now new.span)
+        ≡ name_of old.kind (spanned old_text.now old.span) }
+{
+    if is_name(new.kind) {
+        is_name(old.kind) && is_same_piece(new_text, new.span, old_text, old.span)
+    } else {
+        !is_name(old.kind)
+    }
+}
+
+fn is_name(kind: TokenKind) -> bool
+    ensures yes { result ≡ true → kind ≡ Identifier }
+    ensures no { result ≡ false → (text : List ℕ) → name_of kind text ≡ [] }
+{
+    match kind {
+        TokenKind::Identifier => true,
+        TokenKind::Integer(_) => false,
+        TokenKind::Reserved(_) => false,
+        TokenKind::Symbol(_) => false,
+    }
+}
+
+/// Whether two spans lie in their texts, and the same bytes are there.
+fn is_same_piece(a: &[u8], in_a: Span, b: &[u8], in_b: Span) -> bool
+    ensures { result ≡ true → spanned a.now in_a ≡ spanned b.now in_b }
+{
+    in_a.start <= in_a.end
+        && in_a.end <= a.len()
+        && in_b.start <= in_b.end
+        && in_b.end <= b.len()
+        && a[in_a.start..in_a.end] == b[in_b.start..in_b.end]
 }
 
 /// Whether tokens are of the same kinds, one after the other.
@@ -311,6 +378,9 @@ pub fn rescan_in_place(
         (λ r. Reuses old r.rescan.tokens from removed added r.rescan.read) }
     ensures alike { IfOk result
         (λ r. r.alike ≡ true → kinds r.rescan.tokens.tokens ≡ kinds old.tokens) }
+    ensures same_names { IfOk result
+        (λ r. r.same_names ≡ true → names_in r.rescan.tokens.text r.rescan.tokens.tokens
+        ≡ names_in old.text old.tokens) }
 {
     let change = ReplacedRange {
         from,
@@ -321,10 +391,12 @@ pub fn rescan_in_place(
         Ok(between) => {
             let read = between.tokens.len() + between.comments.len();
             let alike = between.is_alike(old.tokens());
+            let same_names = between.has_names_of(new_text, &old);
             let tokens = old.with(alloc, new_text, between, change)?;
             Ok(RescanInPlace {
                 rescan: Rescan { tokens, read },
                 alike,
+                same_names,
             })
         }
         Err(refusal) => match refusal {

@@ -89,7 +89,7 @@ fn add_starts(
 fn parts_lines(last: u8, next: Option<u8>) -> bool
     ensures { result ≡ ends_line last (option_to_list next) }
 {
-    // Most bytes of a text are told by this one test.
+    // Most bytes of a text are above CR, so this one test passes them.
     if b'\r' < last {
         return false;
     }

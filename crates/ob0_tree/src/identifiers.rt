@@ -4,11 +4,11 @@ ghost use Rattle.std.specs.Prelude.{◌≡◌, ◌++◌, ◌∷◌, [], IfOk};
 ghost use Rattle.ob0_tree.specs.declared.tree.Role.TheVariants as roles;
 ghost use Rattle.ob0_tree.specs.Tree.{identifiers};
 ghost use Rattle.ob0_tree.specs.Parsed.{tree_of};
-ghost use Rattle.ob0_tree.specs.View.{expression_of, simple_of, term_of, factor_of, designator_of, selector_of, assignment_of, call_of, arguments_in, statement_of, if_of, elsifs_in, sequence_in, names_of, type_of, record_in, fields_of, section_of, formals_of, constants_of, types_of, variables_of, body_of, procedure_of, block_of};
+ghost use Rattle.ob0_tree.specs.View.{expression_of, compound_of, simple_of, term_of, factor_of, designator_of, selector_of, assignment_of, call_of, arguments_in, statement_of, if_of, elsifs_in, sequence_in, names_of, type_of, record_in, fields_of, section_of, formals_of, constants_of, types_of, variables_of, body_of, procedure_of, block_of};
 
 use crate::tree::{
-    Assignment, Block, Call, Constant, Designator, Elsif, Expression, Factor, Fields, If, Module,
-    Names, Procedure, RecordType, Role, Section, Selector, Simple, Statement, Term,
+    Assignment, Block, Call, Compound, Constant, Designator, Elsif, Expression, Factor, Fields, If,
+    Module, Names, Procedure, RecordType, Role, Section, Selector, Simple, Statement, Term,
     TypeDeclaration, Variables, WrittenType,
 };
 use std::alloc::{AllocError, Global};
@@ -35,8 +35,19 @@ pub fn expression(found: &mut IdentifierRoles, e: &Expression) -> Result<(), All
     ensures { IfOk result (λ _. found.new.items
         ≡ found.old.items ++ identifiers roles.Declaring (expression_of e.now)) }
 {
-    simple(found, &e.left)?;
-    if let Some(compared) = &e.compared {
+    match e {
+        Expression::Factor(f) => factor(found, f),
+        Expression::Compound(c) => compound(found, c),
+    }
+}
+
+#[cycle(expressions)]
+fn compound(found: &mut IdentifierRoles, c: &Compound) -> Result<(), AllocError>
+    ensures { IfOk result
+        (λ _. found.new.items ≡ found.old.items ++ identifiers roles.Declaring (compound_of c.now)) }
+{
+    simple(found, &c.left)?;
+    if let Some(compared) = &c.compared {
         simple(found, &compared.right)?;
     }
     Ok(())

@@ -4,12 +4,12 @@ ghost use Rattle.std.specs.Prelude.{◌≡◌, ◌+◌};
 ghost use Rattle.ob0_tree.specs.Tree.{nesting};
 ghost use Rattle.ob0_tree.specs.Parsed.{tree_of};
 ghost use Rattle.ob0_tree.specs.Depth.{capped};
-ghost use Rattle.ob0_tree.specs.View.{expression_of, simple_of, term_of, factor_of, designator_of, selector_of, assignment_of, call_of, statement_of, if_of, elsifs_in, else_in, sequence_in, type_of, record_in, fields_of, section_of, formals_of, constants_of, types_of, variables_of, body_of, procedure_of, block_of};
+ghost use Rattle.ob0_tree.specs.View.{expression_of, compound_of, simple_of, term_of, factor_of, designator_of, selector_of, assignment_of, call_of, statement_of, if_of, elsifs_in, else_in, sequence_in, type_of, record_in, fields_of, section_of, formals_of, constants_of, types_of, variables_of, body_of, procedure_of, block_of};
 
 use crate::tree::{
-    Assignment, Block, Call, Constant, Designator, Elsif, Expression, Factor, Fields, If, Module,
-    Procedure, RecordType, Section, Selector, Simple, Statement, Term, TypeDeclaration, Variables,
-    WrittenType,
+    Assignment, Block, Call, Compound, Constant, Designator, Elsif, Expression, Factor, Fields, If,
+    Module, Procedure, RecordType, Section, Selector, Simple, Statement, Term, TypeDeclaration,
+    Variables, WrittenType,
 };
 
 /// How deeply constructs may be nested in a module.
@@ -38,8 +38,18 @@ fn deeper(levels: u32) -> u32
 fn expression(e: &Expression) -> u32
     ensures { result ≡ capped (nesting (expression_of e.now)) }
 {
-    let left = simple(&e.left);
-    match &e.compared {
+    match e {
+        Expression::Factor(f) => factor(f),
+        Expression::Compound(c) => compound(c),
+    }
+}
+
+#[cycle(expressions)]
+fn compound(c: &Compound) -> u32
+    ensures { result ≡ capped (nesting (compound_of c.now)) }
+{
+    let left = simple(&c.left);
+    match &c.compared {
         Some(compared) => left.max(simple(&compared.right)),
         None => left,
     }

@@ -1,5 +1,5 @@
 use Rattle.std.proofs.Common.{max, sym, ap, ◌∙◌, refl}
-use Rattle.ob0_tree.proofs.Viewed.{while_made, repeat_made, if_parts}
+use Rattle.ob0_tree.proofs.Viewed.{while_read, repeat_read, if_parts}
 use Rattle.ob0_tree.specs.declared.tree.If.{out-If}
 use Rattle.ob0_tree.specs.Depth.{capped}
 use Rattle.ob0_tree.specs.Tree.{nesting, branches}
@@ -34,14 +34,18 @@ branches-returns-in-None t c =
 
 pub statement-returns-in-While : goal.statement-returns-in-While
 statement-returns-in-While t c =
-    let w = c.in-While.w in
-    let inner = two_deep (nesting (expression_of w.condition)) (nesting (sequence_listed w.body.items)) c.expression.ensures c.sequence.ensures c.max.ensures in
-    one_deeper (max (nesting (expression_of w.condition)) (nesting (sequence_listed w.body.items))) inner c.deeper.ensures
-    ∙ ap (λ t. capped (nesting t)) (sym (while_made w) ∙ sym (ap statement_of c.in-While.is))
+    let condition = nesting (expression_of c.deref-in-While.result.now.condition) in
+    let body = nesting (sequence_listed c.deref-in-While-2.result.now.body.items) in
+    let tree = while_read c.in-While.w c.deref-in-While.ensures c.deref-in-While-2.ensures in
+    let inner = two_deep condition body c.expression.ensures c.sequence.ensures c.max.ensures in
+    one_deeper (max condition body) inner c.deeper.ensures
+    ∙ ap (λ t. capped (nesting t)) (sym tree ∙ sym (ap statement_of c.in-While.is))
 
 pub statement-returns-in-Repeat : goal.statement-returns-in-Repeat
 statement-returns-in-Repeat t c =
-    let r = c.in-Repeat.r in
-    let inner = two_deep (nesting (sequence_listed r.body.items)) (nesting (expression_of r.condition)) c.sequence-in-Repeat.ensures c.expression-in-Repeat.ensures c.max-in-Repeat.ensures in
-    one_deeper (max (nesting (sequence_listed r.body.items)) (nesting (expression_of r.condition))) inner c.deeper-in-Repeat.ensures
-    ∙ ap (λ t. capped (nesting t)) (sym (repeat_made r) ∙ sym (ap statement_of c.in-Repeat.is))
+    let body = nesting (sequence_listed c.deref-in-Repeat.result.now.body.items) in
+    let condition = nesting (expression_of c.deref-in-Repeat-2.result.now.condition) in
+    let tree = repeat_read c.in-Repeat.r c.deref-in-Repeat.ensures c.deref-in-Repeat-2.ensures in
+    let inner = two_deep body condition c.sequence-in-Repeat.ensures c.expression-in-Repeat.ensures c.max-in-Repeat.ensures in
+    one_deeper (max body condition) inner c.deeper-in-Repeat.ensures
+    ∙ ap (λ t. capped (nesting t)) (sym tree ∙ sym (ap statement_of c.in-Repeat.is))

@@ -1,0 +1,79 @@
+-- A text whose identifiers between are written as those before them has its identifiers written as before.
+use Rattle.std.proofs.Common.{◌≡◌, ℕ, ◌+◌, ◌-◌, ◌≤◌, List, [], ◌∷◌, ◌++◌, map, take, drop, length, refl, sym, ap, ap₂, ◌∙◌, arith, ⊎_elim}
+use Rattle.std.specs.List.{All}
+use Rattle.std.proofs.lemmas.List.{take-append-drop, drop-drop, drop-take, take-take}
+use Rattle.std.proofs.lemmas.List.Elements.{All-head, All-tail}
+use Rattle.std.proofs.lemmas.Bool.{cases_lt}
+use Rattle.ob0_scan.specs.declared.lexeme.Span.{Span}
+use Rattle.ob0_scan.specs.declared.lexeme.Token.{Token}
+use Rattle.ob0_scan.specs.declared.rescanning.Between.{Between}
+use Rattle.ob0_scan.specs.Scanned.{Scanned, spanned}
+use Rattle.ob0_scan.specs.Reused.{IsReplaced, name_of, names_in, moved, moved_token}
+use Rattle.ob0_scan.specs.Rescanning.{IsBetween, with_between}
+
+names-append : (text : List ℕ) (a b : List Token) → names_in text (a ++ b) ≡ names_in text a ++ names_in text b
+names-append text [] b = refl
+names-append text (t ∷ a) b = ap (λ ns. name_of t.kind (spanned text t.span) ∷ ns) (names-append text a b)
+
+-- what lies in the first bytes of a text is there in those alone
+in_first : (text : List ℕ) (n s w : ℕ) → w ≤ n - s → take w (drop s (take n text)) ≡ take w (drop s text)
+in_first text n s w less = ⊎_elim
+    (λ past.
+    let none : w ≡ 0 = omega (arith, less, past) in
+    ap (λ k. take k (drop s (take n text))) none ∙ sym (ap (λ k. take k (drop s text)) none))
+    (λ there.
+    let parts : n ≡ s + (n - s) = omega (arith, there) in
+    ap (λ k. take w (drop s (take k text))) parts ∙ ap (take w) (drop-take s (n - s) text) ∙ take-take w (n - s) (drop s text) less)
+    (cases_lt n s)
+
+-- texts that begin alike have the same there
+in_front : (old new : List ℕ) (from : ℕ) (span : Span) → take from old ≡ take from new → span.end ≤ from → spanned new span ≡ spanned old span
+in_front old new from span same inside =
+    let wide : span.end - span.start ≤ from - span.start = omega (arith, inside) in
+    sym (in_first new from span.start (span.end - span.start) wide)
+    ∙ ap (λ text. take (span.end - span.start) (drop span.start text)) (sym same)
+    ∙ in_first old from span.start (span.end - span.start) wide
+
+module _ (old new : List ℕ) (from removed added : ℕ) (r : IsReplaced old new from removed added) where
+  -- what is after the change is the same, moved
+  at_back : (span : Span) → from + removed ≤ span.start → spanned new (moved removed added span) ≡ spanned old span
+  at_back span later =
+      let away : ℕ = span.start - (from + removed) in
+      let wide : span.end + added - removed - (span.start + added - removed) ≡ span.end - span.start = omega (arith, later) in
+      let there : span.start + added - removed ≡ from + added + away = omega (arith, later) in
+      let here : from + removed + away ≡ span.start = omega (arith, later) in
+      ap₂ (λ n s. take n (drop s new)) wide there
+      ∙ ap (take (span.end - span.start)) (further new (from + added) away ∙ ap (drop away) (sym r.following) ∙ sym (further old (from + removed) away) ∙ ap (λ s. drop s old) here) where
+        further : (text : List ℕ) (n m : ℕ) → drop (n + m) text ≡ drop m (drop n text)
+        further text n m = sym (drop-drop m n text)
+
+  before_stays : (tokens : List Token) → All (λ (t : Token). t.span.end ≤ from) tokens → names_in new tokens ≡ names_in old tokens
+  before_stays [] h = refl
+  before_stays (t ∷ tokens) h =
+      ap₂ (λ n ns. name_of t.kind n ∷ ns) (in_front old new from t.span r.front (All-head (λ (x : Token). x.span.end ≤ from) t tokens h)) (before_stays tokens (All-tail (λ (x : Token). x.span.end ≤ from) t tokens h))
+
+  after_stays : (tokens : List Token) → All (λ (t : Token). from + removed ≤ t.span.start) tokens → names_in new (map (moved_token removed added) tokens) ≡ names_in old tokens
+  after_stays [] h = refl
+  after_stays (t ∷ tokens) h =
+      ap₂ (λ n ns. name_of t.kind n ∷ ns) (at_back t.span (All-head (λ (x : Token). from + removed ≤ x.span.start) t tokens h)) (after_stays tokens (All-tail (λ (x : Token). from + removed ≤ x.span.start) t tokens h))
+
+pub names_stay : (old : Scanned) (new : List ℕ) (from removed added : ℕ) (b : Between) → IsReplaced old.text new from removed added → IsBetween old new from removed added b
+    → names_in new b.tokens.items ≡ names_in old.text (take (b.following.tokens - b.front.tokens) (drop b.front.tokens old.tokens))
+    → names_in new (with_between old new removed added b).tokens ≡ names_in old.text old.tokens
+names_stay old new from removed added b r w same =
+    let front : List Token = take b.front.tokens old.tokens in
+    let gone : List Token = take (b.following.tokens - b.front.tokens) (drop b.front.tokens old.tokens) in
+    let rest : List Token = drop b.following.tokens old.tokens in
+    let place : b.front.tokens + (b.following.tokens - b.front.tokens) ≡ b.following.tokens = omega (arith, w.tokens_ordered) in
+    let parts : gone ++ rest ≡ drop b.front.tokens old.tokens =
+    ap (λ l. gone ++ l) (ap (λ n. drop n old.tokens) (sym place) ∙ sym (drop-drop (b.following.tokens - b.front.tokens) b.front.tokens old.tokens))
+    ∙ take-append-drop (b.following.tokens - b.front.tokens) (drop b.front.tokens old.tokens) in
+    let middle : names_in new (b.tokens.items ++ map (moved_token removed added) rest) ≡ names_in old.text (drop b.front.tokens old.tokens) =
+    names-append new b.tokens.items (map (moved_token removed added) rest)
+    ∙ ap₂ (λ x y. x ++ y) same (after_stays old.text new from removed added r rest w.tokens_after)
+    ∙ sym (names-append old.text gone rest)
+    ∙ ap (names_in old.text) parts in
+    names-append new front (b.tokens.items ++ map (moved_token removed added) rest)
+    ∙ ap₂ (λ x y. x ++ y) (before_stays old.text new from removed added r front w.tokens_before) middle
+    ∙ sym (names-append old.text front (drop b.front.tokens old.tokens))
+    ∙ ap (names_in old.text) (take-append-drop b.front.tokens old.tokens)
