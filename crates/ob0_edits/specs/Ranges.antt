@@ -11,6 +11,6 @@ range_of width text span =
     record { start = position_of width text span.start; end = position_of width text span.end }
 
 -- where spans start and end, one span after another
-pub bounds : List Span → List ℕ
+unfoldable pub bounds : List Span → List ℕ
 bounds [] = []
 bounds (span ∷ spans) = span.start ∷ span.end ∷ bounds spans

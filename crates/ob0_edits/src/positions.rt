@@ -1,6 +1,6 @@
 //! Where tokens are, as spans and as ranges of positions.
 
-ghost use Rattle.std.specs.Prelude.{◌≡◌, IfOk, map};
+ghost use Rattle.std.specs.Prelude.{◌≡◌, ◌++◌, IfOk, OnOk, map};
 ghost use Rattle.ob0_edits.specs.Replaced.{span_at};
 ghost use Rattle.ob0_text.specs.Units.{width_of};
 ghost use Rattle.ob0_edits.specs.Ranges.{bounds, range_of};
@@ -8,6 +8,9 @@ ghost use Rattle.ob0_edits.specs.Ranges.{bounds, range_of};
 use ob0_scan::{Span, Token};
 use ob0_text::{Range, TextStore};
 use std::alloc::{AllocError, Global};
+
+/// As many spans are turned into ranges together: what is kept of them meanwhile is small.
+const PART: usize = 1024;
 
 /// The ranges of spans, found in one pass over the text where the spans are in text order.
 pub fn ranges<T: TextStore>(
@@ -18,16 +21,34 @@ pub fn ranges<T: TextStore>(
     ensures { IfOk result (λ ranges. ranges.items
         ≡ map (range_of (width_of (T.unit_of store.now)) (T.content store.now)) spans.now) }
 {
+    let mut ranges = Vec::with_capacity(alloc, spans.len())?;
+    while ranges.len() < spans.len() {
+        let from = ranges.len();
+        let part = &spans[from..spans.len().min(from + PART)];
+        add_ranges(alloc, store, part, &mut ranges)?;
+    }
+    Ok(ranges)
+}
+
+/// Adds the ranges of spans.
+fn add_ranges<T: TextStore>(
+    alloc: Global,
+    store: &T,
+    spans: &[Span],
+    ranges: &mut Vec<Range>,
+) -> Result<(), AllocError>
+    ensures { OnOk result (ranges.new.items ≡ ranges.old.items
+        ++ map (range_of (width_of (T.unit_of store.now)) (T.content store.now)) spans.now) }
+{
     let bounds = bounds(alloc, spans)?;
     let positions = store.positions(alloc, &bounds)?;
-    let mut ranges = Vec::with_capacity(alloc, spans.len())?;
     for i in 0..spans.len() {
         ranges.push(Range {
             start: positions[2 * i],
             end: positions[2 * i + 1],
         })?;
     }
-    Ok(ranges)
+    Ok(())
 }
 
 /// Where spans start and end, one span after another.

@@ -18,6 +18,9 @@ use std::alloc::{AllocError, Global};
 /// No text of a place is longer before its uri.
 const ROOM: usize = 192;
 
+/// As long is the text of most places before their uri.
+const USUAL: usize = 96;
+
 /// A range of a document.
 #[derive(Drop)]
 pub struct Location<'a> {
@@ -58,6 +61,8 @@ fn write_locations(out: &mut Vec<u8>, uri: &str, ranges: &[Range]) -> Result<(),
 {
     let alloc = *out.allocator();
     let mut text = room_before_uri(alloc, uri)?;
+    let each = text.len() - ROOM + USUAL;
+    out.reserve(ranges.len().saturating_mul(each))?;
     let room = text.as_mut_slice();
     let mut later = false;
     for range in ranges {

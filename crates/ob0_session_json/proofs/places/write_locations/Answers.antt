@@ -1,6 +1,7 @@
-use Rattle.std.proofs.Common.{◌≡◌, ◌∙◌, ◌++◌, ◌+◌, ◌-◌, if◌then◌else◌, ap, arith, drop, false, length, refl, subst, sym}
+use Rattle.std.proofs.Common.{◌≡◌, ◌∙◌, ◌++◌, ◌+◌, ◌-◌, if◌then◌else◌, ap, arith, drop, false, length, map, refl, subst, sym}
 use Rattle.std.proofs.lemmas.Bool.{lt-ltb}
 use Rattle.std.proofs.lemmas.List.{length-drop, take_all}
+use Rattle.ob0_rpc.specs.Appending.{AppendsEach}
 use Rattle.ob0_rpc.proofs.Appending.{each_done, each_next, each_none}
 use Rattle.ob0_session_json.specs.Places.{EndsInUri}
 use Rattle.ob0_session_json.specs.Shapes.{location_in}
@@ -33,4 +34,6 @@ loop-range-preserved c =
     )
 
 pub returns : goal.returns
-returns c = each_done (location_in c.args.uri.now) c.args.ranges.now c.loop-range.range-index _ _ (omega arith) c.loop-range.invariant.0
+returns c =
+    let each = each_done (location_in c.args.uri.now) c.args.ranges.now c.loop-range.range-index _ _ (omega arith) c.loop-range.invariant.0 in
+    subst (λ t. AppendsEach false (map (location_in c.args.uri.now) c.args.ranges.now) t c.loop-range.out.items) c.reserve.ensures.items each
