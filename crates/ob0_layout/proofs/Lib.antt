@@ -13,3 +13,4 @@ pub mod LastBytes
 pub mod TextCuts
 pub mod Patched
 pub mod White
+pub mod Written

@@ -3,7 +3,7 @@ use Rattle.std.proofs.Common.{◌≡◌, ℕ, ◌+◌, ◌-◌, ◌*◌, ◌≤�
 use Rattle.std.proofs.Math.Seq.{take-add, take-append-add}
 use Rattle.std.specs.List.{All}
 use Rattle.std.proofs.lemmas.List.{drop-drop, take-append-drop, length-take-le}
-use Rattle.std.proofs.lemmas.List.Elements.{All-get_or, All-tail}
+use Rattle.std.proofs.lemmas.List.Elements.{All-filter, All-get_or, All-tail}
 use Rattle.std.proofs.lemmas.Str.{IsCharBoundary-start}
 use Rattle.std.specs.Str.{bytes_eq}
 use Rattle.std.proofs.lemmas.Slice.Eq.{bytes_eq-Decides}
@@ -201,3 +201,10 @@ module _ (indent : Indent) (s : Scanned) (scan : IsScan s) (ss : List LineRole) 
 
   pub all_length : laid_len indent (length s.text) 0 (all_sites ss scan.lexemes) ≡ length (joined (laid indent (placed 0 true ss scan.lexemes)))
   all_length = sym (made_length indent s.text 0 (all_sites ss scan.lexemes) all_chain (all_lie s scan ss)) ∙ ap length all_made
+
+  pub changed_length : laid_len indent (length s.text) 0 (changed_sites indent s.text (all_sites ss scan.lexemes)) ≡ length (joined (laid indent (placed 0 true ss scan.lexemes)))
+  changed_length =
+      let all = all_sites ss scan.lexemes in
+      let chain = chain_changed indent s.text 0 all all_chain in
+      let lie = All-filter (is_changed indent s.text) (LiesIn (length s.text)) all (all_lie s scan ss) in
+      sym (made_length indent s.text 0 (changed_sites indent s.text all) chain lie) ∙ ap length changed_made

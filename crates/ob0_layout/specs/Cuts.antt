@@ -1,6 +1,6 @@
 -- Gaps as cuts of the text's bytes.
--- Rule: none; for private contracts: gaps as cuts of bytes.
-use Rattle.std.specs.Prelude.{ℕ, List, map}
+-- Rule: none; for private contracts: gaps as cuts of bytes, and runs of a byte.
+use Rattle.std.specs.Prelude.{ℕ, Bool, true, ◌&&◌, ◌==◌, List, [], ◌∷◌, map}
 use Rattle.ob0_text.specs.declared.edits.Indent.{Indent}
 use Rattle.ob0_text.specs.Patches.{Cut, pieced}
 use Rattle.ob0_layout.specs.declared.sites.GapSite.{GapSite}
@@ -13,3 +13,8 @@ cut_of indent g = record { from = g.start; to = g.end; new = gap_text indent g.g
 -- what these gaps make of a text's bytes
 abbrev pub made_of : Indent → List ℕ → List GapSite → List ℕ
 made_of indent text gs = pieced text 0 (map (cut_of indent) gs)
+
+-- each of these bytes is this one
+abbrev pub all_are : ℕ → List ℕ → Bool
+all_are b [] = true
+all_are b (c ∷ cs) = (c == b) && all_are b cs

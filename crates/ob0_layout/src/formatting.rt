@@ -10,9 +10,9 @@ ghost use Rattle.ob0_text.specs.declared.refusals.EditRefusal.TheVariants.{TooLo
 ghost use Rattle.ob0_tree.specs.Parsed.{named_tree_of};
 ghost use Rattle.ob0_layout.specs.Layout.{layout};
 ghost use Rattle.ob0_layout.specs.LineRoles.{line_roles};
-ghost use Rattle.ob0_layout.specs.Sites.{all_sites, is_changed, changed_sites, edit_text, edit_of, LiesIn, laid_len};
+ghost use Rattle.ob0_layout.specs.Sites.{all_sites, changed_sites, edit_text, edit_of, LiesIn, laid_len};
 
-use crate::sites::{GapSite, all_sites};
+use crate::sites::{GapSite, changed_sites};
 use crate::walk::line_roles;
 use ob0_scan::MAX_TEXT;
 use ob0_text::{Edit, EditRefusal, Indent, Range, TextStore};
@@ -45,17 +45,15 @@ pub fn format<T: TextStore>(
     ensures refusals { IfErr result (λ refusal. (refusal ≡ TooLong) ⊎ (refusal ≡ Memory)) }
 {
     let tokens = module.tokens();
-    let text = tokens.text().as_bytes();
     let roles = line_roles(alloc, module)?;
-    let sites = all_sites(alloc, tokens, &roles)?;
-    if !fits(&sites, text.len(), indent) {
+    let sites = changed_sites(alloc, tokens, &roles, indent)?;
+    if !fits(&sites, tokens.text().len(), indent) {
         return Err(EditRefusal::TooLong);
     }
-    let changed = changed(alloc, text, &sites, indent)?;
-    Ok(edits(alloc, store, &changed, indent)?)
+    Ok(edits(alloc, store, &sites, indent)?)
 }
 
-/// Whether a text of this length isn't too long when its gaps are laid out.
+/// Whether a text of this length isn't too long when these gaps of it are laid out.
 fn fits(sites: &[GapSite], len: usize, indent: Indent) -> bool
     requires length { len ≤ max_text }
     requires within { All (LiesIn len) sites.now }
@@ -73,33 +71,6 @@ fn fits(sites: &[GapSite], len: usize, indent: Indent) -> bool
     made + len.saturating_sub(at) <= MAX_TEXT
 }
 
-/// The gaps that change.
-fn changed(
-    alloc: Global,
-    text: &[u8],
-    sites: &[GapSite],
-    indent: Indent,
-) -> Result<Vec<GapSite>, AllocError>
-    requires { All (LiesIn (length text.now)) sites.now }
-    ensures { IfOk result (λ changed. changed.items ≡ changed_sites indent text.now sites.now) }
-{
-    let mut changed = Vec::new(alloc);
-    for site in sites {
-        if is_changed(alloc, text, *site, indent)? {
-            changed.push(*site)?;
-        }
-    }
-    Ok(changed)
-}
-
-fn is_changed(alloc: Global, text: &[u8], site: GapSite, indent: Indent) -> Result<bool, AllocError>
-    requires { LiesIn (length text.now) site }
-    ensures { IfOk result (λ changes. changes ≡ is_changed indent text.now site) }
-{
-    let new = site.gap.text(alloc, indent)?;
-    Ok(new.as_bytes() != &text[site.start..site.end])
-}
-
 /// The edits of gaps.
 fn edits<T: TextStore>(
     alloc: Global,
@@ -114,7 +85,7 @@ fn edits<T: TextStore>(
     let ends = ends(alloc, sites)?;
     let from = store.positions(alloc, &starts)?;
     let to = store.positions(alloc, &ends)?;
-    let mut edits = Vec::new(alloc);
+    let mut edits = Vec::with_capacity(alloc, sites.len())?;
     for (i, site) in sites.iter().enumerate() {
         let range = Range {
             start: from[i],

@@ -1,13 +1,14 @@
 //! The gaps of a text, each with what is to be there.
 
-ghost use Rattle.std.specs.Prelude.{◌≡◌, ◌||◌, ◌==◌, IfOk, is_none, drop};
+ghost use Rattle.std.specs.Prelude.{◌≡◌, ◌||◌, ◌==◌, ◌++◌, ◌∷◌, [], IfOk, OnOk, is_none, drop, length};
 ghost use Rattle.ob0_scan.specs.Scanned.{IsScan};
 ghost use Rattle.ob0_layout.specs.Layout.{next_line, next_role, comment_role, has_break};
-ghost use Rattle.ob0_layout.specs.Sites.{all_sites, next_of, gap_before, last_gap};
+ghost use Rattle.ob0_layout.specs.Sites.{all_sites, changed_sites, is_changed, next_of, gap_before, last_gap, LiesIn};
 
 use crate::gap::{Gap, gap_between};
 use crate::line_role::LineRole;
 use ob0_scan::{LexemeKind, Span, Token, Tokens};
+use ob0_text::Indent;
 use std::alloc::{AllocError, Global};
 
 /// A gap of a text: where it begins and ends, and what is to be there.
@@ -32,14 +33,15 @@ pub enum NextLexeme {
     Comment(Span),
 }
 
-/// The gaps of a text in text order, where its tokens are so.
-pub fn all_sites(
+/// The gaps of a text that change, in text order, where its tokens are so.
+pub fn changed_sites(
     alloc: Global,
     tokens: &Tokens,
     roles: &[LineRole],
+    indent: Indent,
 ) -> Result<Vec<GapSite>, AllocError>
-    ensures { (scan : IsScan tokens.now)
-        → IfOk result (λ sites. sites.items ≡ all_sites roles.now scan.lexemes) }
+    ensures { (scan : IsScan tokens.now) → IfOk result (λ sites. sites.items
+        ≡ changed_sites indent tokens.now.text (all_sites roles.now scan.lexemes)) }
 {
     let text = tokens.text().as_bytes();
     let mut left = tokens.tokens();
@@ -57,7 +59,7 @@ pub fn all_sites(
                 let kind = LexemeKind::Comment;
                 let gap = gap_before(before, kind, role);
                 let end = span.start;
-                sites.push(GapSite { start, end, gap })?;
+                add(&mut sites, text, GapSite { start, end, gap }, indent)?;
                 before = Some(Solid { kind, role });
                 start = span.end;
                 comments = after_first(comments);
@@ -67,7 +69,7 @@ pub fn all_sites(
                 let kind = LexemeKind::Token(token.kind);
                 let gap = gap_before(before, kind, role);
                 let end = token.span.start;
-                sites.push(GapSite { start, end, gap })?;
+                add(&mut sites, text, GapSite { start, end, gap }, indent)?;
                 before = Some(Solid { kind, role });
                 level = next_line(level, roles);
                 roles = after_first(roles);
@@ -78,8 +80,33 @@ pub fn all_sites(
     }
     let end = text.len();
     let gap = last_gap(before);
-    sites.push(GapSite { start, end, gap })?;
+    add(&mut sites, text, GapSite { start, end, gap }, indent)?;
     Ok(sites)
+}
+
+/// Adds a gap where it changes.
+fn add(
+    sites: &mut Vec<GapSite>,
+    text: &[u8],
+    site: GapSite,
+    indent: Indent,
+) -> Result<(), AllocError>
+    requires { LiesIn (length text.now) site }
+    ensures { OnOk result
+        (sites.new.items ≡ sites.old.items ++ changed_sites indent text.now (site ∷ [])) }
+{
+    if is_changed(text, site, indent) {
+        sites.push(site)?;
+    }
+    Ok(())
+}
+
+/// Whether what is in a gap isn't what is to be there.
+fn is_changed(text: &[u8], site: GapSite, indent: Indent) -> bool
+    requires { LiesIn (length text.now) site }
+    ensures { result ≡ is_changed indent text.now site }
+{
+    !site.gap.is_text(&text[site.start..site.end], indent)
 }
 
 /// Of the tokens and comments that are left, which comes first.

@@ -5,12 +5,12 @@ ghost use Rattle.ob0_layout.specs.declared.line_role.LineRole.TheVariants.{Begin
 ghost use Rattle.ob0_layout.specs.LineRoles.{line_roles, deeper, sign_role, separated};
 ghost use Rattle.ob0_tree.specs.Parsed.{tree_of};
 ghost use Rattle.ob0_tree.specs.Tree.{then_name};
-ghost use Rattle.ob0_tree.specs.View.{items_of, expression_of, simple_of, term_of, factor_of, selector_of, designator_of, assignment_of, arguments_in, call_of, statement_of, if_of, elsifs_in, sequence_in, type_of, record_in, fields_of, section_of, formals_of, constants_of, types_of, variables_of, body_of, procedure_of, block_of};
+ghost use Rattle.ob0_tree.specs.View.{items_of, expression_of, compound_of, simple_of, term_of, factor_of, selector_of, designator_of, assignment_of, arguments_in, call_of, statement_of, if_of, elsifs_in, sequence_in, type_of, record_in, fields_of, section_of, formals_of, constants_of, types_of, variables_of, body_of, procedure_of, block_of};
 
 use crate::line_role::LineRole;
 use ob0_tree::{
-    Assignment, Block, Call, Constant, Designator, Elsif, Expression, Factor, Fields, If, Module,
-    Names, Procedure, RecordType, Section, Selector, Sign, Simple, Statement, Term,
+    Assignment, Block, Call, Compound, Constant, Designator, Elsif, Expression, Factor, Fields, If,
+    Module, Names, Procedure, RecordType, Section, Selector, Sign, Simple, Statement, Term,
     TypeDeclaration, Variables, WrittenType,
 };
 use std::alloc::{AllocError, Global};
@@ -19,7 +19,7 @@ use std::alloc::{AllocError, Global};
 pub fn line_roles(alloc: Global, module: &Module) -> Result<Vec<LineRole>, AllocError>
     ensures { IfOk result (λ out. out.items ≡ line_roles 0 (tree_of module.now)) }
 {
-    let mut out = Vec::new(alloc);
+    let mut out = Vec::with_capacity(alloc, module.tokens().tokens().len())?;
     out.push(LineRole::Begins(0))?;
     plain(&mut out)?;
     plain(&mut out)?;
@@ -50,8 +50,18 @@ fn expression(out: &mut Vec<LineRole>, e: &Expression) -> Result<(), AllocError>
     ensures { IfOk result
         (λ _. out.new.items ≡ out.old.items ++ line_roles 0 (expression_of e.now)) }
 {
-    simple(out, &e.left)?;
-    if let Some(compared) = &e.compared {
+    match e {
+        Expression::Factor(f) => factor(out, f),
+        Expression::Compound(c) => compound(out, c),
+    }
+}
+
+#[cycle(expressions)]
+fn compound(out: &mut Vec<LineRole>, c: &Compound) -> Result<(), AllocError>
+    ensures { IfOk result (λ _. out.new.items ≡ out.old.items ++ line_roles 0 (compound_of c.now)) }
+{
+    simple(out, &c.left)?;
+    if let Some(compared) = &c.compared {
         plain(out)?;
         simple(out, &compared.right)?;
     }

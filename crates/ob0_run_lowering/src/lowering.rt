@@ -2,7 +2,7 @@
 
 ghost use Rattle.std.specs.Prelude.{◌≡◌, IfOk, Some, option_and_then, option_map, pos};
 ghost use Rattle.ob0_tree.specs.Places.{value_at};
-ghost use Rattle.ob0_tree.specs.View.{designator_of, expression_of, factor_of, selector_of, simple_of, term_of};
+ghost use Rattle.ob0_tree.specs.View.{compound_of, designator_of, expression_of, factor_of, selector_of, simple_of, term_of};
 ghost use Rattle.ob0_tree.specs.declared.tree.Designator.{out-Designator};
 ghost use Rattle.ob0_scope_rules.specs.Names.{label_text};
 ghost use Rattle.ob0_types_table.specs.KnownTables.{shapes_of};
@@ -22,7 +22,9 @@ use crate::operators::{added, lower_relation, multiplied, negated, signed};
 use crate::places::{content, element};
 use crate::scene::Scene;
 use ob0_run_machine::code::{Number, Place, Truth};
-use ob0_tree::{Comparison, Designator, Expression, Factor, Selector, Simple, Term, text_at};
+use ob0_tree::{
+    Comparison, Compound, Designator, Expression, Factor, Selector, Simple, Term, text_at,
+};
 use ob0_types_table::{Object, Parts, TypeId, number_at};
 use ob0_values::Scalar;
 use std::alloc::{AllocError, Global};
@@ -215,8 +217,19 @@ impl<'s, 'k, 't> Scene<'s, 'k, 't> {
         ensures { IfOk result (λ l. code_of l
             ≡ expression_code self.now (in_labels self.now.resolved.now (expression_of e.now))) }
     {
-        let left = self.simple(alloc, &e.left)?;
-        match &e.compared {
+        match e {
+            Expression::Factor(f) => self.factor(alloc, f),
+            Expression::Compound(c) => self.compound(alloc, c),
+        }
+    }
+
+    #[cycle(lowering)]
+    fn compound(&self, alloc: Global, c: &Compound) -> Result<Lowered, AllocError>
+        ensures { IfOk result (λ l. code_of l
+            ≡ expression_code self.now (in_labels self.now.resolved.now (compound_of c.now))) }
+    {
+        let left = self.simple(alloc, &c.left)?;
+        match &c.compared {
             None => Ok(left),
             Some(compared) => {
                 let compared: &Comparison = compared;

@@ -11,7 +11,8 @@ use Rattle.ob0_tree.specs.Places.{text_at, value_at}
 use Rattle.ob0_layout.specs.Layout.{laid_out, layout}
 use Rattle.ob0_text.specs.Patches.{patched}
 use Rattle.ob0_layout.proofs.Patched.{gaps_patched}
-use Rattle.ob0_layout.proofs.Pieced.{all_length}
+use Rattle.ob0_layout.proofs.Pieced.{changed_length}
+use Rattle.ob0_layout.proofs.Written.{changed_lie}
 use Rattle.ob0_layout.proofs.Unnamed.{roles_mapped}
 use Rattle.ob0_layout.specs.declared.sites.GapSite.{GapSite}
 use Rattle.ob0_layout.specs.declared.line_role.LineRole.{LineRole}
@@ -20,21 +21,26 @@ use Rattle.ob0_layout.specs.Sites.{all_sites, changed_sites, edit_of, laid_len, 
 use Rattle.ob0_layout.proofs.Ahead.{all_lie}
 use Rattle.ob0_layout.proofs.formatting.format.Goals as goal
 
--- the gaps that the code found are those of the source
-of_source : {s t : Scanned} (e : s ≡ t) (found read : List GapSite) (ss is : List LineRole) → read ≡ found → ss ≡ is → ((scan : IsScan s) → found ≡ all_sites ss scan.lexemes) → (scan : IsScan t) → read ≡ all_sites is scan.lexemes
-of_source e found read ss is r f h = λ scan. r ∙ subst (λ (x : Scanned). (scan : IsScan x) → found ≡ all_sites ss scan.lexemes) e h scan ∙ ap (λ xs. all_sites xs scan.lexemes) f
+abbrev changed_in : Indent → List LineRole → (s : Scanned) → IsScan s → List GapSite
+changed_in indent ss s scan = changed_sites indent s.text (all_sites ss scan.lexemes)
 
-lie_in_source : {s t : Scanned} (e : s ≡ t) (bytes : List ℕ) (read : List GapSite) (is : List LineRole) → IsScan s → bytes ≡ t.text → ((scan : IsScan t) → read ≡ all_sites is scan.lexemes) → All (LiesIn (length bytes)) read
-lie_in_source {t = t} e bytes read is scan b h =
+-- the gaps that the code found are those of the source
+of_source : {s t : Scanned} (e : s ≡ t) (indent : Indent) (found read : List GapSite) (ss is : List LineRole) → read ≡ found → ss ≡ is → ((scan : IsScan s) → found ≡ changed_in indent ss s scan) → (scan : IsScan t) → read ≡ changed_in indent is t scan
+of_source e indent found read ss is r f h = λ scan.
+    r ∙ subst (λ (x : Scanned). (scan : IsScan x) → found ≡ changed_in indent ss x scan) e h scan ∙ ap (λ xs. changed_in indent xs _ scan) f
+
+lie_in_source : {s t : Scanned} (e : s ≡ t) (indent : Indent) (len : ℕ) (read : List GapSite) (is : List LineRole) → IsScan s → len ≡ length t.text → ((scan : IsScan t) → read ≡ changed_in indent is t scan) → All (LiesIn len) read
+lie_in_source {t = t} e indent len read is scan long h =
     let there = subst IsScan e scan in
-    subst (λ (xs : List ℕ). All (LiesIn (length xs)) read) (sym b) (subst (λ (gs : List GapSite). All (LiesIn (length t.text)) gs) (sym (h there)) (all_lie t there is))
+    let lie = changed_lie indent t.text (length t.text) (all_sites is there.lexemes) (all_lie t there is) in
+    subst (λ (n : ℕ). All (LiesIn n) read) (sym long) (subst (λ (gs : List GapSite). All (LiesIn (length t.text)) gs) (sym (h there)) lie)
 
 -- the length that is counted is that of the layout
-counted : (m : Parsed) (indent : Indent) (scan : IsScan m.source) → laid_len indent (length m.source.text) 0 (all_sites (line_roles 0 (tree_of m)) scan.lexemes) ≡ length (layout indent (named_tree_of m) scan.lexemes)
+counted : (m : Parsed) (indent : Indent) (scan : IsScan m.source) → laid_len indent (length m.source.text) 0 (changed_in indent (line_roles 0 (tree_of m)) m.source scan) ≡ length (layout indent (named_tree_of m) scan.lexemes)
 unfolding laid_out
 counted m indent scan =
-    ap (λ (ss : List LineRole). laid_len indent (length m.source.text) 0 (all_sites ss scan.lexemes)) (sym (roles_mapped (text_at m.source) (value_at m.source) 0 (tree_of m)))
-    ∙ all_length indent m.source scan (line_roles 0 (named_tree_of m))
+    ap (λ (ss : List LineRole). laid_len indent (length m.source.text) 0 (changed_in indent ss m.source scan)) (sym (roles_mapped (text_at m.source) (value_at m.source) 0 (tree_of m)))
+    ∙ changed_length indent m.source scan (line_roles 0 (named_tree_of m))
 
 past : (b : Bool) (n m : ℕ) → (n ≤ m → IsTrue b) → b ≡ false → m < n
 past b n m h e = by_test (nat_lt m n) refl
@@ -45,36 +51,28 @@ past b n m h e = by_test (nat_lt m n) refl
 
 pub fits-requires-clause-within : goal.fits-requires-clause-within
 fits-requires-clause-within g c =
-    lie_in_source c.tokens-tokens.ensures.source c.as_bytes-text.result.now c.deref-2.result.now (line_roles 0 (tree_of c.args.module.now)) c.text.ensures.scan
-    (c.as_bytes-text.ensures.value ∙ c.text.ensures.value ∙ ap (λ (x : Scanned). x.text) c.tokens-tokens.ensures.source)
-    (of_source c.tokens-tokens.ensures.source c.in_ok-sites.sites.items c.deref-2.result.now c.deref.result.now _ c.deref-2.ensures.value (c.deref.ensures.value ∙ c.in_ok-roles.ensures) c.in_ok-sites.ensures)
-
-pub changed-requires : goal.changed-requires
-changed-requires g c =
-    lie_in_source c.tokens-tokens.ensures.source c.as_bytes-text.result.now c.deref-3.result.now (line_roles 0 (tree_of c.args.module.now)) c.text.ensures.scan
-    (c.as_bytes-text.ensures.value ∙ c.text.ensures.value ∙ ap (λ (x : Scanned). x.text) c.tokens-tokens.ensures.source)
-    (of_source c.tokens-tokens.ensures.source c.in_ok-sites.sites.items c.deref-3.result.now c.deref.result.now _ c.deref-3.ensures.value (c.deref.ensures.value ∙ c.in_ok-roles.ensures) c.in_ok-sites.ensures)
+    let long = ap length (c.text.ensures.value ∙ ap (λ (x : Scanned). x.text) c.tokens-tokens.ensures.source) in
+    lie_in_source c.tokens-tokens.ensures.source c.args.indent (length c.text.result.now) c.deref-2.result.now (line_roles 0 (tree_of c.args.module.now)) c.text.ensures.scan long
+    (of_source c.tokens-tokens.ensures.source c.args.indent c.in_ok-sites.sites.items c.deref-2.result.now c.deref.result.now _ c.deref-2.ensures.value (c.deref.ensures.value ∙ c.in_ok-roles.ensures) c.in_ok-sites.ensures)
 
 pub returns-then-not-fits-clause-too_long : goal.returns-then-not-fits-clause-too_long
 returns-then-not-fits-clause-too_long g c = λ scan reported.
-    let text = c.as_bytes-text.ensures.value ∙ c.text.ensures.value ∙ ap (λ (x : Scanned). x.text) c.tokens-tokens.ensures.source in
-    let same = of_source c.tokens-tokens.ensures.source c.in_ok-sites.sites.items c.deref-2.result.now c.deref.result.now (line_roles 0 (tree_of c.args.module.now)) c.deref-2.ensures.value (c.deref.ensures.value ∙ c.in_ok-roles.ensures) c.in_ok-sites.ensures scan in
-    subst (λ (n : ℕ). max_text < n) ((λ i. laid_len c.args.indent (length (text i)) 0 (same i)) ∙ counted c.args.module.now c.args.indent scan) (past c.fits.result _ max_text c.fits.ensures.1 c.if-not-fits.true)
+    let long = ap length (c.text.ensures.value ∙ ap (λ (x : Scanned). x.text) c.tokens-tokens.ensures.source) in
+    let same = of_source c.tokens-tokens.ensures.source c.args.indent c.in_ok-sites.sites.items c.deref-2.result.now c.deref.result.now (line_roles 0 (tree_of c.args.module.now)) c.deref-2.ensures.value (c.deref.ensures.value ∙ c.in_ok-roles.ensures) c.in_ok-sites.ensures scan in
+    subst (λ (n : ℕ). max_text < n) ((λ i. laid_len c.args.indent (long i) 0 (same i)) ∙ counted c.args.module.now c.args.indent scan) (past c.fits.result _ max_text c.fits.ensures.1 c.if-not-fits.true)
 
 pub returns-clause-edits : goal.returns-clause-edits
 returns-clause-edits g c = λ scan.
-    let text = c.as_bytes-text.ensures.value ∙ c.text.ensures.value ∙ ap (λ (x : Scanned). x.text) c.tokens-tokens.ensures.source in
-    let same = of_source c.tokens-tokens.ensures.source c.in_ok-sites.sites.items c.deref-3.result.now c.deref.result.now (line_roles 0 (tree_of c.args.module.now)) c.deref-3.ensures.value (c.deref.ensures.value ∙ c.in_ok-roles.ensures) c.in_ok-sites.ensures scan in
+    let same = of_source c.tokens-tokens.ensures.source c.args.indent c.in_ok-sites.sites.items c.deref-3.result.now c.deref.result.now (line_roles 0 (tree_of c.args.module.now)) c.deref-3.ensures.value (c.deref.ensures.value ∙ c.in_ok-roles.ensures) c.in_ok-sites.ensures scan in
     c.in_ok-edits.ensures
     ∙ ap (map (edit_of c.args.indent (width_of (g.T.TextStore.unit_of c.args.store.now)) (g.T.TextStore.content c.args.store.now)))
-    (c.deref-4.ensures.value ∙ c.in_ok-changed.ensures ∙ (λ i. changed_sites c.args.indent (text i) (same i))
-    ∙ ap (λ (ss : List LineRole). changed_sites c.args.indent c.args.module.now.source.text (all_sites ss scan.lexemes)) (sym (roles_mapped (text_at c.args.module.now.source) (value_at c.args.module.now.source) 0 (tree_of c.args.module.now))))
+    (same ∙ ap (λ (ss : List LineRole). changed_in c.args.indent ss c.args.module.now.source scan) (sym (roles_mapped (text_at c.args.module.now.source) (value_at c.args.module.now.source) 0 (tree_of c.args.module.now))))
 
 pub returns-clause-fits : goal.returns-clause-fits
 returns-clause-fits g c = λ scan.
-    let text = c.as_bytes-text.ensures.value ∙ c.text.ensures.value ∙ ap (λ (x : Scanned). x.text) c.tokens-tokens.ensures.source in
-    let same = of_source c.tokens-tokens.ensures.source c.in_ok-sites.sites.items c.deref-2.result.now c.deref.result.now (line_roles 0 (tree_of c.args.module.now)) c.deref-2.ensures.value (c.deref.ensures.value ∙ c.in_ok-roles.ensures) c.in_ok-sites.ensures scan in
-    subst (λ (n : ℕ). n ≤ max_text) ((λ i. laid_len c.args.indent (length (text i)) 0 (same i)) ∙ counted c.args.module.now c.args.indent scan) (c.fits.ensures.0 c.if-not-fits.false)
+    let long = ap length (c.text.ensures.value ∙ ap (λ (x : Scanned). x.text) c.tokens-tokens.ensures.source) in
+    let same = of_source c.tokens-tokens.ensures.source c.args.indent c.in_ok-sites.sites.items c.deref-2.result.now c.deref.result.now (line_roles 0 (tree_of c.args.module.now)) c.deref-2.ensures.value (c.deref.ensures.value ∙ c.in_ok-roles.ensures) c.in_ok-sites.ensures scan in
+    subst (λ (n : ℕ). n ≤ max_text) ((λ i. laid_len c.args.indent (long i) 0 (same i)) ∙ counted c.args.module.now c.args.indent scan) (c.fits.ensures.0 c.if-not-fits.false)
 
 pub returns-clause-patched : goal.returns-clause-patched
 unfolding laid_out

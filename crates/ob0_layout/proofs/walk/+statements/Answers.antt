@@ -1,5 +1,5 @@
 use Rattle.std.proofs.Common.{◌≡◌, ◌++◌, [], ◌∷◌, IfOk, sym, ap, ◌∙◌, subst}
-use Rattle.ob0_tree.proofs.Viewed.{while_made, repeat_made, if_parts}
+use Rattle.ob0_tree.proofs.Viewed.{while_read, repeat_read, if_parts}
 use Rattle.ob0_tree.specs.declared.tree.If.{out-If}
 use Rattle.ob0_tree.specs.Tree.{branches}
 use Rattle.ob0_tree.specs.View.{items_of, expression_of, statement_of, sequence_listed, elsif_of, else_in}
@@ -10,30 +10,32 @@ use Rattle.ob0_layout.proofs.walk.+statements.Goals as goal
 
 pub statement-returns-in_ok-sequence-in-While : goal.statement-returns-in_ok-sequence-in-While
 statement-returns-in_ok-sequence-in-While t c =
-    let w = c.in-While.w in
     let start = c.args.out.now.items in
     let k = c.args.level in
-    let condition = line_roles 0 (expression_of w.condition) in
-    let inner = line_roles (deeper k) (sequence_listed w.body.items) in
+    let body = c.deref-in-While-2.result.now.body.items in
+    let condition = line_roles 0 (expression_of c.deref-in-While.result.now.condition) in
+    let inner = line_roles (deeper k) (sequence_listed body) in
+    let tree = while_read c.in-While.w c.deref-in-While.ensures c.deref-in-While-2.ensures in
     let a = step start (Begins k ∷ []) condition c.in_ok-push-in-While.ensures.items c.in_ok-expression-in-While.ensures in
     let b = step start ((Begins k ∷ []) ++ condition) (Plain ∷ []) a c.in_ok-plain-in-While.ensures in
-    let d = step start (((Begins k ∷ []) ++ condition) ++ (Plain ∷ [])) inner b (c.in_ok-sequence-in-While.ensures ∙ ap (λ j. c.plain.new.out.items ++ line_roles j (sequence_listed w.body.items)) c.deeper.ensures) in
+    let d = step start (((Begins k ∷ []) ++ condition) ++ (Plain ∷ [])) inner b (c.in_ok-sequence-in-While.ensures ∙ ap (λ j. c.plain.new.out.items ++ line_roles j (sequence_listed body)) c.deeper.ensures) in
     subst (λ z. IfOk c.begin.result (λ _. c.begin.new.out.items ≡ z))
     (closing start ((((Begins k ∷ []) ++ condition) ++ (Plain ∷ [])) ++ inner) (Begins k ∷ []) _ d (while_shape (Begins k) Plain condition inner)
-    ∙ ap (λ s. start ++ line_roles k s) (sym (while_made w) ∙ sym (ap statement_of c.in-While.is))) c.begin.ensures
+    ∙ ap (λ s. start ++ line_roles k s) (sym tree ∙ sym (ap statement_of c.in-While.is))) c.begin.ensures
 
 pub statement-returns-in_ok-push-in-Repeat-2 : goal.statement-returns-in_ok-push-in-Repeat-2
 statement-returns-in_ok-push-in-Repeat-2 t c =
-    let r = c.in-Repeat.r in
     let start = c.args.out.now.items in
     let k = c.args.level in
-    let condition = line_roles 0 (expression_of r.condition) in
-    let inner = line_roles (deeper k) (sequence_listed r.body.items) in
-    let a = step start (Begins k ∷ []) inner c.in_ok-push-in-Repeat.ensures.items (c.in_ok-sequence-in-Repeat.ensures ∙ ap (λ j. c.push-in-Repeat.new.self.items ++ line_roles j (sequence_listed r.body.items)) c.deeper-in-Repeat.ensures) in
+    let body = c.deref-in-Repeat.result.now.body.items in
+    let condition = line_roles 0 (expression_of c.deref-in-Repeat-2.result.now.condition) in
+    let inner = line_roles (deeper k) (sequence_listed body) in
+    let tree = repeat_read c.in-Repeat.r c.deref-in-Repeat.ensures c.deref-in-Repeat-2.ensures in
+    let a = step start (Begins k ∷ []) inner c.in_ok-push-in-Repeat.ensures.items (c.in_ok-sequence-in-Repeat.ensures ∙ ap (λ j. c.push-in-Repeat.new.self.items ++ line_roles j (sequence_listed body)) c.deeper-in-Repeat.ensures) in
     let b = step start ((Begins k ∷ []) ++ inner) (Begins k ∷ []) a c.in_ok-push-in-Repeat-2.ensures.items in
     subst (λ z. IfOk c.expression-in-Repeat.result (λ _. c.expression-in-Repeat.new.out.items ≡ z))
     (closing start (((Begins k ∷ []) ++ inner) ++ (Begins k ∷ [])) condition _ b (repeat_shape (Begins k) condition inner)
-    ∙ ap (λ s. start ++ line_roles k s) (sym (repeat_made r) ∙ sym (ap statement_of c.in-Repeat.is))) c.expression-in-Repeat.ensures
+    ∙ ap (λ s. start ++ line_roles k s) (sym tree ∙ sym (ap statement_of c.in-Repeat.is))) c.expression-in-Repeat.ensures
 
 pub branches-returns-in_ok-sequence-in-Some : goal.branches-returns-in_ok-sequence-in-Some
 branches-returns-in_ok-sequence-in-Some t c =

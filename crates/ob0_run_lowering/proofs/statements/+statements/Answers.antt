@@ -2,7 +2,7 @@ use Rattle.std.proofs.Common.{◌≡◌, ◌+◌, List, [], ◌∷◌, ◌++◌,
 use Rattle.ob0_tree.proofs.Viewed as tree
 use Rattle.ob0_tree.specs.Tree as sort
 use Rattle.ob0_tree.specs.Tree.{Tree, branches, repeat_loop, while_loop}
-use Rattle.ob0_tree.specs.View.{else_in, elsif_of, expression_of, items_of, sequence_listed, statement_of}
+use Rattle.ob0_tree.specs.View.{assignment_of, else_in, elsif_of, expression_of, if_of, items_of, sequence_listed, statement_of}
 use Rattle.ob0_tree.specs.declared.tree.Elsif.{Elsif}
 use Rattle.ob0_tree.specs.declared.tree.If.{out-If}
 use Rattle.ob0_tree.specs.declared.tree.Statement as written
@@ -53,7 +53,7 @@ branches-returns-in-None t c =
     let whole = branches_end (sequence_of c.new.result.items) last c.loop-part.invariant c.loop-part-test.false (none_otherwise scene r i.otherwise c.new.result.items c.in-None.is c.new.ensures.items) in
     let P : List Elsif → Type 0 = λ parts. StatementLowers scene made (branches (in_labels r (expression_of i.condition)) (in_labels r (sequence_listed i.then.items)) (in_labels r (items_of elsif_of parts)) last) in
     let Q : Tree Label sort.statement → Type 0 = λ a. StatementLowers scene made a in
-    let R : lowered.Instruction → Type 0 = λ code. StatementLowers scene code (in_labels r (statement_of (written.If c.args.i.now))) in
+    let R : lowered.Instruction → Type 0 = λ code. StatementLowers scene code (in_labels r (if_of c.args.i.now)) in
     subst R (sym (if_rolled (record { branches = c.loop-part.branches; otherwise = c.new.result }))) (subst Q (sym (ap (in_labels r) (tree.if_parts c.args.i.now))) (subst P c.deref-part-items.ensures.value whole))
 
 pub branches-returns-in_ok-otherwise-in-Some : goal.branches-returns-in_ok-otherwise-in-Some
@@ -67,7 +67,7 @@ branches-returns-in_ok-otherwise-in-Some t c =
     let whole = branches_end (sequence_of otherwise.items) last c.loop-part.invariant c.loop-part-test.false (some_otherwise scene r i.otherwise c.in-Some.statements otherwise.items c.in-Some.is c.in_ok-otherwise-in-Some.ensures) in
     let P : List Elsif → Type 0 = λ parts. StatementLowers scene made (branches (in_labels r (expression_of i.condition)) (in_labels r (sequence_listed i.then.items)) (in_labels r (items_of elsif_of parts)) last) in
     let Q : Tree Label sort.statement → Type 0 = λ a. StatementLowers scene made a in
-    let R : lowered.Instruction → Type 0 = λ code. StatementLowers scene code (in_labels r (statement_of (written.If c.args.i.now))) in
+    let R : lowered.Instruction → Type 0 = λ code. StatementLowers scene code (in_labels r (if_of c.args.i.now)) in
     subst R (sym (if_rolled (record { branches = c.loop-part.branches; otherwise = otherwise }))) (subst Q (sym (ap (in_labels r) (tree.if_parts c.args.i.now))) (subst P c.deref-part-items.ensures.value whole))
 
 pub sequence-loop-s-init : goal.sequence-loop-s-init
@@ -91,8 +91,8 @@ sequence-returns t c =
 pub statement-returns-in_ok-assignment-in-Assign : goal.statement-returns-in_ok-assignment-in-Assign
 statement-returns-in_ok-assignment-in-Assign t c =
     let scene = c.args.scene.now in
-    let P : written.Statement → Type 0 = λ s. StatementLowers scene (code.statement_of c.in_ok-assignment-in-Assign.field-0) (in_labels scene.resolved.now (statement_of s)) in
-    subst P (sym c.in-Assign.is) c.in_ok-assignment-in-Assign.ensures
+    let P : Tree Label sort.statement → Type 0 = λ a. StatementLowers scene (code.statement_of c.in_ok-assignment-in-Assign.field-0) (in_labels scene.resolved.now a) in
+    subst P (ap assignment_of c.deref.ensures ∙ sym (ap statement_of c.in-Assign.is)) c.in_ok-assignment-in-Assign.ensures
 
 pub statement-returns-in_ok-call-in-Call : goal.statement-returns-in_ok-call-in-Call
 statement-returns-in_ok-call-in-Call t c =
@@ -103,27 +103,31 @@ statement-returns-in_ok-call-in-Call t c =
 pub statement-returns-in_ok-branches-in-If : goal.statement-returns-in_ok-branches-in-If
 statement-returns-in_ok-branches-in-If t c =
     let scene = c.args.scene.now in
-    let P : written.Statement → Type 0 = λ s. StatementLowers scene (code.statement_of c.in_ok-branches-in-If.field-0) (in_labels scene.resolved.now (statement_of s)) in
-    subst P (sym c.in-If.is) c.in_ok-branches-in-If.ensures
+    let P : Tree Label sort.statement → Type 0 = λ a. StatementLowers scene (code.statement_of c.in_ok-branches-in-If.field-0) (in_labels scene.resolved.now a) in
+    subst P (ap if_of c.deref-in-If.ensures ∙ sym (ap statement_of c.in-If.is)) c.in_ok-branches-in-If.ensures
 
 pub statement-returns-in_ok-body-in-While : goal.statement-returns-in_ok-body-in-While
 statement-returns-in_ok-body-in-While t c =
     let scene = c.args.scene.now in
     let r = scene.resolved.now in
-    let loop = c.in-While.w in
+    let condition = c.deref-in-While.result.now.condition in
+    let body = c.deref-in-While-2.result.now.body.items in
+    let tree_is = tree.while_read c.in-While.w c.deref-in-While.ensures c.deref-in-While-2.ensures in
     let made : WhileLoop = record { condition = c.in_ok-condition-in-While.condition; body = c.in_ok-body-in-While.body } in
-    let whole = while-lowers scene (in_labels r (expression_of loop.condition)) (in_labels r (sequence_listed loop.body.items)) (truth_of made.condition) (sequence_of made.body.items) (condition-lowers scene loop.condition made.condition c.in_ok-condition-in-While.ensures) c.in_ok-body-in-While.ensures in
+    let whole = while-lowers scene (in_labels r (expression_of condition)) (in_labels r (sequence_listed body)) (truth_of made.condition) (sequence_of made.body.items) (condition-lowers scene condition made.condition c.in_ok-condition-in-While.ensures) c.in_ok-body-in-While.ensures in
     let P : Tree Label sort.statement → Type 0 = λ a. StatementLowers scene (lowered.while_loop (truth_of made.condition) (sequence_of made.body.items)) a in
     let R : lowered.Instruction → Type 0 = λ code. StatementLowers scene code (in_labels r (statement_of c.args.s.now)) in
-    subst R (sym (while_made made)) (subst P (sym (ap (λ s. in_labels r (statement_of s)) c.in-While.is ∙ ap (in_labels r) (tree.while_made loop))) whole)
+    subst R (sym (while_made made)) (subst P (sym (ap (λ s. in_labels r (statement_of s)) c.in-While.is ∙ ap (in_labels r) tree_is)) whole)
 
 pub statement-returns-in_ok-condition-in-Repeat : goal.statement-returns-in_ok-condition-in-Repeat
 statement-returns-in_ok-condition-in-Repeat t c =
     let scene = c.args.scene.now in
     let r = scene.resolved.now in
-    let loop = c.in-Repeat.r in
+    let body = c.deref-in-Repeat.result.now.body.items in
+    let condition = c.deref-in-Repeat-2.result.now.condition in
+    let tree_is = tree.repeat_read c.in-Repeat.r c.deref-in-Repeat.ensures c.deref-in-Repeat-2.ensures in
     let made : RepeatLoop = record { body = c.in_ok-body-in-Repeat.body; condition = c.in_ok-condition-in-Repeat.condition } in
-    let whole = repeat-lowers scene (in_labels r (expression_of loop.condition)) (in_labels r (sequence_listed loop.body.items)) (truth_of made.condition) (sequence_of made.body.items) (condition-lowers scene loop.condition made.condition c.in_ok-condition-in-Repeat.ensures) c.in_ok-body-in-Repeat.ensures in
+    let whole = repeat-lowers scene (in_labels r (expression_of condition)) (in_labels r (sequence_listed body)) (truth_of made.condition) (sequence_of made.body.items) (condition-lowers scene condition made.condition c.in_ok-condition-in-Repeat.ensures) c.in_ok-body-in-Repeat.ensures in
     let P : Tree Label sort.statement → Type 0 = λ a. StatementLowers scene (lowered.repeat_loop (sequence_of made.body.items) (truth_of made.condition)) a in
     let R : lowered.Instruction → Type 0 = λ code. StatementLowers scene code (in_labels r (statement_of c.args.s.now)) in
-    subst R (sym (repeat_made made)) (subst P (sym (ap (λ s. in_labels r (statement_of s)) c.in-Repeat.is ∙ ap (in_labels r) (tree.repeat_made loop))) whole)
+    subst R (sym (repeat_made made)) (subst P (sym (ap (λ s. in_labels r (statement_of s)) c.in-Repeat.is ∙ ap (in_labels r) tree_is)) whole)

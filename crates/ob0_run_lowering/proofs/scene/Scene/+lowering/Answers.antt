@@ -2,14 +2,14 @@ use Rattle.std.proofs.Common.{◌≡◌, IfOk, option_and_then, option_map, sym,
 use Rattle.ob0_tree.proofs.Viewed.{designator_made, simple_parts, term_parts}
 use Rattle.ob0_tree.specs.declared.tree.Addend.{out-Addend}
 use Rattle.ob0_tree.specs.declared.tree.Comparison.{out-Comparison}
-use Rattle.ob0_tree.specs.declared.tree.Expression.{out-Expression}
+use Rattle.ob0_tree.specs.declared.tree.Compound.{out-Compound}
 use Rattle.ob0_tree.specs.declared.tree.Simple.{out-Simple}
 use Rattle.ob0_tree.specs.declared.tree.Term.{out-Term}
 use Rattle.ob0_tree.specs.Tree.{compares, one, relates}
-use Rattle.ob0_tree.specs.View.{items_of, addend_of, multiplier_of, selector_of, term_of, factor_of, simple_of}
+use Rattle.ob0_tree.specs.View.{items_of, compound_of, expression_of, addend_of, multiplier_of, selector_of, term_of, factor_of, simple_of}
 use Rattle.ob0_types_rules.specs.InLabels.{in_labels, label_in}
 use Rattle.ob0_types_table.specs.KnownTables.{shapes_of}
-use Rattle.ob0_types_rules.proofs.TreeParts.{addend_parts, expression_alone, expression_related}
+use Rattle.ob0_types_rules.proofs.TreeParts.{addend_parts, compound_alone, compound_related}
 use Rattle.ob0_run_lowering.specs.Codes.{added, multiplied, related, signed}
 use Rattle.ob0_run_lowering.specs.Trees.{addends_code, code_of, expression_code, factor_code, found_of, multipliers_code, selected_place, simple_code, term_code}
 use Rattle.ob0_run_lowering.proofs.CodeChains.{added_fold, added_once, fold_ends, fold_goes_on, multiplied_fold, selected_fold}
@@ -32,22 +32,33 @@ locate-returns t c =
     ∙ ap (λ xs. selected_place scene (option_map (found_of (shapes_of scene.types.now)) c.base-at.result) (in_labels r (items_of selector_of xs))) c.deref-selector-items.ensures.value
     ∙ ap (λ o. selected_place scene o (in_labels r (items_of selector_of c.args.d.now.selectors.items))) c.base-at.ensures
 
-pub lowered-returns-in-None : goal.lowered-returns-in-None
-lowered-returns-in-None t c =
+pub lowered-returns-in-Factor : goal.lowered-returns-in-Factor
+lowered-returns-in-Factor t c =
     let scene = c.args.self.now in
-    c.in_ok-left.ensures ∙ sym (ap (λ e. expression_code scene (in_labels scene.resolved.now e)) (expression_alone c.args.e.now c.in-None.is))
+    subst (λ z. IfOk c.factor.result (λ l. code_of l ≡ expression_code scene (in_labels scene.resolved.now z))) (sym (ap expression_of c.in-Factor.is)) c.factor.ensures
 
-pub lowered-returns-in_ok-right-in-Some : goal.lowered-returns-in_ok-right-in-Some
-lowered-returns-in_ok-right-in-Some t c =
+pub lowered-returns-in-Compound : goal.lowered-returns-in-Compound
+lowered-returns-in-Compound t c =
+    let scene = c.args.self.now in
+    subst (λ z. IfOk c.compound.result (λ l. code_of l ≡ expression_code scene (in_labels scene.resolved.now z)))
+    (ap compound_of c.deref.ensures ∙ sym (ap expression_of c.in-Compound.is)) c.compound.ensures
+
+pub compound-returns-in-None : goal.compound-returns-in-None
+compound-returns-in-None t c =
+    let scene = c.args.self.now in
+    c.in_ok-left.ensures ∙ sym (ap (λ e. expression_code scene (in_labels scene.resolved.now e)) (compound_alone c.args.c.now c.in-None.is))
+
+pub compound-returns-in_ok-right-in-Some : goal.compound-returns-in_ok-right-in-Some
+compound-returns-in_ok-right-in-Some t c =
     let scene = c.args.self.now in
     let r = scene.resolved.now in
     let compared = out-Comparison c.deref-compared.result.now in
-    let left = simple_of (out-Expression c.args.e.now).left in
+    let left = simple_of (out-Compound c.args.c.now).left in
     subst (λ z. IfOk c.lower_relation.result (λ l. code_of l ≡ z))
     (ap (λ a. related compared.relation a (code_of c.in_ok-right-in-Some.right)) c.in_ok-left.ensures
     ∙ ap (related compared.relation (simple_code scene (in_labels r left))) c.in_ok-right-in-Some.ensures
     ∙ ap (λ k. expression_code scene (in_labels r (compares left (one (relates (out-Comparison k).relation (simple_of (out-Comparison k).right)))))) c.deref-compared.ensures
-    ∙ sym (ap (λ e. expression_code scene (in_labels r e)) (expression_related c.args.e.now c.in-Some.compared c.in-Some.is)))
+    ∙ sym (ap (λ e. expression_code scene (in_labels r e)) (compound_related c.args.c.now c.in-Some.compared c.in-Some.is)))
     c.lower_relation.ensures
 
 pub simple-loop-addend-preserved : goal.simple-loop-addend-preserved

@@ -1,10 +1,7 @@
 use Rattle.std.proofs.Common.{◌++◌, false, sym, ap, ◌∙◌}
 use Rattle.std.proofs.lemmas.Result.{on_ok_weaker}
-use Rattle.ob0_tree.proofs.Viewed.{if_parts, repeat_made, while_made}
+use Rattle.ob0_tree.proofs.Viewed.{if_parts, repeat_read, while_read}
 use Rattle.ob0_tree.specs.declared.tree.If.{out-If}
-use Rattle.ob0_tree.specs.declared.tree.Repeat.{Repeat}
-use Rattle.ob0_tree.specs.declared.tree.While.{While}
-use Rattle.ob0_tree.specs.Tree.{repeat_loop, while_loop}
 use Rattle.ob0_tree.specs.View.{else_in, elsif_of, expression_of, items_of, sequence_listed, statement_of}
 use Rattle.ob0_types_check.specs.StatementFaults.{reported_condition, reported_else, reported_elsifs, reported_sequence, reported_statement}
 use Rattle.ob0_types_check.specs.SupposedFacts.{facts_in}
@@ -47,8 +44,7 @@ statement-returns-in_ok-condition-in-While t c =
     let w = c.deref-w.result.now in
     let a = reported_condition facts (expression_of w.condition) in
     let b = reported_sequence facts (sequence_listed w.body.items) in
-    let whole = ap (λ s. reported_statement facts (statement_of s)) c.in-While.is ∙ ap (reported_statement facts) (while_made c.in-While.w)
-    ∙ sym (ap (λ (w : While). reported_statement facts (while_loop (expression_of w.condition) (sequence_listed w.body.items))) c.deref-w.ensures)
+    let whole = ap (λ s. reported_statement facts (statement_of s)) c.in-While.is ∙ ap (reported_statement facts) (while_read c.in-While.w c.deref-w.ensures c.deref-w.ensures)
     ∙ while_reported facts (expression_of w.condition) (sequence_listed w.body.items) in
     on_ok_weaker c.sequence.result (λ h. reported_both before a b c.in_ok-condition-in-While.ensures h ∙ sym (ap (λ f. before ++ f) whole)) c.sequence.ensures
 
@@ -59,8 +55,7 @@ statement-returns-in_ok-sequence-in-Repeat t c =
     let r = c.deref-r.result.now in
     let a = reported_sequence facts (sequence_listed r.body.items) in
     let b = reported_condition facts (expression_of r.condition) in
-    let whole = ap (λ s. reported_statement facts (statement_of s)) c.in-Repeat.is ∙ ap (reported_statement facts) (repeat_made c.in-Repeat.r)
-    ∙ sym (ap (λ (r : Repeat). reported_statement facts (repeat_loop (sequence_listed r.body.items) (expression_of r.condition))) c.deref-r.ensures)
+    let whole = ap (λ s. reported_statement facts (statement_of s)) c.in-Repeat.is ∙ ap (reported_statement facts) (repeat_read c.in-Repeat.r c.deref-r.ensures c.deref-r.ensures)
     ∙ repeat_reported facts (expression_of r.condition) (sequence_listed r.body.items) in
     on_ok_weaker c.condition-in-Repeat.result (λ h. reported_both before a b c.in_ok-sequence-in-Repeat.ensures h ∙ sym (ap (λ f. before ++ f) whole)) c.condition-in-Repeat.ensures
 
