@@ -46,7 +46,7 @@ def changed_lines(file, folder):
             old = row[len("old: ") :]
         elif row.startswith("new:"):
             if not path.startswith(("src/", "specs/", "proofs/")) or not old:
-                return {}, "a 'new:' line stands before any 'file:' or 'old:' line"
+                return {}, "a 'new:' line is before any 'file:' or 'old:' line"
             if path not in texts:
                 try:
                     with open(os.path.join(folder, path), encoding="utf-8") as it:
@@ -55,7 +55,7 @@ def changed_lines(file, folder):
                     return {}, f"there is no file {path}"
             count = texts[path].count(old)
             if count != 1:
-                return {}, f"an 'old:' text stands in {path} {count} times, and not once"
+                return {}, f"an 'old:' text is in {path} {count} times, and not once"
             texts[path] = texts[path].replace(old, re.sub(r"\A ", "", row[len("new:") :]))
             old = None
     if not texts:

@@ -57,18 +57,18 @@ def holder_of(words, at):
 def is_use(words, at, function):
     """Whether the word at a place, a function's name, calls it by a path or as a method."""
     before = words[at - 1].text if at else ""
-    behind = words[at + 1].text if at + 1 < len(words) else ""
+    follower = words[at + 1].text if at + 1 < len(words) else ""
     holder = holder_of(words, at) if before == ":" else ""
     if not function.owner:
-        return holder in (function.crate, *function.module[-1:]) and behind != ":"
+        return holder in (function.crate, *function.module[-1:]) and follower != ":"
     if before == "." and function.takes_self:
-        return behind in ("(", ":")
+        return follower in ("(", ":")
     return holder == function.owner or bool(holder and function.trait)
 
 
 def uses_in(function, source):
     """Whether a crate's code uses a function, and whether its tests do. A method with a name of std's is taken for used
-    only where the crate names its type; other methods of one name are not told apart."""
+    only where the crate names its type; methods of one name are not distinguished otherwise."""
     if function.owner and function.name in OF_STD and not names(source, function.owner, function.trait):
         return False, False
     found = set()

@@ -1,7 +1,7 @@
 #!/usr/bin/env python3
 """Tries the mutants of crates/*/must-fail and crates/*/wrong-bodies: the prover has to refuse each.
 
-  tools/wrong_bodies.py [--jobs N] [--quiet] [CRATE..]   all crates where none is named; with --quiet no refused one is told
+  tools/wrong_bodies.py [--jobs N] [--quiet] [CRATE..]   all crates where none is named; with --quiet no refused one is listed
   tools/wrong_bodies.py CRATE/WORD..                     those of a crate with this word in their path
 
 The gate tries its own one by one. Here as many of a crate as can be stand in one check over what is kept of its proofs:
@@ -152,7 +152,7 @@ def together(left):
 
 
 def unreadable(said, edit):
-    """The error by which the compiler or antt could not read a mutant, if one stands in what it turns."""
+    """The error by which the compiler or antt could not read a mutant, if one is in what it turns."""
     for line in said.text.split("\n"):
         at = ERROR.match(line)
         if not at:
@@ -195,8 +195,8 @@ def refusal(said, refused):
     uncovered = [it for it, _ in refused if "does not cover" in said.verdicts[it]]
     if len(uncovered) == len(refused):
         return NOT_JUDGED, f"the checker doesn't cover such a body, so no contract was tried: {said.verdicts[uncovered[0]][:200]}"
-    told = next((it for it in refused if said.goals(it[0]) or said.proof_errors(*it)), refused[0])
-    return REFUSED, f"{told[0].partition('::')[2]}: {said.why(*told)}"
+    named = next((it for it in refused if said.goals(it[0]) or said.proof_errors(*it)), refused[0])
+    return REFUSED, f"{named[0].partition('::')[2]}: {said.why(*named)}"
 
 
 def try_all(room, left, source, say):
