@@ -22,7 +22,7 @@ use Rattle.ob0_edits.specs.Replaced.{AreNames, ReplacesName, with_text_at}
 use Rattle.ob0_edits.specs.Written.{name_word}
 use Rattle.ob0_rename_laws.specs.FieldLaws.{FreeFieldKeepsModules}
 use Rattle.ob0_types_fields.specs.Identifiers.{DuplicateByToken, RenamedAtTokens, declaring_field, field_identifiers, field_tokens, tokens_among}
-use Rattle.ob0_rename_laws.specs.Renaming.{FieldFree, field_renamed}
+use Rattle.ob0_types_fields.specs.Renaming.{FieldFree, field_renamed}
 use Rattle.ob0_rename.specs.Answers.{RenameAnswers, AnswersForField, IsRefused, IsRefusedToField, OnlyMemory, TakesOwnName}
 use Rattle.ob0_rename.specs.Renaming.{MeansField, Renaming, declaration, field_of, field_tokens_to_rename, token_range}
 use Rattle.ob0_rename.proofs.Outcomes.{Edited, whole, written}

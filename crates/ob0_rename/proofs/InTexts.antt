@@ -1,7 +1,7 @@
 -- The edits of a renaming leave a text whose module runs as before.
 use Rattle.std.proofs.Common.{◌≡◌, ◌⊎◌, ℕ, List, Option, Some, None, Result, Ok, Err, Vec, Global, inl, inr, refl, subst}
 use Rattle.std.specs.Str.{chars, IsUtf8}
-use Rattle.ob0_rename_laws.specs.Renaming.{field_renamed}
+use Rattle.ob0_types_fields.specs.Renaming.{field_renamed}
 use Rattle.ob0_rename.specs.Answers.{AreEdits, IsRefused, WritesName}
 use Rattle.ob0_rename.specs.Renaming.{Renaming, field_tokens_to_rename, tokens_to_rename}
 use Rattle.ob0_scope_rules.specs.Names.{Name}

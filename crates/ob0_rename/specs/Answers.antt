@@ -18,7 +18,7 @@ use Rattle.ob0_scope_rules.specs.Scopes.{renamed}
 use Rattle.ob0_types_rules.specs.WellTyped.{WellTyped}
 use Rattle.ob0_run_rules.specs.EditLaws.{SameRuns}
 use Rattle.ob0_edits.specs.Replaced.{edit_at, parts}
-use Rattle.ob0_rename_laws.specs.Renaming.{FieldFree, field_renamed, is_duplicate_field}
+use Rattle.ob0_types_fields.specs.Renaming.{FieldFree, field_renamed, is_duplicate_field}
 use Rattle.ob0_rename.specs.Renaming.{NamesDeclaration, MeansField, Renaming, field_tokens_to_rename, is_declared_as, meant, module_of, nothing, occurrence_range, other_field_range, other_range, predeclared, text_with, tokens_to_rename, tree_of}
 
 -- The edits write the new name at these tokens, and nothing else. Made at once they leave a text of this tree, which is

@@ -9,11 +9,12 @@ use Rattle.ob0_tree.specs.declared.tree.AddOperator.TheVariants as add_operator
 use Rattle.ob0_tree.specs.declared.tree.MultiplyOperator.{MultiplyOperator}
 use Rattle.ob0_tree.specs.declared.tree.MultiplyOperator.TheVariants as multiply_operator
 use Rattle.ob0_scope_rules.specs.Names.{Name, same_name}
-use Rattle.ob0_types_rules.specs.Expressions.{Meanings, Object, a_constant, a_procedure, a_standard, a_type, a_variable, reads, writes, writes_line}
+use Rattle.ob0_types_rules.specs.Expressions.{Object, a_constant, a_procedure, a_standard, a_type, a_variable, reads, writes, writes_line}
 use Rattle.ob0_types_rules.specs.Typing.{add_type, complement_type, constant_of, depth, field_depth, field_scalars, field_type, multiply_type, object_type, relation_type, scalars, shape_of_field, sign_type, type_of_name, value_type, with_fields, within_limits}
 use Rattle.ob0_types_rules.specs.WellTyped.{Formal, Signature, Typed, agree, same_fields, same_shape, signature_of}
 use Rattle.ob0_values.specs.Values.{FieldShapes, Shape, Value, array_shape, boolean_shape, elements, integer_shape, members, next_field_shape, no_field_shape, number, record_shape, truth}
-use Rattle.ob0_rename_laws.specs.Fields.{FieldNames, record_of}
+use Rattle.ob0_types_fields.specs.Fields.{FieldNames, record_of}
+use Rattle.ob0_types_fields.proofs.NamesMeant.{named}
 use Rattle.ob0_rename_laws.specs.FieldLaws.{KeepsApart}
 use Rattle.std.proofs.lemmas.Bool.{eqb-true}
 
@@ -160,10 +161,6 @@ object_by l (a_constant v) = a_constant v
 object_by l (a_variable s) = a_variable (shape_by l s)
 object_by l (a_procedure signature) = a_procedure (map (formal_by l) signature)
 object_by l (a_standard p) = a_standard p
-
--- names and fields as written
-abbrev pub named : {V P : Type 0} → (Name → Option (Object V P)) → Meanings Name V P
-named stands = record { object_for = stands; written = λ x. x }
 
 abbrev pub named_by : FieldNames → (Name → Option (Object Shape Signature)) → Typed Name
 named_by l stands = named (λ x. option_map (object_by l) (stands x))

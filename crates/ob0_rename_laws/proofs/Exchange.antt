@@ -7,11 +7,11 @@ use Rattle.ob0_scope_rules.specs.Names.{Name, same_name}
 use Rattle.ob0_scope_rules.specs.Scopes.{same_ordinal}
 use Rattle.ob0_types_rules.specs.WellTyped.{WellTyped}
 use Rattle.ob0_run_rules.specs.EditLaws.{SameRuns}
-use Rattle.ob0_rename_laws.specs.Fields.{FieldNames, refielded}
+use Rattle.ob0_types_fields.specs.Fields.{FieldNames, refielded}
 use Rattle.ob0_rename_laws.specs.FieldLaws.{FreeFieldKeepsModules, KeepsApart}
-use Rattle.ob0_rename_laws.specs.Renaming.{FieldFree, RecordFields, field_renamed, names_another_field, one_renamed, records}
-use Rattle.ob0_rename_laws.proofs.AgreeingFields.{NamesAgree, RecordsAgree}
-use Rattle.ob0_rename_laws.proofs.AgreeingModules.{module-alike}
+use Rattle.ob0_types_fields.specs.Renaming.{FieldFree, RecordFields, field_renamed, names_another_field, one_renamed, records}
+use Rattle.ob0_types_fields.proofs.AgreeingFields.{NamesAgree, RecordsAgree}
+use Rattle.ob0_types_fields.proofs.AgreeingModules.{module-alike}
 use Rattle.ob0_rename_laws.proofs.Proved.{refielding_keeps_modules-holds}
 
 same_name-refl : (x : Name) → same_name x x ≡ true

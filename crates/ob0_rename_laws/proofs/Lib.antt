@@ -11,8 +11,4 @@ pub mod RefieldedActivations
 pub mod RefieldedRuns
 pub mod RefieldedOnce
 pub mod Proved
-pub mod AgreeingFields
-pub mod AgreeingModules
 pub mod Exchange
-pub mod WorkedFields
-pub mod ByToken

@@ -10,7 +10,7 @@ use Rattle.ob0_tree.specs.declared.tree.MultiplyOperator.{MultiplyOperator}
 use Rattle.ob0_tree.specs.declared.tree.MultiplyOperator.TheVariants as multiply_operator
 use Rattle.ob0_types_rules.specs.Expressions.{element_step}
 use Rattle.ob0_values.specs.Values.{Index, Outcome, Overflow, Step, Stuck, Value, add, add_is_settled, at_index, compare_numbers, count_values, divided_by, elements, ends, fits, gives, in_range, multiply, multiply_is_settled, negated, number, or_stuck, quotient, relate, remainder, same_truth, signed, truth, ◌>>=◌}
-use Rattle.ob0_rename_laws.specs.Fields.{FieldNames}
+use Rattle.ob0_types_fields.specs.Fields.{FieldNames}
 use Rattle.ob0_rename_laws.proofs.Values.{Finds, count_values-by, step_by, tagged, to_index, value_by}
 
 abbrev pub Follows : {A X Y : Type 0} → (A → X) → (A → Y) → Outcome X → Outcome Y → Type 0

@@ -5,9 +5,9 @@ use Rattle.ob0_types_rules.specs.WellTyped.{WellTyped}
 use Rattle.ob0_run_rules.specs.Runs.{run, run_over}
 use Rattle.ob0_rename_laws.specs.FieldLaws.{KeepsApart, RefieldingKeepsModules}
 use Rattle.ob0_rename_laws.proofs.RefieldedModules.{refielding_keeps_fitting-holds}
-use Rattle.ob0_rename_laws.proofs.RefieldedOnce.{declared_once-refield, refielded-bare}
+use Rattle.ob0_rename_laws.proofs.RefieldedOnce.{declared_once-refield}
 use Rattle.ob0_rename_laws.proofs.RefieldedRuns.{run-tagged}
-use Rattle.ob0_rename_laws.proofs.Values.{bare}
+use Rattle.ob0_types_fields.proofs.Bare.{bare, refielded-bare}
 
 bare-apart : KeepsApart bare
 bare-apart k x y = refl

@@ -8,7 +8,7 @@ use Rattle.ob0_types_rules.specs.Typing.{designated, object_type}
 use Rattle.ob0_types_rules.specs.WellTyped.{Mode, Typed, by_place, by_value}
 use Rattle.ob0_values.specs.Values.{Outcome, Store, Stuck, TurnBound, Value, elements, ends, gives, members, number, or_stuck, truth, write_place, ◌>>=◌}
 use Rattle.ob0_run_rules.specs.Runs.{Argument, Calls, Progress, State, choose, evaluate_argument, evaluate_arguments, execute, execute_all, execute_else, execute_elsifs, execute_further, continue_with, line_out, modes_of, number_out, perform, place_argument, append_output, read_number, running, stopped, store_at, turns, turns_until, use_in, value_argument}
-use Rattle.ob0_rename_laws.specs.Fields.{FieldNames, refield}
+use Rattle.ob0_types_fields.specs.Fields.{FieldNames, refield}
 use Rattle.ob0_rename_laws.specs.FieldLaws.{KeepsApart}
 use Rattle.ob0_rename_laws.proofs.Outcomes.{Follows, ValuesFollow, follows-then, or_stuck-follows}
 use Rattle.ob0_rename_laws.proofs.RefieldedExpressions.{Thing, Things, active, constant_thing, designate-follows, evaluate-follows, procedure_thing, standard_thing, thing_by, type_thing, variable_thing}

@@ -9,9 +9,10 @@ use Rattle.ob0_types_rules.specs.Expressions.{Object, a_constant, a_procedure, a
 use Rattle.ob0_types_rules.specs.Typing.{constant_of, constant_value, constructors, denoted, type_of_name}
 use Rattle.ob0_types_rules.specs.WellTyped.{Mode, Signature, TypeEnvironment, TypedParameter, bind_names, bind_typed, block_fits, body_fits, declare_typed, fits_over, heading, some_and, procedure_fits, procedures_fit, section_mode, sequence_fits, typed_parameters}
 use Rattle.ob0_values.specs.Values.{Shape}
-use Rattle.ob0_rename_laws.specs.Fields.{FieldNames, types_after_heading, types_after_procedures, types_after_variables, parameters_of, refield, refield_block, refield_formals, refield_procedure, refield_procedures, refield_section, refield_sections, refield_type, refield_type_section, refield_types, refield_variable_section, refield_variables}
+use Rattle.ob0_types_fields.specs.Fields.{FieldNames, types_after_heading, types_after_procedures, types_after_variables, parameters_of, refield, refield_block, refield_formals, refield_procedure, refield_procedures, refield_section, refield_sections, refield_type, refield_type_section, refield_types, refield_variable_section, refield_variables}
+use Rattle.ob0_types_fields.proofs.NamesMeant.{named, parameter_of, stands_in}
 use Rattle.ob0_rename_laws.specs.FieldLaws.{KeepsApart, RefieldingKeepsFitting}
-use Rattle.ob0_rename_laws.proofs.Apart.{constant_of-by, each-then, formal_by, map-then, named, object_by, shape_by, type_of_name-by}
+use Rattle.ob0_rename_laws.proofs.Apart.{constant_of-by, each-then, formal_by, map-then, object_by, shape_by, type_of_name-by}
 use Rattle.ob0_rename_laws.proofs.RefieldedTypes.{constant_value-alike, constructors-refield, denoted-refield}
 use Rattle.ob0_rename_laws.proofs.RefieldedStatements.{sequence_fits-refield}
 
@@ -20,9 +21,6 @@ use Rattle.ob0_rename_laws.proofs.RefieldedStatements.{sequence_fits-refield}
 abbrev pub env_by : FieldNames → TypeEnvironment Name → TypeEnvironment Name
 env_by l [] = []
 env_by l (b ∷ env) = (b.0, object_by l b.1) ∷ env_by l env
-
-abbrev pub stands_in : TypeEnvironment Name → Name → Option (Object Shape Signature)
-stands_in env x = newest (from_binding as_names env x)
 
 pub newest-by : (l : FieldNames) (env : TypeEnvironment Name) (x : Name) → stands_in (env_by l env) x ≡ option_map (object_by l) (stands_in env x)
 newest-by l [] x = refl
@@ -161,9 +159,6 @@ declare_typed-by l env k (more (declares_variable ns u) gs) =
     (λ s. ap (declare_typed as_names (k + constructors u) (refield_variables l (k + constructors u) gs)) (bind_names-by l (names_listed ns) (a_variable s) env) ∙ declare_typed-by l (bind_names (names_listed ns) (a_variable s) env) (k + constructors u) gs)
 
 -- parameters
-
-abbrev pub parameter_of : Mode → Shape → Name → TypedParameter Name
-parameter_of m s x = record { name = x; formal = record { mode = m; shape = s } }
 
 parameters-by : (l : FieldNames) (m : Mode) (s : Shape) (xs : List Name) (rest : List (TypedParameter Name)) → map (parameter_of m (shape_by l s)) xs ++ map (parameter_by l) rest ≡ map (parameter_by l) (map (parameter_of m s) xs ++ rest)
 parameters-by l m s [] rest = refl

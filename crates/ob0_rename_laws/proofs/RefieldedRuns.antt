@@ -10,7 +10,7 @@ use Rattle.ob0_types_rules.specs.WellTyped.{TypeEnvironment, Typed, fits_over}
 use Rattle.ob0_values.specs.Values.{Stuck, boolean_shape, integer_shape}
 use Rattle.ob0_run_rules.specs.Runs.{Activation, Calls, Frame, Progress, State, activate, bind_parameters, call, declare_block, execute_all, execute_body, finished, in_frame, parameters, run_over, running, stopped}
 use Rattle.ob0_run_rules.proofs.SoundCalls.{fitting-run}
-use Rattle.ob0_rename_laws.specs.Fields.{FieldNames, types_after_procedures, types_after_variables, refield, refield_block, refielded}
+use Rattle.ob0_types_fields.specs.Fields.{FieldNames, types_after_procedures, types_after_variables, refield, refield_block, refielded}
 use Rattle.ob0_rename_laws.specs.FieldLaws.{KeepsApart}
 use Rattle.ob0_rename_laws.proofs.RefieldedActivations.{FramesBoth, Scene, Stage, bind_parameters-both, both-then, declare_block-both, env_as, frame_by, from_binding-as, meanings-as, parameters-refield, scene_from, things_in}
 use Rattle.ob0_rename_laws.proofs.RefieldedExecution.{Alike, CallsAlike, Given, Goes, argument_by, execute_all-alike, state_by}

@@ -5,7 +5,8 @@ use Rattle.std.proofs.lemmas.Bool.{eqb-true}
 use Rattle.std.proofs.lemmas.Option.{slice_get-map}
 use Rattle.ob0_scope_rules.specs.Names.{Name, same_name}
 use Rattle.ob0_values.specs.Values.{Members, Place, Step, Store, Value, Values, at_field, at_index, at_path, count_values, elements, members, named_member, next_member, next_value, no_member, no_value, nth_value, number, part, read_place, truth, with_at_path, with_named_member, with_nth_value, with_part, write_place}
-use Rattle.ob0_rename_laws.specs.Fields.{FieldNames}
+use Rattle.ob0_types_fields.specs.Fields.{FieldNames}
+use Rattle.ob0_types_fields.proofs.Bare.{bare}
 use Rattle.ob0_rename_laws.specs.FieldLaws.{KeepsApart}
 use Rattle.ob0_rename_laws.proofs.Apart.{choose-map}
 
@@ -13,10 +14,6 @@ use Rattle.ob0_rename_laws.proofs.Apart.{choose-map}
 abbrev pub tagged : FieldNames
 tagged None x = 0 ∷ x
 tagged (Some k) x = suc k ∷ x
-
--- a field as it is written
-abbrev pub bare : FieldNames
-bare owner x = x
 
 pub tagged-apart : KeepsApart tagged
 tagged-apart k x y = ap (λ b. b && same_name x y) (eq-eqb (suc k) (suc k) refl)

@@ -5,8 +5,8 @@ use Rattle.ob0_tree.specs.Tree.{Tree, module_text}
 use Rattle.ob0_scope_rules.specs.Names.{Name, as_names, same_name}
 use Rattle.ob0_types_rules.specs.WellTyped.{WellTyped, fits_over}
 use Rattle.ob0_run_rules.specs.EditLaws.{SameRuns}
-use Rattle.ob0_rename_laws.specs.Fields.{FieldNames, refielded}
-use Rattle.ob0_rename_laws.specs.Renaming.{FieldFree, field_renamed}
+use Rattle.ob0_types_fields.specs.Fields.{FieldNames, refielded}
+use Rattle.ob0_types_fields.specs.Renaming.{FieldFree, field_renamed}
 
 -- of one record two names are written as the same exactly where they are the same
 abbrev pub KeepsApart : FieldNames → Type 0

@@ -1,4 +1,1 @@
-pub mod Fields
-pub mod Renaming
 pub mod FieldLaws
-pub mod Owners

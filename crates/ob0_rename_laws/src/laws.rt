@@ -1,7 +1,7 @@
 //! The laws. Each function does nothing: its contract is the law.
 
 ghost use Rattle.ob0_rename_laws.specs.FieldLaws.{FreeFieldKeepsModules, RefieldingKeepsFitting, RefieldingKeepsModules};
-ghost use Rattle.ob0_rename_laws.specs.Owners.{RenamedByToken};
+ghost use Rattle.ob0_types_fields.specs.Owners.{RenamedByToken};
 
 /// Fields under other names, those of a record kept apart, keep a module's declarations and statements fitting.
 pub fn refielding_keeps_fitting()

@@ -5,7 +5,8 @@ use Rattle.ob0_scope_rules.specs.Names.{Name, same_name}
 use Rattle.ob0_types_rules.specs.Typing.{field_scalars, shape_of_field}
 use Rattle.ob0_values.specs.Values.{FieldShapes, Members, Shape, Step, Value, Values, array_shape, at_field, at_index, at_path, boolean_shape, count_values, elements, integer_shape, members, named_member, next_field_shape, next_member, next_value, no_field_shape, no_member, no_value, nth_value, number, part, record_shape, truth, with_at_path, with_named_member, with_nth_value, with_part}
 use Rattle.ob0_run_rules.specs.Fitting.{EachHasShape, HasShape, HaveShapes, part_shape, shape_at_path}
-use Rattle.ob0_run_rules.proofs.Sound.{below_of, of_some, some-gives}
+use Rattle.ob0_types_rules.proofs.Conditions.{of_some}
+use Rattle.ob0_run_rules.proofs.Sound.{below_of, some-gives}
 use Rattle.ob0_run_rules.proofs.SoundStatements.{with_path-fits}
 use Rattle.ob0_run_cells.specs.CellLaws.{PartsAreSlices, SizesAreLimited, WritingPartsWritesSlices}
 use Rattle.ob0_run_cells.specs.Cells.{cells_at, cells_of, cells_with, element_cells, field_offset, field_sizes, member_cells, offset, size, step_offset}

@@ -14,7 +14,7 @@ use Rattle.ob0_run_rules.specs.Fitting.{ArgumentsFit, EnvironmentsFit, HasShape,
 use Rattle.ob0_run_rules.specs.Runs.{Activation, Argument, Frame, allocate, bind_parameter, bind_parameters, declare_block, declare_procedures, declare_variables, place_argument, value_argument, with_procedures}
 use Rattle.ob0_run_rules.proofs.Sound.{some-gives}
 use Rattle.ob0_run_rules.proofs.SoundCalls.{ArgumentsFit-grows, as_parameter, constants-run, denoted-same, environments-grow, some-inverse, types-run}
-use Rattle.ob0_run_rules.proofs.SoundStatements.{both_true}
+use Rattle.ob0_types_rules.proofs.Conditions.{both_true}
 use Rattle.ob0_run_machine.specs.Evaluation.{Level, Levels}
 use Rattle.ob0_run_machine.specs.Lowered as lowered
 use Rattle.ob0_run_cells.specs.Activations.{BlockMeans, BodyMeans, Placed, Placing, PlacingFits, ProceduresMean, hide_names, in_slot, nowhere, own_target, place_names, place_parameter, place_parameters, place_variables}

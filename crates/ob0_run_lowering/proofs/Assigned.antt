@@ -8,7 +8,7 @@ use Rattle.ob0_types_rules.specs.InLabels.{in_labels, label_in}
 use Rattle.ob0_types_rules.specs.Typing.{type_of}
 use Rattle.ob0_types_rules.specs.WellTyped.{Typed, statement_fits, variable_type}
 use Rattle.ob0_values.specs.Values.{Shape, array_shape, boolean_shape, integer_shape, record_shape}
-use Rattle.ob0_run_rules.proofs.SoundStatements.{agree-true}
+use Rattle.ob0_types_rules.proofs.Conditions.{agree-true}
 use Rattle.ob0_run_machine.specs.declared.code.Number.{Number}
 use Rattle.ob0_run_machine.specs.declared.code.Place.{Place}
 use Rattle.ob0_run_machine.specs.declared.code.Truth.{Truth}

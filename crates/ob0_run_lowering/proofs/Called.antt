@@ -19,7 +19,7 @@ use Rattle.ob0_types_rules.specs.Expressions.{Object, a_procedure, a_standard, r
 use Rattle.ob0_types_rules.specs.Typing.{designated, type_of}
 use Rattle.ob0_types_rules.specs.WellTyped.{Formal, Signature, Typed, argument_fits, arguments_fit, by_place, by_value, call_fits, signature_of, statement_fits, variable_type}
 use Rattle.ob0_values.specs.Values.{Shape, integer_shape}
-use Rattle.ob0_run_rules.proofs.SoundStatements.{agree-true, both_true}
+use Rattle.ob0_types_rules.proofs.Conditions.{agree-true, both_true}
 use Rattle.ob0_run_machine.specs.declared.code.Argument as argument
 use Rattle.ob0_run_machine.specs.declared.code.Number.{Number}
 use Rattle.ob0_run_machine.specs.Lowered as lowered

@@ -10,7 +10,7 @@ use Rattle.ob0_types_rules.specs.Typing.{type_of}
 use Rattle.ob0_types_rules.specs.WellTyped.{body_fits, condition_fits, else_fits, elsifs_fit, sequence_fits, statement_fits, statements_fit}
 use Rattle.ob0_values.specs.Values.{boolean_shape}
 use Rattle.ob0_run_rules.specs.Runs.{execute}
-use Rattle.ob0_run_rules.proofs.SoundStatements.{agree-true, both_true}
+use Rattle.ob0_types_rules.proofs.Conditions.{agree-true, both_true}
 use Rattle.ob0_run_machine.specs.declared.code.Truth.{Truth}
 use Rattle.ob0_run_machine.specs.Lowered as lowered
 use Rattle.ob0_run_machine.specs.View.{truth_of}

@@ -15,7 +15,7 @@ use Rattle.ob0_types_rules.specs.Expressions.{Object, a_constant, a_procedure, a
 use Rattle.ob0_types_rules.specs.Typing.{designated, type_at, type_of}
 use Rattle.ob0_types_rules.specs.WellTyped as typing
 use Rattle.ob0_types_rules.specs.WellTyped.{Mode, Signature, Typed, agree, argument_fits, by_place, by_value, same_shape, variable_type}
-use Rattle.ob0_run_rules.proofs.SoundStatements.{same_shape-true}
+use Rattle.ob0_types_rules.proofs.Conditions.{same_shape-true}
 use Rattle.ob0_values.specs.Values.{Shape, Value, array_shape, boolean_shape, integer_shape, number, record_shape}
 use Rattle.ob0_run_machine.specs.Evaluation as machine
 use Rattle.ob0_run_machine.specs.Lowered as lowered

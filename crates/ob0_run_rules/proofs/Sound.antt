@@ -14,6 +14,7 @@ use Rattle.ob0_types_rules.specs.Expressions.{Meanings, Object, a_constant, a_pr
 use Rattle.ob0_types_rules.specs.Typing.{add_type, complement_type, element_type, field_type, multiply_type, object_type, relation_type, shape_of_field, sign_type, type_at, type_of, type_of_addends, type_of_factor, type_of_multipliers, type_of_simple, type_of_term, value_type}
 use Rattle.ob0_values.specs.Values.{FieldShapes, Index, Members, Outcome, Overflow, Place, Shape, Step, Store, Value, Values, add, add_is_settled, array_shape, at_field, at_index, at_path, boolean_shape, count_values, divided_by, elements, ends, fits, gives, in_range, integer_shape, members, multiply, multiply_is_settled, named_member, negated, next_field_shape, next_member, next_value, no_field_shape, no_member, no_value, nth_value, number, or_stuck, part, quotient, read_place, record_shape, relate, remainder, signed, truth, ◌>>=◌}
 use Rattle.ob0_types_rules.specs.WellTyped.{Mode, Signature, Typed}
+use Rattle.ob0_types_rules.proofs.Conditions.{of_some}
 use Rattle.ob0_run_rules.specs.Fitting.{EachHasShape, HasShape, HaveShapes, MeaningsFit, ObjectFits, PlaceFits, StoreFits, StoreTyping, part_shape, shape_at_path}
 use Rattle.ob0_run_rules.proofs.Soundness.{ExpressionsFit, OutcomeFits}
 
@@ -51,9 +52,6 @@ on_truths op s each v w hv hw =
     let (a, ev) = is_truth v hv in
     let (b, ew) = is_truth w hw in
     subst₂ (λ a b. OutcomeFits (λ v. HasShape v s) (op a b)) (sym ev) (sym ew) (each a b)
-
-pub of_some : {s t : Shape} (P : Shape → Type 0) → Some s ≡ Some t → P s → P t
-of_some {s} {t} P e h = let e' : s ≡ t = search in subst P e' h
 
 pub add-fits : (o : AddOperator) (x y z : Shape) (v w : Value) → add_type o x y ≡ Some z → HasShape v x → HasShape w y → OutcomeFits (λ u. HasShape u z) (add o v w)
 add-fits add_operator.Add integer_shape integer_shape z v w e hv hw = of_some (λ z. OutcomeFits (λ u. HasShape u z) (add add_operator.Add v w)) e (on_numbers (add add_operator.Add) integer_shape (λ m n. in_range-fits (m +ℤ n)) v w hv hw)

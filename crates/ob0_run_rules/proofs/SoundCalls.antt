@@ -9,14 +9,15 @@ use Rattle.ob0_types_rules.specs.Environments.{from_binding, meanings, newest, o
 use Rattle.ob0_types_rules.specs.Expressions.{Object, a_constant, a_procedure, a_standard, a_type, a_variable}
 use Rattle.ob0_types_rules.specs.Typing.{constant_of, constant_value, constructors, denoted, type_of_name}
 use Rattle.ob0_values.specs.Values.{FieldShapes, Place, Shape, Store, Stuck, Value, array_shape, boolean_shape, copies, count_values, fits, initial, initial_members, integer_shape, next_field_shape, no_field_shape, record_shape}
-use Rattle.ob0_types_rules.specs.WellTyped.{Formal, Mode, Signature, TypeEnvironment, TypedParameter, WellTyped, bind_names, bind_typed, block_fits, body_fits, declare_typed, fits_over, heading, some_and, procedure_fits, procedures_fit, section_mode, signature_of, typed_parameters}
+use Rattle.ob0_types_rules.specs.WellTyped.{Formal, Mode, Signature, TypeEnvironment, TypedParameter, WellTyped, bind_names, bind_typed, block_fits, body_fits, declare_typed, fits_over, heading, procedure_fits, procedures_fit, section_mode, signature_of, typed_parameters}
 use Rattle.ob0_types_rules.proofs.TypeNaturality.{constant_value-map, denoted-map}
 use Rattle.ob0_types_rules.proofs.TypesByOrdinal.{typed_parameter}
+use Rattle.ob0_types_rules.proofs.Conditions.{both_true, hold-true}
 use Rattle.ob0_run_rules.specs.Laws.{NeverStuck}
 use Rattle.ob0_run_rules.specs.Runs.{Activation, Argument, Calls, ProcedureText, Frame, Parameter, Progress, State, activate, allocate, bind_parameter, bind_parameters, call, declare_block, declare_procedures, declare_variables, execute_all, execute_body, finished, formal_modes, in_frame, parameters, passing, place_argument, run, run_over, running, statement_meanings, stopped, value_argument, with_procedures}
 use Rattle.ob0_run_rules.proofs.ByOrdinal.{with_mode}
 use Rattle.ob0_run_rules.proofs.Sound.{some-gives}
-use Rattle.ob0_run_rules.proofs.SoundStatements.{ObjectFits-grows, PlaceFits-grows, ProgressFits-grown, both_true, execute_all-keeps, keeps-here, same_store-fits}
+use Rattle.ob0_run_rules.proofs.SoundStatements.{ObjectFits-grows, PlaceFits-grows, ProgressFits-grown, execute_all-keeps, keeps-here, same_store-fits}
 use Rattle.ob0_run_rules.specs.Fitting.{ArgumentsFit, BindingFits, EnvironmentsFit, EachHasShape, HasShape, HaveShapes, ObjectFits, StoreFits, StoreTyping, modes_in, shape_at_path}
 use Rattle.ob0_run_rules.proofs.Soundness.{CallsFit, ProgressFits}
 
@@ -217,10 +218,6 @@ variables-run {N} naming typing checked k (more (declares_variable ns u) ds) aft
     let inner = allocate-fits naming typing checked (names_listed ns) s (initial s) f (initial-fits s) store env in
     let (g, eg, fit) = variables-run naming (typing ++ inner.0) (bind_names (names_listed ns) (a_variable s) checked) (k + constructors u) ds after (allocate (names_listed ns) (initial s) f) inner.1 inner.2 e₁ in
     (g, ap (option_and_then (λ s. declare_variables naming (k + constructors u) ds (allocate (names_listed ns) (initial s) f))) (denoted-same naming typing checked f.env env k u ∙ es) ∙ eg, frame-grown naming typing inner.0 after g fit)
-
-pub hold-true : {A : Type 0} (o : Option A) (test : A → Bool) → some_and o test ≡ true → (a : A) × (o ≡ Some a) × (test a ≡ true)
-hold-true None test e = absurd (cc)
-hold-true (Some a) test e = (a, refl, e)
 
 pub procedures-run : {N : Type 0} (naming : Naming N) (typing : StoreTyping) (checked : TypeEnvironment N) (active : Activation N) (k : ℕ) (statements : Tree N (maybe body)) (ps : Tree N (items procedure)) → EnvironmentsFit naming typing checked active
     → procedures_fit naming checked k statements ps ≡ true → (after : TypeEnvironment N) × EnvironmentsFit naming typing after (declare_procedures k ps active) × (body_fits naming after statements ≡ true)

@@ -1,56 +1,17 @@
 -- A statement that fits keeps the store's typing, or the run ends otherwise than stuck.
-use Rattle.std.proofs.Common.{◌≡◌, ℕ, zero, suc, ◌-◌, Bool, true, false, ◌&&◌, List, [], ◌∷◌, ◌++◌, ℤ, if◌then◌else◌, nat_lt, ◌==◌, slice_get, slice_set, Some, None, Option, option_map, option_and_then, unwrap_or, sym, refl, ap, ◌∙◌, subst, append_assoc, append-nil}
+use Rattle.std.proofs.Common.{◌≡◌, ℕ, zero, suc, ◌-◌, true, false, ◌&&◌, List, [], ◌∷◌, ◌++◌, ℤ, if◌then◌else◌, nat_lt, slice_get, slice_set, Some, None, Option, option_map, option_and_then, unwrap_or, sym, refl, ap, ◌∙◌, subst, append_assoc, append-nil}
 use Rattle.ob0_tree.specs.Tree.{Tree, assigns, branches, calls, else_branch, else_part, elsif_branch, elsif_part, empty, end, expression, further_statement, items, maybe, more, none, one, repeat_loop, runs, selector, sequence, statement, then_statement, while_loop}
 use Rattle.ob0_scope_rules.specs.Names.{Name, same_name}
 use Rattle.ob0_types_rules.specs.Arguments.{arguments_listed}
 use Rattle.ob0_types_rules.specs.Expressions.{Meanings, Object, a_constant, a_procedure, a_standard, a_type, a_variable, designate, evaluate, follow, place_of, reads, writes, writes_line}
-use Rattle.ob0_types_rules.specs.Typing.{designated, shape_of_field, type_at, type_of}
+use Rattle.ob0_types_rules.specs.Typing.{designated, shape_of_field, type_of}
 use Rattle.ob0_values.specs.Values.{FieldShapes, Members, Outcome, Place, Shape, Step, Store, TurnBound, Value, Values, array_shape, at_field, at_index, boolean_shape, count_values, elements, ends, gives, integer_shape, members, next_field_shape, next_member, next_value, no_field_shape, no_member, no_value, number, or_stuck, read_place, record_shape, truth, with_at_path, with_named_member, with_nth_value, with_part, write_place, ◌>>=◌}
-use Rattle.ob0_types_rules.specs.WellTyped.{Formal, Mode, Signature, Typed, agree, argument_fits, arguments_fit, by_place, by_value, call_fits, condition_fits, else_fits, elsifs_fit, same_fields, same_shape, sequence_fits, signature_of, statement_fits, statements_fit, variable_type}
+use Rattle.ob0_types_rules.specs.WellTyped.{Formal, Mode, Signature, Typed, agree, argument_fits, arguments_fit, by_place, by_value, condition_fits, else_fits, elsifs_fit, sequence_fits, signature_of, statement_fits, statements_fit, variable_type}
+use Rattle.ob0_types_rules.proofs.Conditions.{agree-true, both_true, call-typed, of_some, variable-typed}
 use Rattle.ob0_run_rules.specs.Runs.{Argument, Calls, Progress, State, choose, evaluate_argument, evaluate_arguments, execute, execute_all, execute_else, execute_elsifs, execute_further, continue_with, line_out, modes_of, number_out, perform, place_argument, append_output, read_number, running, stopped, store_at, turns, turns_until, use_in, value_argument}
-use Rattle.ob0_run_rules.proofs.Sound.{Fitting, evaluate-sound, fits-then, follow-sound, is_number, of_some, or_stuck-fits, part-fits, place-fits, some-gives, variable-fits}
+use Rattle.ob0_run_rules.proofs.Sound.{Fitting, evaluate-sound, fits-then, follow-sound, is_number, or_stuck-fits, part-fits, place-fits, some-gives, variable-fits}
 use Rattle.ob0_run_rules.specs.Fitting.{ArgumentsFit, EachHasShape, HasShape, HaveShapes, MeaningsFit, ObjectFits, PlaceFits, StoreFits, StoreTyping, modes_in, part_shape, shape_at_path}
 use Rattle.ob0_run_rules.proofs.Soundness.{CallsFit, OutcomeFits, ProgressFits, StatementsFit}
-use Rattle.std.proofs.lemmas.Bool.{eqb-true}
-
--- the test of types is equality
-
-pub both_true : (a b : Bool) → (a && b) ≡ true → (a ≡ true) × (b ≡ true)
-both_true true true e = (refl, refl)
-both_true true false e = absurd (cc)
-both_true false b e = absurd (cc)
-
-pub same_name-true : (x y : Name) → same_name x y ≡ true → x ≡ y
-same_name-true [] [] e = refl
-same_name-true [] (b ∷ y) e = absurd (cc)
-same_name-true (a ∷ x) [] e = absurd (cc)
-same_name-true (a ∷ x) (b ∷ y) e =
-    let h = both_true (a == b) (same_name x y) e in λ i. eqb-true a b h.0 i ∷ same_name-true x y h.1 i
-
-mutual
-  pub same_shape-true : (s t : Shape) → same_shape s t ≡ true → s ≡ t
-  same_shape-true integer_shape integer_shape e = refl
-  same_shape-true boolean_shape boolean_shape e = refl
-  same_shape-true (array_shape k n s) (array_shape j m t) e =
-      let h = both_true (k == j) ((n == m) && same_shape s t) e in
-      let g = both_true (n == m) (same_shape s t) h.1 in
-      λ i. array_shape (eqb-true k j h.0 i) (eqb-true n m g.0 i) (same_shape-true s t g.1 i)
-  same_shape-true (record_shape k fs) (record_shape j gs) e =
-      let h = both_true (k == j) (same_fields fs gs) e in λ i. record_shape (eqb-true k j h.0 i) (same_fields-true fs gs h.1 i)
-  same_shape-true _ _ e = absurd (cc)
-
-  pub same_fields-true : (fs gs : FieldShapes) → same_fields fs gs ≡ true → fs ≡ gs
-  same_fields-true no_field_shape no_field_shape e = refl
-  same_fields-true (next_field_shape x s rest) (next_field_shape y t others) e =
-      let h = both_true (same_name x y) (same_shape s t && same_fields rest others) e in
-      let g = both_true (same_shape s t) (same_fields rest others) h.1 in
-      λ i. next_field_shape (same_name-true x y h.0 i) (same_shape-true s t g.0 i) (same_fields-true rest others g.1 i)
-  same_fields-true _ _ e = absurd (cc)
-
-pub agree-true : (a b : Option Shape) → agree a b ≡ true → (s : Shape) × (a ≡ Some s) × (b ≡ Some s)
-agree-true (Some s) (Some t) e = (s, refl, ap Some (sym (same_shape-true s t e)))
-agree-true None b e = absurd (cc)
-agree-true (Some s) None e = absurd (cc)
 
 -- a typing may grow
 
@@ -160,19 +121,6 @@ place_of-fits typing checked active s h e = go active (subst (λ o. ObjectFits t
     go (Some (a_constant t)) h = absurd h
     go (Some (a_procedure t)) h = absurd h
     go (Some (a_standard t)) h = absurd h
-
--- a variable's type is that of its name with the selectors
-pub variable-typed : {N : Type 0} (checked : Typed N) (x : N) (path : Tree N (items selector)) (s : Shape) → variable_type checked (Some (x, path)) ≡ Some s → (t : Shape) × (checked.object_for x ≡ Some (a_variable t)) × (type_at checked t path ≡ Some s)
-unfolding variable_type
-variable-typed checked x path s h = go (checked.object_for x) h
-  where
-    go : (o : Option (Object Shape Signature)) → (elim o [ Some (a_variable t) ↦ type_at checked t path | _ ↦ None ]) ≡ Some s → (t : Shape) × (o ≡ Some (a_variable t)) × (type_at checked t path ≡ Some s)
-    go (Some (a_variable t)) e = (t, refl, e)
-    go None e = absurd (cc)
-    go (Some (a_type t)) e = absurd (cc)
-    go (Some (a_constant t)) e = absurd (cc)
-    go (Some (a_procedure t)) e = absurd (cc)
-    go (Some (a_standard t)) e = absurd (cc)
 
 pub designate-sound : {N : Type 0} (typing : StoreTyping) (checked : Typed N) (active : Meanings N Place (List Mode)) (store : Store) → Fitting typing checked active store → (x : N) (path : Tree N (items selector)) (s : Shape)
     → variable_type checked (Some (x, path)) ≡ Some s → OutcomeFits (λ p. PlaceFits typing p s) (designate active store x path)
@@ -357,11 +305,6 @@ unfolding condition_fits
 condition-sound typing checked active known e h s store_fits =
     let (t, et, ht) = agree-true (Some boolean_shape) (type_of checked e) h in
     evaluate-sound typing checked active s.store record { store_fits = store_fits; names_fit = known } e boolean_shape (ht ∙ sym et)
-
-pub call-typed : {N : Type 0} (checked : Typed N) (o : Option Signature) (es : List (Tree N expression)) → call_fits checked o es ≡ true → (signature : Signature) × (o ≡ Some signature) × (arguments_fit checked signature es ≡ true)
-unfolding call_fits
-call-typed checked None es h = absurd (cc)
-call-typed checked (Some signature) es h = (signature, refl, h)
 
 pub call-here : {N : Type 0} (typing : StoreTyping) (checked : Typed N) (enter : Calls N) → CallsFit typing checked enter → (x : N) (signature : Signature) (args : List Argument) (s : State) → StoreFits typing s.store → ArgumentsFit typing signature args
     → checked.object_for x ≡ Some (a_procedure signature) → ProgressFits typing (enter x args s)

@@ -7,7 +7,7 @@ use Rattle.ob0_tree.specs.View.{items_of}
 use Rattle.ob0_types_check.specs.Known.{Reported}
 use Rattle.ob0_types_check.specs.Operations.{ReportsAfter, preceded_by, right, ◌>>=◌}
 
-reported_equal : {A : Type 0} {a b : Reported A} → a.known ≡ b.known → a.faults ≡ b.faults → a ≡ b
+pub reported_equal : {A : Type 0} {a b : Reported A} → a.known ≡ b.known → a.faults ≡ b.faults → a ≡ b
 reported_equal p q = λ i. record { known = p i; faults = q i }
 
 pub reports_nothing : {A : Type 0} (faults : List Fault) (x : A) → ReportsAfter faults faults x (right x)

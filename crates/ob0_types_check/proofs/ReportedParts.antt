@@ -1,13 +1,15 @@
 -- What is reported of expressions, part by part.
-use Rattle.std.proofs.Common.{◌≡◌, ℕ, Option, refl}
+use Rattle.std.proofs.Common.{◌≡◌, ℕ, List, [], ◌∷◌, ◌++◌, length, None, Option, refl, ◌∙◌, append-nil, arith}
 use Rattle.ob0_tree.specs.declared.tree.Relation.{Relation}
+use Rattle.ob0_tree.specs.declared.tree.Selector.{Selector}
 use Rattle.ob0_tree.specs.declared.tree.Sign.{Sign}
 use Rattle.ob0_tree.specs.Tree.{Tree, addend, adds, compares, designator, end, expression, factor, field, index, integer, item, items, more, multiplier, multiplies, negation, none, one, parenthesised, product, relates, selector, simple, sum, term}
+use Rattle.ob0_tree.specs.View.{items_of, selector_of}
 use Rattle.ob0_types_check.specs.Known.{Facts, Operand, Reported}
 use Rattle.ob0_types_check.specs.ExpressionFaults.{reported_addends, reported_expression, reported_factor, reported_multipliers, reported_selector, reported_selectors, reported_simple, reported_term}
 use Rattle.ob0_types_check.specs.Operations.{a_number, add_operands, complement_operand, element_selected, enclosed, field_selected, multiply_operands, named, relate_operands, right, sign_operand, ◌>>=◌}
 use Rattle.ob0_types_check.specs.TypeFaults.{evaluated, reported_constant}
-use Rattle.ob0_types_check.proofs.Chains.{IsChain, then_assoc}
+use Rattle.ob0_types_check.proofs.Chains.{IsChain, reported_equal, then_assoc}
 
 -- one more operand
 abbrev pub reported_added : {T : Type 0} → Facts T → Operand T → Tree ℕ (item addend) → Reported (Operand T)
@@ -20,6 +22,12 @@ module _ {T : Type 0} (facts : Facts T) where
   pub alone_reported : (a : Tree ℕ simple) → reported_expression facts (compares a none) ≡ reported_simple facts a
   unfolding reported_expression
   alone_reported a = refl
+
+  -- one factor, with no sign and no operator
+  pub factor_reported : (f : Tree ℕ factor) → reported_expression facts (compares (sum None (product f end) end) none) ≡ reported_factor facts f
+  unfolding reported_expression
+  factor_reported f =
+      let faults = (reported_factor facts f).faults in reported_equal refl (append-nil (faults ++ []) ∙ append-nil faults)
 
   pub related_reported : (r : Relation) (a b : Tree ℕ simple) → reported_expression facts (compares a (one (relates r b))) ≡ (reported_simple facts a >>= (λ x. reported_simple facts b >>= relate_operands facts r x))
   unfolding reported_expression
@@ -90,6 +98,11 @@ module _ {T : Type 0} (facts : Facts T) where
 
   pub selected_chain : IsChain (reported_selectors facts) (reported_selector facts)
   selected_chain = record { ended = selected_ended; stepped = selected_stepped }
+
+  -- a name without selectors
+  pub nothing_selected : (x : Operand T) (xs : List Selector) → length xs ≡ 0 → reported_selectors facts x (items_of selector_of xs) ≡ right x
+  nothing_selected x [] e = selected_ended x
+  nothing_selected x (s ∷ xs) e = absurd (omega arith)
 
   pub constant_reported : (e : Tree ℕ expression) → reported_constant facts e ≡ (reported_expression facts e >>= evaluated facts)
   unfolding reported_constant

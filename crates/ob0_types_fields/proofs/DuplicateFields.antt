@@ -13,7 +13,7 @@ use Rattle.ob0_types_rules.specs.Declarations.{after_formals, after_types, after
 use Rattle.ob0_types_rules.specs.Typing.{constructors, group_constructors}
 use Rattle.ob0_types_fields.specs.Identifiers.{DuplicateByToken, declared_fields, declared_in, declared_in_procedure, declared_in_procedures, first, is_field, tokens_among}
 use Rattle.ob0_types_fields.specs.Owned.{marked_group, marked_groups, marked_sections, marked_type, marked_types, marked_variables}
-use Rattle.ob0_rename_laws.specs.Renaming.{RecordFields, names_another_field, records_in_block, records_in_group, records_in_groups, records_in_procedure, records_in_procedures, records_in_sections, records_in_type, records_in_types, records_in_variables}
+use Rattle.ob0_types_fields.specs.Renaming.{RecordFields, names_another_field, records_in_block, records_in_group, records_in_groups, records_in_procedure, records_in_procedures, records_in_sections, records_in_type, records_in_types, records_in_variables}
 use Rattle.ob0_types_fields.proofs.OwnedTypes.{counted_formals_section, counted_group, counted_procedure, counted_section, counted_type, counted_type_section, counted_variable_section, sections_mapped, types_mapped, variables_mapped}
 
 any-append : {A : Type 0} (p : A → Bool) (xs ys : List A) → list_any p (xs ++ ys) ≡ (list_any p xs || list_any p ys)

@@ -17,8 +17,8 @@ use Rattle.ob0_scope_rules.specs.Spans.{is_on}
 use Rattle.ob0_scope_rules.specs.Scopes.{same_ordinal}
 use Rattle.ob0_types_fields.specs.Identifiers.{AreInTextOrder, RenamedAtTokens, field_identifiers, field_on, field_tokens, firsts, is_field, tokens_among}
 use Rattle.ob0_types_fields.specs.Owned.{fields_among, owned_tokens, with_fields_at}
-use Rattle.ob0_rename_laws.specs.Owners.{is_of_field}
-use Rattle.ob0_rename_laws.proofs.ByToken.{renamed_by_token-holds}
+use Rattle.ob0_types_fields.specs.Owners.{is_of_field}
+use Rattle.ob0_types_fields.proofs.ByToken.{renamed_by_token-holds}
 use Rattle.ob0_types_fields.proofs.OwnedTokens.{module-tokens, owners_of_fields-holds, tokens}
 
 -- ---- fields among identifiers

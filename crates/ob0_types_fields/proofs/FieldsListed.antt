@@ -18,16 +18,15 @@ use Rattle.ob0_types_rules.specs.Expressions.{Meanings, Object, a_constant, a_pr
 use Rattle.ob0_types_rules.specs.Typing.{add_type, array_length, complement_type, constant_of, constant_value, constants_only, constructors, denoted, denoted_group, denoted_groups, element_type, given_value, group_constructors, multiply_type, object_type, relation_type, sign_type, type_at, type_of, type_of_addends, type_of_factor, type_of_multipliers, type_of_simple, type_of_term, value_type, with_fields, within_limits}
 use Rattle.ob0_types_rules.specs.WellTyped.{Signature, TypeEnvironment, Typed, TypedParameter, WellTyped, bind_names, bind_typed, block_fits, declare_typed, fits_over, heading, procedure_fits, procedures_fit, section_mode, typed_parameters}
 use Rattle.ob0_values.specs.Values.{FieldShapes, Shape, Value, array_shape, boolean_shape, elements, integer_shape, members, number, record_shape, truth}
-use Rattle.ob0_run_rules.proofs.Sound.{of_some, some-gives}
-use Rattle.ob0_run_rules.proofs.SoundCalls.{hold-true}
-use Rattle.ob0_run_rules.proofs.SoundStatements.{both_true}
-use Rattle.ob0_rename_laws.specs.Fields.{FieldNames, type_after, refield, refield_block, refield_formals, refield_group, refield_groups, refield_procedure, refield_procedures, refield_section, refield_sections, refield_type, refield_type_section, refield_types, refield_variable_section, refield_variables, refielded}
-use Rattle.ob0_rename_laws.specs.Owners.{of_records}
-use Rattle.ob0_rename_laws.specs.Renaming.{RecordFields, records}
-use Rattle.ob0_rename_laws.proofs.AgreeingFields.{NamesAgree, RecordsAgree}
-use Rattle.ob0_rename_laws.proofs.AgreeingModules.{module-alike}
-use Rattle.ob0_rename_laws.proofs.RefieldedModules.{parameter_of}
+use Rattle.ob0_types_fields.specs.Fields.{FieldNames, type_after, refield, refield_block, refield_formals, refield_group, refield_groups, refield_procedure, refield_procedures, refield_section, refield_sections, refield_type, refield_type_section, refield_types, refield_variable_section, refield_variables, refielded}
+use Rattle.ob0_types_fields.specs.Owners.{of_records}
+use Rattle.ob0_types_fields.specs.Renaming.{RecordFields, records}
+use Rattle.ob0_types_fields.proofs.AgreeingFields.{NamesAgree, RecordsAgree}
+use Rattle.ob0_types_fields.proofs.AgreeingModules.{module-alike}
+use Rattle.ob0_types_fields.proofs.NamesMeant.{parameter_of}
 use Rattle.ob0_types_rules.specs.Bindings.{declared_object}
+use Rattle.ob0_types_rules.proofs.Conditions.{both_true, hold-true, of_some}
+use Rattle.ob0_types_rules.proofs.TypedElsewhere.{then_some}
 use Rattle.ob0_types_fields.specs.Identifiers.{FieldsListed, written_fields}
 use Rattle.ob0_types_fields.specs.Owned.{HasOwners, fields_among, owned_tokens, token_objects}
 use Rattle.ob0_types_fields.proofs.MappedIdentifiers.{beside_role, both, identifiers-mapped}
@@ -161,10 +160,10 @@ path-plain m t end s scalar h = refl
 path-plain m integer_shape (more (field x) rest) s scalar h = absurd (cc)
 path-plain m boolean_shape (more (field x) rest) s scalar h = absurd (cc)
 path-plain m integer_shape (more (index e) rest) s scalar h =
-    let (j, ej, h₁) = some-gives (type_of (alone m) e) (λ j. option_and_then (λ u. type_at (alone m) u rest) (element_type integer_shape j)) s h in
+    let (j, ej, h₁) = then_some (type_of (alone m) e) (λ j. option_and_then (λ u. type_at (alone m) u rest) (element_type integer_shape j)) s h in
     absurd (cc)
 path-plain m boolean_shape (more (index e) rest) s scalar h =
-    let (j, ej, h₁) = some-gives (type_of (alone m) e) (λ j. option_and_then (λ u. type_at (alone m) u rest) (element_type boolean_shape j)) s h in
+    let (j, ej, h₁) = then_some (type_of (alone m) e) (λ j. option_and_then (λ u. type_at (alone m) u rest) (element_type boolean_shape j)) s h in
     absurd (cc)
 path-plain m (array_shape k n u) (more a rest) s scalar h = absurd scalar
 path-plain m (record_shape k fs) (more a rest) s scalar h = absurd scalar
@@ -175,54 +174,54 @@ mutual
   expression-plain : (m : Typed Name) (e : Tree Name expression) (s : Shape) → type_of (alone m) e ≡ Some s → ids e ≡ marked (ids e)
   expression-plain m (compares a none) s h = both mark_at (ids a) [] (simple-plain m a s h) refl
   expression-plain m (compares a (one (relates r b))) s h =
-      let (x, ex, h₁) = some-gives (type_of_simple (alone m) a) (λ x. option_and_then (relation_type r x) (type_of_simple (alone m) b)) s h in
-      let (y, ey, h₂) = some-gives (type_of_simple (alone m) b) (relation_type r x) s h₁ in
+      let (x, ex, h₁) = then_some (type_of_simple (alone m) a) (λ x. option_and_then (relation_type r x) (type_of_simple (alone m) b)) s h in
+      let (y, ey, h₂) = then_some (type_of_simple (alone m) b) (relation_type r x) s h₁ in
       both mark_at (ids a) (ids b) (simple-plain m a x ex) (simple-plain m b y ey)
 
   simple-plain : (m : Typed Name) (a : Tree Name simple) (s : Shape) → type_of_simple (alone m) a ≡ Some s → ids a ≡ marked (ids a)
   simple-plain m (sum sign t rest) s h =
-      let (x, ex, h₁) = some-gives (type_of_term (alone m) t) (λ x. option_and_then (λ y. type_of_addends (alone m) y rest) (sign_type sign x)) s h in
-      let (y, ey, h₂) = some-gives (sign_type sign x) (λ y. type_of_addends (alone m) y rest) s h₁ in
+      let (x, ex, h₁) = then_some (type_of_term (alone m) t) (λ x. option_and_then (λ y. type_of_addends (alone m) y rest) (sign_type sign x)) s h in
+      let (y, ey, h₂) = then_some (sign_type sign x) (λ y. type_of_addends (alone m) y rest) s h₁ in
       both mark_at (ids t) (ids rest) (term-plain m t x ex) (addends-plain m y rest s h₂)
 
   addends-plain : (m : Typed Name) (x : Shape) (a : Tree Name (items addend)) (s : Shape) → type_of_addends (alone m) x a ≡ Some s → ids a ≡ marked (ids a)
   addends-plain m x end s h = refl
   addends-plain m x (more (adds o t) rest) s h =
-      let (y, ey, h₁) = some-gives (type_of_term (alone m) t) (λ y. option_and_then (λ z. type_of_addends (alone m) z rest) (add_type o x y)) s h in
-      let (z, ez, h₂) = some-gives (add_type o x y) (λ z. type_of_addends (alone m) z rest) s h₁ in
+      let (y, ey, h₁) = then_some (type_of_term (alone m) t) (λ y. option_and_then (λ z. type_of_addends (alone m) z rest) (add_type o x y)) s h in
+      let (z, ez, h₂) = then_some (add_type o x y) (λ z. type_of_addends (alone m) z rest) s h₁ in
       both mark_at (ids t) (ids rest) (term-plain m t y ey) (addends-plain m z rest s h₂)
 
   term-plain : (m : Typed Name) (a : Tree Name term) (s : Shape) → type_of_term (alone m) a ≡ Some s → ids a ≡ marked (ids a)
   term-plain m (product a rest) s h =
-      let (x, ex, h₁) = some-gives (type_of_factor (alone m) a) (λ x. type_of_multipliers (alone m) x rest) s h in
+      let (x, ex, h₁) = then_some (type_of_factor (alone m) a) (λ x. type_of_multipliers (alone m) x rest) s h in
       both mark_at (ids a) (ids rest) (factor-plain m a x ex) (multipliers-plain m x rest s h₁)
 
   multipliers-plain : (m : Typed Name) (x : Shape) (a : Tree Name (items multiplier)) (s : Shape) → type_of_multipliers (alone m) x a ≡ Some s → ids a ≡ marked (ids a)
   multipliers-plain m x end s h = refl
   multipliers-plain m x (more (multiplies o a) rest) s h =
-      let (y, ey, h₁) = some-gives (type_of_factor (alone m) a) (λ y. option_and_then (λ z. type_of_multipliers (alone m) z rest) (multiply_type o x y)) s h in
-      let (z, ez, h₂) = some-gives (multiply_type o x y) (λ z. type_of_multipliers (alone m) z rest) s h₁ in
+      let (y, ey, h₁) = then_some (type_of_factor (alone m) a) (λ y. option_and_then (λ z. type_of_multipliers (alone m) z rest) (multiply_type o x y)) s h in
+      let (z, ez, h₂) = then_some (multiply_type o x y) (λ z. type_of_multipliers (alone m) z rest) s h₁ in
       both mark_at (ids a) (ids rest) (factor-plain m a y ey) (multipliers-plain m z rest s h₂)
 
   factor-plain : (m : Typed Name) (a : Tree Name factor) (s : Shape) → type_of_factor (alone m) a ≡ Some s → ids a ≡ marked (ids a)
   factor-plain m (designator x path) s h =
-      let (t, et, h₁) = some-gives (object_type {P = Unit {0}} (option_map a_constant (constant_of (m.object_for x)))) (λ t. type_at (alone m) t path) s h in
+      let (t, et, h₁) = then_some (object_type {P = Unit {0}} (option_map a_constant (constant_of (m.object_for x)))) (λ t. type_at (alone m) t path) s h in
       ap (λ z. (role.LookedUp, x) ∷ z) (path-plain m t path s (constant-scalar (m.object_for x) t et) h₁)
   factor-plain m (integer n) s h = refl
   factor-plain m (parenthesised e) s h = expression-plain m e s h
-  factor-plain m (negation a) s h = let (x, ex, h₁) = some-gives (type_of_factor (alone m) a) complement_type s h in factor-plain m a x ex
+  factor-plain m (negation a) s h = let (x, ex, h₁) = then_some (type_of_factor (alone m) a) complement_type s h in factor-plain m a x ex
 
 constant-plain : (m : Typed Name) (e : Tree Name expression) (v : Value) → constant_value m e ≡ Some v → ids e ≡ marked (ids e)
 unfolding constant_value
 constant-plain m e v h =
-    let (s, es, h₁) = some-gives (type_of (alone m) e) (λ s. given_value (evaluate {P = Unit {0}} (constants_only m) [] e)) v h in
+    let (s, es, h₁) = then_some (type_of (alone m) e) (λ s. given_value (evaluate {P = Unit {0}} (constants_only m) [] e)) v h in
     expression-plain m e s es
 
 constants-plain : (env : TypeEnvironment Name) (cs : Tree Name (items constant)) (after : TypeEnvironment Name) → declare_constants as_names env cs ≡ Some after → ids cs ≡ marked (ids cs)
 unfolding declare_constants
 constants-plain env end after h = refl
 constants-plain env (more (declares_constant x e) cs) after h =
-    let (v, ev, h₁) = some-gives (constant_value (meanings as_names env) e) (λ v. declare_constants as_names ((x, a_constant v) ∷ env) cs) after h in
+    let (v, ev, h₁) = then_some (constant_value (meanings as_names env) e) (λ v. declare_constants as_names ((x, a_constant v) ∷ env) cs) after h in
     both mark_at ((role.Declaring, x) ∷ ids e) (ids cs) (ap (λ z. (role.Declaring, x) ∷ z) (constant-plain (meanings as_names env) e v ev)) (constants-plain ((x, a_constant v) ∷ env) cs after h₁)
 
 constant_section-plain : (env : TypeEnvironment Name) (cs : Tree Name (maybe constants)) (after : TypeEnvironment Name) → declare_constants as_names env (section_constants cs) ≡ Some after → ids cs ≡ marked (ids cs)
@@ -244,32 +243,32 @@ mutual
   type-marked : (m : Typed Name) (k : ℕ) (t : Tree Name written_type) (s : Shape) → denoted m k t ≡ Some s → ids (refield_type every k t) ≡ marked (ids t)
   type-marked m k (named_type x) s h = refl
   type-marked m k (array_type e t) s h =
-      let (v, ev, h₁) = some-gives (constant_value m e) (λ v. option_and_then (λ n. option_and_then (λ u. within_limits (array_shape k n u)) (denoted m (suc k) t)) (array_length v)) s h in
-      let (n, en, h₂) = some-gives (array_length v) (λ n. option_and_then (λ u. within_limits (array_shape k n u)) (denoted m (suc k) t)) s h₁ in
-      let (u, eu, h₃) = some-gives (denoted m (suc k) t) (λ u. within_limits (array_shape k n u)) s h₂ in
+      let (v, ev, h₁) = then_some (constant_value m e) (λ v. option_and_then (λ n. option_and_then (λ u. within_limits (array_shape k n u)) (denoted m (suc k) t)) (array_length v)) s h in
+      let (n, en, h₂) = then_some (array_length v) (λ n. option_and_then (λ u. within_limits (array_shape k n u)) (denoted m (suc k) t)) s h₁ in
+      let (u, eu, h₃) = then_some (denoted m (suc k) t) (λ u. within_limits (array_shape k n u)) s h₂ in
       both mark_at (ids e) (ids t) (constant-plain m e v ev) (type-marked m (suc k) t u eu)
   type-marked m k (record_type g rest) s h =
-      let (later, el, h₁) = some-gives (denoted_groups m (suc k + group_constructors g) rest) (λ later. option_and_then (λ fs. within_limits (record_shape k fs)) (denoted_group m (suc k) later g)) s h in
-      let (fs, ef, h₂) = some-gives (denoted_group m (suc k) later g) (λ fs. within_limits (record_shape k fs)) s h₁ in
+      let (later, el, h₁) = then_some (denoted_groups m (suc k + group_constructors g) rest) (λ later. option_and_then (λ fs. within_limits (record_shape k fs)) (denoted_group m (suc k) later g)) s h in
+      let (fs, ef, h₂) = then_some (denoted_group m (suc k) later g) (λ fs. within_limits (record_shape k fs)) s h₁ in
       both mark_at (ids g) (ids rest) (group-marked m k (suc k) later g fs ef) (groups-marked m k (suc k + group_constructors g) rest later el)
 
   group-marked : (m : Typed Name) (r k : ℕ) (later : FieldShapes) (g : Tree Name fields) (fs : FieldShapes) → denoted_group m k later g ≡ Some fs → ids (refield_group every r k g) ≡ marked (ids g)
   group-marked m r k later no_fields fs h = refl
   group-marked m r k later (some_fields ns t) fs h =
-      let (s, es, h₁) = some-gives (denoted m k t) (λ s. Some (with_fields (map m.written (names_listed ns)) s later)) fs h in
+      let (s, es, h₁) = then_some (denoted m k t) (λ s. Some (with_fields (map m.written (names_listed ns)) s later)) fs h in
       both mark_at (identifiers role.FieldName ns) (ids t) (names-marked r ns) (type-marked m k t s es)
 
   groups-marked : (m : Typed Name) (r k : ℕ) (gs : Tree Name (items further_fields)) (fs : FieldShapes) → denoted_groups m k gs ≡ Some fs → ids (refield_groups every r k gs) ≡ marked (ids gs)
   groups-marked m r k end fs h = refl
   groups-marked m r k (more (then_fields g) rest) fs h =
-      let (later, el, h₁) = some-gives (denoted_groups m (k + group_constructors g) rest) (λ later. denoted_group m k later g) fs h in
+      let (later, el, h₁) = then_some (denoted_groups m (k + group_constructors g) rest) (λ later. denoted_group m k later g) fs h in
       both mark_at (ids g) (ids rest) (group-marked m r k later g fs h₁) (groups-marked m r (k + group_constructors g) rest later el)
 
 types-marked : (env : TypeEnvironment Name) (k : ℕ) (ds : Tree Name (items type_name)) (after : TypeEnvironment Name) → declare_types as_names env k ds ≡ Some after → ids (refield_types every k ds) ≡ marked (ids ds)
 unfolding declare_types
 types-marked env k end after h = refl
 types-marked env k (more (declares_type x u) ds) after h =
-    let (s, es, h₁) = some-gives (denoted (meanings as_names env) k u) (λ s. declare_types as_names ((x, a_type s) ∷ env) (k + constructors u) ds) after h in
+    let (s, es, h₁) = then_some (denoted (meanings as_names env) k u) (λ s. declare_types as_names ((x, a_type s) ∷ env) (k + constructors u) ds) after h in
     both mark_at ((role.Declaring, x) ∷ ids u) (ids ds) (ap (λ z. (role.Declaring, x) ∷ z) (type-marked (meanings as_names env) k u s es)) (types-marked ((x, a_type s) ∷ env) (k + constructors u) ds after h₁)
 
 type_section-marked : (env : TypeEnvironment Name) (k : ℕ) (ts : Tree Name (maybe type_names)) (after : TypeEnvironment Name) → declare_types as_names env k (section_types ts) ≡ Some after → ids (refield_type_section every k ts) ≡ marked (ids ts)
@@ -287,7 +286,7 @@ variables-marked : (env : TypeEnvironment Name) (k : ℕ) (gs : Tree Name (items
 unfolding declare_typed
 variables-marked env k end after h = refl
 variables-marked env k (more (declares_variable ns u) gs) after h =
-    let (s, es, h₁) = some-gives (denoted (meanings as_names env) k u) (λ s. declare_typed as_names (k + constructors u) gs (bind_names (names_listed ns) (a_variable s) env)) after h in
+    let (s, es, h₁) = then_some (denoted (meanings as_names env) k u) (λ s. declare_typed as_names (k + constructors u) gs (bind_names (names_listed ns) (a_variable s) env)) after h in
     both mark_at (ids ns ++ ids u) (ids gs) (both mark_at (ids ns) (ids u) (names_declared ns) (type-marked (meanings as_names env) k u s es))
     (variables-marked (bind_names (names_listed ns) (a_variable s) env) (k + constructors u) gs after h₁)
 
@@ -303,8 +302,8 @@ sections-marked : (env : TypeEnvironment Name) (k : ℕ) (fs : Tree Name (items 
 unfolding typed_parameters
 sections-marked env k end ps h = refl
 sections-marked env k (more (then_section f) fs) ps h =
-    let (s, es, h₁) = some-gives (denoted (meanings as_names env) k (section_type f)) (λ s. option_and_then (λ rest. Some (map (parameter_of (section_mode f) s) (section_names f) ++ rest)) (typed_parameters as_names (bind_names (section_names f) (a_variable s) env) (k + constructors (section_type f)) fs)) ps h in
-    let (rest, er, h₂) = some-gives (typed_parameters as_names (bind_names (section_names f) (a_variable s) env) (k + constructors (section_type f)) fs) (λ rest. Some (map (parameter_of (section_mode f) s) (section_names f) ++ rest)) ps h₁ in
+    let (s, es, h₁) = then_some (denoted (meanings as_names env) k (section_type f)) (λ s. option_and_then (λ rest. Some (map (parameter_of (section_mode f) s) (section_names f) ++ rest)) (typed_parameters as_names (bind_names (section_names f) (a_variable s) env) (k + constructors (section_type f)) fs)) ps h in
+    let (rest, er, h₂) = then_some (typed_parameters as_names (bind_names (section_names f) (a_variable s) env) (k + constructors (section_type f)) fs) (λ rest. Some (map (parameter_of (section_mode f) s) (section_names f) ++ rest)) ps h₁ in
     both mark_at (ids f) (ids fs) (section-marked (meanings as_names env) k f s es)
     (sections-marked (bind_names (section_names f) (a_variable s) env) (k + constructors (section_type f)) fs rest er)
 
@@ -322,8 +321,8 @@ mutual
   block-marked env k (has_body (declares cs ts vs ps) statements) h =
       let b : Tree Name block = has_body (declares cs ts vs ps) statements in
       let (inner, e₁, e₂) = hold-true (option_and_then (declare_typed as_names (after_types k b) (section_variables vs)) (declare_first as_names env k b)) (λ inner. procedures_fit as_names inner (after_variables k b) statements ps) h in
-      let (first, ef, e₃) = some-gives (declare_first as_names env k b) (declare_typed as_names (after_types k b) (section_variables vs)) inner e₁ in
-      let (consts, ec, e₄) = some-gives (declare_constants as_names env (section_constants cs)) (λ env. declare_types as_names env k (section_types ts)) first ef in
+      let (first, ef, e₃) = then_some (declare_first as_names env k b) (declare_typed as_names (after_types k b) (section_variables vs)) inner e₁ in
+      let (consts, ec, e₄) = then_some (declare_constants as_names env (section_constants cs)) (λ env. declare_types as_names env k (section_types ts)) first ef in
       let later = subst (λ inner. ids (refield_procedures every inner (after_variables k b) ps) ≡ marked (ids ps)) (sym (ap (λ o. unwrap_or o env) e₁)) (procedures-marked inner (after_variables k b) statements ps e₂) in
       both mark_at (ids cs ++ (ids ts ++ (ids vs ++ ids ps))) (ids statements)
       (both mark_at (ids cs) (ids ts ++ (ids vs ++ ids ps)) (constant_section-plain env cs consts ec)

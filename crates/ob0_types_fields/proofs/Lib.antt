@@ -1,3 +1,9 @@
+pub mod NamesMeant
+pub mod Bare
+pub mod AgreeingFields
+pub mod AgreeingModules
+pub mod ByToken
+pub mod WorkedFields
 pub mod OwnedStatements
 pub mod OwnedTypes
 pub mod DeclaredInOrder
@@ -7,7 +13,7 @@ pub mod OwnedTokens
 pub mod MarkWalks
 pub mod MarkPaths
 pub mod FieldLookups
-pub mod PlainExpressions
+pub mod AloneFactors
 pub mod MarkedFields
 pub mod GroupWalks
 pub mod DeclaredWalks

@@ -29,12 +29,12 @@ use Rattle.ob0_types_rules.proofs.Bound.{headed_bindings, since-append}
 use Rattle.ob0_types_rules.proofs.Literals.{some_inverse}
 use Rattle.ob0_types_rules.proofs.Proved.{fits_by_ordinal-holds}
 use Rattle.ob0_types_rules.proofs.TypesByOrdinal.{TypeNoted, TypedBelow, TypedBelow-weaken, TypedWithin, bind_typed-by_name, bind_typed-by_ordinal, body_fits-agrees, declarations_typed, label_typed, label_typed-formals, noted_parameters, noted_parameters-within, parameters_typed, typed_by_name, typed_by_ordinal, typed_names, typed_outermost, typed_scope}
-use Rattle.ob0_rename_laws.specs.Fields.{types_after_heading, types_after_procedures, types_after_variables, parameters_of, refield, refield_block, refield_procedures, refield_variable_section}
-use Rattle.ob0_rename_laws.specs.Owners.{of_records}
+use Rattle.ob0_types_fields.specs.Fields.{types_after_heading, types_after_procedures, types_after_variables, parameters_of, refield, refield_block, refield_procedures, refield_variable_section}
+use Rattle.ob0_types_fields.specs.Owners.{of_records}
 use Rattle.ob0_types_fields.specs.Owned.{HasOwners, OwnersByDeclaration, owned, owned_block, owned_formals, owned_procedure, owned_procedures, owned_type_section, owned_variable_section, token_objects, unowned}
 use Rattle.ob0_types_fields.proofs.OwnedStatements.{Alike, SameTypes, owned-alike, owners_split, recorded, recorded-alike, recorded-mapped, unowned-all}
 use Rattle.ob0_types_fields.proofs.OwnedTypes.{counted_formals_section, counted_procedure, counted_type_section, counted_variable_section, formals-owned, type_section-owned, variable_section-owned}
-use Rattle.ob0_rename_laws.proofs.RefieldedModules.{stands_in}
+use Rattle.ob0_types_fields.proofs.NamesMeant.{stands_in}
 use Rattle.ob0_types_fields.proofs.Selecting.{body-selects, here}
 use Rattle.ob0_types_fields.proofs.DeclaredInOrder.{Descends, Grown, Right, block_grows, bound_right, descends_join, heading_grows, right_join, right_split}
 

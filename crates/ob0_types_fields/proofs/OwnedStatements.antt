@@ -8,8 +8,8 @@ use Rattle.ob0_types_rules.specs.Expressions.{Meanings}
 use Rattle.ob0_types_rules.specs.Typing.{field_type, object_type}
 use Rattle.ob0_types_rules.specs.WellTyped.{Typed}
 use Rattle.ob0_values.specs.Values.{Shape}
-use Rattle.ob0_rename_laws.specs.Fields.{type_after, record_of, refield}
-use Rattle.ob0_rename_laws.specs.Owners.{of_records}
+use Rattle.ob0_types_fields.specs.Fields.{type_after, record_of, refield}
+use Rattle.ob0_types_fields.specs.Owners.{of_records}
 use Rattle.ob0_types_fields.specs.Owned.{HasOwners, owned, owner, passed, unowned, unowned_among}
 
 pub owners_split : (at : ℕ → Option ℕ) (xs ys : List (ℕ × Option ℕ)) → HasOwners at (xs ++ ys) → HasOwners at xs × HasOwners at ys

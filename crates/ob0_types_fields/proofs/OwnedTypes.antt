@@ -6,8 +6,8 @@ use Rattle.ob0_scope_rules.specs.Names.{Name}
 use Rattle.ob0_scope_rules.specs.Parts.{formal_sections, further_names, names_listed, section_type, section_types, section_variables}
 use Rattle.ob0_types_rules.specs.Declarations.{block_constructors, formals_constructors, procedure_constructors, procedures_constructors, types_constructors, variables_constructors}
 use Rattle.ob0_types_rules.specs.Typing.{constructors, group_constructors, groups_constructors}
-use Rattle.ob0_rename_laws.specs.Fields.{refield_formals, refield_group, refield_groups, refield_section, refield_sections, refield_type, refield_type_section, refield_types, refield_variable_section, refield_variables}
-use Rattle.ob0_rename_laws.specs.Owners.{of_records}
+use Rattle.ob0_types_fields.specs.Fields.{refield_formals, refield_group, refield_groups, refield_section, refield_sections, refield_type, refield_type_section, refield_types, refield_variable_section, refield_variables}
+use Rattle.ob0_types_fields.specs.Owners.{of_records}
 use Rattle.ob0_types_fields.specs.Owned.{HasOwners, owned_formals, owned_group, owned_groups, owned_section, owned_sections, owned_type, owned_type_section, owned_types, owned_variable_section, owned_variables, unowned}
 use Rattle.ob0_types_fields.proofs.OwnedStatements.{owners_split, unowned-all}
 

@@ -8,15 +8,14 @@ use Rattle.ob0_types_rules.specs.Expressions.{Meanings, Object}
 use Rattle.ob0_types_table.specs.FieldPlaces.{place_of_field}
 use Rattle.ob0_types_rules.specs.Typing.{add_type, complement_type, designated, element_type, field_type, multiply_type, object_type, relation_type, shape_of_field, sign_type, type_at, type_of, type_of_addends, type_of_factor, type_of_multipliers, type_of_simple, type_of_term}
 use Rattle.ob0_types_rules.specs.WellTyped.{Formal, Mode, Signature, TypeEnvironment, agree, argument_fits, arguments_fit, body_fits, by_place, by_value, condition_fits, else_fits, elsifs_fit, sequence_fits, signature_of, statement_fits, statements_fit, variable_type}
+use Rattle.ob0_types_rules.proofs.Conditions.{agree-true, both_true, call-typed, variable-typed}
+use Rattle.ob0_types_rules.proofs.TypedElsewhere.{then_some}
 use Rattle.ob0_values.specs.Values.{FieldShapes, Shape, array_shape, boolean_shape, integer_shape, next_field_shape, no_field_shape, record_shape}
-use Rattle.ob0_run_rules.proofs.Sound.{some-gives}
-use Rattle.ob0_run_rules.proofs.SoundStatements.{agree-true, both_true, call-typed, variable-typed}
-use Rattle.ob0_rename_laws.specs.Fields.{record_of}
+use Rattle.ob0_types_fields.specs.Fields.{record_of}
 use Rattle.ob0_types_fields.specs.Owned.{owned, owner}
-use Rattle.ob0_rename_laws.proofs.AgreeingFields.{designated-typed}
-use Rattle.ob0_rename_laws.proofs.Apart.{named}
+use Rattle.ob0_types_fields.proofs.AgreeingFields.{designated-typed}
+use Rattle.ob0_types_fields.proofs.NamesMeant.{named, stands_in}
 use Rattle.ob0_types_fields.proofs.OwnedStatements.{recorded}
-use Rattle.ob0_rename_laws.proofs.RefieldedModules.{stands_in}
 
 place-found : (fs : FieldShapes) (x : Name) (u : Shape) → shape_of_field fs x ≡ Some u → (i : ℕ) × (place_of_field fs x ≡ Some i)
 place-found no_field_shape x u h = absurd (cc)
@@ -48,52 +47,52 @@ module _ (stands : Name → Option (Object Shape Signature)) (text : ℕ → Nam
     expression-selects : (e : Tree ℕ expression) (s : Shape) → type_of (named stands) (mapped text value e) ≡ Some s → owned here None e ≡ recorded here None e
     expression-selects (compares a none) s h = λ i. simple-selects a s h i ++ []
     expression-selects (compares a (one (relates r b))) s h =
-        let (x, ex, h₁) = some-gives (type_of_simple (named stands) (mapped text value a)) (λ x. option_and_then (relation_type r x) (type_of_simple (named stands) (mapped text value b))) s h in
-        let (y, ey, h₂) = some-gives (type_of_simple (named stands) (mapped text value b)) (relation_type r x) s h₁ in
+        let (x, ex, h₁) = then_some (type_of_simple (named stands) (mapped text value a)) (λ x. option_and_then (relation_type r x) (type_of_simple (named stands) (mapped text value b))) s h in
+        let (y, ey, h₂) = then_some (type_of_simple (named stands) (mapped text value b)) (relation_type r x) s h₁ in
         λ i. simple-selects a x ex i ++ simple-selects b y ey i
 
     simple-selects : (a : Tree ℕ simple) (s : Shape) → type_of_simple (named stands) (mapped text value a) ≡ Some s → owned here None a ≡ recorded here None a
     simple-selects (sum sign t rest) s h =
-        let (x, ex, h₁) = some-gives (type_of_term (named stands) (mapped text value t)) (λ x. option_and_then (λ y. type_of_addends (named stands) y (mapped text value rest)) (sign_type sign x)) s h in
-        let (y, ey, h₂) = some-gives (sign_type sign x) (λ y. type_of_addends (named stands) y (mapped text value rest)) s h₁ in
+        let (x, ex, h₁) = then_some (type_of_term (named stands) (mapped text value t)) (λ x. option_and_then (λ y. type_of_addends (named stands) y (mapped text value rest)) (sign_type sign x)) s h in
+        let (y, ey, h₂) = then_some (sign_type sign x) (λ y. type_of_addends (named stands) y (mapped text value rest)) s h₁ in
         λ i. term-selects t x ex i ++ addends-selects y rest s h₂ i
 
     addends-selects : (x : Shape) (a : Tree ℕ (items addend)) (s : Shape) → type_of_addends (named stands) x (mapped text value a) ≡ Some s → owned here None a ≡ recorded here None a
     addends-selects x end s h = refl
     addends-selects x (more (adds o t) rest) s h =
-        let (y, ey, h₁) = some-gives (type_of_term (named stands) (mapped text value t)) (λ y. option_and_then (λ z. type_of_addends (named stands) z (mapped text value rest)) (add_type o x y)) s h in
-        let (z, ez, h₂) = some-gives (add_type o x y) (λ z. type_of_addends (named stands) z (mapped text value rest)) s h₁ in
+        let (y, ey, h₁) = then_some (type_of_term (named stands) (mapped text value t)) (λ y. option_and_then (λ z. type_of_addends (named stands) z (mapped text value rest)) (add_type o x y)) s h in
+        let (z, ez, h₂) = then_some (add_type o x y) (λ z. type_of_addends (named stands) z (mapped text value rest)) s h₁ in
         λ i. term-selects t y ey i ++ addends-selects z rest s h₂ i
 
     term-selects : (a : Tree ℕ term) (s : Shape) → type_of_term (named stands) (mapped text value a) ≡ Some s → owned here None a ≡ recorded here None a
     term-selects (product a rest) s h =
-        let (x, ex, h₁) = some-gives (type_of_factor (named stands) (mapped text value a)) (λ x. type_of_multipliers (named stands) x (mapped text value rest)) s h in
+        let (x, ex, h₁) = then_some (type_of_factor (named stands) (mapped text value a)) (λ x. type_of_multipliers (named stands) x (mapped text value rest)) s h in
         λ i. factor-selects a x ex i ++ multipliers-selects x rest s h₁ i
 
     multipliers-selects : (x : Shape) (a : Tree ℕ (items multiplier)) (s : Shape) → type_of_multipliers (named stands) x (mapped text value a) ≡ Some s → owned here None a ≡ recorded here None a
     multipliers-selects x end s h = refl
     multipliers-selects x (more (multiplies o a) rest) s h =
-        let (y, ey, h₁) = some-gives (type_of_factor (named stands) (mapped text value a)) (λ y. option_and_then (λ z. type_of_multipliers (named stands) z (mapped text value rest)) (multiply_type o x y)) s h in
-        let (z, ez, h₂) = some-gives (multiply_type o x y) (λ z. type_of_multipliers (named stands) z (mapped text value rest)) s h₁ in
+        let (y, ey, h₁) = then_some (type_of_factor (named stands) (mapped text value a)) (λ y. option_and_then (λ z. type_of_multipliers (named stands) z (mapped text value rest)) (multiply_type o x y)) s h in
+        let (z, ez, h₂) = then_some (multiply_type o x y) (λ z. type_of_multipliers (named stands) z (mapped text value rest)) s h₁ in
         λ i. factor-selects a y ey i ++ multipliers-selects z rest s h₂ i
 
     factor-selects : (a : Tree ℕ factor) (s : Shape) → type_of_factor (named stands) (mapped text value a) ≡ Some s → owned here None a ≡ recorded here None a
     factor-selects (designator x path) s h =
-        let (t, et, h₁) = some-gives (object_type (stands (text x))) (λ t. type_at (named stands) t (mapped text value path)) s h in
+        let (t, et, h₁) = then_some (object_type (stands (text x))) (λ t. type_at (named stands) t (mapped text value path)) s h in
         λ i. (x, None) ∷ subst (λ o. owned here o path ≡ recorded here o path) (sym et) (path-selects t path s h₁) i
     factor-selects (integer n) s h = refl
     factor-selects (parenthesised e) s h = expression-selects e s h
     factor-selects (negation a) s h =
-        let (x, ex, h₁) = some-gives (type_of_factor (named stands) (mapped text value a)) complement_type s h in factor-selects a x ex
+        let (x, ex, h₁) = then_some (type_of_factor (named stands) (mapped text value a)) complement_type s h in factor-selects a x ex
 
     path-selects : (t : Shape) (path : Tree ℕ (items selector)) (s : Shape) → type_at (named stands) t (mapped text value path) ≡ Some s → owned here (Some t) path ≡ recorded here (Some t) path
     path-selects t end s h = refl
     path-selects t (more (field x) rest) s h =
-        let (u, eu, h₁) = some-gives (field_type t (text x)) (λ u. type_at (named stands) u (mapped text value rest)) s h in
+        let (u, eu, h₁) = then_some (field_type t (text x)) (λ u. type_at (named stands) u (mapped text value rest)) s h in
         λ i. (x, selected-owner t (text x) u eu i) ∷ subst (λ o. owned here o rest ≡ recorded here o rest) (sym eu) (path-selects u rest s h₁) i
     path-selects t (more (index e) rest) s h =
-        let (j, ej, h₁) = some-gives (type_of (named stands) (mapped text value e)) (λ j. option_and_then (λ u. type_at (named stands) u (mapped text value rest)) (element_type t j)) s h in
-        let (u, eu, h₂) = some-gives (element_type t j) (λ u. type_at (named stands) u (mapped text value rest)) s h₁ in
+        let (j, ej, h₁) = then_some (type_of (named stands) (mapped text value e)) (λ j. option_and_then (λ u. type_at (named stands) u (mapped text value rest)) (element_type t j)) s h in
+        let (u, eu, h₂) = then_some (element_type t j) (λ u. type_at (named stands) u (mapped text value rest)) s h₁ in
         λ i. expression-selects e j ej i ++ subst (λ o. owned here o rest ≡ recorded here o rest) (sym (element-integer t j u eu)) (path-selects u rest s h₂) i
 
   argument-selects : (f : Formal) (e : Tree ℕ expression) → argument_fits (named stands) f (mapped text value e) ≡ true → owned here None e ≡ recorded here None e

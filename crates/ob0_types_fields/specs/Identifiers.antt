@@ -16,7 +16,7 @@ use Rattle.ob0_scope_rules.specs.Spans.{is_on}
 use Rattle.ob0_types_rules.specs.Declarations.{after_formals, after_types, after_variables, procedure_constructors}
 use Rattle.ob0_types_rules.specs.WellTyped.{WellTyped}
 use Rattle.ob0_types_fields.specs.Owned.{fields_among, marked_sections, marked_types, marked_variables, owned_tokens}
-use Rattle.ob0_rename_laws.specs.Renaming.{field_renamed, is_duplicate_field}
+use Rattle.ob0_types_fields.specs.Renaming.{field_renamed, is_duplicate_field}
 
 -- the identifiers of a module that are fields, in text order, each with the ordinal of its record
 abbrev pub field_identifiers : Resolution → List (ℕ × ℕ)

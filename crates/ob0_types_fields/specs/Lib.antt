@@ -1,3 +1,6 @@
+pub mod Fields
+pub mod Renaming
+pub mod Owners
 pub mod Owned
 pub mod Identifiers
 pub mod Listed

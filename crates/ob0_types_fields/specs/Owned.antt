@@ -16,7 +16,7 @@ use Rattle.ob0_types_table.specs.FieldPlaces.{field_selected}
 use Rattle.ob0_types_rules.specs.Typing.{constructors, element_type, field_type, group_constructors, object_type}
 use Rattle.ob0_types_rules.specs.WellTyped.{Signature, WellTyped}
 use Rattle.ob0_values.specs.Values.{Shape, integer_shape}
-use Rattle.ob0_rename_laws.specs.Owners.{AreOwners}
+use Rattle.ob0_types_fields.specs.Owners.{AreOwners}
 
 -- identifiers none of which is a field
 abbrev pub unowned_among : List (Role × ℕ) → List (ℕ × Option ℕ)

@@ -7,7 +7,9 @@ ghost use Rattle.ob0_types_rules.specs.Declarations.{formals_constructors, types
 ghost use Rattle.ob0_types_rules.specs.Typing.{constructors, group_constructors};
 ghost use Rattle.ob0_types_fields.specs.Owned.{marked_group, marked_sections, marked_type, marked_types, marked_variables};
 
-use ob0_tree::{Fields, Names, RecordType, Section, TypeDeclaration, Variables, WrittenType};
+use ob0_tree::{
+    FieldGroup, Fields, Names, RecordType, Section, TypeDeclaration, Variables, WrittenType,
+};
 use std::alloc::AllocError;
 
 /// Notes the names of a group's fields with the ordinal of their record.
@@ -80,6 +82,7 @@ fn fields(
     match f {
         Fields::Empty => Ok(()),
         Fields::Listed(l) => {
+            let l: &FieldGroup = l;
             names(found, owner, &l.names)?;
             written_type(found, made, &l.written)
         }

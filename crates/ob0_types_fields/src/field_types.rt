@@ -11,7 +11,8 @@ ghost use Rattle.ob0_types_fields.specs.Search.{after_all, after_one, found_type
 
 use ob0_scope_rules::Resolved;
 use ob0_tree::{
-    Block, Fields, Procedure, RecordType, Section, TypeDeclaration, Variables, WrittenType, text_at,
+    Block, FieldGroup, Fields, Procedure, RecordType, Section, TypeDeclaration, Variables,
+    WrittenType, text_at,
 };
 use ob0_types_table::{FieldOf, Known, TypeId};
 
@@ -155,6 +156,7 @@ impl<'a, 't> ConstructorWalk<'a, 't> {
         match f {
             Fields::Empty => search,
             Fields::Listed(l) => {
+                let l: &FieldGroup = l;
                 self.written_type(search, self.field(of, l.names.first), &l.written)
             }
         }

@@ -1,24 +1,22 @@
 //! The walk over a module that finds its fields: where records declare them, and where selectors select them.
 
-ghost use Rattle.std.specs.Prelude.{◌≡◌, ◌++◌, ◌+◌, [], ℕ, IfOk, Some, length, option_and_then, option_map, true};
-ghost use Rattle.ob0_tree.specs.View.{expression_of, simple_of, term_of, factor_of, designator_of, selector_of, assignment_of, call_of, arguments_in, statement_of, if_of, elsifs_in, sequence_in, body_of, block_of, procedure_of};
+ghost use Rattle.std.specs.Prelude.{◌≡◌, ◌++◌, ◌+◌, IfOk, Some, length, option_and_then, option_map};
+ghost use Rattle.ob0_tree.specs.View.{expression_of, compound_of, simple_of, term_of, factor_of, designator_of, selector_of, assignment_of, call_of, arguments_in, statement_of, if_of, elsifs_in, sequence_in, body_of, block_of, procedure_of};
 ghost use Rattle.ob0_types_rules.specs.Declarations.{block_constructors, procedure_constructors};
 ghost use Rattle.ob0_scope_rules.specs.Resolution.{ordinal_in};
 ghost use Rattle.ob0_types_table.specs.FieldPlaces.{field_selected};
 ghost use Rattle.ob0_types_table.specs.KnownTables.{declared_in, shapes_of};
 ghost use Rattle.ob0_types_table.specs.Tables.{type_shape};
-ghost use Rattle.ob0_types_rules.specs.Expressions.{Meanings};
 ghost use Rattle.ob0_types_rules.specs.Typing.{element_type, field_type, object_type};
-ghost use Rattle.ob0_types_rules.specs.WellTyped.{Signature};
-ghost use Rattle.ob0_values.specs.Values.{Shape, integer_shape};
+ghost use Rattle.ob0_values.specs.Values.{integer_shape};
 ghost use Rattle.ob0_types_fields.specs.Owned.{mark, marked, marked_block, marked_procedure, owner, passed};
 ghost use Rattle.ob0_types_fields.specs.Walk.{marked_at, meaning_in, shape_in};
 
 use crate::declared::{formals, types, variables};
 use ob0_scope_rules::Resolved;
 use ob0_tree::{
-    Assignment, Block, Call, Designator, Elsif, Expression, Factor, If, Procedure, Selector,
-    Simple, Statement, Term, text_at,
+    Assignment, Block, Call, Compound, Designator, Elsif, Expression, Factor, If, Procedure,
+    Repeat, Selector, Simple, Statement, Term, While, text_at,
 };
 use ob0_types_table::{Known, Object, Parts, RecordShape, TypeId, scalar_type};
 use std::alloc::AllocError;
@@ -120,11 +118,19 @@ impl<'a, 't> Owning<'a, 't> {
         ensures { IfOk result (λ _. found.new.items
             ≡ found.old.items ++ marked (meaning_in self.now) (expression_of e.now)) }
     {
-        if is_plain(e) {
-            return Ok(());
+        match e {
+            Expression::Factor(f) => self.factor(found, f),
+            Expression::Compound(c) => self.compound(found, c),
         }
-        self.simple(found, &e.left)?;
-        if let Some(compared) = &e.compared {
+    }
+
+    #[cycle(expressions)]
+    fn compound(&self, found: &mut FieldTokens, c: &Compound) -> Result<(), AllocError>
+        ensures { IfOk result (λ _. found.new.items
+            ≡ found.old.items ++ marked (meaning_in self.now) (compound_of c.now)) }
+    {
+        self.simple(found, &c.left)?;
+        if let Some(compared) = &c.compared {
             self.simple(found, &compared.right)?;
         }
         Ok(())
@@ -262,10 +268,12 @@ impl<'a, 't> Owning<'a, 't> {
             Statement::Call(c) => self.call(found, c),
             Statement::If(i) => self.branches(found, i),
             Statement::While(w) => {
+                let w: &While = w;
                 self.expression(found, &w.condition)?;
                 self.sequence(found, &w.body)
             }
             Statement::Repeat(r) => {
+                let r: &Repeat = r;
                 self.sequence(found, &r.body)?;
                 self.expression(found, &r.condition)
             }
@@ -351,54 +359,5 @@ impl<'a, 't> Owning<'a, 't> {
     {
         formals(found, made, &p.formals)?;
         self.block(found, made, &p.block)
-    }
-}
-
-/// Whether an expression is one factor that selects nothing: such a one is passed at once. So most are.
-fn is_plain(e: &Expression) -> bool
-    ensures { result ≡ true
-        → (m : Meanings ℕ Shape Signature)
-        → marked m (expression_of e.now) ≡ [] }
-{
-    match &e.compared {
-        Some(_) => false,
-        None => is_plain_simple(&e.left),
-    }
-}
-
-fn is_plain_simple(s: &Simple) -> bool
-    ensures { result ≡ true
-        → (m : Meanings ℕ Shape Signature)
-        → marked m (simple_of s.now) ≡ [] }
-{
-    if s.more.is_empty() {
-        is_plain_term(&s.first)
-    } else {
-        false
-    }
-}
-
-fn is_plain_term(t: &Term) -> bool
-    ensures { result ≡ true
-        → (m : Meanings ℕ Shape Signature)
-        → marked m (term_of t.now) ≡ [] }
-{
-    if t.more.is_empty() {
-        is_plain_factor(&t.first)
-    } else {
-        false
-    }
-}
-
-fn is_plain_factor(f: &Factor) -> bool
-    ensures { result ≡ true
-        → (m : Meanings ℕ Shape Signature)
-        → marked m (factor_of f.now) ≡ [] }
-{
-    match f {
-        Factor::Designator(d) => d.selectors.is_empty(),
-        Factor::Integer(_) => true,
-        Factor::Parenthesised(_) => false,
-        Factor::Not(_) => false,
     }
 }

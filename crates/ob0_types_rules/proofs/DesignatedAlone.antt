@@ -1,6 +1,6 @@
 -- What fits, part by part: designators alone, what may be assigned to, calls, and sequences.
 use Rattle.std.proofs.Common.{◌≡◌, ℕ, ◌<◌, List, [], ◌∷◌, length, Some, None, Option, option_map, refl, sym, ap, ◌∙◌, arith}
-use Rattle.ob0_tree.specs.Tree.{Tree, addend, comparison, compares, designator, end, expression, integer, item, items, more, negation, none, one, parenthesised, product, selector, simple, sum, term}
+use Rattle.ob0_tree.specs.Tree.{Tree, addend, comparison, compares, designator, end, expression, factor, integer, item, items, more, negation, none, one, parenthesised, product, selector, simple, sum, term}
 use Rattle.ob0_tree.specs.View.{addend_of, factor_of, items_of, multiplier_of}
 use Rattle.ob0_tree.specs.declared.tree.Addend.{Addend}
 use Rattle.ob0_tree.specs.declared.tree.Factor.{Factor}
@@ -31,6 +31,12 @@ module _ {N : Type 0} where
   alone_designated (sum None (product (negation f) end) (more a rest)) = refl
   alone_designated (sum None (product (negation f) (more m ms)) end) = refl
   alone_designated (sum None (product (negation f) (more m ms)) (more a rest)) = refl
+
+  pub one_designated : (f : Tree N factor) → designated_factor f ≡ designated (compares (sum None (product f end) end) none)
+  one_designated (designator x path) = refl
+  one_designated (integer n) = refl
+  one_designated (parenthesised e) = refl
+  one_designated (negation f) = refl
 
   pub compared_designated : (a : Tree N simple) (c : Tree N (item comparison)) → designated (compares a (one c)) ≡ None
   compared_designated (sum (Some s) t rest) c = refl

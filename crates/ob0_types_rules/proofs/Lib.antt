@@ -36,3 +36,4 @@ pub mod Parts
 pub mod DesignatedAlone
 pub mod ConstantsDeclared
 pub mod DeclaredPlaces
+pub mod Conditions

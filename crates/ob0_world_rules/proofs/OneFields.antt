@@ -13,8 +13,8 @@ use Rattle.ob0_tree.proofs.Mapped.{spell_mapped}
 use Rattle.ob0_scope_rules.specs.Names as written
 use Rattle.ob0_scope_rules.specs.Resolution.{Resolution, ordinal_in}
 use Rattle.ob0_types.specs.CheckedModules.{IsWellTyped}
-use Rattle.ob0_rename_laws.specs.Fields.{refielded}
-use Rattle.ob0_rename_laws.specs.Owners.{AreOwners, of_records}
+use Rattle.ob0_types_fields.specs.Fields.{refielded}
+use Rattle.ob0_types_fields.specs.Owners.{AreOwners, of_records}
 use Rattle.ob0_types_fields.specs.Identifiers.{field_identifiers}
 use Rattle.ob0_types_fields.specs.Owned.{HasOwners, fields_among, owned_tokens, with_fields_at}
 use Rattle.ob0_types_fields.proofs.OwnedModules.{owners_by_declaration-holds}

@@ -25,7 +25,7 @@ use Rattle.ob0_scope.proofs.FirstCaptures.{captured_where_not_free-holds}
 use Rattle.ob0_scope.specs.Renames.{namesake}
 use Rattle.ob0_scope.specs.NamesAtPlaces.{refers}
 use Rattle.ob0_edits.specs.Ranges.{range_of}
-use Rattle.ob0_rename_laws.specs.Renaming.{is_duplicate_field}
+use Rattle.ob0_types_fields.specs.Renaming.{is_duplicate_field}
 use Rattle.ob0_types_fields.specs.Identifiers.{declared_in, field_identifiers, field_on, first, tokens_among}
 use Rattle.ob0_session_offers.specs.Analysed.{IsModuleIn}
 use Rattle.ob0_session_offers.specs.Texts.{utf8}

@@ -3,7 +3,7 @@
 ghost use Rattle.std.specs.Prelude.{◌≡◌, ◌++◌, [], false, true, if◌then◌else◌, IfOk, OnOk, option_map};
 ghost use Rattle.ob0_values.specs.Scalars.{scalar_value};
 ghost use Rattle.ob0_types_table.specs.declared.types.TypeId.TheVariants as type;
-ghost use Rattle.ob0_tree.specs.View.{expression_of, factor_of, selector_of, simple_of, term_of};
+ghost use Rattle.ob0_tree.specs.View.{compound_of, expression_of, factor_of, selector_of, simple_of, term_of};
 ghost use Rattle.ob0_types_rules.specs.Selected.{selectors_in};
 ghost use Rattle.ob0_types_check.specs.ExpressionFaults.{reported_expression, reported_factor, reported_selector, reported_selectors, reported_simple, reported_term};
 ghost use Rattle.ob0_types_check.specs.Operations.{ReportsAfter, a_constant_name, a_number, add_operands, required, required_both, at_operand, after_sign, complement_operand, element_in, element_selected, enclosed, field_in, field_selected, fits, joined, multiply_operands, named, part_of, relate_operands, sign_operand, truth_of, required_by_add, required_by_equality, required_by_multiply, required_by_relation, value_type};
@@ -14,8 +14,8 @@ ghost use Rattle.ob0_types_check.specs.SupposedFacts.{facts_in, form_in, operand
 use crate::reporting::supposed::{Meaning, Supposed};
 use ob0_scan::{Code, Fault};
 use ob0_tree::{
-    AddOperator, Comparison, Designator, Expression, Factor, MultiplyOperator, Relation, Selector,
-    Sign, Simple, Term,
+    AddOperator, Comparison, Compound, Designator, Expression, Factor, MultiplyOperator, Relation,
+    Selector, Sign, Simple, Term,
 };
 use ob0_types_table::{TypeId, number_at, operators};
 use ob0_values::Scalar;
@@ -226,8 +226,24 @@ impl<'t> Supposed<'t> {
         ensures { IfOk result (λ o. ReportsAfter faults.old.items faults.new.items (operand_of o)
             (reported_expression (facts_in self.now only_constants) (expression_of e.now))) }
     {
-        let left = self.simple(faults, &e.left, only_constants)?;
-        match &e.compared {
+        match e {
+            Expression::Factor(f) => self.factor(faults, f, only_constants),
+            Expression::Compound(c) => self.compound(faults, c, only_constants),
+        }
+    }
+
+    #[cycle(expressions)]
+    fn compound(
+        &self,
+        faults: &mut Vec<Fault>,
+        c: &Compound,
+        only_constants: bool,
+    ) -> Result<Operand, AllocError>
+        ensures { IfOk result (λ o. ReportsAfter faults.old.items faults.new.items (operand_of o)
+            (reported_expression (facts_in self.now only_constants) (compound_of c.now))) }
+    {
+        let left = self.simple(faults, &c.left, only_constants)?;
+        match &c.compared {
             None => Ok(left),
             Some(compared) => {
                 let compared: &Comparison = compared;
@@ -355,7 +371,11 @@ impl<'t> Supposed<'t> {
         match f {
             Factor::Designator(d) => {
                 let base = self.value_named(faults, d.name, only_constants)?;
-                self.selected(faults, base, d, only_constants)
+                if d.selectors.is_empty() {
+                    Ok(base)
+                } else {
+                    self.selected(faults, base, d, only_constants)
+                }
             }
             Factor::Integer(token) => Ok(self.integer(*token)),
             Factor::Parenthesised(e) => {

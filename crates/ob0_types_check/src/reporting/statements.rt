@@ -11,7 +11,7 @@ ghost use Rattle.ob0_types_check.specs.SupposedFacts.{facts_in, formal_of, opera
 use crate::reporting::expressions::Operand;
 use crate::reporting::supposed::{Meaning, Supposed};
 use ob0_scan::{Code, Fault};
-use ob0_tree::{Assignment, Call, Elsif, Expression, If, Statement};
+use ob0_tree::{Assignment, Call, Elsif, Expression, If, Repeat, Statement, While};
 use ob0_types_table::{Formal, TypeId};
 use std::alloc::AllocError;
 
@@ -45,10 +45,12 @@ impl<'t> Supposed<'t> {
             Statement::Call(c) => self.call(faults, c),
             Statement::If(i) => self.branches(faults, i),
             Statement::While(w) => {
+                let w: &While = w;
                 self.condition(faults, &w.condition)?;
                 self.sequence(faults, &w.body)
             }
             Statement::Repeat(r) => {
+                let r: &Repeat = r;
                 self.sequence(faults, &r.body)?;
                 self.condition(faults, &r.condition)
             }

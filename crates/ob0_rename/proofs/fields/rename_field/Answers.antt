@@ -9,7 +9,7 @@ use Rattle.ob0_scope_rules.specs.Resolution.{Resolution, span_at}
 use Rattle.ob0_analysis.specs.CheckedModules.{IsWellTyped}
 use Rattle.ob0_edits.specs.Ranges.{range_of}
 use Rattle.ob0_edits.specs.Replaced.{AreNames}
-use Rattle.ob0_rename_laws.specs.Renaming.{FieldFree}
+use Rattle.ob0_types_fields.specs.Renaming.{FieldFree}
 use Rattle.ob0_types_fields.specs.Identifiers.{declaring_field}
 use Rattle.ob0_rename.specs.Answers.{AnswersForField, IsRefusedToField}
 use Rattle.ob0_rename.specs.Renaming.{field_tokens_to_rename}

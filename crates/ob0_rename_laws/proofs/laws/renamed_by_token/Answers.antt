@@ -1,4 +1,4 @@
-use Rattle.ob0_rename_laws.proofs.ByToken.{renamed_by_token-holds}
+use Rattle.ob0_types_fields.proofs.ByToken.{renamed_by_token-holds}
 use Rattle.ob0_rename_laws.proofs.laws.renamed_by_token.Goals as goal
 
 pub returns : goal.returns

@@ -1,20 +1,13 @@
 use Rattle.std.proofs.Common.{sym, ap, ◌∙◌}
-use Rattle.ob0_tree.specs.declared.tree.Expression.{out-Expression}
-use Rattle.ob0_tree.specs.declared.tree.Comparison.{out-Comparison}
-use Rattle.ob0_tree.specs.Tree.{relates}
-use Rattle.ob0_tree.specs.View.{simple_of}
+use Rattle.ob0_tree.specs.View.{compound_of, expression_of, factor_of}
 use Rattle.ob0_types_rules.specs.Typing.{designated}
-use Rattle.ob0_types_rules.proofs.DesignatedAlone.{alone_designated, compared_designated}
-use Rattle.ob0_types_rules.proofs.TreeParts.{expression_alone, expression_related}
+use Rattle.ob0_types_rules.proofs.DesignatedAlone.{one_designated}
 use Rattle.ob0_types_rules.proofs.designated.designated.Goals as goal
 
-pub returns-in-None : goal.returns-in-None
-returns-in-None c =
-    let left = simple_of (out-Expression c.args.e.now).left in
-    c.designated_simple.ensures ∙ sym (alone_designated left) ∙ sym (ap designated (expression_alone c.args.e.now c.in-None.is))
+pub returns-in-Factor : goal.returns-in-Factor
+returns-in-Factor c =
+    c.designated_factor.ensures ∙ (one_designated (factor_of c.in-Factor.f) ∙ sym (ap (λ e. designated (expression_of e)) c.in-Factor.is))
 
-pub returns-in-Some : goal.returns-in-Some
-returns-in-Some c =
-    let left = simple_of (out-Expression c.args.e.now).left in
-    let compared = out-Comparison c.in-Some.field-0.value in
-    sym (compared_designated left (relates compared.relation (simple_of compared.right))) ∙ sym (ap designated (expression_related c.args.e.now c.in-Some.field-0 c.in-Some.is))
+pub returns-in-Compound : goal.returns-in-Compound
+returns-in-Compound c =
+    c.designated_compound.ensures ∙ (ap (λ e. designated (compound_of e)) c.deref.ensures ∙ sym (ap (λ e. designated (expression_of e)) c.in-Compound.is))

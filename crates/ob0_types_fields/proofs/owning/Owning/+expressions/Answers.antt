@@ -6,10 +6,10 @@ use Rattle.ob0_tree.specs.declared.tree.Term.{out-Term}
 use Rattle.ob0_types_rules.specs.Typing.{object_type}
 use Rattle.ob0_types_fields.specs.Owned.{marked, marked_path}
 use Rattle.ob0_types_fields.specs.Walk.{meaning_in}
-use Rattle.ob0_tree.specs.View.{items_of, addend_of, multiplier_of, selector_of, term_of, factor_of}
+use Rattle.ob0_tree.specs.View.{items_of, compound_of, expression_of, addend_of, multiplier_of, selector_of, term_of, factor_of}
 use Rattle.ob0_types_fields.proofs.MarkWalks.{walk_ends, after_two}
 use Rattle.ob0_types_fields.proofs.MarkPaths.{path_goes_on}
-use Rattle.ob0_types_fields.proofs.PlainExpressions.{is_nothing}
+use Rattle.ob0_types_fields.proofs.AloneFactors.{factor_marked, is_nothing}
 use Rattle.ob0_types_fields.proofs.owning.Owning.+expressions.Goals as goal
 
 pub factor-returns-in-Designator : goal.factor-returns-in-Designator
@@ -44,7 +44,14 @@ designator-returns-then-is_empty t c =
     sym (append-nil c.args.found.now.items)
     ∙ ap (λ xs. c.args.found.now.items ++ marked_path m (object_type (m.object_for d.name)) (items_of selector_of xs)) (sym none)
 
-pub expression-returns-then-is_plain : goal.expression-returns-then-is_plain
-expression-returns-then-is_plain t c =
-    sym (append-nil c.args.found.now.items)
-    ∙ ap (λ z. c.args.found.now.items ++ z) (sym (c.is_plain.ensures c.if-is_plain.true (meaning_in c.args.self.now)))
+pub expression-returns-in-Factor : goal.expression-returns-in-Factor
+expression-returns-in-Factor t c =
+    let m = meaning_in c.args.self.now in
+    subst (λ z. IfOk c.factor.result (λ _. c.factor.new.found.items ≡ c.args.found.now.items ++ z))
+    (sym (ap (λ e. marked m (expression_of e)) c.in-Factor.is ∙ factor_marked m (factor_of c.in-Factor.f))) c.factor.ensures
+
+pub expression-returns-in-Compound : goal.expression-returns-in-Compound
+expression-returns-in-Compound t c =
+    let m = meaning_in c.args.self.now in
+    subst (λ z. IfOk c.compound.result (λ _. c.compound.new.found.items ≡ c.args.found.now.items ++ z))
+    (ap (λ e. marked m (compound_of e)) c.deref.ensures ∙ sym (ap (λ e. marked m (expression_of e)) c.in-Compound.is)) c.compound.ensures

@@ -1,5 +1,5 @@
 use Rattle.std.proofs.Common.{◌≡◌, ◌++◌, IfOk, [], sym, ap, ◌∙◌, subst, append-nil}
-use Rattle.ob0_tree.proofs.Viewed.{while_made, repeat_made, if_parts}
+use Rattle.ob0_tree.proofs.Viewed.{if_parts, repeat_read, while_read}
 use Rattle.ob0_tree.specs.declared.tree.If.{out-If}
 use Rattle.ob0_tree.specs.Tree.{branches}
 use Rattle.ob0_types_fields.specs.Owned.{marked}
@@ -28,14 +28,14 @@ branches-returns-in-None t c =
 
 pub statement-returns-in_ok-expression-in-While : goal.statement-returns-in_ok-expression-in-While
 statement-returns-in_ok-expression-in-While t c =
-    let w = c.in-While.w in
+    let w = c.deref-w.result.now in
     subst (λ z. IfOk c.sequence.result (λ _. c.sequence.new.found.items ≡ z))
     (joined c.args.found.now.items (marked (meaning_in c.args.self.now) (expression_of w.condition)) (marked (meaning_in c.args.self.now) (sequence_listed w.body.items)) c.in_ok-expression-in-While.ensures
-    ∙ ap (λ t. c.args.found.now.items ++ marked (meaning_in c.args.self.now) t) (sym (while_made w) ∙ sym (ap statement_of c.in-While.is))) c.sequence.ensures
+    ∙ ap (λ t. c.args.found.now.items ++ marked (meaning_in c.args.self.now) t) (sym (while_read c.in-While.w c.deref-w.ensures c.deref-w.ensures) ∙ sym (ap statement_of c.in-While.is))) c.sequence.ensures
 
 pub statement-returns-in_ok-sequence-in-Repeat : goal.statement-returns-in_ok-sequence-in-Repeat
 statement-returns-in_ok-sequence-in-Repeat t c =
-    let r = c.in-Repeat.r in
+    let r = c.deref-r.result.now in
     subst (λ z. IfOk c.expression-in-Repeat.result (λ _. c.expression-in-Repeat.new.found.items ≡ z))
     (joined c.args.found.now.items (marked (meaning_in c.args.self.now) (sequence_listed r.body.items)) (marked (meaning_in c.args.self.now) (expression_of r.condition)) c.in_ok-sequence-in-Repeat.ensures
-    ∙ ap (λ t. c.args.found.now.items ++ marked (meaning_in c.args.self.now) t) (sym (repeat_made r) ∙ sym (ap statement_of c.in-Repeat.is))) c.expression-in-Repeat.ensures
+    ∙ ap (λ t. c.args.found.now.items ++ marked (meaning_in c.args.self.now) t) (sym (repeat_read c.in-Repeat.r c.deref-r.ensures c.deref-r.ensures) ∙ sym (ap statement_of c.in-Repeat.is))) c.expression-in-Repeat.ensures

@@ -1,44 +1,65 @@
-use Rattle.std.proofs.Common.{sym, ap, ◌∙◌}
+use Rattle.std.proofs.Common.{◌≡◌, length, sym, ap, ◌∙◌, arith}
+use Rattle.std.proofs.lemmas.Bool.Decides.{nat_tests}
 use Rattle.std.proofs.lemmas.Result.{IfOk-weaker}
 use Rattle.ob0_tree.proofs.Viewed.{designator_made, simple_parts, term_parts}
 use Rattle.ob0_tree.specs.declared.tree.Addend.{out-Addend}
 use Rattle.ob0_tree.specs.declared.tree.Comparison.{out-Comparison}
-use Rattle.ob0_tree.specs.declared.tree.Expression.{out-Expression}
+use Rattle.ob0_tree.specs.declared.tree.Compound.{out-Compound}
 use Rattle.ob0_tree.specs.declared.tree.Simple.{out-Simple}
 use Rattle.ob0_tree.specs.declared.tree.Term.{out-Term}
 use Rattle.ob0_tree.specs.Tree.{compares, one, relates}
-use Rattle.ob0_tree.specs.View.{addend_of, expression_of, factor_of, items_of, multiplier_of, selector_of, simple_of, term_of}
-use Rattle.ob0_types_rules.proofs.TreeParts.{addend_parts, expression_alone, expression_related}
+use Rattle.ob0_tree.specs.View.{addend_of, compound_of, expression_of, factor_of, items_of, multiplier_of, selector_of, simple_of, term_of}
+use Rattle.ob0_types_rules.proofs.TreeParts.{addend_parts, compound_alone, compound_related}
 use Rattle.ob0_types_check.specs.ExpressionFaults.{reported_addends, reported_expression, reported_factor, reported_multipliers, reported_selector, reported_selectors, reported_simple, reported_term}
 use Rattle.ob0_types_check.specs.Operations.{add_operands, complement_operand, element_selected, enclosed, multiply_operands, relate_operands, right, sign_operand, ◌>>=◌}
 use Rattle.ob0_types_check.specs.SupposedFacts.{facts_in, operand_of}
 use Rattle.ob0_types_check.proofs.Chains.{chain_ends, chain_goes_on, steps, reports_nothing, reports_same}
-use Rattle.ob0_types_check.proofs.ReportedParts.{added_chain, alone_reported, designator_reported, field_reported, index_reported, integer_reported, multiplied_chain, negation_reported, parentheses_reported, related_reported, selected_chain, simple_reported, term_reported, reported_added}
+use Rattle.ob0_types_check.proofs.ReportedParts.{added_chain, alone_reported, designator_reported, factor_reported, field_reported, index_reported, integer_reported, multiplied_chain, negation_reported, nothing_selected, parentheses_reported, related_reported, selected_chain, simple_reported, term_reported, reported_added}
 use Rattle.ob0_types_check.proofs.reporting.supposed.Supposed.+expressions.Goals as goal
 
-pub expression-returns-in-None : goal.expression-returns-in-None
-expression-returns-in-None t c =
+pub expression-returns-in-Factor : goal.expression-returns-in-Factor
+expression-returns-in-Factor t c =
     let facts = facts_in c.args.self.now c.args.only_constants in
-    reports_same c.in_ok-left.ensures (sym (ap (reported_expression facts) (expression_alone c.args.e.now c.in-None.is) ∙ alone_reported facts (simple_of (out-Expression c.args.e.now).left)))
+    IfOk-weaker c.factor.result _ _ (λ o h. reports_same h (sym (ap (λ e. reported_expression facts (expression_of e)) c.in-Factor.is ∙ factor_reported facts (factor_of c.in-Factor.f)))) c.factor.ensures
 
-pub expression-returns-in_ok-right-in-Some : goal.expression-returns-in_ok-right-in-Some
-expression-returns-in_ok-right-in-Some t c =
+pub expression-returns-in-Compound : goal.expression-returns-in-Compound
+expression-returns-in-Compound t c =
+    let facts = facts_in c.args.self.now c.args.only_constants in
+    IfOk-weaker c.compound.result _ _ (λ o h. reports_same h (ap (λ e. reported_expression facts (compound_of e)) c.deref.ensures ∙ sym (ap (λ e. reported_expression facts (expression_of e)) c.in-Compound.is))) c.compound.ensures
+
+pub compound-returns-in-None : goal.compound-returns-in-None
+compound-returns-in-None t c =
+    let facts = facts_in c.args.self.now c.args.only_constants in
+    reports_same c.in_ok-left.ensures (sym (ap (reported_expression facts) (compound_alone c.args.c.now c.in-None.is) ∙ alone_reported facts (simple_of (out-Compound c.args.c.now).left)))
+
+pub compound-returns-in_ok-right-in-Some : goal.compound-returns-in_ok-right-in-Some
+compound-returns-in_ok-right-in-Some t c =
     let facts = facts_in c.args.self.now c.args.only_constants in
     let compared = out-Comparison c.deref-compared.result.now in
-    let left = simple_of (out-Expression c.args.e.now).left in
+    let left = simple_of (out-Compound c.args.c.now).left in
     let right = simple_of compared.right in
     IfOk-weaker c.relate.result _ _ (λ o h. reports_same (steps (λ x. reported_simple facts right >>= relate_operands facts compared.relation x) c.in_ok-left.ensures (steps (relate_operands facts compared.relation (operand_of c.in_ok-left.left)) c.in_ok-right-in-Some.ensures h))
-    (sym (ap (reported_expression facts) (expression_related c.args.e.now c.in-Some.compared c.in-Some.is)
+    (sym (ap (reported_expression facts) (compound_related c.args.c.now c.in-Some.compared c.in-Some.is)
     ∙ sym (ap (λ k. reported_expression facts (compares left (one (relates (out-Comparison k).relation (simple_of (out-Comparison k).right))))) c.deref-compared.ensures)
     ∙ related_reported facts compared.relation left right))) c.relate.ensures
 
-pub factor-returns-in_ok-base-in-Designator : goal.factor-returns-in_ok-base-in-Designator
-factor-returns-in_ok-base-in-Designator t c =
+pub factor-returns-else-is_empty : goal.factor-returns-else-is_empty
+factor-returns-else-is_empty t c =
     let facts = facts_in c.args.self.now c.args.only_constants in
     let d = c.in-Designator.d in
     let path = items_of selector_of d.selectors.items in
     IfOk-weaker c.selected.result _ _ (λ o h. reports_same (steps (λ x. reported_selectors facts x path) c.in_ok-base-in-Designator.ensures h)
     (sym (ap (λ f. reported_factor facts (factor_of f)) c.in-Designator.is ∙ ap (reported_factor facts) (designator_made d) ∙ designator_reported facts d.name path))) c.selected.ensures
+
+pub factor-returns-then-is_empty : goal.factor-returns-then-is_empty
+factor-returns-then-is_empty t c =
+    let facts = facts_in c.args.self.now c.args.only_constants in
+    let d = c.in-Designator.d in
+    let path = items_of selector_of d.selectors.items in
+    let ok = d.selectors.ok.0 in
+    let none : length d.selectors.items ≡ 0 = grind (arith, nat_tests) in
+    reports_same (steps (λ x. reported_selectors facts x path) c.in_ok-base-in-Designator.ensures (reports_same (reports_nothing c.value_named.new.faults.items (operand_of c.in_ok-base-in-Designator.base)) (sym (nothing_selected facts (operand_of c.in_ok-base-in-Designator.base) d.selectors.items none))))
+    (sym (ap (λ f. reported_factor facts (factor_of f)) c.in-Designator.is ∙ ap (reported_factor facts) (designator_made d) ∙ designator_reported facts d.name path))
 
 pub factor-returns-in-Integer : goal.factor-returns-in-Integer
 factor-returns-in-Integer t c =

@@ -1,6 +1,6 @@
 use Rattle.std.proofs.Common.{◌++◌, false, sym, ap, ◌∙◌}
 use Rattle.std.proofs.lemmas.Result.{on_ok_weaker}
-use Rattle.ob0_tree.proofs.Viewed.{if_parts, repeat_made, while_made}
+use Rattle.ob0_tree.proofs.Viewed.{if_parts, repeat_read, while_read}
 use Rattle.ob0_tree.specs.declared.tree.If.{out-If}
 use Rattle.ob0_tree.specs.View.{else_in, elsif_of, expression_of, items_of, sequence_listed, statement_of}
 use Rattle.ob0_types_check.specs.StatementFaults.{reported_condition, reported_else, reported_elsifs, reported_sequence, reported_statement}
@@ -41,20 +41,22 @@ pub statement-returns-in_ok-condition-in-While : goal.statement-returns-in_ok-co
 statement-returns-in_ok-condition-in-While t c =
     let facts = facts_in c.args.self.now false in
     let before = c.args.faults.now.items in
-    let w = c.in-While.w in
+    let w = c.deref-w.result.now in
     let a = reported_condition facts (expression_of w.condition) in
     let b = reported_sequence facts (sequence_listed w.body.items) in
-    let whole = ap (λ s. reported_statement facts (statement_of s)) c.in-While.is ∙ ap (reported_statement facts) (while_made w) ∙ while_reported facts (expression_of w.condition) (sequence_listed w.body.items) in
+    let whole = ap (λ s. reported_statement facts (statement_of s)) c.in-While.is ∙ ap (reported_statement facts) (while_read c.in-While.w c.deref-w.ensures c.deref-w.ensures)
+    ∙ while_reported facts (expression_of w.condition) (sequence_listed w.body.items) in
     on_ok_weaker c.sequence.result (λ h. reported_both before a b c.in_ok-condition-in-While.ensures h ∙ sym (ap (λ f. before ++ f) whole)) c.sequence.ensures
 
 pub statement-returns-in_ok-sequence-in-Repeat : goal.statement-returns-in_ok-sequence-in-Repeat
 statement-returns-in_ok-sequence-in-Repeat t c =
     let facts = facts_in c.args.self.now false in
     let before = c.args.faults.now.items in
-    let w = c.in-Repeat.r in
-    let a = reported_sequence facts (sequence_listed w.body.items) in
-    let b = reported_condition facts (expression_of w.condition) in
-    let whole = ap (λ s. reported_statement facts (statement_of s)) c.in-Repeat.is ∙ ap (reported_statement facts) (repeat_made w) ∙ repeat_reported facts (expression_of w.condition) (sequence_listed w.body.items) in
+    let r = c.deref-r.result.now in
+    let a = reported_sequence facts (sequence_listed r.body.items) in
+    let b = reported_condition facts (expression_of r.condition) in
+    let whole = ap (λ s. reported_statement facts (statement_of s)) c.in-Repeat.is ∙ ap (reported_statement facts) (repeat_read c.in-Repeat.r c.deref-r.ensures c.deref-r.ensures)
+    ∙ repeat_reported facts (expression_of r.condition) (sequence_listed r.body.items) in
     on_ok_weaker c.condition-in-Repeat.result (λ h. reported_both before a b c.in_ok-sequence-in-Repeat.ensures h ∙ sym (ap (λ f. before ++ f) whole)) c.condition-in-Repeat.ensures
 
 pub branches-returns-in-None : goal.branches-returns-in-None

@@ -9,13 +9,13 @@ use Rattle.ob0_types_rules.specs.Arguments.{arguments_listed, further_arguments}
 use Rattle.ob0_types_rules.specs.Expressions.{Object, a_constant, a_procedure, a_standard, a_type, a_variable}
 use Rattle.ob0_types_rules.specs.Typing.{add_type, array_length, complement_type, constant_value, denoted, denoted_group, denoted_groups, depth, designated, element_type, field_type, group_constructors, multiply_type, object_type, relation_type, scalars, shape_of_field, sign_type, type_at, type_of, type_of_addends, type_of_factor, type_of_multipliers, type_of_name, type_of_simple, type_of_term, value_type, with_fields, within_limits}
 use Rattle.ob0_types_rules.specs.WellTyped.{Formal, Mode, Signature, Typed, agree, argument_fits, arguments_fit, by_place, by_value, condition_fits, else_fits, elsifs_fit, sequence_fits, signature_of, statement_fits, statements_fit, variable_type}
+use Rattle.ob0_types_rules.proofs.Conditions.{agree-true, both_true, call-typed, of_some, same_name-true, variable-typed}
+use Rattle.ob0_types_rules.proofs.Literals.{some_inverse}
+use Rattle.ob0_types_rules.proofs.TypedElsewhere.{then_some}
 use Rattle.ob0_values.specs.Values.{FieldShapes, Shape, Value, array_shape, boolean_shape, elements, integer_shape, members, next_field_shape, no_field_shape, number, record_shape, truth}
-use Rattle.ob0_run_rules.proofs.Sound.{of_some, some-gives}
-use Rattle.ob0_run_rules.proofs.SoundCalls.{some-inverse}
-use Rattle.ob0_run_rules.proofs.SoundStatements.{agree-true, both_true, call-typed, same_name-true, variable-typed}
-use Rattle.ob0_rename_laws.specs.Fields.{FieldNames, record_of, refield, refield_group, refield_groups, refield_type}
-use Rattle.ob0_rename_laws.specs.Renaming.{RecordFields, records_in_group, records_in_groups, records_in_type}
-use Rattle.ob0_rename_laws.proofs.Apart.{named}
+use Rattle.ob0_types_fields.specs.Fields.{FieldNames, record_of, refield, refield_group, refield_groups, refield_type}
+use Rattle.ob0_types_fields.specs.Renaming.{RecordFields, records_in_group, records_in_groups, records_in_type}
+use Rattle.ob0_types_fields.proofs.NamesMeant.{named}
 
 -- fields that are written alike: those of a list, of the records of a text, and of the records in a type
 abbrev pub NamesAgree : FieldNames → FieldNames → ℕ → List Name → Type 0
@@ -111,54 +111,54 @@ mutual
   pub expression-alike : (p q : FieldNames) (stands : Name → Option (Object Shape Signature)) → NamesStand p q stands → (e : Tree Name expression) (s : Shape) → type_of (named stands) e ≡ Some s → refield p (named stands) None e ≡ refield q (named stands) None e
   expression-alike p q stands known (compares a none) s h = λ i. compares (simple-alike p q stands known a s h i) none
   expression-alike p q stands known (compares a (one (relates r b))) s h =
-      let (x, ex, h₁) = some-gives (type_of_simple (named stands) a) (λ x. option_and_then (relation_type r x) (type_of_simple (named stands) b)) s h in
-      let (y, ey, h₂) = some-gives (type_of_simple (named stands) b) (relation_type r x) s h₁ in
+      let (x, ex, h₁) = then_some (type_of_simple (named stands) a) (λ x. option_and_then (relation_type r x) (type_of_simple (named stands) b)) s h in
+      let (y, ey, h₂) = then_some (type_of_simple (named stands) b) (relation_type r x) s h₁ in
       λ i. compares (simple-alike p q stands known a x ex i) (one (relates r (simple-alike p q stands known b y ey i)))
 
   pub simple-alike : (p q : FieldNames) (stands : Name → Option (Object Shape Signature)) → NamesStand p q stands → (a : Tree Name simple) (s : Shape) → type_of_simple (named stands) a ≡ Some s → refield p (named stands) None a ≡ refield q (named stands) None a
   simple-alike p q stands known (sum sign t rest) s h =
-      let (x, ex, h₁) = some-gives (type_of_term (named stands) t) (λ x. option_and_then (λ y. type_of_addends (named stands) y rest) (sign_type sign x)) s h in
-      let (y, ey, h₂) = some-gives (sign_type sign x) (λ y. type_of_addends (named stands) y rest) s h₁ in
+      let (x, ex, h₁) = then_some (type_of_term (named stands) t) (λ x. option_and_then (λ y. type_of_addends (named stands) y rest) (sign_type sign x)) s h in
+      let (y, ey, h₂) = then_some (sign_type sign x) (λ y. type_of_addends (named stands) y rest) s h₁ in
       λ i. sum sign (term-alike p q stands known t x ex i) (addends-alike p q stands known y rest s h₂ i)
 
   pub addends-alike : (p q : FieldNames) (stands : Name → Option (Object Shape Signature)) → NamesStand p q stands → (x : Shape) (a : Tree Name (items addend)) (s : Shape) → type_of_addends (named stands) x a ≡ Some s → refield p (named stands) None a ≡ refield q (named stands) None a
   addends-alike p q stands known x end s h = refl
   addends-alike p q stands known x (more (adds o t) rest) s h =
-      let (y, ey, h₁) = some-gives (type_of_term (named stands) t) (λ y. option_and_then (λ z. type_of_addends (named stands) z rest) (add_type o x y)) s h in
-      let (z, ez, h₂) = some-gives (add_type o x y) (λ z. type_of_addends (named stands) z rest) s h₁ in
+      let (y, ey, h₁) = then_some (type_of_term (named stands) t) (λ y. option_and_then (λ z. type_of_addends (named stands) z rest) (add_type o x y)) s h in
+      let (z, ez, h₂) = then_some (add_type o x y) (λ z. type_of_addends (named stands) z rest) s h₁ in
       λ i. more (adds o (term-alike p q stands known t y ey i)) (addends-alike p q stands known z rest s h₂ i)
 
   pub term-alike : (p q : FieldNames) (stands : Name → Option (Object Shape Signature)) → NamesStand p q stands → (a : Tree Name term) (s : Shape) → type_of_term (named stands) a ≡ Some s → refield p (named stands) None a ≡ refield q (named stands) None a
   term-alike p q stands known (product a rest) s h =
-      let (x, ex, h₁) = some-gives (type_of_factor (named stands) a) (λ x. type_of_multipliers (named stands) x rest) s h in
+      let (x, ex, h₁) = then_some (type_of_factor (named stands) a) (λ x. type_of_multipliers (named stands) x rest) s h in
       λ i. product (factor-alike p q stands known a x ex i) (multipliers-alike p q stands known x rest s h₁ i)
 
   pub multipliers-alike : (p q : FieldNames) (stands : Name → Option (Object Shape Signature)) → NamesStand p q stands → (x : Shape) (a : Tree Name (items multiplier)) (s : Shape) → type_of_multipliers (named stands) x a ≡ Some s → refield p (named stands) None a ≡ refield q (named stands) None a
   multipliers-alike p q stands known x end s h = refl
   multipliers-alike p q stands known x (more (multiplies o a) rest) s h =
-      let (y, ey, h₁) = some-gives (type_of_factor (named stands) a) (λ y. option_and_then (λ z. type_of_multipliers (named stands) z rest) (multiply_type o x y)) s h in
-      let (z, ez, h₂) = some-gives (multiply_type o x y) (λ z. type_of_multipliers (named stands) z rest) s h₁ in
+      let (y, ey, h₁) = then_some (type_of_factor (named stands) a) (λ y. option_and_then (λ z. type_of_multipliers (named stands) z rest) (multiply_type o x y)) s h in
+      let (z, ez, h₂) = then_some (multiply_type o x y) (λ z. type_of_multipliers (named stands) z rest) s h₁ in
       λ i. more (multiplies o (factor-alike p q stands known a y ey i)) (multipliers-alike p q stands known z rest s h₂ i)
 
   pub factor-alike : (p q : FieldNames) (stands : Name → Option (Object Shape Signature)) → NamesStand p q stands → (a : Tree Name factor) (s : Shape) → type_of_factor (named stands) a ≡ Some s → refield p (named stands) None a ≡ refield q (named stands) None a
   factor-alike p q stands known (designator x path) s h =
-      let (t, et, h₁) = some-gives (object_type (stands x)) (λ t. type_at (named stands) t path) s h in
+      let (t, et, h₁) = then_some (object_type (stands x)) (λ t. type_at (named stands) t path) s h in
       λ i. designator x (subst (λ o. refield p (named stands) o path ≡ refield q (named stands) o path) (sym et) (path-alike p q stands known t path s (object_type-agrees p q (stands x) t (known x) et) h₁) i)
   factor-alike p q stands known (integer n) s h = refl
   factor-alike p q stands known (parenthesised e) s h = λ i. parenthesised (expression-alike p q stands known e s h i)
   factor-alike p q stands known (negation a) s h =
-      let (x, ex, h₁) = some-gives (type_of_factor (named stands) a) complement_type s h in λ i. negation (factor-alike p q stands known a x ex i)
+      let (x, ex, h₁) = then_some (type_of_factor (named stands) a) complement_type s h in λ i. negation (factor-alike p q stands known a x ex i)
 
   pub path-alike : (p q : FieldNames) (stands : Name → Option (Object Shape Signature)) → NamesStand p q stands → (t : Shape) (path : Tree Name (items selector)) (s : Shape) → ShapeAgrees p q t → type_at (named stands) t path ≡ Some s
       → refield p (named stands) (Some t) path ≡ refield q (named stands) (Some t) path
   path-alike p q stands known t end s agrees h = refl
   path-alike p q stands known t (more (field x) rest) s agrees h =
-      let (u, eu, h₁) = some-gives (field_type t x) (λ u. type_at (named stands) u rest) s h in
+      let (u, eu, h₁) = then_some (field_type t x) (λ u. type_at (named stands) u rest) s h in
       let f = field_type-agrees p q t x u agrees eu in
       λ i. more (field (f.0 i)) (subst (λ o. refield p (named stands) o rest ≡ refield q (named stands) o rest) (sym eu) (path-alike p q stands known u rest s f.1 h₁) i)
   path-alike p q stands known t (more (index e) rest) s agrees h =
-      let (j, ej, h₁) = some-gives (type_of (named stands) e) (λ j. option_and_then (λ u. type_at (named stands) u rest) (element_type t j)) s h in
-      let (u, eu, h₂) = some-gives (element_type t j) (λ u. type_at (named stands) u rest) s h₁ in
+      let (j, ej, h₁) = then_some (type_of (named stands) e) (λ j. option_and_then (λ u. type_at (named stands) u rest) (element_type t j)) s h in
+      let (u, eu, h₂) = then_some (element_type t j) (λ u. type_at (named stands) u rest) s h₁ in
       let f = element_type-agrees p q t j u agrees eu in
       λ i. more (index (expression-alike p q stands known e j ej i)) (subst (λ o. refield p (named stands) o rest ≡ refield q (named stands) o rest) (sym f.0) (path-alike p q stands known u rest s f.1 h₂) i)
 
@@ -282,7 +282,7 @@ mutual
       λ i. more (then_fields (group-alike p q r k g h₁.0 h₂.0 i)) (groups-alike p q r (k + group_constructors g) rest h₁.1 h₂.1 i)
 
 within-is : (s t : Shape) → within_limits s ≡ Some t → s ≡ t
-within-is s t = elim (nat_le (scalars s) 65536 && nat_le (depth s) 100) as (λ b. (if b then Some s else None) ≡ Some t → s ≡ t) [ true ↦ λ h. some-inverse {a = s} {b = t} h | false ↦ λ h. absurd (cc) ]
+within-is s t = elim (nat_le (scalars s) 65536 && nat_le (depth s) 100) as (λ b. (if b then Some s else None) ≡ Some t → s ≡ t) [ true ↦ λ h. some_inverse {a = s} {b = t} h | false ↦ λ h. absurd (cc) ]
 
 with_fields-agree : (p q : FieldNames) (k : ℕ) (xs : List Name) (s : Shape) (rest : FieldShapes) → NamesAgree p q k xs → ShapeAgrees p q s → FieldsAgree p q k rest → FieldsAgree p q k (with_fields (map (λ x. x) xs) s rest)
 with_fields-agree p q k [] s rest h hs hr = hr
@@ -294,30 +294,30 @@ mutual
   pub denoted-agrees : (p q : FieldNames) (stands : Name → Option (Object Shape Signature)) → NamesStand p q stands → (k : ℕ) (t : Tree Name written_type) (s : Shape) → RecordsAgree p q (records_in_type k t) → denoted (named stands) k t ≡ Some s → ShapeAgrees p q s
   denoted-agrees p q stands known k (named_type x) s h e = type_of_name-agrees p q (stands x) s (known x) e
   denoted-agrees p q stands known k (array_type c t) s h e =
-      let (v, ev, e₁) = some-gives (constant_value (named stands) c) (λ v. option_and_then (λ n. option_and_then (λ u. within_limits (array_shape k n u)) (denoted (named stands) (suc k) t)) (array_length v)) s e in
-      let (n, en, e₂) = some-gives (array_length v) (λ n. option_and_then (λ u. within_limits (array_shape k n u)) (denoted (named stands) (suc k) t)) s e₁ in
-      let (u, eu, e₃) = some-gives (denoted (named stands) (suc k) t) (λ u. within_limits (array_shape k n u)) s e₂ in
+      let (v, ev, e₁) = then_some (constant_value (named stands) c) (λ v. option_and_then (λ n. option_and_then (λ u. within_limits (array_shape k n u)) (denoted (named stands) (suc k) t)) (array_length v)) s e in
+      let (n, en, e₂) = then_some (array_length v) (λ n. option_and_then (λ u. within_limits (array_shape k n u)) (denoted (named stands) (suc k) t)) s e₁ in
+      let (u, eu, e₃) = then_some (denoted (named stands) (suc k) t) (λ u. within_limits (array_shape k n u)) s e₂ in
       subst (ShapeAgrees p q) (within-is (array_shape k n u) s e₃) (denoted-agrees p q stands known (suc k) t u h eu)
   denoted-agrees p q stands known k (record_type g rest) s h e =
       let h₁ = names-split p q k (group_fields g) (groups_fields rest) h.0 in
       let h₂ = records-split p q (records_in_group (suc k) g) (records_in_groups (suc k + group_constructors g) rest) h.1 in
-      let (later, el, e₁) = some-gives (denoted_groups (named stands) (suc k + group_constructors g) rest) (λ later. option_and_then (λ fs. within_limits (record_shape k fs)) (denoted_group (named stands) (suc k) later g)) s e in
-      let (fs, ef, e₂) = some-gives (denoted_group (named stands) (suc k) later g) (λ fs. within_limits (record_shape k fs)) s e₁ in
+      let (later, el, e₁) = then_some (denoted_groups (named stands) (suc k + group_constructors g) rest) (λ later. option_and_then (λ fs. within_limits (record_shape k fs)) (denoted_group (named stands) (suc k) later g)) s e in
+      let (fs, ef, e₂) = then_some (denoted_group (named stands) (suc k) later g) (λ fs. within_limits (record_shape k fs)) s e₁ in
       subst (ShapeAgrees p q) (within-is (record_shape k fs) s e₂)
       (denoted_group-agrees p q stands known k (suc k) later g fs h₁.0 h₂.0 (denoted_groups-agree p q stands known k (suc k + group_constructors g) rest later h₁.1 h₂.1 el) ef)
 
   pub denoted_group-agrees : (p q : FieldNames) (stands : Name → Option (Object Shape Signature)) → NamesStand p q stands → (r k : ℕ) (later : FieldShapes) (g : Tree Name fields) (fs : FieldShapes) → NamesAgree p q r (group_fields g) → RecordsAgree p q (records_in_group k g)
       → FieldsAgree p q r later → denoted_group (named stands) k later g ≡ Some fs → FieldsAgree p q r fs
-  denoted_group-agrees p q stands known r k later no_fields fs h h' hl e = subst (FieldsAgree p q r) (some-inverse {a = later} {b = fs} e) hl
+  denoted_group-agrees p q stands known r k later no_fields fs h h' hl e = subst (FieldsAgree p q r) (some_inverse {a = later} {b = fs} e) hl
   denoted_group-agrees p q stands known r k later (some_fields ns t) fs h h' hl e =
-      let (u, eu, e₁) = some-gives (denoted (named stands) k t) (λ s. Some (with_fields (map (λ x. x) (names_listed ns)) s later)) fs e in
-      subst (FieldsAgree p q r) (some-inverse {a = with_fields (map (λ x. x) (names_listed ns)) u later} {b = fs} e₁) (with_fields-agree p q r (names_listed ns) u later h (denoted-agrees p q stands known k t u h' eu) hl)
+      let (u, eu, e₁) = then_some (denoted (named stands) k t) (λ s. Some (with_fields (map (λ x. x) (names_listed ns)) s later)) fs e in
+      subst (FieldsAgree p q r) (some_inverse {a = with_fields (map (λ x. x) (names_listed ns)) u later} {b = fs} e₁) (with_fields-agree p q r (names_listed ns) u later h (denoted-agrees p q stands known k t u h' eu) hl)
 
   pub denoted_groups-agree : (p q : FieldNames) (stands : Name → Option (Object Shape Signature)) → NamesStand p q stands → (r k : ℕ) (gs : Tree Name (items further_fields)) (fs : FieldShapes) → NamesAgree p q r (groups_fields gs) → RecordsAgree p q (records_in_groups k gs)
       → denoted_groups (named stands) k gs ≡ Some fs → FieldsAgree p q r fs
-  denoted_groups-agree p q stands known r k end fs h h' e = subst (FieldsAgree p q r) (some-inverse {a = no_field_shape} {b = fs} e) tt
+  denoted_groups-agree p q stands known r k end fs h h' e = subst (FieldsAgree p q r) (some_inverse {a = no_field_shape} {b = fs} e) tt
   denoted_groups-agree p q stands known r k (more (then_fields g) rest) fs h h' e =
       let h₁ = names-split p q r (group_fields g) (groups_fields rest) h in
       let h₂ = records-split p q (records_in_group k g) (records_in_groups (k + group_constructors g) rest) h' in
-      let (later, el, e₁) = some-gives (denoted_groups (named stands) (k + group_constructors g) rest) (λ later. denoted_group (named stands) k later g) fs e in
+      let (later, el, e₁) = then_some (denoted_groups (named stands) (k + group_constructors g) rest) (λ later. denoted_group (named stands) k later g) fs e in
       denoted_group-agrees p q stands known r k later g fs h₁.0 h₂.0 (denoted_groups-agree p q stands known r (k + group_constructors g) rest later h₁.1 h₂.1 el) e₁

@@ -7,7 +7,7 @@ use Rattle.ob0_scope_rules.proofs.WorkedTrees as worked
 use Rattle.ob0_scope_rules.proofs.WorkedTrees.{alone}
 use Rattle.ob0_types_rules.specs.Declarations.{declare_first}
 use Rattle.ob0_types_rules.specs.WellTyped.{declare_typed, typed_parameters}
-use Rattle.ob0_rename_laws.specs.Renaming.{FieldFree, field_renamed, is_duplicate_field, records}
+use Rattle.ob0_types_fields.specs.Renaming.{FieldFree, field_renamed, is_duplicate_field, records}
 
 -- TYPE R = RECORD a, b: INTEGER END; VAR r: R; s: RECORD a: INTEGER END; a: INTEGER; BEGIN r.a := 1; s.a := 2; a := r.a + s.a; Write(a) END M.
 -- The field a of R to c: its declaration, and the two selectors after r

@@ -8,14 +8,14 @@ use Rattle.ob0_types_rules.specs.Environments.{from_binding, meanings, newest, o
 use Rattle.ob0_types_rules.specs.Expressions.{Object, a_constant, a_type, a_variable}
 use Rattle.ob0_types_rules.specs.Typing.{constant_value, constructors, denoted}
 use Rattle.ob0_types_rules.specs.WellTyped.{Mode, TypeEnvironment, TypedParameter, Signature, bind_names, bind_typed, block_fits, body_fits, declare_typed, fits_over, heading, procedure_fits, procedures_fit, section_mode, typed_parameters}
+use Rattle.ob0_types_rules.proofs.Conditions.{both_true, hold-true}
+use Rattle.ob0_types_rules.proofs.Literals.{some_inverse}
+use Rattle.ob0_types_rules.proofs.TypedElsewhere.{then_some}
 use Rattle.ob0_values.specs.Values.{Shape}
-use Rattle.ob0_run_rules.proofs.Sound.{some-gives}
-use Rattle.ob0_run_rules.proofs.SoundCalls.{hold-true, some-inverse}
-use Rattle.ob0_run_rules.proofs.SoundStatements.{both_true}
-use Rattle.ob0_rename_laws.specs.Fields.{FieldNames, types_after_procedures, refield, refield_block, refield_formals, refield_procedure, refield_procedures, refield_section, refield_sections, refield_type_section, refield_types, refield_variable_section, refield_variables, refielded}
-use Rattle.ob0_rename_laws.specs.Renaming.{records, records_in_block, records_in_procedure, records_in_procedures, records_in_sections, records_in_type, records_in_types, records_in_variables}
-use Rattle.ob0_rename_laws.proofs.AgreeingFields.{NamesStand, ObjectAgrees, OptionAgrees, RecordsAgree, ShapeAgrees, denoted-agrees, records-split, sequence-alike, type-alike}
-use Rattle.ob0_rename_laws.proofs.RefieldedModules.{parameter_of, stands_in}
+use Rattle.ob0_types_fields.specs.Fields.{FieldNames, types_after_procedures, refield, refield_block, refield_formals, refield_procedure, refield_procedures, refield_section, refield_sections, refield_type_section, refield_types, refield_variable_section, refield_variables, refielded}
+use Rattle.ob0_types_fields.specs.Renaming.{records, records_in_block, records_in_procedure, records_in_procedures, records_in_sections, records_in_type, records_in_types, records_in_variables}
+use Rattle.ob0_types_fields.proofs.AgreeingFields.{NamesStand, ObjectAgrees, OptionAgrees, RecordsAgree, ShapeAgrees, denoted-agrees, records-split, sequence-alike, type-alike}
+use Rattle.ob0_types_fields.proofs.NamesMeant.{parameter_of, stands_in}
 
 -- environments
 
@@ -44,25 +44,25 @@ bind_typed-agrees p q (a ∷ ps) env h k = bind_typed-agrees p q ps ((a.name, a_
 
 constants-agree : (p q : FieldNames) (env : TypeEnvironment Name) (cs : Tree Name (items constant)) (after : TypeEnvironment Name) → EnvironmentAgrees p q env → declare_constants as_names env cs ≡ Some after → EnvironmentAgrees p q after
 unfolding declare_constants
-constants-agree p q env end after h e = subst (EnvironmentAgrees p q) (some-inverse {a = env} {b = after} e) h
+constants-agree p q env end after h e = subst (EnvironmentAgrees p q) (some_inverse {a = env} {b = after} e) h
 constants-agree p q env (more (declares_constant x c) cs) after h e =
-    let (v, ev, e₁) = some-gives (constant_value (meanings as_names env) c) (λ v. declare_constants as_names ((x, a_constant v) ∷ env) cs) after e in
+    let (v, ev, e₁) = then_some (constant_value (meanings as_names env) c) (λ v. declare_constants as_names ((x, a_constant v) ∷ env) cs) after e in
     constants-agree p q ((x, a_constant v) ∷ env) cs after (tt, h) e₁
 
 types-agree : (p q : FieldNames) (env : TypeEnvironment Name) (k : ℕ) (ds : Tree Name (items type_name)) (after : TypeEnvironment Name) → EnvironmentAgrees p q env → RecordsAgree p q (records_in_types k ds) → declare_types as_names env k ds ≡ Some after → EnvironmentAgrees p q after
 unfolding declare_types
-types-agree p q env k end after h r e = subst (EnvironmentAgrees p q) (some-inverse {a = env} {b = after} e) h
+types-agree p q env k end after h r e = subst (EnvironmentAgrees p q) (some_inverse {a = env} {b = after} e) h
 types-agree p q env k (more (declares_type x u) ds) after h r e =
     let r₁ = records-split p q (records_in_type k u) (records_in_types (k + constructors u) ds) r in
-    let (s, es, e₁) = some-gives (denoted (meanings as_names env) k u) (λ s. declare_types as_names ((x, a_type s) ∷ env) (k + constructors u) ds) after e in
+    let (s, es, e₁) = then_some (denoted (meanings as_names env) k u) (λ s. declare_types as_names ((x, a_type s) ∷ env) (k + constructors u) ds) after e in
     types-agree p q ((x, a_type s) ∷ env) (k + constructors u) ds after (denoted-agrees p q (stands_in env) (stands-agree p q env h) k u s r₁.0 es, h) r₁.1 e₁
 
 variables-agree : (p q : FieldNames) (env : TypeEnvironment Name) (k : ℕ) (gs : Tree Name (items variable)) (after : TypeEnvironment Name) → EnvironmentAgrees p q env → RecordsAgree p q (records_in_variables k gs) → declare_typed as_names k gs env ≡ Some after → EnvironmentAgrees p q after
 unfolding declare_typed
-variables-agree p q env k end after h r e = subst (EnvironmentAgrees p q) (some-inverse {a = env} {b = after} e) h
+variables-agree p q env k end after h r e = subst (EnvironmentAgrees p q) (some_inverse {a = env} {b = after} e) h
 variables-agree p q env k (more (declares_variable ns u) gs) after h r e =
     let r₁ = records-split p q (records_in_type k u) (records_in_variables (k + constructors u) gs) r in
-    let (s, es, e₁) = some-gives (denoted (meanings as_names env) k u) (λ s. declare_typed as_names (k + constructors u) gs (bind_names (names_listed ns) (a_variable s) env)) after e in
+    let (s, es, e₁) = then_some (denoted (meanings as_names env) k u) (λ s. declare_typed as_names (k + constructors u) gs (bind_names (names_listed ns) (a_variable s) env)) after e in
     variables-agree p q (bind_names (names_listed ns) (a_variable s) env) (k + constructors u) gs after
     (bind_names-agree p q (names_listed ns) (a_variable s) env (denoted-agrees p q (stands_in env) (stands-agree p q env h) k u s r₁.0 es) h) r₁.1 e₁
 
@@ -72,13 +72,13 @@ parameters-join p q m s (x ∷ xs) rest h k = (h, parameters-join p q m s xs res
 
 parameters-agree : (p q : FieldNames) (env : TypeEnvironment Name) (k : ℕ) (fs : Tree Name (items further_section)) (ps : List (TypedParameter Name)) → EnvironmentAgrees p q env → RecordsAgree p q (records_in_sections k fs) → typed_parameters as_names env k fs ≡ Some ps → ParametersAgree p q ps
 unfolding typed_parameters
-parameters-agree p q env k end ps h r e = subst (ParametersAgree p q) (some-inverse {a = []} {b = ps} e) tt
+parameters-agree p q env k end ps h r e = subst (ParametersAgree p q) (some_inverse {a = []} {b = ps} e) tt
 parameters-agree p q env k (more (then_section f) fs) ps h r e =
     let r₁ = records-split p q (records_in_type k (section_type f)) (records_in_sections (k + constructors (section_type f)) fs) r in
-    let (s, es, e₁) = some-gives (denoted (meanings as_names env) k (section_type f)) (λ s. option_and_then (λ rest. Some (map (parameter_of (section_mode f) s) (section_names f) ++ rest)) (typed_parameters as_names (bind_names (section_names f) (a_variable s) env) (k + constructors (section_type f)) fs)) ps e in
-    let (rest, er, e₂) = some-gives (typed_parameters as_names (bind_names (section_names f) (a_variable s) env) (k + constructors (section_type f)) fs) (λ rest. Some (map (parameter_of (section_mode f) s) (section_names f) ++ rest)) ps e₁ in
+    let (s, es, e₁) = then_some (denoted (meanings as_names env) k (section_type f)) (λ s. option_and_then (λ rest. Some (map (parameter_of (section_mode f) s) (section_names f) ++ rest)) (typed_parameters as_names (bind_names (section_names f) (a_variable s) env) (k + constructors (section_type f)) fs)) ps e in
+    let (rest, er, e₂) = then_some (typed_parameters as_names (bind_names (section_names f) (a_variable s) env) (k + constructors (section_type f)) fs) (λ rest. Some (map (parameter_of (section_mode f) s) (section_names f) ++ rest)) ps e₁ in
     let agrees : ShapeAgrees p q s = denoted-agrees p q (stands_in env) (stands-agree p q env h) k (section_type f) s r₁.0 es in
-    subst (ParametersAgree p q) (some-inverse {a = map (parameter_of (section_mode f) s) (section_names f) ++ rest} {b = ps} e₂)
+    subst (ParametersAgree p q) (some_inverse {a = map (parameter_of (section_mode f) s) (section_names f) ++ rest} {b = ps} e₂)
     (parameters-join p q (section_mode f) s (section_names f) rest agrees
     (parameters-agree p q (bind_names (section_names f) (a_variable s) env) (k + constructors (section_type f)) fs rest (bind_names-agree p q (section_names f) (a_variable s) env agrees h) r₁.1 er))
 
@@ -144,8 +144,8 @@ mutual
       let r₁ = records-split p q (records_in_types k (section_types ts)) (records_in_variables (after_types k b) (section_variables vs) ++ records_in_procedures (after_variables k b) ps) r in
       let r₂ = records-split p q (records_in_variables (after_types k b) (section_variables vs)) (records_in_procedures (after_variables k b) ps) r₁.1 in
       let (inner, e₁, e₂) = hold-true (option_and_then (declare_typed as_names (after_types k b) (section_variables vs)) (declare_first as_names env k b)) (λ inner. procedures_fit as_names inner (after_variables k b) statements ps) e in
-      let (first, ef, e₃) = some-gives (declare_first as_names env k b) (declare_typed as_names (after_types k b) (section_variables vs)) inner e₁ in
-      let (consts, ec, e₄) = some-gives (declare_constants as_names env (section_constants cs)) (λ env. declare_types as_names env k (section_types ts)) first ef in
+      let (first, ef, e₃) = then_some (declare_first as_names env k b) (declare_typed as_names (after_types k b) (section_variables vs)) inner e₁ in
+      let (consts, ec, e₄) = then_some (declare_constants as_names env (section_constants cs)) (λ env. declare_types as_names env k (section_types ts)) first ef in
       let agrees : EnvironmentAgrees p q inner =
       variables-agree p q first (after_types k b) (section_variables vs) inner (types-agree p q consts k (section_types ts) first (constants-agree p q env (section_constants cs) consts h ec) r₁.0 e₄) r₂.0 e₃ in
       let alike = subst (λ inner. ProceduresAlike p q inner (after_variables k b) statements ps) (sym (ap (λ o. unwrap_or o env) e₁)) (procedures-alike p q inner (after_variables k b) statements ps agrees r₂.1 e₂) in

@@ -5,9 +5,9 @@ use Rattle.ob0_tree.specs.Parsed.{named_tree_of, tree_of}
 use Rattle.ob0_tree.specs.Places.{text_at, value_at}
 use Rattle.ob0_scope_rules.specs.Names.{Name, same_name}
 use Rattle.ob0_scope_rules.specs.Resolution.{ordinal_in}
-use Rattle.ob0_rename_laws.specs.Fields.{refielded}
-use Rattle.ob0_rename_laws.specs.Owners.{RenamedByToken, of_records}
-use Rattle.ob0_rename_laws.specs.Renaming.{one_renamed}
+use Rattle.ob0_types_fields.specs.Fields.{refielded}
+use Rattle.ob0_types_fields.specs.Owners.{RenamedByToken, of_records}
+use Rattle.ob0_types_fields.specs.Renaming.{one_renamed}
 
 -- how fields of known records are written where one is renamed
 abbrev in_record : ℕ → Name → Name → ℕ → Name → Name

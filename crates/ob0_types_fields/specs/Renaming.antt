@@ -9,7 +9,7 @@ use Rattle.ob0_scope_rules.specs.Parts.{formal_sections, module_block, section_t
 use Rattle.ob0_scope_rules.specs.Scopes.{same_ordinal}
 use Rattle.ob0_types_rules.specs.Declarations.{after_formals, after_types, after_variables, procedure_constructors}
 use Rattle.ob0_types_rules.specs.Typing.{constructors, group_constructors}
-use Rattle.ob0_rename_laws.specs.Fields.{FieldNames, refielded}
+use Rattle.ob0_types_fields.specs.Fields.{FieldNames, refielded}
 
 -- the field f of the record r is written as `new`
 abbrev pub one_renamed : ℕ → Name → Name → FieldNames
