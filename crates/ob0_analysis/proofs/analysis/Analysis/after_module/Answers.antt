@@ -1,4 +1,4 @@
-use Rattle.std.proofs.Common.{refl, ap, ◌∙◌}
+use Rattle.std.proofs.Common.{refl}
 use Rattle.ob0_tree.specs.Parsed.{parsed_by}
 use Rattle.ob0_parse.proofs.Stays.{tree_stays}
 use Rattle.ob0_analysis.proofs.analysis.Analysis.after_module.Goals as goal
