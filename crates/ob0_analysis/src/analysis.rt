@@ -41,8 +41,8 @@ pub(crate) enum Findings {
     Module(ModuleParts),
 }
 
-/// What a text is. Contracts see the text alone: what is kept of it is what an analysis of that text from nothing finds, so
-/// more can be kept without a change of any of them.
+/// What a text is. Contracts see the text alone: what is kept of it is what an analysis of that text from nothing
+/// finds, so more can be kept without a change of any of them.
 #[derive(Drop)]
 pub struct Analysis {
     found: Findings,
@@ -74,9 +74,9 @@ impl Analysis {
         }
     }
 
-    /// The analysis of another text. What it has in common with the text before is taken over from it: tokens, and where all
-    /// tokens are of the kinds that they were the tree, or where the parser stops; where all identifiers are written as they were
-    /// also what they are bound to.
+    /// The analysis of another text. What it has in common with the text before is taken over from it: tokens, and
+    /// where all tokens are of the kinds that they were the tree, or where the parser stops; where all identifiers are
+    /// written as they were also what they are bound to.
     pub fn after(self, alloc: Global, text: &str) -> Result<Analysis, AllocError>
         ensures { IfOk result (λ a. a ≡ text.now) }
     {
@@ -161,7 +161,8 @@ impl Analysis {
         }
     }
 
-    /// The analysis of a text by the tree of the text before, which is its own where the tokens are alike, and by its bindings.
+    /// The analysis of a text by the tree of the text before, which is its own where the tokens are alike, and by its
+    /// bindings.
     fn of_scan(
         alloc: Global,
         found: RescanInPlace,
@@ -189,8 +190,9 @@ impl Analysis {
         }
     }
 
-    /// The analysis of a text with the tree of the text before. The bindings of that text are its own where the identifiers are
-    /// written as they were; but the faults of names are in other places, so where there are some all names are bound again.
+    /// The analysis of a text with the tree of the text before. The bindings of that text are its own where the
+    /// identifiers are written as they were; but the faults of names are in other places, so where there are some all
+    /// names are bound again.
     fn of_same_tree(
         alloc: Global,
         tokens: Tokens,
@@ -297,9 +299,9 @@ impl Analysis {
         }
     }
 
-    /// What is wrong with the text, which is nothing exactly for a well-typed module. Faults of its lexemes are reported in
-    /// text order, the first hundred, and then nothing else; of a text that has lexemes and no tree the one place at which
-    /// the parser refuses it; of one with a tree the faults of names and types, the first hundred.
+    /// What is wrong with the text, which is nothing exactly for a well-typed module. Faults of its lexemes are
+    /// reported in text order, the first hundred, and then nothing else; of a text that has lexemes and no tree the one
+    /// place at which the parser refuses it; of one with a tree the faults of names and types, the first hundred.
     pub fn diagnoses(&self, alloc: Global) -> Result<Vec<Diagnosis>, AllocError>
         ensures reported { IfOk result (λ list. Reports self.now (map complaint_in list.items)) }
         ensures utf8 { IsUtf8 self.now }

@@ -14,8 +14,8 @@ use ob0_types::{Checked, ModuleTypes, types_of};
 use std::alloc::{AllocError, Global};
 use std::marker::Model;
 
-/// The tokens of a text that is a module, the tree that they spell, what its names are bound to, and what checking its types
-/// finds. None borrows another.
+/// The tokens of a text that is a module, the tree that they spell, what its names are bound to, and what checking its
+/// types finds. None borrows another.
 #[derive(Drop)]
 pub(crate) struct ModuleParts {
     tokens: Tokens,

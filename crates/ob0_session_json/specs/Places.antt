@@ -8,5 +8,6 @@ use Rattle.ob0_rpc.specs.Appending.{IsReadBack}
 -- room, and after it what follows the range of a place: its uri, and the bracket that closes it
 pub record EndsInUri (uri room : List ℕ) : Type 0 where
   pub roomy : 192 ≤ length room
-  pub ends : drop 192 room ≡ 44 ∷ 34 ∷ (codes "uri" ++ 34 ∷ 58 ∷ (compact_text (string uri) ++ 125 ∷ []))
+  pub ends : drop 192 room
+      ≡ 44 ∷ 34 ∷ (codes "uri" ++ 34 ∷ 58 ∷ (compact_text (string uri) ++ 125 ∷ []))
   pub reads : IsReadBack (string uri)

@@ -191,8 +191,8 @@ impl<'t> Supposed<'t> {
         Ok(given(operand.of, wanted))
     }
 
-    /// Requires the same type on both sides, and gives it where it is there. Only one wrong operand is reported, the left one
-    /// first.
+    /// Requires the same type on both sides, and gives it where it is there. Only one wrong operand is reported, the
+    /// left one first.
     fn require_both(
         &self,
         faults: &mut Vec<Fault>,
