@@ -14,8 +14,8 @@
 #   make try               the tables of check, run and rename, with the program compiled without its proofs, in two to three minutes
 #   make end-to-end        the end-to-end tests alone, on bin/ob0
 #   make faults            what takes longer: memory refused at each allocation, two long conversations, many random runs; WORDS=".." names some
-#   make wrong-bodies      tries each crate's wrong bodies, all at once where that can be; CRATE="NAME.." names some
-#   make surface           the public functions, who uses them and their wrong bodies: docs/SURFACE.md
+#   make wrong-bodies      tries each crate's mutants, all at once where that can be; CRATE="NAME.." names some
+#   make surface           the public functions, who uses them and their mutants: docs/SURFACE.md, and how many mutants: README.md
 #   make statement         all definitions that the headline is made of, in reading order: docs/STATEMENT.md
 #   make bench             times the program; nothing fails by time
 PREFIX ?= /usr/local

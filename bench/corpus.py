@@ -142,7 +142,7 @@ class Maker:
 
 
 def module(size, seed=0, on_line=False):
-    """A module of so many bytes (at least 700)."""
+    """A module of this many bytes (at least 700)."""
     maker, scope = Maker(seed), Scope()
     head = ["MODULE Corpus;", "CONST", "  base = 7;", "TYPE", "  Line = ARRAY 16 OF INTEGER;"]
     head += ["  Point = RECORD x, y: INTEGER; done: BOOLEAN END;"]
@@ -158,7 +158,7 @@ def module(size, seed=0, on_line=False):
         lines += more
         room -= length
     text = (" " if on_line else "\n").join([*lines, *tail])
-    # (the rest is filled up by a comment behind the module)
+    # (the rest is filled up by a comment after the module)
     left = size - len(text)
     if left >= 4:
         text += "(*" + "." * (left - 4) + "*)"
@@ -166,7 +166,7 @@ def module(size, seed=0, on_line=False):
 
 
 def block(count):
-    """So many declarations in one block, each used once."""
+    """This many declarations in one block, each used once."""
     names = [f"v{at}" for at in range(count)]
     declared = "\n".join(f"  {it}: INTEGER;" for it in names)
     used = ";\n".join(f"  {it} := {it} + 1" for it in names)
@@ -174,7 +174,7 @@ def block(count):
 
 
 def nest(count):
-    """So many procedures inside one another."""
+    """This many procedures inside one another."""
     lines = ["MODULE Nest;", "VAR v0: INTEGER;"]
     lines += [f"PROCEDURE p{at}(n{at}: INTEGER); VAR v{at}: INTEGER;" for at in range(1, count + 1)]
     lines += [f"BEGIN v{at} := v{at - 1} + n{at}; v0 := v{at} END p{at};" for at in range(count, 0, -1)]
@@ -182,7 +182,7 @@ def nest(count):
 
 
 def many(count, way):
-    """So many variables, in one declaration or each in its own; every second one is used."""
+    """This many variables, in one declaration or each in its own; every second one is used."""
     names = [f"v{at}" for at in range(count)]
     declared = ",".join(names) + ":INTEGER;" if way == "one" else "".join(f"{it}:INTEGER;" for it in names)
     return f"MODULE M;VAR {declared}BEGIN {';'.join(f'{it}:=1' for it in names[::2])} END M."

@@ -17,8 +17,8 @@ def place_of(text, at):
     return text.count("\n", 0, at), at - (text.rfind("\n", 0, at) + 1)
 
 
-def behind(text, pattern):
-    """The line and the column behind the first match in the text's second half."""
+def place_after(text, pattern):
+    """The line and the column after the first match in the text's second half."""
     return place_of(text, re.compile(pattern).search(text, len(text) // 2).end())
 
 
@@ -27,8 +27,8 @@ def replaced(line, column, end, new, version):
 
 
 def in_and_out(text, pattern, letter):
-    """Changes of one letter behind a place: it is put in and taken out in turn."""
-    line, column = behind(text, pattern)
+    """Changes of one letter after a place: it is put in and taken out in turn."""
+    line, column = place_after(text, pattern)
 
     def changes(count):
         return [replaced(line, column, column + at % 2, "" if at % 2 else letter, 2 + at) for at in range(count)]
@@ -38,7 +38,7 @@ def in_and_out(text, pattern, letter):
 
 def typed(text):
     """A statement typed letter by letter, after each letter three questions, and taken out again."""
-    line, column = first = behind(text, r":= [^;\n]*;")
+    line, column = first = place_after(text, r":= [^;\n]*;")
     talk, ident = [], 10
     for letter in TYPED:
         talk.append(replaced(line, column, column, letter, 2 + len(talk)))
@@ -54,7 +54,7 @@ def typed(text):
     return [did_open(text)], [did_open(text), *talk], len(TYPED)
 
 
-def asked(text, method, params):
+def query(text, method, params):
     question = request(5, f"textDocument/{method}", {"textDocument": {"uri": URI}, **params})
     return [did_open(text)], [did_open(text), question], 1
 
@@ -69,7 +69,7 @@ def shrinking(count, seed=0):
 
 
 def rows():
-    """Names, and two conversations of which the second is so many things longer."""
+    """Names, and two conversations of which the second is this many things longer."""
     for size in SIZES:
         text = corpus.module(size)
         yield f"a module of {size:,} is opened", [], [did_open(text)], 1
@@ -78,10 +78,10 @@ def rows():
         yield "  a statement more or less", *in_and_out(text, r":= [^;\n]*;", ";")
         yield "  a key typed, with three questions", *typed(text)
     uses = corpus.uses(100000, False)
-    yield "references, 100,000 places", *asked(uses, "references", {"context": {"includeDeclaration": True}, "position": place(0, 18)})
-    yield "rename, 100,000 places", *asked(uses, "rename", {"newName": "y", "position": place(0, 18)})
+    yield "references, 100,000 places", *query(uses, "references", {"context": {"includeDeclaration": True}, "position": place(0, 18)})
+    yield "rename, 100,000 places", *query(uses, "rename", {"newName": "y", "position": place(0, 18)})
     spread = uses.replace("x", "  x  ")
-    yield "formatting, 100,000 places", *asked(spread, "formatting", {"options": {"tabSize": 2, "insertSpaces": True}})
+    yield "formatting, 100,000 places", *query(spread, "formatting", {"options": {"tabSize": 2, "insertSpaces": True}})
 
 
 def conversation(messages):

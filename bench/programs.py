@@ -1,6 +1,6 @@
 """Programs that do the same in Oberon-0, Lua and Python: for each a name and three texts.
 
-A run allows 64 open calls and 100,000 turns of each execution of a loop, so the work stands in nested loops."""
+A run allows 64 open calls and 100,000 turns of each execution of a loop, so the work is in nested loops."""
 
 PROGRAMS = {
     "nested loops, 2,000,000 turns": (
@@ -369,7 +369,7 @@ print(x, y)
 
 
 def calls(count):
-    """A program of Oberon-0 that makes so many calls (a multiple of 1,000), one after the other, and writes how many."""
+    """A program of Oberon-0 that makes this many calls (a multiple of 1,000), one after the other, and writes how many."""
     return f"""MODULE Many;
 VAR i, j, made: INTEGER;
 PROCEDURE Count(n: INTEGER; VAR made: INTEGER);
@@ -388,7 +388,7 @@ END Many.
 
 
 def open_calls(depth, turns):
-    """A program that has so many calls open at a time, so often, each with 16,384 cells of its own, and writes how many it made."""
+    """A program that has this many calls open at a time, this often, each with 16,384 cells of its own, and writes how many it made."""
     return f"""MODULE Deep;
 VAR i, made: INTEGER;
 PROCEDURE Down(n: INTEGER; VAR made: INTEGER);
@@ -403,7 +403,7 @@ END Deep.
 
 
 def numbers_out(count):
-    """A program of Oberon-0 that writes so many numbers (a multiple of 1,000), of one digit each."""
+    """A program of Oberon-0 that writes this many numbers (a multiple of 1,000), of one digit each."""
     return f"""MODULE Out;
 VAR i, j: INTEGER;
 BEGIN

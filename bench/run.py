@@ -130,7 +130,7 @@ def letter_at(text, version):
 
 
 def letters_at(text, count):
-    """So many changes in one note: in the middle of a text a blank is put in and taken out in turn."""
+    """This many changes in one note: in the middle of a text a blank is put in and taken out in turn."""
     line, column = place_in_the_middle(text)
     put = {"range": extent(f"{line}:{column}-{line}:{column}"), "text": " "}
     take = {"range": extent(f"{line}:{column}-{line}:{column + 1}"), "text": ""}
@@ -156,7 +156,7 @@ def served():
 
 
 def opened(text, times):
-    """Time on a processor for one open of a text through `serve`, over so many of them, and the peak memory."""
+    """Time on a processor for one open of a text through `serve`, over this many of them, and the peak memory."""
     empty = frames([initialize(), SHUTDOWN, EXIT])
     given = frames([initialize(), *(did_open(text, version=at) for at in range(times)), SHUTDOWN, EXIT])
     found, nothing = best(3, lambda: Timed([BINARY, "serve"], given)), best(3, lambda: Timed([BINARY, "serve"], empty))
@@ -196,7 +196,7 @@ def growing():
 
 
 def changed(text, times):
-    """Time on a processor for one change of a letter, over so many of them behind an opening, and the peak memory."""
+    """Time on a processor for one change of a letter, over this many of them after an opening, and the peak memory."""
     talk = lambda more: frames([initialize(), did_open(text), *more, SHUTDOWN, EXIT])
     changes = [letter_at(text, version) for version in range(2, 2 + times)]
     found, opening = (best(3, lambda more=more: Timed([BINARY, "serve"], talk(more))) for more in (changes, []))
@@ -303,7 +303,7 @@ def changed_often():
 
 
 def on_file(words, text, given=b"", times=3):
-    """A run of the program on a file with this text: the quickest of so many."""
+    """A run of the program on a file with this text: the quickest of this many."""
     with tempfile.TemporaryDirectory() as room:
         with open(os.path.join(room, "m.mod"), "w", encoding="utf-8") as file:
             file.write(text)
@@ -312,7 +312,7 @@ def on_file(words, text, given=b"", times=3):
 
 @measure("parse: a module that ends too early, beside one with a bad character at its end")
 def parsed():
-    """What comes behind the parser isn't begun where a module ends too early, and the parser isn't where the scanner tells a fault."""
+    """What comes after the parser isn't begun where a module ends too early, and the parser isn't where the scanner reports a fault."""
 
     def beside(sizes, **how):
         rows = []
@@ -357,7 +357,7 @@ def large_block():
     growth("declarations of a name each", [5000, 50000], lambda count: corpus.many(count, "each"), each)
 
 
-def asked(text, method, params, expected, count, **capabilities):
+def cost_of_query(text, method, params, expected, count, **capabilities):
     """What a request costs through `serve` beside the opening alone: time on a processor, and the peak memory. The answer
     must hold the expected bytes so often."""
     question = request(5, f"textDocument/{method}", {"textDocument": {"uri": "file:///m"}, **params})
@@ -507,14 +507,14 @@ def many_documents():
 @measure("questions: references of one name, on 100 KB and 1 MB")
 def referred():
     ask = {"context": {"includeDeclaration": True}, "position": place(0, 18)}
-    each = lambda text, size: asked(text, "references", ask, b'"uri":"file:///m"}', size + 1)
+    each = lambda text, size: cost_of_query(text, "references", ask, b'"uri":"file:///m"}', size + 1)
     for name, on_line in USES:
         growth(f"references {name},", COUNTS, lambda size, on_line=on_line: corpus.uses(size, on_line), each)
 
 
 @measure("rename: a name that is used all over 100 KB and 1 MB")
 def renamed():
-    each = lambda text, size: asked(text, "rename", {"newName": "y", "position": place(0, 18)}, b'"newText":"y"', size + 1)
+    each = lambda text, size: cost_of_query(text, "rename", {"newName": "y", "position": place(0, 18)}, b'"newText":"y"', size + 1)
     for name, on_line in USES:
         growth(f"rename {name},", COUNTS, lambda size, on_line=on_line: corpus.uses(size, on_line), each)
 
@@ -531,7 +531,7 @@ def halves(what, cost, first, second):
 def renamed_to_a_long_name():
     def cost(uses, letters):
         ask = {"newName": "y" * letters, "position": place(0, 17)}
-        return asked(corpus.chain(uses), "rename", ask, b"TooLong", 1)
+        return cost_of_query(corpus.chain(uses), "rename", ask, b"TooLong", 1)
 
     halves("uses and letters", cost, 500_000, 8_000_000)
 
@@ -570,7 +570,7 @@ def largest_message():
 
 @measure("rename: from the request to the end of its answer, on 1 MiB")
 def rename_answered():
-    """By the clock, with the document open: a name that stands in a module here and there, and one that is all of the text."""
+    """By the clock, with the document open: a name that is in a module here and there, and one that is all of the text."""
 
     def whole(name, text, line, character, old, new):
         question = request(5, "textDocument/rename", {"newName": new, "position": place(line, character), "textDocument": {"uri": "file:///m"}})
@@ -590,7 +590,7 @@ def rename_answered():
 
 @measure("rename: a field that is used all over 100 KB and 1 MB")
 def field_renamed():
-    each = lambda text, size: asked(text, "rename", {"newName": "y", "position": place(0, 26)}, b'"newText":"y"', size + 1)
+    each = lambda text, size: cost_of_query(text, "rename", {"newName": "y", "position": place(0, 26)}, b'"newText":"y"', size + 1)
     for name, on_line in USES:
         growth(f"rename of a field {name},", OF_A_FIELD, lambda size, on_line=on_line: corpus.fields(size, on_line), each)
 
@@ -605,8 +605,8 @@ def inlined():
         it = place(line, where - (text.rfind("\n", 0, where) + 1))
         return {"context": {}, "range": {"end": it, "start": it}}
 
-    everywhere = lambda text, size: asked(text, "codeAction", at(text, text.index("c=")), b'"newText":"7"', size, **literals)
-    both = lambda text, size: asked(text, "codeAction", at(text, text.rindex("c")), b'"newText":"7"', size + 1, **literals)
+    everywhere = lambda text, size: cost_of_query(text, "codeAction", at(text, text.index("c=")), b'"newText":"7"', size, **literals)
+    both = lambda text, size: cost_of_query(text, "codeAction", at(text, text.rindex("c")), b'"newText":"7"', size + 1, **literals)
     for name, on_line in USES:
         make = lambda size, on_line=on_line: corpus.constants(size, on_line)
         growth(f"inline everywhere, {name},", COUNTS, make, everywhere)
@@ -627,7 +627,7 @@ def laid_out():
         return max(found.processor - without.processor, 1e-4), found.memory
 
     def wide(size):
-        """A module on one line with so many blanks between its words that its layout isn't longer than it is."""
+        """A module on one line with this many blanks between its words that its layout isn't longer than it is."""
         return corpus.module(size * 39 // 100, on_line=True).replace(" ", " " * 5).ljust(size)
 
     growth("layout of a module of", [100000, 900000], corpus.module, each)
@@ -651,7 +651,7 @@ def instructions_of_conversation(program, given):
 
 @measure("keys: what an editor does while one types: instructions, and time on a processor")
 def keys_typed():
-    """Where BESIDE names another program, its instructions stand behind."""
+    """Where BESIDE names another program, its instructions come after."""
     import keys
 
     programs = [it for it in (BINARY, os.environ.get("BESIDE")) if it]
@@ -661,11 +661,11 @@ def keys_typed():
     for name, short, long, count in keys.rows():
         less, more = (frames(keys.conversation(it)) for it in (short, long))
         one, other = (best(3, lambda given=given: Timed([BINARY, "serve"], given)).processor for given in (less, more))
-        told = f"{max(other - one, 1e-5) / count * 1000:9.3f} ms"
+        line = f"{max(other - one, 1e-5) / count * 1000:9.3f} ms"
         if counts:
             taken = [(instructions_of_conversation(it, more) - instructions_of_conversation(it, less)) / count for it in programs]
-            told += "".join(f"  {it:14,.0f}" for it in taken) + (f"  ratio {taken[0] / taken[1]:.2f}" if taken[1:] else "")
-        said(name, told)
+            line += "".join(f"  {it:14,.0f}" for it in taken) + (f"  ratio {taken[0] / taken[1]:.2f}" if taken[1:] else "")
+        said(name, line)
 
 
 @measure("keys: eight documents that grow and shrink between 100 bytes and 1 MB: peak memory")
@@ -682,8 +682,8 @@ def instructions(words, file):
     if missing := lacks("valgrind"):
         return f"skipped: {missing}"
     counted = ["valgrind", "--tool=callgrind", "--callgrind-out-file=/dev/null", *words, file]
-    told = subprocess.run(counted, stdin=subprocess.DEVNULL, stdout=subprocess.DEVNULL, stderr=subprocess.PIPE, check=False).stderr
-    found = re.search(rb"Collected : (\d+)", told)
+    line = subprocess.run(counted, stdin=subprocess.DEVNULL, stdout=subprocess.DEVNULL, stderr=subprocess.PIPE, check=False).stderr
+    found = re.search(rb"Collected : (\d+)", line)
     return f"{int(found[1]):,} instructions" if found else "valgrind counted nothing"
 
 

@@ -1,7 +1,7 @@
 """Changes with a range, in both units: what the server holds is what the editor has."""
 import random
 
-from harness import Server, compact, did_change, did_open, extent, holds, initialize, published, same, serve, test, told
+from harness import Server, compact, diagnostic, did_change, did_open, extent, holds, initialize, published, same, serve, test
 
 ENDS = ("\r\n", "\r", "\n")
 
@@ -40,7 +40,7 @@ class Edited:
 
 
 def faults(edited):
-    """What is told of a text of white space, letters, comments that are closed, and bad characters `$`, `é` and `😀`."""
+    """What is reported of a text of white space, letters, comments that are closed, and bad characters `$`, `é` and `😀`."""
     found, depth, at, text = [], 0, 0, edited.text
     while at < len(text):
         pair = text[at : at + 2]
@@ -60,7 +60,7 @@ def is_between(text, at):
 
 
 def scanned(diagnostics):
-    """The faults of scanning among what is told."""
+    """The faults of scanning among what is reported."""
     return [it for it in diagnostics if it["code"] == "BadChar"]
 
 
@@ -73,7 +73,7 @@ def session(seed, utf8, steps):
     pieces[7] = "(*é*)"
     with Server(**offer) as server:
         same("positionEncoding" in server.first["result"]["capabilities"], utf8, "whether the encoding is announced")
-        same(scanned(server.tell(did_open(edited.text))), faults(edited), "at first")
+        same(scanned(server.notify(did_open(edited.text))), faults(edited), "at first")
         for step in range(steps):
             changes = []
             for _ in range(chance.choice([1, 1, 1, 2, 3])):
@@ -88,7 +88,7 @@ def session(seed, utf8, steps):
                 changes = [{"text": edited.text}]
             if sum(it in "$😀é" for it in edited.text) > 90:
                 raise AssertionError("the text is too long for the first 100 faults")
-            found = scanned(server.tell(did_change(changes, version=step + 2)))
+            found = scanned(server.notify(did_change(changes, version=step + 2)))
             same(compact(found), compact(faults(edited)), f"step {step} of {edited.text!r}")
         same(server.end(), 0, "the status")
 
@@ -104,16 +104,16 @@ def utf8_units():
 
 
 def changed(text, *changes, encodings=None):
-    """What is told once a text with these changes, pairs of a range and a new text, is held."""
+    """What is reported once a text with these changes, pairs of a range and a new text, is open."""
     capabilities = {"general": {"positionEncodings": encodings}} if encodings else {}
     with Server(capabilities=capabilities) as server:
-        server.tell(did_open(text))
+        server.notify(did_open(text))
         given = [{"range": extent(where), "text": new} if where else {"text": new} for where, new in changes]
-        return scanned(server.tell(did_change(given)))
+        return scanned(server.notify(did_change(given)))
 
 
 def at_end(text, *changes, encodings=None):
-    """Where a bad character stands that is put behind all of the changed text."""
+    """Where a bad character is that is put after all of the changed text."""
     end = ("18446744073709551615:0-18446744073709551615:0", "$")
     found = changed(text, *changes, end, encodings=encodings)
     return [it["range"]["start"] for it in found][-1]
@@ -123,7 +123,7 @@ def at_end(text, *changes, encodings=None):
 def lines():
     place = lambda line, character: {"line": line, "character": character}
     same(at_end("(* 😀 *) x := 1;"), place(0, 16), "units of UTF-16")
-    same(at_end("(* 😀 *) x := 1;", ("0:9-0:10", "yz")), place(0, 17), "a name replaced behind a pair")
+    same(at_end("(* 😀 *) x := 1;", ("0:9-0:10", "yz")), place(0, 17), "a name replaced after a pair")
     same(at_end("(* 😀 *) x := 1;", ("0:9-0:10", "yz"), ("0:4-0:4", "!")), place(0, 18), "inside a pair: before it")
     same(at_end("a\rb", ("1:0-1:0", "\n"), ("1:1-1:1", "\nc"), ("2:0-2:1", "d")), place(2, 1), "CR and LF become one ending")
     same(at_end("a\r\nb", ("0:1-1:0", "")), place(0, 2), "an ending taken away")
@@ -135,10 +135,10 @@ def lines():
 
 @test("changes: places in a text show by a bad character")
 def places():
-    bad = lambda where: [told("BadChar", "bad character", where)]
-    same(changed("(* 😀 *) x", ("0:9-0:9", "$")), bad("0:9-0:10"), "behind a pair")
+    bad = lambda where: [diagnostic("BadChar", "bad character", where)]
+    same(changed("(* 😀 *) x", ("0:9-0:9", "$")), bad("0:9-0:10"), "after a pair")
     same(changed("(* 😀 *) x", ("0:4-0:4", "$")), [], "in the comment")
-    same(changed("a\rb", ("1:0-1:0", "\n"), ("1:0-1:0", "$")), bad("1:0-1:1"), "behind CR LF")
+    same(changed("a\rb", ("1:0-1:0", "\n"), ("1:0-1:0", "$")), bad("1:0-1:1"), "after CR LF")
     same(changed("a\r\nb", ("0:9-0:9", "$")), bad("0:1-0:2"), "before CR LF")
 
 
@@ -147,29 +147,29 @@ WITH_PAIR = "(* 😀 *) x := 1;"
 
 @test("changes: a place inside a character moves back before it, in both units")
 def inside():
-    wanted = [told("BadChar", "bad character", "0:5-0:6")]
+    wanted = [diagnostic("BadChar", "bad character", "0:5-0:6")]
     for encodings, places in ((["utf-16"], [3, 4]), (["utf-8"], [3, 4, 5, 6])):
         for at in places:
-            # (moved on behind the character, the bad one would stand at 0:7 in UTF-16 and at 0:9 in UTF-8)
+            # (moved on after the character, the bad one would be at 0:7 in UTF-16 and at 0:9 in UTF-8)
             found = changed(WITH_PAIR, (f"0:{at}-0:{at}", "*)$(*"), encodings=encodings)
             same(found, wanted, f"0:{at} in {encodings[0]}")
 
 
-@test("changes: a place behind a line's end is that end, and one behind the last line is the text's end")
-def behind():
-    bad = lambda where: [told("BadChar", "bad character", where)]
+@test("changes: a place after a line's end is that end, and one after the last line is the text's end")
+def past_the_end():
+    bad = lambda where: [diagnostic("BadChar", "bad character", where)]
     same(changed(WITH_PAIR, ("0:99-0:99", "$")), bad("0:16-0:17"), "0:99, of one line")
     same(changed(WITH_PAIR, ("7:0-7:0", "$")), bad("0:16-0:17"), "7:0, of one line")
     for ending in ENDS:
         text = f"ab{ending}(* 😀 *){ending}c"
         same(changed(text, ("0:99-0:99", "$")), bad("0:2-0:3"), f"0:99 before {ending!r}")
         same(changed(text, ("1:99-1:99", "$")), bad("1:8-1:9"), f"1:99 before {ending!r}")
-        same(changed(text, ("7:0-7:0", "$")), bad("2:1-2:2"), f"7:0 behind {ending!r}")
+        same(changed(text, ("7:0-7:0", "$")), bad("2:1-2:2"), f"7:0 after {ending!r}")
 
 
-@test("changes: places behind a line's end and behind the last line, in UTF-8 units")
+@test("changes: places after a line's end and after the last line, in UTF-8 units")
 def behind_utf8():
-    bad = [told("BadChar", "bad character", "0:18-0:19")]
+    bad = [diagnostic("BadChar", "bad character", "0:18-0:19")]
     for where in ("0:99-0:99", "7:0-7:0"):
         same(changed(WITH_PAIR, (where, "$"), encodings=["utf-8"]), bad, where)
 
@@ -182,8 +182,8 @@ def all_at_once(text, *changes):
 
 @test("changes: several in one notification are published once, with its version")
 def one_notification():
-    bad = lambda *places: [told("BadChar", "bad character", it) for it in places]
-    module = [told("Syntax", "expected MODULE", "0:0-0:1")]
+    bad = lambda *places: [diagnostic("BadChar", "bad character", it) for it in places]
+    module = [diagnostic("Syntax", "expected MODULE", "0:0-0:1")]
     given = [("1:0-1:0", "\n"), ("1:1-1:1", "\nc")]
     same(all_at_once("a\rb", *given, ("2:0-2:1", "d")), [published(module), published(module, version=2)], "letters")
     found = all_at_once("$\r$", *given, ("2:0-2:1", "$"))
@@ -201,7 +201,7 @@ def one_after_another():
         did_change([{"range": {"start": {"line": 1, "character": 1.0}, "end": {"line": 1, "character": 1}}, "text": ""}], version=3),
         did_change([{"text": "$"}, {"range": None, "text": module}], version=4),
     ]
-    bad = published([told("BadChar", "bad character", "1:0-1:1")], version=2)
+    bad = published([diagnostic("BadChar", "bad character", "1:0-1:1")], version=2)
     same(serve([initialize(), *given]).contents()[1:], [published([]), bad, published([], version=4)])
 
 
@@ -212,7 +212,7 @@ def utf8_lines():
     text = "(* 😀 *) x := 1;"
     same(at_end(text, encodings=both), place(0, 18), "units of UTF-8")
     same(at_end(text, encodings=["utf-32"]), place(0, 16), "what isn't offered isn't taken")
-    same(at_end(text, ("0:11-0:12", "yz"), encodings=both), place(0, 19), "a name behind four bytes")
+    same(at_end(text, ("0:11-0:12", "yz"), encodings=both), place(0, 19), "a name after four bytes")
     same(at_end(text, ("0:5-0:5", "!"), encodings=both), place(0, 19), "inside a character: before it")
 
 
@@ -228,7 +228,7 @@ def announced():
 def broken():
     module = "MODULE M; END M."
     with Server() as server:
-        same(server.tell(did_open(module)), [])
+        same(server.notify(did_open(module)), [])
         for at, change in enumerate(
             [
                 {"range": {"start": {"line": -1, "character": 0}, "end": {"line": 0, "character": 0}}, "text": ""},
@@ -243,15 +243,15 @@ def broken():
             server.send(did_change([change], version=10 * at))
             # (a ranged change is skipped now, and sends nothing)
             server.send(did_change([{"range": extent("0:0-0:0"), "text": "$"}], version=10 * at + 1))
-            same(server.tell(did_change(module, version=10 * at + 2)), [], f"after {change}")
+            same(server.notify(did_change(module, version=10 * at + 2)), [], f"after {change}")
 
 
 @test("changes: a text of many lines is edited near its end")
 def long_text():
     lines = [f"(* line {at} *)" for at in range(20000)]
     with Server() as server:
-        same(scanned(server.tell(did_open("\n".join(lines)))), [])
+        same(scanned(server.notify(did_open("\n".join(lines)))), [])
         for step in range(50):
-            found = server.tell(did_change([{"range": extent("19990:3-19990:3"), "text": "*)$(*"}], version=step + 2))
+            found = server.notify(did_change([{"range": extent("19990:3-19990:3"), "text": "*)$(*"}], version=step + 2))
             same(len(found), min(step + 1, 100), "the bad characters")
         holds(found[0]["range"]["start"]["line"] == 19990, "the line")

@@ -143,7 +143,7 @@ def examples():
     with Server() as server:
         for text, *codes in EXAMPLES:
             plain, wanted = marked(text, *codes)
-            same(server.tell(did_open(plain)), wanted, text)
+            same(server.notify(did_open(plain)), wanted, text)
 
 
 @test("check: each code of scopes and types, through `check`")
@@ -158,7 +158,7 @@ def examples_checked():
 def hundred():
     with Server() as server:
         text = "MODULE M; BEGIN" + " x;" * 1000 + " END M."
-        found = server.tell(did_open(text))
+        found = server.notify(did_open(text))
     same([it["range"]["start"]["character"] for it in found], [16 + 3 * at for at in range(100)], "where")
 
 
@@ -187,7 +187,7 @@ def scanning():
     )
 
 
-@test("check: scanning and syntax are told first")
+@test("check: scanning and syntax are reported first")
 def earlier():
     ends(on_file("check", "MODULE M; BEGIN x := 1a END M."), "0:21: NumberJoinsLetter: letter after number\n", 1)
     ends(on_file("check", "MODULE M; BEGIN x = 1 END M."), "0:18: Syntax: expected END\n", 1)

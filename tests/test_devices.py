@@ -52,15 +52,15 @@ SERVE = [harness.BINARY, "serve"]
 
 @test("devices: a reader that fails at each byte of the first conversation")
 def failing_reader():
-    # (the exit is taken with its last byte: the call behind it is never made)
+    # (the exit is taken with its last byte: the call after it is never made)
     for found in failing.walk(SERVE, INPUT, None, "reads", range(1, len(INPUT) + 1)):
         fewest, most = (len([it for it in BORDERS[1:] if it < at]) for at in (found.numbers[0], found.numbers[-1]))
         same(fewest, most, "how much is answered in runs that end alike")
         ended(found, frames(OUT[:most]), 4, b"fault: Read\n", f"call {found.numbers[0]} fails")
-    ended(failing.undisturbed(SERVE, INPUT, reads=len(INPUT) + 1), OUTPUT, 0, b"", "the call behind the exit")
+    ended(failing.undisturbed(SERVE, INPUT, reads=len(INPUT) + 1), OUTPUT, 0, b"", "the call after the exit")
 
 
-@test("devices: a writer that takes one byte a call and fails, or takes none, behind each byte of the first conversation")
+@test("devices: a writer that takes one byte a call and fails, or takes none, after each byte of the first conversation")
 def failing_writer():
     for ending in ("", ".."):
         for found in failing.walk(SERVE, INPUT, None, "writes", range(len(OUTPUT)), ending):
@@ -69,7 +69,7 @@ def failing_writer():
         ended(failing.undisturbed(SERVE, INPUT, writes=f"{len(OUTPUT)}{ending}"), OUTPUT, 0, b"", "room for all")
 
 
-@test("devices: a writer that fails behind each byte that a command prints")
+@test("devices: a writer that fails after each byte that a command prints")
 def failing_printer():
     for name, status in (("check a text with two faults", 1), ("run a module", 0), ("rename a variable", 0)):
         words, given, text = conversations.SHORT[name]
@@ -118,7 +118,7 @@ def failing_file():
                 ended(found, b"", 4, b"fault: File\n", f"{words[0]}: call {found.numbers[0]} fails")
 
 
-@test("devices: a folder in the place of an input")
+@test("devices: a folder instead of an input")
 def reader():
     folder = os.open("/", os.O_RDONLY)
     try:

@@ -1,6 +1,6 @@
 """Documents and what is published of them: opens, changes, closes, versions, faults of scanning."""
 from harness import answer, did_change, did_close, did_open, error, holds, initialize, notice, place, published, request, same, serve
-from harness import Server, capabilities, extent, frames, told, test
+from harness import Server, capabilities, diagnostic, extent, frames, test
 
 FIRST = answer(1, {"capabilities": capabilities()})
 MODULE = "MODULE M; VAR x: INTEGER; END M."
@@ -10,11 +10,11 @@ LIMIT = 1048576
 def of(text, **named):
     """What is published where a text is opened."""
     with Server() as server:
-        return server.tell(did_open(text, **named))
+        return server.notify(did_open(text, **named))
 
 
 def talk(*contents):
-    """What is sent behind the first answer."""
+    """What is sent after the first answer."""
     found = serve([initialize(), *contents])
     same((found.err, found.status), (b"", 1), "the end")
     same(found.contents()[0], FIRST, "the first answer")
@@ -34,29 +34,29 @@ def two_faults():
     same(found.out, frames([FIRST]) + wanted, "what was written")
 
 
-# text: what is told of it
+# text: what is reported of it
 FAULTS = {
-    "(* (* *)": [told("OpenComment", "comment not closed", "0:0-0:2")],
-    "x (* (* *) (*": [told("OpenComment", "comment not closed", "0:2-0:4")],
-    "$ (*": [told("BadChar", "bad character", "0:0-0:1"), told("OpenComment", "comment not closed", "0:2-0:4")],
-    "(* $": [told("OpenComment", "comment not closed", "0:0-0:2")],
-    "(*)": [told("OpenComment", "comment not closed", "0:0-0:2")],
-    "2147483648": [told("NumberTooLarge", "number too large", "0:0-0:10")],
-    "0002147483648": [told("NumberTooLarge", "number too large", "0:0-0:13")],
+    "(* (* *)": [diagnostic("OpenComment", "comment not closed", "0:0-0:2")],
+    "x (* (* *) (*": [diagnostic("OpenComment", "comment not closed", "0:2-0:4")],
+    "$ (*": [diagnostic("BadChar", "bad character", "0:0-0:1"), diagnostic("OpenComment", "comment not closed", "0:2-0:4")],
+    "(* $": [diagnostic("OpenComment", "comment not closed", "0:0-0:2")],
+    "(*)": [diagnostic("OpenComment", "comment not closed", "0:0-0:2")],
+    "2147483648": [diagnostic("NumberTooLarge", "number too large", "0:0-0:10")],
+    "0002147483648": [diagnostic("NumberTooLarge", "number too large", "0:0-0:13")],
     "99999999999999999999999x 1a2b": [
-        told("NumberJoinsLetter", "letter after number", "0:0-0:24"),
-        told("NumberJoinsLetter", "letter after number", "0:25-0:29"),
+        diagnostic("NumberJoinsLetter", "letter after number", "0:0-0:24"),
+        diagnostic("NumberJoinsLetter", "letter after number", "0:25-0:29"),
     ],
-    "0FH": [told("NumberJoinsLetter", "letter after number", "0:0-0:3")],
-    "a_b": [told("BadChar", "bad character", "0:1-0:2")],
-    "é": [told("BadChar", "bad character", "0:0-0:1")],
-    "😀$": [told("BadChar", "bad character", "0:0-0:2"), told("BadChar", "bad character", "0:2-0:3")],
-    "\ufeff": [told("BadChar", "bad character", "0:0-0:1")],
-    "\u00a0\u2028\v\f\0": [told("BadChar", "bad character", f"0:{at}-0:{at + 1}") for at in range(5)],
-    "a\r\n(* 😀 *) $": [told("BadChar", "bad character", "1:9-1:10")],
-    "\n\r\r\n$\n$": [told("BadChar", "bad character", "3:0-3:1"), told("BadChar", "bad character", "4:0-4:1")],
-    "(* \r\n \n \r *) !": [told("BadChar", "bad character", "3:4-3:5")],
-    "\"'": [told("BadChar", "bad character", "0:0-0:1"), told("BadChar", "bad character", "0:1-0:2")],
+    "0FH": [diagnostic("NumberJoinsLetter", "letter after number", "0:0-0:3")],
+    "a_b": [diagnostic("BadChar", "bad character", "0:1-0:2")],
+    "é": [diagnostic("BadChar", "bad character", "0:0-0:1")],
+    "😀$": [diagnostic("BadChar", "bad character", "0:0-0:2"), diagnostic("BadChar", "bad character", "0:2-0:3")],
+    "\ufeff": [diagnostic("BadChar", "bad character", "0:0-0:1")],
+    "\u00a0\u2028\v\f\0": [diagnostic("BadChar", "bad character", f"0:{at}-0:{at + 1}") for at in range(5)],
+    "a\r\n(* 😀 *) $": [diagnostic("BadChar", "bad character", "1:9-1:10")],
+    "\n\r\r\n$\n$": [diagnostic("BadChar", "bad character", "3:0-3:1"), diagnostic("BadChar", "bad character", "4:0-4:1")],
+    "(* \r\n \n \r *) !": [diagnostic("BadChar", "bad character", "3:4-3:5")],
+    "\"'": [diagnostic("BadChar", "bad character", "0:0-0:1"), diagnostic("BadChar", "bad character", "0:1-0:2")],
 }
 
 
@@ -64,7 +64,7 @@ FAULTS = {
 def faults():
     with Server() as server:
         for version, (text, wanted) in enumerate(FAULTS.items()):
-            same(server.tell(did_open(text, version=version)), wanted, repr(text))
+            same(server.notify(did_open(text, version=version)), wanted, repr(text))
 
 
 @test("documents: texts that scan well")
@@ -78,41 +78,41 @@ def good():
     ]
     with Server() as server:
         for text in texts:
-            same(server.tell(did_open(text)), [], text)
+            same(server.notify(did_open(text)), [], text)
 
 
-@test("documents: the first 100 faults are told")
+@test("documents: the first 100 faults are reported")
 def many_faults():
     same(len(of("$" * 100)), 100, "of 100 faults")
     found = of("$" * 1000 + "(*")
-    same(found, [told("BadChar", "bad character", f"0:{at}-0:{at + 1}") for at in range(100)], "of 1,001 faults")
+    same(found, [diagnostic("BadChar", "bad character", f"0:{at}-0:{at + 1}") for at in range(100)], "of 1,001 faults")
 
 
 @test("documents: a text of 1,048,576 bytes is taken, one byte more is too long")
 def lengths():
-    too_long = [told("TooLong", "text too long", "0:0-0:0")]
+    too_long = [diagnostic("TooLong", "text too long", "0:0-0:0")]
     with Server() as server:
-        same(server.tell(did_open(MODULE.ljust(LIMIT))), [], "at the limit")
-        same(server.tell(did_open(MODULE.ljust(LIMIT + 1))), too_long, "past the limit")
-        same(server.tell(did_open("$" * (LIMIT + 1))), too_long, "other faults past the limit")
-        same(server.tell(did_open("é" * (LIMIT // 2 + 1))), too_long, "in bytes past the limit, in characters not")
+        same(server.notify(did_open(MODULE.ljust(LIMIT))), [], "at the limit")
+        same(server.notify(did_open(MODULE.ljust(LIMIT + 1))), too_long, "past the limit")
+        same(server.notify(did_open("$" * (LIMIT + 1))), too_long, "other faults past the limit")
+        same(server.notify(did_open("é" * (LIMIT // 2 + 1))), too_long, "in bytes past the limit, in characters not")
 
 
 @test("documents: a change of the whole text")
 def whole():
     found = talk(did_open("$"), did_change(MODULE, version=7), did_change("$", version=-8))
-    bad = told("BadChar", "bad character", "0:0-0:1")
+    bad = diagnostic("BadChar", "bad character", "0:0-0:1")
     same(found, [published([bad]), published([], version=7), published([bad], version=-8)])
 
 
-@test("documents: of two changes in one notification the last one stands")
+@test("documents: of two changes in one notification the last one counts")
 def two_changes():
     same(talk(did_open("$"), did_change([{"text": "$$"}, {"text": MODULE}]))[1:], [published([], version=2)])
 
 
 @test("documents: an empty list of changes sets the version")
 def no_change():
-    same(talk(did_open("$"), did_change([], version=5))[1:], [published([told("BadChar", "bad character", "0:0-0:1")], version=5)])
+    same(talk(did_open("$"), did_change([], version=5))[1:], [published([diagnostic("BadChar", "bad character", "0:0-0:1")], version=5)])
 
 
 @test("documents: params that can't be read put a document out of step, until a whole text comes")
@@ -133,7 +133,7 @@ def broken_open():
 def versions():
     with Server() as server:
         for version in (-9223372036854775808, 9223372036854775807, 0):
-            same(server.tell(did_open(MODULE, version=version)), [], f"version {version}")
+            same(server.notify(did_open(MODULE, version=version)), [], f"version {version}")
     for version in (9223372036854775808, 1.5, "1", None, True):
         same(talk(did_open(MODULE, version=version)), [], f"version {version!r}")
 
@@ -160,7 +160,7 @@ AT_START = {"position": place(0, 0), "textDocument": {"uri": "file:///m"}}
 def hover_out_of_step():
     broken = notice("textDocument/didChange", {"textDocument": {"uri": "file:///m", "version": 2}})
     hover = request(3, "textDocument/hover", AT_START)
-    bad = published([told("BadChar", "bad character", "0:0-0:1")], version=3)
+    bad = published([diagnostic("BadChar", "bad character", "0:0-0:1")], version=3)
     found = talk(did_open(MODULE), broken, hover, did_change("$", version=3))
     same(found, [published([]), error(3, -32803, "out of step"), bad])
     same(found[1], '{"error":{"code":-32803,"message":"out of step"},"id":3,"jsonrpc":"2.0"}')
@@ -186,9 +186,9 @@ def closed():
     same(found[1:], [published([], version=None), published([], version=3)])
 
 
-@test("documents: an open one is opened anew")
+@test("documents: an open one is opened again")
 def opened_anew():
-    same(talk(did_open("$"), did_open(MODULE, version=1)), [published([told("BadChar", "bad character", "0:0-0:1")]), published([])])
+    same(talk(did_open("$"), did_open(MODULE, version=1)), [published([diagnostic("BadChar", "bad character", "0:0-0:1")]), published([])])
 
 
 @test("documents: several beside one another, by their uri as a text")
@@ -200,7 +200,7 @@ def several():
         did_close(uri="A"),
         did_change("$$", uri="a", version=2),
     )
-    bad = [told("BadChar", "bad character", f"0:{at}-0:{at + 1}") for at in range(2)]
+    bad = [diagnostic("BadChar", "bad character", f"0:{at}-0:{at + 1}") for at in range(2)]
     same(
         found,
         [
@@ -223,9 +223,9 @@ def long_talk():
     with Server() as server:
         for number in range(200):
             uri, text = f"file:///{number % 7}", "$" * (number % 5) + "(**)"
-            found = server.tell(did_open(text, uri) if number < 7 else did_change(text, uri, number))
+            found = server.notify(did_open(text, uri) if number < 7 else did_change(text, uri, number))
             holds(len(found) >= number % 5, f"document {number}")
-        same(server.ask("x").get("error", {}).get("message"), "unknown method")
+        same(server.query("x").get("error", {}).get("message"), "unknown method")
         same(server.end(), 0, "the status")
 
 
@@ -235,10 +235,10 @@ def refused_questions():
     broken = notice("textDocument/didChange", {"textDocument": {"uri": "file:///m", "version": 2}})
     with Server() as server:
         unopened = {"code": -32803, "message": "unopened"}
-        same(server.ask("textDocument/definition", where).get("error"), unopened)
-        server.tell(did_open(MODULE))
+        same(server.query("textDocument/definition", where).get("error"), unopened)
+        server.notify(did_open(MODULE))
         server.send(broken)
-        same(server.ask("textDocument/definition", where).get("error"), {"code": -32803, "message": "out of step"})
-        same(server.tell(did_change(MODULE, version=3)), [])
+        same(server.query("textDocument/definition", where).get("error"), {"code": -32803, "message": "out of step"})
+        same(server.notify(did_change(MODULE, version=3)), [])
         server.send(request(99, "textDocument/definition", {}))
         same(server.take().get("error"), {"code": -32602, "message": "bad params"})

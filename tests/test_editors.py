@@ -207,7 +207,7 @@ def looked(seen):
 
 
 def without_declarations(seen):
-    """The same for a client that asks for references without the declaration."""
+    """The same for a client that requests references without the declaration."""
     return [(place, shown, [it for it in listed if it != declared], declared) for place, shown, listed, declared in seen]
 
 
@@ -243,7 +243,7 @@ def emacs_looking():
 def lsp_mode_looking():
     for text, seen in ((CALLS, CALLS_SEEN), (RECORDS, RECORDS_SEEN)):
         found = in_lsp_mode("looking", text, places=[it[0] for it in seen])
-        # (version 8 asks for references without the declaration, version 9 with it)
+        # (version 8 requests references without the declaration, version 9 with it)
         same(found, looked(seen) if found == looked(seen) else looked(without_declarations(seen)))
 
 
@@ -388,7 +388,7 @@ in_each("a text is laid out, once more changes nothing, and the run is kept", CL
 @test("lsp-mode: a text is laid out, and the run is kept")
 def lsp_mode_format():
     for size, spaces, text, wanted, given, out in FORMATTED:
-        if (size, spaces) == (2, True):  # (what ob0-mode asks for)
+        if (size, spaces) == (2, True):  # (what ob0-mode requests)
             found = in_lsp_mode("format", text)
             same(found, [("opened", []), ("formatted", []), ("text", wanted)], wanted)
             keeps_the_run(text, dict(found)["text"], out, given)
@@ -446,7 +446,7 @@ def ycm_names():
     keeps_the_run(CALLS, LAID_OUT, " 2 1")
 
 
-@test("Vim by YouCompleteMe: a constant is inlined behind an emoji")
+@test("Vim by YouCompleteMe: a constant is inlined after an emoji")
 def ycm_inline():
     text = "MODULE M;\nCONST k = 7;\nBEGIN (* \U0001f600 *) Write(k) END M.\n"
     wanted = text.replace("Write(k)", "Write(7)")

@@ -107,8 +107,8 @@ def where(line, character, **more):
 def through_serve(rows):
     with Server() as server:
         for text, line, character, new, wanted in rows:
-            server.tell(did_open(text, URI))
-            found = server.ask("textDocument/rename", where(line, character, newName=new))
+            server.notify(did_open(text, URI))
+            found = server.query("textDocument/rename", where(line, character, newName=new))
             if isinstance(wanted, str):
                 same(found.get("error"), {"code": -32803, "message": wanted}, f"{line}:{character} to {new}")
             else:
@@ -163,8 +163,8 @@ def field_places():
 
 @test("rename: a field, byte by byte")
 def field_bytes():
-    asked = [request(3, "textDocument/rename", where(3, 8, newName="b")), request(4, "textDocument/rename", where(1, 19, newName="c"))]
-    found = serve(frames([initialize(), did_open(RECORDS, URI), *asked])).contents()[2:]
+    queries = [request(3, "textDocument/rename", where(3, 8, newName="b")), request(4, "textDocument/rename", where(1, 19, newName="c"))]
+    found = serve(frames([initialize(), did_open(RECORDS, URI), *queries])).contents()[2:]
     same(found[0], '{"error":{"code":-32803,"message":"Duplicate 1:19-1:20"},"id":3,"jsonrpc":"2.0"}')
     same(
         found[1],
@@ -179,11 +179,11 @@ def field_units():
     support = {"workspace": {"workspaceEdit": {"documentChanges": True}}}
     for encodings, places in ((["utf-16"], ["0:24-0:25", "0:58-0:59", "0:74-0:75"]), (["utf-8"], ["0:24-0:25", "0:61-0:62", "0:77-0:78"])):
         with Server(capabilities={**support, "general": {"positionEncodings": encodings}}) as server:
-            server.tell(did_open(text, URI, 7))
+            server.notify(did_open(text, URI, 7))
             edits = [{"newText": "b", "range": extent(it)} for it in places]
             for it in places:
                 at = extent(it)["start"]
-                found = server.ask("textDocument/rename", where(at["line"], at["character"], newName="b"))["result"]
+                found = server.query("textDocument/rename", where(at["line"], at["character"], newName="b"))["result"]
                 same(found, {"documentChanges": [{"edits": edits, "textDocument": {"uri": URI, "version": 7}}]})
 
 
@@ -196,8 +196,8 @@ def field_longest():
 
 @test("rename: a refusal and an edit, byte by byte")
 def rename_bytes():
-    asked = [request(3, "textDocument/rename", where(1, 4, newName="y")), request(4, "textDocument/rename", where(1, 4, newName="x"))]
-    found = serve(frames([initialize(), did_open(NESTED, URI), *asked])).contents()[2:]
+    queries = [request(3, "textDocument/rename", where(1, 4, newName="y")), request(4, "textDocument/rename", where(1, 4, newName="x"))]
+    found = serve(frames([initialize(), did_open(NESTED, URI), *queries])).contents()[2:]
     same(found[0], '{"error":{"code":-32803,"message":"Captures 4:14-4:15"},"id":3,"jsonrpc":"2.0"}')
     same(found[1], '{"id":4,"jsonrpc":"2.0","result":{"changes":{"file:///m":[]}}}')
 
@@ -205,10 +205,10 @@ def rename_bytes():
 @test("rename: as a list of document changes, with the version")
 def document_changes():
     with Server(capabilities={"workspace": {"workspaceEdit": {"documentChanges": True}}}) as server:
-        server.tell(did_open(NESTED, URI, 7))
+        server.notify(did_open(NESTED, URI, 7))
         edits = [{"newText": "z", "range": extent(it)} for it in ("1:4-1:5", "4:14-4:15", "5:15-5:16")]
         for new, wanted in (("z", edits), ("x", [])):
-            found = server.ask("textDocument/rename", where(1, 4, newName=new))["result"]
+            found = server.query("textDocument/rename", where(1, 4, newName=new))["result"]
             same(found, {"documentChanges": [{"edits": wanted, "textDocument": {"uri": URI, "version": 7}}]})
 
 
@@ -222,8 +222,8 @@ def announced():
 @test("rename: of texts that aren't well-typed")
 def ill_typed():
     with Server() as server:
-        server.tell(did_open("MODULE M", URI))
-        found = server.ask("textDocument/rename", where(0, 7, newName="x"))
+        server.notify(did_open("MODULE M", URI))
+        found = server.query("textDocument/rename", where(0, 7, newName="x"))
         same(found.get("error"), {"code": -32803, "message": "ill-typed"})
     ends(on_file("rename", "MODULE M", "0", "7", "x"), "0:8: Syntax: expected ;\n", 1)
     ends(on_file("rename", "MODULE M; END N.", "0", "7", "x"), "0:14: EndName: wrong closing name\n", 1)
@@ -277,8 +277,8 @@ def acting(line, character, context=None, end=None):
 def actions(text, line, character, context=None, capabilities=None, end=None):
     """The titles of what is offered, each with its edits."""
     with Server(capabilities=LITERALS if capabilities is None else capabilities) as server:
-        server.tell(did_open(text, URI))
-        found = server.ask("textDocument/codeAction", acting(line, character, context, end))
+        server.notify(did_open(text, URI))
+        found = server.query("textDocument/codeAction", acting(line, character, context, end))
         if "error" in found:
             return found["error"]
         same([it["kind"] for it in found["result"]], ["refactor.inline"] * len(found["result"]), "the kinds")
@@ -287,8 +287,8 @@ def actions(text, line, character, context=None, capabilities=None, end=None):
 
 @test("inline: a constant's edit, byte by byte")
 def inline_bytes():
-    asked = request(4, "textDocument/codeAction", acting(1, 6))
-    found = serve(frames([initialize(**LITERALS), did_open(LEAST, URI), asked])).contents()[2]
+    query = request(4, "textDocument/codeAction", acting(1, 6))
+    found = serve(frames([initialize(**LITERALS), did_open(LEAST, URI), query])).contents()[2]
     same(
         found,
         '{"id":4,"jsonrpc":"2.0","result":[{"edit":{"changes":{"file:///m":[{"newText":"","range":{"end":'
@@ -300,8 +300,8 @@ def inline_bytes():
 
 @test("inline: both actions at a use, byte by byte")
 def actions_bytes():
-    asked = request(5, "textDocument/codeAction", acting(3, 15))
-    found = serve(frames([initialize(**LITERALS), did_open(LEAST, URI), asked])).contents()[2]
+    query = request(5, "textDocument/codeAction", acting(3, 15))
+    found = serve(frames([initialize(**LITERALS), did_open(LEAST, URI), query])).contents()[2]
     use = '{"newText":"(-2147483647 - 1)","range":{"end":{"character":16,"line":3},"start":{"character":15,"line":3}}}'
     gone = '{"newText":"","range":{"end":{"character":26,"line":1},"start":{"character":6,"line":1}}}'
     action = lambda title, *edits: (
@@ -345,8 +345,8 @@ def inline_values():
 @test("inline: both actions at a use as document changes, byte by byte")
 def inline_changes():
     support = {**LITERALS, "workspace": {"workspaceEdit": {"documentChanges": True}}}
-    asked = request(4, "textDocument/codeAction", acting(3, 15))
-    found = serve(frames([initialize(**support), did_open(LEAST, URI, 7), asked])).contents()[2]
+    query = request(4, "textDocument/codeAction", acting(3, 15))
+    found = serve(frames([initialize(**support), did_open(LEAST, URI, 7), query])).contents()[2]
     use = '{"newText":"(-2147483647 - 1)","range":{"end":{"character":16,"line":3},"start":{"character":15,"line":3}}}'
     gone = '{"newText":"","range":{"end":{"character":26,"line":1},"start":{"character":6,"line":1}}}'
     action = lambda edits, title: (
@@ -401,9 +401,9 @@ def inline_runs():
         for it in uses:
             at = extent(it)
             with Server(capabilities=LITERALS) as server:
-                server.tell(did_open(plain, URI))
+                server.notify(did_open(plain, URI))
                 params = acting(at["end"]["line"], at["end"]["character"])
-                found = {it["title"]: it["edit"]["changes"][URI] for it in server.ask("textDocument/codeAction", params)["result"]}
+                found = {it["title"]: it["edit"]["changes"][URI] for it in server.query("textDocument/codeAction", params)["result"]}
             same([*found], [it for it in ("Inline here", "Inline everywhere") if it not in refused], f"what is offered at {it} of {plain}")
             for title, edits in found.items():
                 wanted = [it] if title == "Inline here" else uses
@@ -444,7 +444,7 @@ def inline_nowhere():
     for what in ("M", "R", "c", "INTEGER", "x", "P", "TRUE", "1", "Write", "IF", "; VAR"):
         same(actions(text, 0, text.index(what)), {}, f"at {what}")
     same(actions("MODULE M", 0, 7), {}, "a text that isn't well-typed")
-    same(actions(LEAST, 99, 0), {}, "behind the text")
+    same(actions(LEAST, 99, 0), {}, "after the text")
 
 
 @test("inline: up to the longest text")
@@ -460,9 +460,9 @@ def inline_refused():
     bad = {"code": -32602, "message": "bad params"}
     for support in (LITERALS, {}):
         with Server(capabilities=support) as server:
-            ask = lambda params: server.ask("textDocument/codeAction", params).get("error")
+            ask = lambda params: server.query("textDocument/codeAction", params).get("error")
             same(ask(acting(0, 0)), {"code": -32803, "message": "unopened"})
-            server.tell(did_open(LEAST, URI))
+            server.notify(did_open(LEAST, URI))
             for lacking in ("context", "range", "textDocument"):
                 same(ask({key: it for key, it in acting(0, 0).items() if key != lacking}), bad, f"without {lacking}")
             for context in (1, [], {"only": 1}, {"only": {}}, {"only": [[]]}):
@@ -509,9 +509,9 @@ LAYOUTS = [
 def formatted(text, size, spaces):
     """The edits of a text, and the text with them."""
     with Server() as server:
-        server.tell(did_open(text, URI))
+        server.notify(did_open(text, URI))
         options = {"insertSpaces": spaces, "tabSize": size}
-        found = server.ask("textDocument/formatting", {"options": options, "textDocument": {"uri": URI}})["result"]
+        found = server.query("textDocument/formatting", {"options": options, "textDocument": {"uri": URI}})["result"]
     return found, patched(text, found)
 
 
@@ -526,8 +526,8 @@ def formats():
 @test("format: the edits of the gaps, byte by byte")
 def gaps():
     options = {"insertSpaces": True, "tabSize": 2}
-    asked = request(2, "textDocument/formatting", {"options": options, "textDocument": {"uri": URI}})
-    found = serve(frames([initialize(), did_open("MODULE M;BEGIN WriteLn END M.", URI), asked])).contents()[2]
+    query = request(2, "textDocument/formatting", {"options": options, "textDocument": {"uri": URI}})
+    found = serve(frames([initialize(), did_open("MODULE M;BEGIN WriteLn END M.", URI), query])).contents()[2]
     same(
         found,
         '{"id":2,"jsonrpc":"2.0","result":[{"newText":"\\n","range":{"end":{"character":9,"line":0},"start":{"character":9,"line":0}}},'
@@ -540,12 +540,12 @@ def gaps():
 @test("format: options")
 def options():
     with Server() as server:
-        server.tell(did_open("MODULE M; END M.", URI))
-        ask = lambda given: server.ask("textDocument/formatting", {"options": given, "textDocument": {"uri": URI}})
+        server.notify(did_open("MODULE M; END M.", URI))
+        ask = lambda given: server.query("textDocument/formatting", {"options": given, "textDocument": {"uri": URI}})
         for given in ({}, {"tabSize": -1, "insertSpaces": True}, {"tabSize": 1.5, "insertSpaces": True}, {"tabSize": 2}, None):
             same(ask(given).get("error"), {"code": -32602, "message": "bad params"}, json.dumps(given))
         same("result" in ask({"tabSize": 18446744073709551615, "insertSpaces": True, "x": 1}), True)
-        server.tell(did_open("MODULE M", URI))
+        server.notify(did_open("MODULE M", URI))
         same(ask({"tabSize": 2, "insertSpaces": True}).get("error"), {"code": -32803, "message": "ill-typed"})
 
 
@@ -565,9 +565,9 @@ def longest_layout():
     params = {"options": {"insertSpaces": True, "tabSize": 16}, "textDocument": {"uri": URI}}
     with Server() as server:
         text = short_statements(3)
-        same(server.tell(did_open(text, URI)), [], "what is told of the text")
-        found = server.ask("textDocument/formatting", params)
+        same(server.notify(did_open(text, URI)), [], "what is reported of the text")
+        found = server.query("textDocument/formatting", params)
         same(length_after(text, found["result"]), 1048576, "the layout's length")
-        same(server.tell(did_open(short_statements(4), URI)), [], "what is told of the longer text")
-        found = server.ask("textDocument/formatting", params)
+        same(server.notify(did_open(short_statements(4), URI)), [], "what is reported of the longer text")
+        found = server.query("textDocument/formatting", params)
         same(found, {"error": {"code": -32803, "message": "TooLong"}, "id": 3, "jsonrpc": "2.0"})

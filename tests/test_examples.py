@@ -24,14 +24,14 @@ def dozen():
 def run_each():
     for it in examples():
         ends(run(["check", os.path.join(TOP, it)]), "", 0)
-        told = bytes_of(f"{it[:-4]}.err") if os.path.basename(it).startswith("Fault") else ""
-        ends(run(["run", os.path.join(TOP, it)], bytes_of(f"{it[:-4]}.in")), bytes_of(f"{it[:-4]}.out"), 1 if told else 0, told)
+        fault = bytes_of(f"{it[:-4]}.err") if os.path.basename(it).startswith("Fault") else ""
+        ends(run(["run", os.path.join(TOP, it)], bytes_of(f"{it[:-4]}.in")), bytes_of(f"{it[:-4]}.out"), 1 if fault else 0, fault)
 
 
 @test("examples: a layout changes nothing in any of them")
 def laid_out():
     with Server() as server:
         for it in examples():
-            same(server.tell(did_open(text_of(it), uri=f"file:///{it}")), [], it)
+            same(server.notify(did_open(text_of(it), uri=f"file:///{it}")), [], it)
             options = {"textDocument": {"uri": f"file:///{it}"}, "options": {"tabSize": 2, "insertSpaces": True}}
-            same(server.ask("textDocument/formatting", options).get("result"), [], it)
+            same(server.query("textDocument/formatting", options).get("result"), [], it)

@@ -116,7 +116,7 @@ TALKS = {
         1,
     ),
     "no JSON": (["", " ", "{", "[1,]", "nul", "{'a':1}", b"\xff", b'"\xc3"', "[]x"], [NOT_JSON] * 9, 1),
-    "no JSON is told after shutdown too": ([initialize(), SHUTDOWN, "", "[]"], [FIRST, SHUT, NOT_JSON, NO_MESSAGE], 1),
+    "no JSON is reported after shutdown too": ([initialize(), SHUTDOWN, "", "[]"], [FIRST, SHUT, NOT_JSON, NO_MESSAGE], 1),
     "127 arrays in one another are JSON, 128 are not": (
         ["[" * 127 + "]" * 127, "[" * 128 + "]" * 128],
         [NO_MESSAGE, NOT_JSON],
@@ -155,7 +155,7 @@ def refused_lines():
         same((found.out, bool(found.err), found.status), (b"", True, 2), f"ob0 {' '.join(words)}")
 
 
-@test("program: help is told on standard output, status 0")
+@test("program: help is printed on standard output, status 0")
 def helped():
     for words in ([], ["serve"], ["check"], ["run"], ["rename"]):
         found = run(["help", *words])
@@ -217,7 +217,7 @@ def prompted():
     same(at_terminal("MODULE M; BEGIN x := 1 END M."), (b"0:16: Undeclared: not declared\n", b"", 1))
 
 
-@test("program: the version is told on standard output, status 0, and is that of CHANGELOG.md and of the manual page")
+@test("program: the version is printed on standard output, status 0, and is that of CHANGELOG.md and of the manual page")
 def version():
     # (where no version was released yet, it is the first one)
     released = re.search(r"^## (\d+\.\d+\.\d+)", text_of("CHANGELOG.md"), re.M)
@@ -247,7 +247,7 @@ def not_written():
 
 
 @test("program: a refusal that can't be written keeps its status")
-def not_told():
+def not_reported():
     with open("/dev/full", "wb") as device:
         how = {"stdin": subprocess.DEVNULL, "stdout": subprocess.PIPE, "stderr": device, "timeout": harness.SECONDS}
         ran = subprocess.run([harness.BINARY, "check"], check=False, **how)

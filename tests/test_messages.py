@@ -127,9 +127,9 @@ TITLES = ["Inline here", "Inline everywhere"]
 def offered(text, at):
     """The code actions that are offered at a place."""
     with Server(capabilities={"textDocument": {"codeAction": {"codeActionLiteralSupport": {}}}}) as server:
-        same(server.tell(did_open(text)), [], "the diagnostics")
+        same(server.notify(did_open(text)), [], "the diagnostics")
         params = {"textDocument": {"uri": "file:///m"}, "range": {"start": at, "end": at}, "context": {"diagnostics": []}}
-        return [it["title"] for it in server.ask("textDocument/codeAction", params)["result"]]
+        return [it["title"] for it in server.query("textDocument/codeAction", params)["result"]]
 
 
 def refused_inlinings():

@@ -11,7 +11,7 @@ STACK = 4096  # kilobytes, half of what systems give
 
 
 def diagnosed(texts):
-    """What is told of each text by one server under this stack."""
+    """What is reported of each text by one server under this stack."""
     talk = frames([initialize(), *(did_open(it, version=at) for at, it in enumerate(texts)), SHUTDOWN, EXIT])
     found = serve(talk, stack=STACK)
     same((found.err, found.status), (b"", 0), "the end")
@@ -24,7 +24,7 @@ def of_syntax(diagnostics):
     return [it for it in diagnostics if it["code"] in ("Syntax", "TooDeep")]
 
 
-def told_too_deep(text, at):
+def reported_too_deep(text, at):
     ends = next(end for end in range(at + 1, len(text)) if not (text[at].isalpha() and text[end].isalpha()))
     where = {"end": place(0, ends), "start": place(0, at)}
     return {"code": "TooDeep", "message": "nested too deep", "range": where, "severity": 1}
@@ -47,7 +47,7 @@ def hundred():
 def hundred_and_one():
     made = texts(101)
     for (name, (text, at)), found in zip(made.items(), diagnosed([text for text, _ in made.values()])):
-        same(found, [told_too_deep(text, at)], f"{name}: {text}")
+        same(found, [reported_too_deep(text, at)], f"{name}: {text}")
 
 
 @test("nesting: far past the limit, under a stack of 4 MiB")

@@ -179,11 +179,11 @@ def stamped():
         shutil.copy(common.BINARY, program)
         shutil.copy(common.STAMP, stamp)
         script = "import sys; sys.path.insert(0, sys.argv[1]); import common; common.BINARY, common.STAMP = sys.argv[2:]; print(common.is_current())"
-        asked = lambda: run_plainly(["python3", "-B", "-c", script, os.path.join(TOP, "tools"), program, stamp], dict(os.environ), room)[1].strip()
-        same(asked(), "True", "the proved program")
+        is_current = lambda: run_plainly(["python3", "-B", "-c", script, os.path.join(TOP, "tools"), program, stamp], dict(os.environ), room)[1].strip()
+        same(is_current(), "True", "the proved program")
         with open(program, "ab") as file:
             file.write(b"\0")
-        same(asked(), "False", "another program")
+        same(is_current(), "False", "another program")
 
 
 @test("package: the program, its manual page and Tab in bash, zsh and fish, in an empty home")

@@ -15,10 +15,10 @@ class Asked(Server):
 
     def __init__(self, text, **capabilities):
         super().__init__(capabilities=capabilities)
-        self.tell(did_open(text, URI))
+        self.notify(did_open(text, URI))
 
     def result(self, what, line, character, **more):
-        found = self.ask(f"textDocument/{what}", where(line, character, **more))
+        found = self.query(f"textDocument/{what}", where(line, character, **more))
         return found["result"] if "result" in found else found["error"]
 
     def hover(self, line, character):
@@ -47,13 +47,13 @@ def hover_bytes():
 
 @test("questions: definition and references, byte by byte")
 def references_bytes():
-    asked = [
+    queries = [
         request(3, "textDocument/definition", where(2, 47)),
         request(4, "textDocument/references", where(2, 47, context={"includeDeclaration": True})),
         request(5, "textDocument/references", where(2, 47, context={"includeDeclaration": False})),
         request(6, "textDocument/prepareRename", where(2, 47)),
     ]
-    found = serve(frames([initialize(), did_open(CALLS), *asked])).contents()[2:]
+    found = serve(frames([initialize(), did_open(CALLS), *queries])).contents()[2:]
     locations = [{"range": extent(it), "uri": URI} for it in PLACES]
     same(found[0], answer(3, locations[0]))
     same(found[1], answer(4, locations))
@@ -115,10 +115,10 @@ def positions():
             same(server.result("definition", line, 0), bad, f"line {line!r}")
         same(server.result("definition", 18446744073709551615, 18446744073709551615), None)
         for params in (None, {}, [], {"position": place(0, 0)}, {"position": {}, "textDocument": {"uri": URI}}):
-            same(server.ask("textDocument/definition", params).get("error"), bad, f"params {params!r}")
-        same(server.ask("textDocument/references", where(0, 0)).get("error"), bad, "no context")
+            same(server.query("textDocument/definition", params).get("error"), bad, f"params {params!r}")
+        same(server.query("textDocument/references", where(0, 0)).get("error"), bad, "no context")
         refused = {"code": -32803, "message": "unopened"}
-        same(server.ask("textDocument/definition", {**where(0, 0), "textDocument": {"uri": "x"}}).get("error"), refused)
+        same(server.query("textDocument/definition", {**where(0, 0), "textDocument": {"uri": "x"}}).get("error"), refused)
 
 
 NAMES = """MODULE M;
@@ -134,14 +134,14 @@ BEGIN a[c] := d; Q(a[0], p[0][1], on, b); b := TRUE END M.
 
 
 def shows(server, wanted):
-    """Hover tells these texts at both ends of their ranges."""
+    """Hover shows these texts at both ends of their ranges."""
     for span, text in wanted.items():
         at = extent(span)
         for end in ("start", "end"):
             same(server.hover(at[end]["line"], at[end]["character"]), (text, at), f"at {span}")
 
 
-@test("questions: what hover tells of each kind of name")
+@test("questions: what hover shows of each kind of name")
 def hovers():
     wanted = {
         "1:6-1:7": "CONST c = 7",
@@ -176,7 +176,7 @@ def hover_false():
         shows(server, wanted)
 
 
-@test("questions: names that are declared anew, closing names")
+@test("questions: names that are declared again, closing names")
 def scopes():
     with Asked(NAMES) as server:
         same(server.definition(6, 19), extent("5:4-5:5"), "the inner c")
@@ -252,8 +252,8 @@ def renamable_fields():
 @test("questions: prepareRename at a field, byte by byte")
 def renamable_bytes():
     text = "MODULE M; VAR r: RECORD a: INTEGER END; BEGIN (* 😀 *) r.a := 1 END M."
-    asked = [request(3, "textDocument/prepareRename", where(0, 24)), request(4, "textDocument/prepareRename", where(0, 57))]
-    found = serve(frames([initialize(), did_open(text), *asked])).contents()[2:]
+    queries = [request(3, "textDocument/prepareRename", where(0, 24)), request(4, "textDocument/prepareRename", where(0, 57))]
+    found = serve(frames([initialize(), did_open(text), *queries])).contents()[2:]
     same(found[0], '{"id":3,"jsonrpc":"2.0","result":{"end":{"character":25,"line":0},"start":{"character":24,"line":0}}}')
     same(found[1], '{"id":4,"jsonrpc":"2.0","result":{"end":{"character":58,"line":0},"start":{"character":57,"line":0}}}')
     with Asked(text, general={"positionEncodings": ["utf-8"]}) as server:

@@ -50,7 +50,7 @@ def answers_at(server, found, at, where):
     span, shown, declared, places = questions.at_place(found, at) or (None, None, None, [])
     ranges = lambda it: extent("{}:{}-{}:{}".format(*found.position(it[0]), *found.position(it[1])))
     params = {"position": place(*found.position(at)), "textDocument": {"uri": URI}}
-    result = lambda what, **more: server.ask(f"textDocument/{what}", {**params, **more})["result"]
+    result = lambda what, **more: server.query(f"textDocument/{what}", {**params, **more})["result"]
     for include in (True, False):
         got = result("references", context={"includeDeclaration": include})
         same([it["range"] for it in got], [ranges(it) for it in places if include or it != declared], f"{where}: references")
@@ -65,7 +65,7 @@ def questions_anywhere():
         for seed in range(SEED, SEED + max(1, COUNT // 30)):
             text = corpus.module(900, seed)
             found, chance = Text(text), random.Random(seed)
-            server.tell(did_open(text))
+            server.notify(did_open(text))
             selected = [it[0].start for it in found.fields]
             for at in [*(chance.randrange(len(text)) for _ in range(60)), *chance.sample(selected, min(10, len(selected)))]:
                 answers_at(server, found, at, f"seed {seed}, at {found.position(at)}")
@@ -121,13 +121,13 @@ def modules(count):
 def renames():
     with Server() as server:
         for seed, chance, text, found in modules(COUNT // 10):
-            server.tell(did_open(text, URI))
+            server.notify(did_open(text, URI))
             words = [it for it in LEXEME.finditer(text) if re.match("[A-Za-z]", it[0])]
             for _ in range(12):
                 where, new = chance.choice(words).start(), chance.choice([chance.choice(words)[0], "fresh", "x", "1a"])
                 wanted_ = edits.rename(text, where, new)
                 params = {"newName": new, "position": place(*found.position(where)), "textDocument": {"uri": URI}}
-                got, what = server.ask("textDocument/rename", params), f"seed {seed}, {found.position(where)} to {new}, of\n{text}\n"
+                got, what = server.query("textDocument/rename", params), f"seed {seed}, {found.position(where)} to {new}, of\n{text}\n"
                 if isinstance(wanted_, tuple):
                     same(got.get("error"), {"code": -32803, "message": refusal(found, wanted_)}, what)
                 else:
@@ -139,14 +139,14 @@ def renames():
 def inlining():
     with Server(capabilities={"textDocument": {"codeAction": {"codeActionLiteralSupport": {}}}}) as server:
         for seed, chance, text, found in modules(COUNT // 10):
-            server.tell(did_open(text, URI))
+            server.notify(did_open(text, URI))
             words = [it for it in LEXEME.finditer(text) if re.match("c[0-9]|base|v1|TRUE", it[0])]
             for _ in range(6):
                 where = chance.choice(words).start()
                 answers = [(title, edits.inline(text, where, title == "Inline everywhere")) for title in ("Inline here", "Inline everywhere")]
                 at = place(*found.position(where))
                 params = {"context": {}, "range": {"end": at, "start": at}, "textDocument": {"uri": URI}}
-                got = server.ask("textDocument/codeAction", params)["result"]
+                got = server.query("textDocument/codeAction", params)["result"]
                 wanted_ = [
                     {"edit": {"changes": {URI: spread(found, it)}}, "kind": "refactor.inline", "title": title}
                     for title, it in answers
@@ -166,9 +166,9 @@ def formatting():
             found = Text(text)
             if found.faults:
                 continue
-            server.tell(did_open(text, URI))
+            server.notify(did_open(text, URI))
             size, spaces = chance.choice([0, 1, 2, 4, 16, 17]), chance.random() < 0.7
             wanted_ = layout.layout(text, " " * min(16, max(1, size)) if spaces else "\t")
             params = {"options": {"insertSpaces": spaces, "tabSize": size}, "textDocument": {"uri": URI}}
-            got = server.ask("textDocument/formatting", params)["result"]
+            got = server.query("textDocument/formatting", params)["result"]
             same(got, spread(found, wanted_), f"seed {seed} of\n{text}\n")

@@ -1,4 +1,4 @@
-"""The analysis after a change is that of the new text: random changes, each held to a server that reads the text anew.
+"""The analysis after a change is that of the new text: random changes, each held to a server that reads the text for the first time.
 `make faults` does the same 20,000 times."""
 import os
 

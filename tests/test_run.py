@@ -57,7 +57,7 @@ def renamed_runs():
     four_runs(found.out)
 
 
-@test("run: fields of one name in two records, constants below 0, and TRUE declared anew")
+@test("run: fields of one name in two records, constants below 0, and TRUE declared again")
 def before_edits():
     ran(RECORDS, " 3")
     ran(LEAST, " -2147483648")
@@ -94,11 +94,11 @@ def arithmetic():
 
 @test("run: relations, & and OR that stop early")
 def truth():
-    tell = lambda it: f"IF {it} THEN Write(1) ELSE Write(0) END"
-    ran(body("; ".join(tell(it) for it in ("1 < 2", "1 <= 1", "2 > 2", "2 >= 2", "1 = 1", "1 # 1", "TRUE = FALSE", "TRUE # b"))), " 1 1 0 1 1 0 0 1")
-    ran(body(tell("b & (1 DIV 0 = 1)") + ";" + tell("~b OR (1 DIV 0 = 1)")), " 0 1")
-    ran(body(tell("~b & (1 DIV 0 = 1)")), "", "Divisor")
-    ran(body(tell("b OR (1 DIV 0 = 1)")), "", "Divisor")
+    shows = lambda it: f"IF {it} THEN Write(1) ELSE Write(0) END"
+    ran(body("; ".join(shows(it) for it in ("1 < 2", "1 <= 1", "2 > 2", "2 >= 2", "1 = 1", "1 # 1", "TRUE = FALSE", "TRUE # b"))), " 1 1 0 1 1 0 0 1")
+    ran(body(shows("b & (1 DIV 0 = 1)") + ";" + shows("~b OR (1 DIV 0 = 1)")), " 0 1")
+    ran(body(shows("~b & (1 DIV 0 = 1)")), "", "Divisor")
+    ran(body(shows("b OR (1 DIV 0 = 1)")), "", "Divisor")
 
 
 @test("run: statements")
@@ -133,8 +133,8 @@ def arrays():
     ran(text + "BEGIN P(a, a); Write(a[0]); Write(a[1]) END M.", " 0 0 7")
 
 
-@test("run: variables begin anew at each call")
-def anew():
+@test("run: variables begin as 0 at each call")
+def begin_again():
     ran("MODULE M; PROCEDURE P; VAR x: INTEGER; b: BOOLEAN; BEGIN IF b THEN Write(9) END; x := x + 1; b := TRUE; Write(x) END P; BEGIN P; P END M.", " 1 1")
 
 
@@ -171,7 +171,7 @@ def lines():
     same(run(["run"]).status, 2)
 
 
-@test("run: options before the file and behind it")
+@test("run: options before the file and after it")
 def options():
     with tempfile.TemporaryDirectory() as room:
         with open(os.path.join(room, "m.mod"), "w", encoding="utf-8") as file:
@@ -180,7 +180,7 @@ def options():
             ends(run(["run", *words], b"2", cwd=room), "\n", 1, "fault: TurnBound\n")
 
 
-@test("run: a predeclared name that is declared anew")
+@test("run: a predeclared name that is declared again")
 def declared_anew():
     text = "MODULE M; VAR x: INTEGER; PROCEDURE Write(VAR n: INTEGER); BEGIN n := 3 END Write; "
     ran(text + "PROCEDURE P; BEGIN Write(x) END P; BEGIN P; IF x = 3 THEN WriteLn END END M.", "\n")

@@ -14,7 +14,7 @@ from snippets import fenced
 
 SHARE = os.path.join(TOP, "share")
 COMMANDS = ["check", "rename", "run", "serve"]
-# what is typed behind `ob0`, and what is offered, in a folder with these files
+# what is typed after `ob0`, and what is offered, in a folder with these files
 FILES = ["a.ob0", "b.mod", "c.Mod", "d.txt"]
 MODULES = ["a.ob0", "b.mod", "c.Mod"]
 OFFERED = [
@@ -69,7 +69,7 @@ def in_bash():
         return sorted(said.split())
 
     for typed, wanted in OFFERED:
-        same(in_folder(lambda room, typed=typed: offered(room, typed)), sorted(wanted), f"behind `ob0 {typed}`")
+        same(in_folder(lambda room, typed=typed: offered(room, typed)), sorted(wanted), f"after `ob0 {typed}`")
 
 
 @test("shell: completion in fish")
@@ -84,7 +84,7 @@ def in_fish():
 
     for typed, wanted in OFFERED:
         found = in_folder(lambda room, typed=typed: offered(room, typed))
-        same([it for it in found if it in [*wanted, *COMMANDS, "help", *FILES]], sorted(wanted), f"behind `ob0 {typed}`")
+        same([it for it in found if it in [*wanted, *COMMANDS, "help", *FILES]], sorted(wanted), f"after `ob0 {typed}`")
     # (words that fish expands, and what comes after the file)
     for typed, wanted in (("check ~/a", ["~/a.ob0"]), ("check $HOME/a", ["$HOME/a.ob0"]), ("check 'b", ["b.mod"]), ("rename a.ob0 ", [])):
         same(in_folder(lambda room, typed=typed: offered(room, typed)), wanted, f"after `ob0 {typed}`")
@@ -98,7 +98,7 @@ def in_zsh():
     setup += "zstyle ':completion:*' list-prompt ''; setopt no_auto_menu no_list_beep auto_list; PS1=; LISTMAX=0; echo rea''dy\n"
 
     def all_offered(room):
-        """What zsh shows when Tab is typed behind each line, in a terminal."""
+        """What zsh shows when Tab is typed after each line, in a terminal."""
         process, terminal = pty.fork()
         if process == 0:
             os.chdir(room)
@@ -127,9 +127,9 @@ def in_zsh():
     for (typed, wanted), shown in zip(OFFERED, in_folder(all_offered)):
         for it in [*COMMANDS, *FILES, "--calls", "--turns", "--stdio", "--clientProcessId", "--help", "--version"]:
             if it in wanted:
-                holds(it in shown, f"{it} is not offered behind `ob0 {typed}`: {shown!r}")
+                holds(it in shown, f"{it} is not offered after `ob0 {typed}`: {shown!r}")
             elif it not in typed and (it in FILES or typed in ("", "r")):
-                holds(it not in shown, f"{it} is offered behind `ob0 {typed}`: {shown!r}")
+                holds(it not in shown, f"{it} is offered after `ob0 {typed}`: {shown!r}")
 
 
 @test("shell: the manual page is well formed and says what the program says")

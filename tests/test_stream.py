@@ -63,12 +63,12 @@ def truncated():
     ended(serve(b"Content-Length: 10\r\n\r\n123456789"), b"", 3, b"fault: Truncated\n")
 
 
-@test("stream: a bad head behind the first message")
+@test("stream: a bad head after the first message")
 def bad_head():
     ended(serve(INPUT[: BORDERS[1]] + b"Content-Length: x\r\n\r\n"), frame(FIRST), 3, b"fault: BadHead\n")
 
 
-@test("stream: nothing is read behind a bad head")
+@test("stream: nothing is read after a bad head")
 def behind_bad_head():
     ended(serve(b"Content-Length: x\r\n\r\n" + INPUT), b"", 3, b"fault: BadHead\n")
 
@@ -107,7 +107,7 @@ def refused_heads():
 
 NO_MESSAGE = frame('{"error":{"code":-32600,"message":"not a message"},"id":null,"jsonrpc":"2.0"}')
 TAKEN = {
-    "another case and a space behind": b"content-length:2 \r\n\r\n[]",
+    "another case and a space after": b"content-length:2 \r\n\r\n[]",
     "other fields": b"X-a: b\r\nContent-Type: application/vscode-jsonrpc; charset=utf-8\r\nCONTENT-LENGTH: 2\r\n\r\n[]",
     "leading zeros": b"Content-Length: 0002\r\n\r\n[]",
     "tabs round the length": b"Content-Length: \t2\t \r\n\r\n[]",
@@ -125,7 +125,7 @@ def taken_heads():
         same((found.out, found.err, found.status), (NO_MESSAGE, b"", 1), name)
 
 
-# what may stand in the place of the head `Content-Length: 33` of the last message
+# what may replace the head `Content-Length: 33` of the last message
 LAST_HEADS = {
     "small letters and a further field": b"content-length:33 \r\nX-a: b\r\n\r\n",
     "leading zeros": b"Content-Length: 0033\r\n\r\n",
@@ -154,7 +154,7 @@ def largest_content():
     ended(serve(b"Content-Length: 16777216\r\n\r\n" + content), NO_MESSAGE, 1)
 
 
-@test("stream: a length with nothing behind it takes no memory")
+@test("stream: a length with nothing after it takes no memory")
 def promised_content():
     found = run(["serve"], b"Content-Length: 16777216\r\n\r\n[]")
     ended(found, b"", 3, b"fault: Truncated\n")

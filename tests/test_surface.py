@@ -7,7 +7,7 @@ import sys
 from harness import TOP, Failed, Skipped, test
 
 
-@test("surface: each public function that another crate uses has a wrong body, or a reason why not")
+@test("surface: each public function that another crate uses has a mutant, or a reason why not")
 def surface():
     if not shutil.which("rt"):
         raise Skipped("rt, which reads the sources, isn't here")

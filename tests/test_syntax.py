@@ -1,5 +1,5 @@
 """Diagnostics of the parser: the first token that can't stand, and what was expected there."""
-from harness import Server, did_open, ends, frames, initialize, on_file, same, serve, test, told
+from harness import Server, diagnostic, did_open, ends, frames, initialize, on_file, same, serve, test
 
 # text: where, what is expected
 EXPECTED = {
@@ -39,7 +39,7 @@ EXPECTED = {
 def expected():
     with Server() as server:
         for text, (where, what) in EXPECTED.items():
-            same(server.tell(did_open(text)), [told("Syntax", f"expected {what}", where)], repr(text))
+            same(server.notify(did_open(text)), [diagnostic("Syntax", f"expected {what}", where)], repr(text))
 
 
 @test("syntax: the empty text, byte by byte")
@@ -53,10 +53,10 @@ def empty():
     same(found.contents()[1].encode(), wanted)
 
 
-@test("syntax: faults of scanning are told alone")
+@test("syntax: faults of scanning are reported alone")
 def scanning_first():
     with Server() as server:
-        same(server.tell(did_open("MODULE 12ab")), [told("NumberJoinsLetter", "letter after number", "0:7-0:11")])
+        same(server.notify(did_open("MODULE 12ab")), [diagnostic("NumberJoinsLetter", "letter after number", "0:7-0:11")])
 
 
 DEEP = {
@@ -72,9 +72,9 @@ DEEP = {
 def deep():
     with Server() as server:
         for name, (before, opened, middle, closed, after, where) in DEEP.items():
-            for depth, wanted in ((100, []), (101, [told("TooDeep", "nested too deep", where)])):
+            for depth, wanted in ((100, []), (101, [diagnostic("TooDeep", "nested too deep", where)])):
                 text = before + opened * depth + middle + closed * depth + after
-                same(server.tell(did_open(text)), wanted, f"{depth} of {name}")
+                same(server.notify(did_open(text)), wanted, f"{depth} of {name}")
 
 
 @test("syntax: chains of 100,000 aren't nested")
@@ -93,12 +93,12 @@ def chains():
     }
     with Server() as server:
         for name, text in texts.items():
-            same(server.tell(did_open(text)), [], name)
+            same(server.notify(did_open(text)), [], name)
         # (selectors are a chain of lexemes and of the tree; no type has so many fields)
-        found = server.tell(did_open("MODULE M; VAR x: INTEGER; BEGIN x" + ".x" * count + " := 1 END M."))
+        found = server.notify(did_open("MODULE M; VAR x: INTEGER; BEGIN x" + ".x" * count + " := 1 END M."))
         same([it for it in found if it["code"] in ("Syntax", "TooDeep")], [], "selectors")
 
 
-@test("syntax: `check` tells where the text ends early")
+@test("syntax: `check` reports where the text ends early")
 def checked():
     ends(on_file("check", ""), "0:0: Syntax: expected MODULE\n", 1)

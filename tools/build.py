@@ -144,7 +144,7 @@ def prove_all(running):
         print(f"[{timer}] {text}", flush=True)
 
     say(f"proving {total} crates: {' '.join(left)}")
-    most, told = lanes(), time.monotonic()
+    most, shown_at = lanes(), time.monotonic()
     # (what has the longest chain above it goes first)
     heights = {name: chain(name, named) for name in left}
     while left or running:
@@ -166,12 +166,12 @@ def prove_all(running):
             if work.process.returncode:
                 end_all(running)
                 print(work.said()[-4000:], file=sys.stderr)
-                say(f"{name}: NOT PROVED; the end of crates/{name}/out/build.log stands above")
+                say(f"{name}: NOT PROVED; the end of crates/{name}/out/build.log is above")
                 return 1
             done.append(name)
             say(f"{name}: proved; {total - len(done)} of {total} crates are left")
-        if time.monotonic() - told > STEP:
-            told = time.monotonic()
+        if time.monotonic() - shown_at > STEP:
+            shown_at = time.monotonic()
             at = "; ".join(f"{it.name}{it.at()}" for it in running.values())
             if at:
                 say(f"at {at}; {total - len(done)} of {total} crates are left")

@@ -70,7 +70,7 @@ def write_list(path, names):
 
 
 def below(name, named=None, found=None):
-    """The crates that a crate stands on and the crate itself, lowest first."""
+    """The crates that a crate rests on and the crate itself, lowest first."""
     named = libraries() if named is None else named
     found = [] if found is None else found
     for it in named.get(name, []):

@@ -1,4 +1,4 @@
-"""The wrong bodies of the crates: files of lines 'file: PATH', 'old: TEXT' and 'new: TEXT', in must-fail/ (the gate tries
+"""The mutants of the crates: files of lines 'file: PATH', 'old: TEXT' and 'new: TEXT', in must-fail/ (the gate tries
 those) and in wrong-bodies/ (`make wrong-bodies` tries both)."""
 import os
 import re
@@ -9,7 +9,7 @@ PLACES = ("must-fail", "wrong-bodies")
 
 
 class Edit:
-    """One wrong body: the lines that it changes, and the functions that these belong to."""
+    """One mutant: the lines that it changes, and the functions that these belong to."""
 
     def __init__(self, crate, place, name):
         self.crate, self.name = crate, f"{place}/{name}"
@@ -23,7 +23,7 @@ class Edit:
 
 
 def edits_of(crate, source=None):
-    """A crate's wrong bodies, of both places."""
+    """A crate's mutants, of both places."""
     found = []
     for place in PLACES:
         folder = os.path.join(common.TOP, "crates", crate, place)
@@ -46,7 +46,7 @@ def changed_lines(file, folder):
             old = row[len("old: ") :]
         elif row.startswith("new:"):
             if not path.startswith(("src/", "specs/", "proofs/")) or not old:
-                return {}, "a 'new:' line stands before any 'file:' or 'old:' line"
+                return {}, "a 'new:' line is before any 'file:' or 'old:' line"
             if path not in texts:
                 try:
                     with open(os.path.join(folder, path), encoding="utf-8") as it:
@@ -55,7 +55,7 @@ def changed_lines(file, folder):
                     return {}, f"there is no file {path}"
             count = texts[path].count(old)
             if count != 1:
-                return {}, f"an 'old:' text stands in {path} {count} times, and not once"
+                return {}, f"an 'old:' text is in {path} {count} times, and not once"
             texts[path] = texts[path].replace(old, re.sub(r"\A ", "", row[len("new:") :]))
             old = None
     if not texts:

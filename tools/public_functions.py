@@ -1,11 +1,12 @@
 #!/usr/bin/env python3
-"""Lists the public functions of each crate, the crates that use them and the wrong bodies that turn them, in
-docs/SURFACE.md.
+"""Lists the public functions of each crate, the crates that use them and the mutants that turn them, in docs/SURFACE.md,
+and writes into README how many mutants there are.
 
 It fails where another crate's code uses a public function with a result, or one that writes through an argument, and
-no wrong body turns it, unless tools/surface_reasons.txt says why: lines 'crate::path::name: reason'. Uses are found by
-names, so that some may be another's of the same name. With --check the page isn't written."""
+no mutant turns it, unless tools/surface_reasons.txt says why: lines 'crate::path::name: reason'. Uses are found by
+names, so that some may be another's of the same name. With --check neither page is written."""
 import os
+import re
 import sys
 
 import common
@@ -17,14 +18,16 @@ PAGE = os.path.join(TOP, "docs", "SURFACE.md")
 REASONS = os.path.join(TOP, "tools", "surface_reasons.txt")
 HEAD = """# Public functions
 
-Made by `make surface`: what each crate shows to the others, who uses it (by name), and the wrong bodies that turn it,
-which the prover refuses (`must-fail/` in the gate, `wrong-bodies/` by `make wrong-bodies`). A function with neither a
-result nor an argument that it writes is a law: its contract is all there is of it.
+Made by `make surface`: what each crate shows to the others, who uses it (by name), and the mutants that turn it, which the
+prover refuses (`must-fail/` in the gate, `wrong-bodies/` by `make wrong-bodies`). A function with neither a result nor
+an argument that it writes is a law: its contract is all there is of it.
 """
+README = os.path.join(TOP, "README.md")
+COUNTS = re.compile(r"(every proof, )\d+( wrong versions.*?tries all )\d+( mutants)", re.S)
 
 
 def reasons():
-    """Why some functions have no wrong body, by their paths."""
+    """Why some functions have no mutant, by their paths."""
     found = {}
     with open(REASONS, encoding="utf-8") as file:
         for line in file:
@@ -54,18 +57,18 @@ def holder_of(words, at):
 def is_use(words, at, function):
     """Whether the word at a place, a function's name, calls it by a path or as a method."""
     before = words[at - 1].text if at else ""
-    behind = words[at + 1].text if at + 1 < len(words) else ""
+    follower = words[at + 1].text if at + 1 < len(words) else ""
     holder = holder_of(words, at) if before == ":" else ""
     if not function.owner:
-        return holder in (function.crate, *function.module[-1:]) and behind != ":"
+        return holder in (function.crate, *function.module[-1:]) and follower != ":"
     if before == "." and function.takes_self:
-        return behind in ("(", ":")
+        return follower in ("(", ":")
     return holder == function.owner or bool(holder and function.trait)
 
 
 def uses_in(function, source):
     """Whether a crate's code uses a function, and whether its tests do. A method with a name of std's is taken for used
-    only where the crate names its type; other methods of one name are not told apart."""
+    only where the crate names its type; methods of one name are not distinguished otherwise."""
     if function.owner and function.name in OF_STD and not names(source, function.owner, function.trait):
         return False, False
     found = set()
@@ -90,7 +93,7 @@ def users(function, sources, above):
 
 
 class Row:
-    """A public function with those who use it and the wrong bodies that turn it."""
+    """A public function with those who use it and the mutants that turn it."""
 
     def __init__(self, function, code, tests, turning):
         self.function, self.code, self.tests, self.turning = function, code, tests, turning
@@ -131,6 +134,16 @@ def keep(text, only_looks):
             print("docs/SURFACE.md isn't of these sources: make surface writes it")
 
 
+def keep_counts():
+    """Writes into README how many mutants the gate tries, and how many there are (a test compares them)."""
+    found = [it.name for crate in common.listed() for it in edits.edits_of(crate)]
+    of_gate = sum(it.startswith("must-fail/") for it in found)
+    with open(README, encoding="utf-8") as file:
+        text = file.read()
+    with open(README, "w", encoding="utf-8") as file:
+        file.write(COUNTS.sub(rf"\g<1>{of_gate}\g<2>{len(found)}\g<3>", text))
+
+
 def main(words):
     named = common.libraries()
     order = list(dict.fromkeys(it for top in named for it in common.below(top, named)))
@@ -143,8 +156,10 @@ def main(words):
         unused += [it.path for it in rows if it.function.gives and not it.code and not it.tests]
         if rows:
             table = [it.line(known) for it in rows]
-            page += [f"\n## {crate}\n", "| Function | Used by | Wrong bodies |", "|---|---|---|", *table]
+            page += [f"\n## {crate}\n", "| Function | Used by | Mutants |", "|---|---|---|", *table]
     keep("\n".join(page) + "\n", "--check" in words)
+    if "--check" not in words:
+        keep_counts()
     print(f"{len(seen)} public functions in {len(order)} crates; no other crate uses {len(unused)} of them, laws not counted:")
     print("".join(f"  {it}\n" for it in unused), end="")
     stale = [it for it in known if it not in seen]
@@ -152,7 +167,7 @@ def main(words):
         print("tools/surface_reasons.txt names functions that aren't there:")
         print("".join(f"  {it}\n" for it in stale), end="")
     if lacking:
-        print(f"{len(lacking)} public functions that others use have no wrong body:")
+        print(f"{len(lacking)} public functions that others use have no mutant:")
         print("".join(f"  {it}\n" for it in lacking), end="")
     return 1 if lacking or stale else 0
 

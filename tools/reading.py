@@ -1,6 +1,6 @@
 """What the scripts read of a crate's sources: its functions with their places, its constants, and what it shows.
 
-The words of a source come from the toolchain (`rattle fmt --tokens`), so that contracts and comments are told from
+The words of a source come from the toolchain (`rattle fmt --tokens`), so that contracts and comments are distinguished from
 code."""
 import json
 import os
@@ -11,7 +11,7 @@ import common
 
 
 class Function:
-    """A function of a crate: where it stands, what it belongs to, and its words."""
+    """A function of a crate: where it is, what it belongs to, and its words."""
 
     def __init__(self, scope, name, words, is_pub):
         self.crate, self.module, self.owner, self.trait = scope.crate, scope.module, scope.owner, scope.trait
@@ -60,7 +60,7 @@ class Word:
 
 
 class Scope:
-    """Where the reader stands in a crate."""
+    """Where the reader is in a crate."""
 
     def __init__(self, crate, file, module, owner="", trait="", impl_words=(), is_test=False):
         self.crate, self.file, self.module, self.owner, self.trait = crate, file, module, owner, trait
@@ -113,7 +113,7 @@ def sources(crate):
 
 
 def after(words, at):
-    """The place behind a word, or behind the brackets that it opens."""
+    """The place after a word, or after the brackets that it opens."""
     depth = 0
     while at < len(words):
         depth += (words[at].text in ("(", "[", "{")) - (words[at].text in (")", "]", "}"))
@@ -180,7 +180,7 @@ class Source:
             at = end
 
     def item(self, words, at, scope, is_pub):
-        """Takes one item, whose first word (behind its attributes and marks) stands at a place."""
+        """Takes one item, whose first word (after its attributes and marks) is at a place."""
         word = words[at].text
         name = words[at + 1].text if at + 1 < len(words) else ""
         if word == "fn":
@@ -253,7 +253,7 @@ class Source:
 
 
 def close_angle(words):
-    """The place behind the angle brackets that the first word opens."""
+    """The place after the angle brackets that the first word opens."""
     depth = 0
     for at, it in enumerate(words):
         depth += (it == "<") - (it == ">" and words[at - 1] != "-")

@@ -1,6 +1,6 @@
 #!/usr/bin/env python3
 """Writes docs/STATEMENT.md: all that has to be read to know what the headline says, the contract of `World::play` and
-`World::play_in`. Each definition stands there once, with its comment, in reading order: what it uses comes before it.
+`World::play_in`. Each definition is there once, with its comment, in reading order: what it uses comes before it.
 
 A definition is needed where the clauses name it, or a needed definition does. Names are looked up by the `use` lines of
 their file. What is needed only for the edits that answer an ask, and for their refusals, is the second part. Definitions of the
@@ -143,7 +143,7 @@ class File:
 
 
 def is_open(code):
-    """Whether what comes behind an empty line may belong to the same block."""
+    """Whether what comes after an empty line may belong to the same block."""
     return bool(code) and bool(re.match(r"^(?:\w+ )*mutual\b|^module ", code[0]))
 
 
@@ -366,7 +366,7 @@ def by_file(order, crates):
 
 
 def sorted_files(files, order):
-    """The files of one crate, each behind those that it needs."""
+    """The files of one crate, each after those that it needs."""
     found = []
 
     def go(file):

@@ -30,7 +30,7 @@ for folder in ("tests", os.path.join("tests", "lib")):
 import harness  # noqa: E402
 
 WORDS = ("check:", "run:", "rename", "messages:", "examples")
-LARGEST = 1_100_000  # bytes of a file or an input; what is longer is left to bin/ob0
+LARGEST = 100_000  # bytes of a file or an input: what is longer takes the checked program long, and is left to bin/ob0
 COMMANDS = ("check", "run", "rename")
 STEP = 15  # seconds between two lines while the program is compiled and run
 CHECKED = 8  # how many modules are checked by the command, before the others are opened in one conversation
@@ -114,7 +114,7 @@ class Cases:
             self.found[it] = printed[at] if printed[at].status else renamed(it[1].decode(), answers[at])
 
     def write(self, room, lanes):
-        """Writes the cases as files for `rt try`, dealt out to so many folders, and returns their names and for each folder the
+        """Writes the cases as files for `rt try`, dealt out to this many folders, and returns their names and for each folder the
         flags that give it the modules that are run. It copies each of these for each case: so a module is there once, and where a
         case reads no input it is the module itself."""
         names, modules, flags = {}, {}, [{} for _ in range(lanes)]

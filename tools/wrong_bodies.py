@@ -1,14 +1,14 @@
 #!/usr/bin/env python3
-"""Tries the wrong bodies of crates/*/must-fail and crates/*/wrong-bodies: the prover has to refuse each.
+"""Tries the mutants of crates/*/must-fail and crates/*/wrong-bodies: the prover has to refuse each.
 
-  tools/wrong_bodies.py [--jobs N] [--quiet] [CRATE..]   all crates where none is named; with --quiet no refused one is told
+  tools/wrong_bodies.py [--jobs N] [--quiet] [CRATE..]   all crates where none is named; with --quiet no refused one is listed
   tools/wrong_bodies.py CRATE/WORD..                     those of a crate with this word in their path
 
 The gate tries its own one by one. Here as many of a crate as can be stand in one check over what is kept of its proofs:
 the checker judges each function for itself. A function that only calls one that isn't proved is judged in a later
-check, and so is the second of two wrong bodies of one function. What isn't refused among others is tried alone.
+check, and so is the second of two mutants of one function. What isn't refused among others is tried alone.
 
-It works on a copy of the crate, in bin/rooms. The status is 1 where a wrong body isn't refused, or could not be tried."""
+It works on a copy of the crate, in bin/rooms. The status is 1 where a mutant isn't refused, or could not be tried."""
 import os
 import re
 import shutil
@@ -81,7 +81,7 @@ class Said:
 
 
 class Room:
-    """A copy of a crate with its kept proofs, in which wrong bodies are checked."""
+    """A copy of a crate with its kept proofs, in which mutants are checked."""
 
     def __init__(self, name, named, jobs):
         self.name, self.jobs, self.checks = name, jobs, 0
@@ -93,7 +93,7 @@ class Room:
         shutil.copytree(whole, os.path.join(self.folder, KEPT), copy_function=build.link)
 
     def check(self, chosen):
-        """Checks the crate with some wrong bodies, and leaves its sources as they were."""
+        """Checks the crate with some mutants, and leaves its sources as they were."""
         self.checks += 1
         paths = {path for edit in chosen for path, _ in edit.lines}
         before = {it: self.text(it) for it in paths}
@@ -118,7 +118,7 @@ class Room:
 
 
 def with_bodies(text, path, chosen):
-    """A file's text with the lines that some wrong bodies change in it."""
+    """A file's text with the lines that some mutants change in it."""
     lines = text.split("\n")
     for edit in chosen:
         for (where, number), now in edit.lines.items():
@@ -141,7 +141,7 @@ def prove(name, jobs):
 
 
 def together(left):
-    """Wrong bodies of different functions, of which no two have one proof: as many as can stand in one check."""
+    """Mutants of different functions, of which no two have one proof: as many as can stand in one check."""
     chosen, taken = [], set()
     for edit in left:
         proofs = {it.proof for it in edit.turned or ()}
@@ -152,7 +152,7 @@ def together(left):
 
 
 def unreadable(said, edit):
-    """The error by which the compiler or antt could not read a wrong body, if one stands in what it turns."""
+    """The error by which the compiler or antt could not read a mutant, if one is in what it turns."""
     for line in said.text.split("\n"):
         at = ERROR.match(line)
         if not at:
@@ -167,13 +167,13 @@ def unreadable(said, edit):
 
 
 def verdicts_of(edit, said, source):
-    """The names under which the check judged what a wrong body turns, each with the proof that it belongs to."""
+    """The names under which the check judged what a mutant turns, each with the proof that it belongs to."""
     turned = source.proved_with(edit.turned or ())
     return {it: f.proof for it in said.verdicts for f in turned if f.is_named(it)}
 
 
 def judge(edit, said, source, alone):
-    """What a check says of one wrong body: a word and why, or None where it has to be tried again."""
+    """What a check says of one mutant: a word and why, or None where it has to be tried again."""
     error = unreadable(said, edit)
     if error:
         return NOT_JUDGED, f"it can't be read, so no contract was tried: {error}"
@@ -195,12 +195,12 @@ def refusal(said, refused):
     uncovered = [it for it, _ in refused if "does not cover" in said.verdicts[it]]
     if len(uncovered) == len(refused):
         return NOT_JUDGED, f"the checker doesn't cover such a body, so no contract was tried: {said.verdicts[uncovered[0]][:200]}"
-    told = next((it for it in refused if said.goals(it[0]) or said.proof_errors(*it)), refused[0])
-    return REFUSED, f"{told[0].partition('::')[2]}: {said.why(*told)}"
+    named = next((it for it in refused if said.goals(it[0]) or said.proof_errors(*it)), refused[0])
+    return REFUSED, f"{named[0].partition('::')[2]}: {said.why(*named)}"
 
 
 def try_all(room, left, source, say):
-    """Tries wrong bodies, many in one check, and returns a word and a reason for each."""
+    """Tries mutants, many in one check, and returns a word and a reason for each."""
     found, groups = {}, []
     while left or groups:
         chosen = groups.pop() if groups else together(left)
@@ -223,12 +223,12 @@ def try_all(room, left, source, say):
 
 
 def is_held(edit, said, source):
-    """Whether a wrong body was not judged since its function calls one that isn't proved."""
+    """Whether a mutant was not judged since its function calls one that isn't proved."""
     return any(said.verdicts[it] != "proved" for it in verdicts_of(edit, said, source))
 
 
 def try_crate(name, wanted, named, jobs, is_quiet):
-    """Tries a crate's wrong bodies, prints a line for each and one for all, and returns their counts."""
+    """Tries a crate's mutants, prints a line for each and one for all, and returns their counts."""
     timer = time.monotonic()
     source = reading.Source(name)
     all_edits = [it for it in edits.edits_of(name, source) if any(word in it.name for word in wanted)]

@@ -117,7 +117,7 @@
   "What decides levels, and every other token.")
 
 (defun ob0--skip-comment ()
-  "Go behind the comment that the match before point is in or opens, if any."
+  "Go after the comment that the match before point is in or opens, if any."
   (let ((state (save-excursion (syntax-ppss (min (point-max) (1+ (match-beginning 0)))))))
     (cond ((nth 4 state) (goto-char (nth 8 state)) (forward-comment 1) t)
           ((and (equal (match-string 0) "(") (eq (char-after) ?*))
@@ -243,7 +243,7 @@ A new file has no first word when it is opened."
 (declare-function lsp-stdio-connection "ext:lsp-mode")
 (with-eval-after-load 'lsp-mode
   (add-to-list 'lsp-language-id-configuration '(ob0-mode . "oberon0"))
-  ;; (the width of a level that lsp-mode sends when it asks for a layout)
+  ;; (the width of a level that lsp-mode sends when it requests a layout)
   (add-to-list 'lsp--formatting-indent-alist '(ob0-mode . ob0-indent-offset))
   (lsp-register-client
    (make-lsp-client :new-connection (lsp-stdio-connection (lambda () (list ob0-program "serve"))

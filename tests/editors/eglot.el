@@ -1,5 +1,5 @@
 ;;; Drives the server from Emacs by eglot, in batch mode.  -*- lexical-binding: t -*-
-;; It is loaded behind an init file that sets up `ob0-mode' and eglot.
+;; It is loaded after an init file that sets up `ob0-mode' and eglot.
 ;; Variables: OB0_FILE (the file to edit), OB0_REPORT (where the findings go, a line of JSON each),
 ;; OB0_STEPS (the name of a list of steps below); what a list of steps needs besides is in OB0_GIVEN, as JSON.
 (require 'eglot)
@@ -21,7 +21,7 @@
 (defvar ob0-said nil "The diagnostics of the last one.")
 (defvar ob0-exit nil "The status that the server ended with.")
 
-(defun ob0-tell (step found)
+(defun ob0-report (step found)
   "Writes what was FOUND in a STEP."
   (let ((coding-system-for-write 'utf-8))
     (write-region (concat (json-serialize `(:step ,step :found ,found)) "\n") nil (getenv "OB0_REPORT") t 'silent)))
@@ -46,7 +46,7 @@
            (sort (flymake-diagnostics) (lambda (a b) (< (flymake-diagnostic-beg a) (flymake-diagnostic-beg b)))))))
 
 (defun ob0-after (change)
-  "Makes a CHANGE and gives what is shown once the server has told something new."
+  "Makes a CHANGE and gives what is shown once the server has sent something new."
   (let ((before ob0-published))
     (funcall change)
     (eglot--signal-textDocument/didChange)
@@ -59,27 +59,27 @@
   (forward-line line)
   (forward-char character))
 
-(defun ob0-ask (method &rest more)
+(defun ob0-query (method &rest more)
   "The answer to a METHOD at point, as the server gave it."
   (let ((found (jsonrpc-request (eglot--current-server-or-lose) method (append (eglot--TextDocumentPositionParams) more))))
     (or found :null)))
 
 (defun ob0-scanning ()
   "A bad character comes and goes."
-  (ob0-tell "typed" (ob0-after (lambda () (ob0-goto 0 16) (insert "$"))))
-  (ob0-tell "mended" (ob0-after (lambda () (ob0-goto 0 16) (delete-char 1)))))
+  (ob0-report "typed" (ob0-after (lambda () (ob0-goto 0 16) (insert "$"))))
+  (ob0-report "mended" (ob0-after (lambda () (ob0-goto 0 16) (delete-char 1)))))
 
 (defun ob0-mending ()
   "A faulty text is replaced by a mended one."
-  (ob0-tell "mended" (ob0-after (lambda () (erase-buffer) (insert (alist-get 'mended ob0-given))))))
+  (ob0-report "mended" (ob0-after (lambda () (erase-buffer) (insert (alist-get 'mended ob0-given))))))
 
 (defun ob0-questions ()
   "Hover, definition and references, as the server answers them."
   (ob0-goto 3 7)
-  (ob0-tell "hover" (ob0-ask :textDocument/hover))
+  (ob0-report "hover" (ob0-query :textDocument/hover))
   (ob0-goto 2 47)
-  (ob0-tell "definition" (ob0-ask :textDocument/definition))
-  (ob0-tell "references" (ob0-ask :textDocument/references :context '(:includeDeclaration t))))
+  (ob0-report "definition" (ob0-query :textDocument/definition))
+  (ob0-report "references" (ob0-query :textDocument/references :context '(:includeDeclaration t))))
 
 (defun ob0-hovered ()
   "What Emacs would show of the name at point."
@@ -96,29 +96,29 @@
                    (xref-backend-references 'eglot "LSP identifier at point."))))
 
 (defun ob0-looking ()
-  "Questions as Emacs asks them, at each of the places that are given."
+  "Queries as Emacs makes them, at each of the places that are given."
   (dolist (place (alist-get 'places ob0-given))
     (apply #'ob0-goto place)
-    (ob0-tell "shown" (ob0-hovered))
-    (ob0-tell "listed" (ob0-listed))
+    (ob0-report "shown" (ob0-hovered))
+    (ob0-report "listed" (ob0-listed))
     (xref-find-definitions "LSP identifier at point.")
-    (ob0-tell "jumped" (vector (1- (line-number-at-pos)) (current-column)))))
+    (ob0-report "jumped" (vector (1- (line-number-at-pos)) (current-column)))))
 
 (defun ob0-index ()
   "The index of procedures, while the server runs."
-  (ob0-tell "index" (vconcat (mapcar #'car (imenu--make-index-alist t)))))
+  (ob0-report "index" (vconcat (mapcar #'car (imenu--make-index-alist t)))))
 
 (defun ob0-text ()
   "The text of the buffer."
   (buffer-substring-no-properties (point-min) (point-max)))
 
 (defun ob0-rename ()
-  "A rename as Emacs asks for it and applies it."
+  "A rename as Emacs requests it and applies it."
   (apply #'ob0-goto (alist-get 'place ob0-given))
-  (ob0-tell "renamed" (ob0-after (lambda () (eglot-rename (alist-get 'name ob0-given)))))
-  (ob0-tell "text" (ob0-text)))
+  (ob0-report "renamed" (ob0-after (lambda () (eglot-rename (alist-get 'name ob0-given)))))
+  (ob0-report "text" (ob0-text)))
 
-;; A code action as Emacs asks for it, offers it in its list, and applies it.
+;; A code action as Emacs requests it, offers it in its list, and applies it.
 (defun ob0-acting ()
   "A code action of the title that is given is chosen of those that are offered."
   (apply #'ob0-goto (alist-get 'place ob0-given))
@@ -126,25 +126,25 @@
          (last-nonmenu-event ?x)
          (title (alist-get 'title ob0-given))
          (choose (lambda (_prompt items &rest _) (setq offered (mapcar #'car items)) title)))
-    (ob0-tell "acted" (ob0-after (lambda ()
+    (ob0-report "acted" (ob0-after (lambda ()
                                    (cl-letf (((symbol-function 'completing-read) choose))
                                      (eglot-code-actions (point) (point) nil t)))))
-    (ob0-tell "offered" (vconcat offered))
-    (ob0-tell "text" (ob0-text))))
+    (ob0-report "offered" (vconcat offered))
+    (ob0-report "text" (ob0-text))))
 
 (defun ob0-format ()
-  "A layout as Emacs asks for it and applies it, the server's own answer after that, and the same once more."
+  "A layout as Emacs requests it and applies it, the server's own answer after that, and the same once more."
   (setq indent-tabs-mode (eq (alist-get 'spaces ob0-given) :false)
         tab-width (alist-get 'size ob0-given))
-  (ob0-tell "formatted" (ob0-after #'eglot-format-buffer))
-  (ob0-tell "text" (ob0-text))
-  (ob0-tell "left to do"
-            (ob0-ask :textDocument/formatting
+  (ob0-report "formatted" (ob0-after #'eglot-format-buffer))
+  (ob0-report "text" (ob0-text))
+  (ob0-report "left to do"
+            (ob0-query :textDocument/formatting
                      :options `(:tabSize ,tab-width :insertSpaces ,(if indent-tabs-mode :json-false t))))
   (let ((tick (buffer-chars-modified-tick)))
     (eglot-format-buffer)
-    (ob0-tell "changes" (- (buffer-chars-modified-tick) tick)))
-  (ob0-tell "text again" (ob0-text)))
+    (ob0-report "changes" (- (buffer-chars-modified-tick) tick)))
+  (ob0-report "text again" (ob0-text)))
 
 (defun ob0-end (server)
   "Shuts the SERVER down as eglot does, and waits for its end."
@@ -153,7 +153,7 @@
     (jsonrpc-request server :shutdown nil)
     (jsonrpc-notify server :exit nil)
     (ob0-await "the server's end" (lambda () (not (process-live-p process))))
-    (ob0-tell "ended" (process-exit-status process))))
+    (ob0-report "ended" (process-exit-status process))))
 
 (defun ob0-run ()
   "Opens the file, starts the server on it, takes the steps and ends."
@@ -163,12 +163,12 @@
   (run-hooks 'post-command-hook)
   (let ((server (eglot--current-server-or-lose)))
     (ob0-await "the first diagnostics" (lambda () (> ob0-published 0)))
-    (ob0-tell "opened" (ob0-shown))
+    (ob0-report "opened" (ob0-shown))
     (funcall (intern (concat "ob0-" (getenv "OB0_STEPS"))))
     (ob0-end server)))
 
 (condition-case why
     (ob0-run)
-  (error (ob0-tell "failed" (error-message-string why))
+  (error (ob0-report "failed" (error-message-string why))
          (kill-emacs 1)))
 (kill-emacs 0)

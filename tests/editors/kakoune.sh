@@ -6,7 +6,7 @@ say() { printf '%s\n' "$1" | kak -p ob0test; }
 for name in "$@"; do
     say "evaluate-commands -client client0 %{ edit '$OB0_WORK/$name'; echo -to-file '$OB0_REPORT/$name' %opt{filetype} }"
 done
-# (lint runs beside the editor: its result is asked for until it is there; what is said in two calls can change places)
+# (lint runs beside the editor: its result is read until it is there; what is said in two calls can change places)
 linted() {
     say "evaluate-commands -client client0 %{ edit '$OB0_WORK/faulty.Mod'; $2; lint-buffer }"
     count=0

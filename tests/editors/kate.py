@@ -14,7 +14,7 @@ FILE, REPORT, WIRE = os.environ["OB0_FILE"], os.environ["OB0_REPORT"], os.enviro
 GIVEN = json.loads(os.environ["OB0_GIVEN"])
 
 
-def tell(step, found):
+def say(step, found):
     with open(REPORT, "a", encoding="utf-8") as file:
         file.write(json.dumps({"step": step, "found": found}) + "\n")
 
@@ -111,31 +111,31 @@ def saving():
 
 
 def names():
-    tell("typed", after("typed", lambda: typed("$")))
-    tell("undone", after("undone", lambda: keys("ctrl+z")))
-    tell("shown", command("Symbol Info", lambda: answers("textDocument/hover"))[0]["contents"]["value"])
+    say("typed", after("typed", lambda: typed("$")))
+    say("undone", after("undone", lambda: keys("ctrl+z")))
+    say("shown", command("Symbol Info", lambda: answers("textDocument/hover"))[0]["contents"]["value"])
     listed = command("Find References", lambda: answers("textDocument/references"))[0]
-    tell("listed", [[it["range"]["start"]["line"], it["range"]["start"]["character"]] for it in listed])
+    say("listed", [[it["range"]["start"]["line"], it["range"]["start"]["character"]] for it in listed])
     found = command("Go to Definition", lambda: answers("textDocument/definition"))[0]
-    tell("jumped", [found["range"]["start"]["line"], found["range"]["start"]["character"]])
+    say("jumped", [found["range"]["start"]["line"], found["range"]["start"]["character"]])
     keys("F2")
     time.sleep(1.5)
     keys("ctrl+a")
     typed("G")
-    tell("renamed", after("renamed", lambda: keys("Return")))
-    tell("text", saving())
-    tell("laid out", after("laid out", lambda: command("Format", lambda: answers("textDocument/formatting"))))
-    tell("text", saving())
+    say("renamed", after("renamed", lambda: keys("Return")))
+    say("text", saving())
+    say("laid out", after("laid out", lambda: command("Format", lambda: answers("textDocument/formatting"))))
+    say("text", saving())
 
 
 def inlining():
-    # (with the name selected: Kate asks for a whole line else)
+    # (with the name selected: Kate requests them for a whole line else)
     keys("shift+Right", "alt+Return")
     found = waited("code actions", lambda: answers("textDocument/codeAction"))[-1]
-    tell("offered", [it["title"] for it in found])
+    say("offered", [it["title"] for it in found])
     time.sleep(1)
-    tell("acted", after("acted", lambda: keys("Down", "Return")))
-    tell("text", saving())
+    say("acted", after("acted", lambda: keys("Down", "Return")))
+    say("text", saving())
 
 
 def main():
@@ -147,7 +147,7 @@ def main():
     try:
         waited("the first diagnostics", published, 60)
         time.sleep(2)
-        tell("opened", codes())
+        say("opened", codes())
         {"names": names, "inlining": inlining}[os.environ["OB0_STEPS"]]()
         keys("ctrl+q")
         kate.wait(20)
@@ -161,5 +161,5 @@ if __name__ == "__main__":
     try:
         main()
     except Exception as why:  # pylint: disable=broad-except
-        tell("failed", str(why))
+        say("failed", str(why))
         sys.exit(1)

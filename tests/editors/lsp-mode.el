@@ -1,5 +1,5 @@
 ;;; Drives the server from Emacs by lsp-mode, in batch mode.  -*- lexical-binding: t -*-
-;; It is loaded behind an init file that sets up `ob0-mode' and lsp-mode.
+;; It is loaded after an init file that sets up `ob0-mode' and lsp-mode.
 ;; Variables: OB0_FILE (the file to edit), OB0_REPORT (where the findings go, a line of JSON each),
 ;; OB0_STEPS (the name of a list of steps below); what a list of steps needs besides is in OB0_GIVEN, as JSON.
 (require 'lsp-mode)
@@ -23,7 +23,7 @@
   "What the steps need besides the text.")
 (defvar ob0-published 0 "How many publications came.")
 
-(defun ob0-tell (step found)
+(defun ob0-report (step found)
   "Writes what was FOUND in a STEP."
   (let ((coding-system-for-write 'utf-8))
     (write-region (concat (json-serialize `(:step ,step :found ,found)) "\n") nil (getenv "OB0_REPORT") t 'silent)))
@@ -47,7 +47,7 @@
            (lsp--get-buffer-diagnostics))))
 
 (defun ob0-after (change)
-  "Makes a CHANGE and gives what is shown once the server has told something new and all that came was read."
+  "Makes a CHANGE and gives what is shown once the server has sent something new and all that came was read."
   (let ((before ob0-published))
     (funcall change)
     (ob0-await "diagnostics" (lambda () (> ob0-published before)))
@@ -67,25 +67,25 @@
 
 (defun ob0-mending ()
   "A faulty text is replaced by a mended one."
-  (ob0-tell "mended" (ob0-after (lambda () (erase-buffer) (insert (alist-get 'mended ob0-given))))))
+  (ob0-report "mended" (ob0-after (lambda () (erase-buffer) (insert (alist-get 'mended ob0-given))))))
 
 (defun ob0-looking ()
-  "Questions as lsp-mode asks them, at each of the places that are given."
+  "Queries as lsp-mode makes them, at each of the places that are given."
   (dolist (place (alist-get 'places ob0-given))
     (apply #'ob0-goto place)
-    (ob0-tell "shown" (gethash "value" (lsp:hover-contents (lsp-request "textDocument/hover" (lsp--text-document-position-params)))))
-    (ob0-tell "listed" (vconcat (mapcar (lambda (it)
+    (ob0-report "shown" (gethash "value" (lsp:hover-contents (lsp-request "textDocument/hover" (lsp--text-document-position-params)))))
+    (ob0-report "listed" (vconcat (mapcar (lambda (it)
                                           (let ((at (xref-item-location it)))
                                             (vector (1- (xref-file-location-line at)) (xref-file-location-column at))))
                                         (xref-backend-references 'xref-lsp (xref-backend-identifier-at-point 'xref-lsp)))))
     (xref-find-definitions (xref-backend-identifier-at-point 'xref-lsp))
-    (ob0-tell "jumped" (vector (1- (line-number-at-pos)) (current-column)))))
+    (ob0-report "jumped" (vector (1- (line-number-at-pos)) (current-column)))))
 
 (defun ob0-rename ()
-  "A rename as lsp-mode asks for it and applies it."
+  "A rename as lsp-mode requests it and applies it."
   (apply #'ob0-goto (alist-get 'place ob0-given))
-  (ob0-tell "renamed" (ob0-after (lambda () (lsp-rename (alist-get 'name ob0-given)))))
-  (ob0-tell "text" (ob0-text)))
+  (ob0-report "renamed" (ob0-after (lambda () (lsp-rename (alist-get 'name ob0-given)))))
+  (ob0-report "text" (ob0-text)))
 
 (defun ob0-acting ()
   "A code action of the title that is given is chosen of those that are offered."
@@ -93,26 +93,26 @@
   (let* ((actions (lsp-code-actions-at-point))
          (titles (mapcar #'lsp:code-action-title actions))
          (chosen (seq-find (lambda (it) (equal (lsp:code-action-title it) (alist-get 'title ob0-given))) actions)))
-    (ob0-tell "acted" (ob0-after (lambda () (lsp-execute-code-action chosen))))
-    (ob0-tell "offered" (vconcat titles))
-    (ob0-tell "text" (ob0-text))))
+    (ob0-report "acted" (ob0-after (lambda () (lsp-execute-code-action chosen))))
+    (ob0-report "offered" (vconcat titles))
+    (ob0-report "text" (ob0-text))))
 
 (defun ob0-format ()
-  "A layout as lsp-mode asks for it and applies it."
-  (ob0-tell "formatted" (ob0-after #'lsp-format-buffer))
-  (ob0-tell "text" (ob0-text)))
+  "A layout as lsp-mode requests it and applies it."
+  (ob0-report "formatted" (ob0-after #'lsp-format-buffer))
+  (ob0-report "text" (ob0-text)))
 
 (defun ob0-run-steps ()
   "Opens the file, which starts the server on it, takes the steps and ends."
   (find-file (getenv "OB0_FILE"))
   (unless (eq major-mode 'ob0-mode) (error "The file was taken as %s" major-mode))
   (ob0-await "the first diagnostics" (lambda () (> ob0-published 0)))
-  (ob0-tell "opened" (ob0-shown))
+  (ob0-report "opened" (ob0-shown))
   (funcall (intern (concat "ob0-" (getenv "OB0_STEPS"))))
   (lsp-disconnect))
 
 (condition-case why
     (ob0-run-steps)
-  (error (ob0-tell "failed" (error-message-string why))
+  (error (ob0-report "failed" (error-message-string why))
          (kill-emacs 1)))
 (kill-emacs 0)

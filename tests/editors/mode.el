@@ -39,7 +39,7 @@
   (dolist (file (given "OB0_EXAMPLES"))
     (let ((text (with-temp-buffer (insert-file-contents file) (buffer-string))))
       (with-text text
-        ;; (every line of code without its indentation, and then indented anew; what is inside comments stays)
+        ;; (every line of code without its indentation, and then indented again; what is inside comments stays)
         (goto-char (point-min))
         (while (not (eobp))
           (unless (nth 4 (syntax-ppss)) (delete-horizontal-space))

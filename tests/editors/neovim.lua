@@ -7,7 +7,7 @@ local report = assert(io.open(vim.env.OB0_REPORT, "w"))
 local given = vim.fn.json_decode(vim.env.OB0_GIVEN or "{}")
 local published, exited = 0, nil
 
-local function tell(step, found)
+local function say(step, found)
   report:write(vim.fn.json_encode({ step = step, found = found }), "\n")
   report:flush()
 end
@@ -54,7 +54,7 @@ local function client_here()
   end
 end
 
--- The diagnostics that the buffer shows, once the server has told something new.
+-- The diagnostics that the buffer shows, once the server has sent something new.
 local function diagnosed(before)
   await("diagnostics", function()
     return published > before
@@ -121,13 +121,13 @@ local function listed()
   return found
 end
 
--- The text as the server has it: with a line ending behind the last line where the file has one there.
+-- The text as the server has it: with a line ending after the last line where the file has one there.
 local function text()
   return table.concat(vim.api.nvim_buf_get_lines(0, 0, -1, true), "\n") .. (vim.bo.eol and "\n" or "")
 end
 
 -- The answer to a request at a place, as the server gave it.
-local function asked(client, method, line, column, more)
+local function answer_of(client, method, line, column, more)
   local params = {
     textDocument = { uri = vim.uri_from_bufnr(0) },
     position = { line = line, character = column },
@@ -140,70 +140,70 @@ local steps = {}
 
 -- A bad character comes and goes.
 function steps.scanning()
-  tell("opened", diagnosed(0))
-  tell("typed", after(keys("gg0fWi$<Esc>")))
-  tell("mended", after(keys("x")))
-  tell("undone", after(keys("u")))
-  tell("redone", after(keys("<C-r>")))
+  say("opened", diagnosed(0))
+  say("typed", after(keys("gg0fWi$<Esc>")))
+  say("mended", after(keys("x")))
+  say("undone", after(keys("u")))
+  say("redone", after(keys("<C-r>")))
 end
 
 -- A syntax fault comes and goes while a statement is typed, letter by letter.
 function steps.typing()
-  tell("opened", diagnosed(0))
+  say("opened", diagnosed(0))
   for _, typed in ipairs({ ";", " ", "x", " ", ":", "=", " ", "1" }) do
-    tell("typed " .. typed, after(keys("gg/END<CR>hi" .. typed .. "<Esc>")))
+    say("typed " .. typed, after(keys("gg/END<CR>hi" .. typed .. "<Esc>")))
   end
 end
 
 -- A faulty text is replaced by a mended one.
 function steps.mending()
-  tell("opened", diagnosed(0))
-  tell("mended", after(function()
+  say("opened", diagnosed(0))
+  say("mended", after(function()
     vim.api.nvim_buf_set_lines(0, 0, -1, true, vim.split(vim.trim(given.mended), "\n"))
   end))
 end
 
 -- Questions, and the answers as the server gave them.
 function steps.questions(client)
-  tell("opened", diagnosed(0))
-  tell("hover", asked(client, "textDocument/hover", 3, 7))
-  tell("definition", asked(client, "textDocument/definition", 2, 47))
-  tell("references", asked(client, "textDocument/references", 2, 47, { context = { includeDeclaration = true } }))
+  say("opened", diagnosed(0))
+  say("hover", answer_of(client, "textDocument/hover", 3, 7))
+  say("definition", answer_of(client, "textDocument/definition", 2, 47))
+  say("references", answer_of(client, "textDocument/references", 2, 47, { context = { includeDeclaration = true } }))
 end
 
--- Questions as the editor asks them, at each of the places that are given: what it shows of a name, the places that it
+-- Queries as the editor makes them, at each of the places that are given: what it shows of a name, the places that it
 -- lists, and where it jumps to.
 function steps.looking()
-  tell("opened", diagnosed(0))
+  say("opened", diagnosed(0))
   for _, place in ipairs(given.places) do
     go(place)
     vim.lsp.buf.hover()
-    tell("shown", shown())
+    say("shown", shown())
     go(place)
     vim.lsp.buf.references()
-    tell("listed", listed())
+    say("listed", listed())
     go(place)
     vim.lsp.buf.definition()
     await("the jump to the definition", function()
       return not vim.deep_equal(here(), place)
     end)
-    tell("jumped", here())
+    say("jumped", here())
   end
 end
 
--- A rename as the editor asks for it and applies it.
+-- A rename as the editor requests it and applies it.
 function steps.rename()
-  tell("opened", diagnosed(0))
+  say("opened", diagnosed(0))
   go(given.place)
-  tell("renamed", after(function()
+  say("renamed", after(function()
     vim.lsp.buf.rename(given.name)
   end))
-  tell("text", text())
+  say("text", text())
 end
 
--- A code action as the editor asks for it, offers it in its list, and applies it.
+-- A code action as the editor requests it, offers it in its list, and applies it.
 function steps.acting()
-  tell("opened", diagnosed(0))
+  say("opened", diagnosed(0))
   go(given.place)
   local offered = {}
   vim.ui.select = function(items, options, choose)
@@ -215,11 +215,11 @@ function steps.acting()
       end
     end
   end
-  tell("acted", after(function()
+  say("acted", after(function()
     vim.lsp.buf.code_action()
   end))
-  tell("offered", offered)
-  tell("text", text())
+  say("offered", offered)
+  say("text", text())
 end
 
 -- Lays the text out by the editor's own command, which waits for the answer.
@@ -231,18 +231,18 @@ local function lay_out()
   end
 end
 
--- A layout as the editor asks for it and applies it, the server's own answer after that, and the same once more.
+-- A layout as the editor requests it and applies it, the server's own answer after that, and the same once more.
 function steps.format(client)
-  tell("opened", diagnosed(0))
+  say("opened", diagnosed(0))
   vim.bo.expandtab = given.spaces
   vim.bo.tabstop, vim.bo.shiftwidth, vim.bo.softtabstop = given.size, given.size, given.size
-  tell("formatted", after(lay_out))
-  tell("text", text())
-  tell("left to do", asked(client, "textDocument/formatting", 0, 0, vim.lsp.util.make_formatting_params()))
+  say("formatted", after(lay_out))
+  say("text", text())
+  say("left to do", answer_of(client, "textDocument/formatting", 0, 0, vim.lsp.util.make_formatting_params()))
   local tick = vim.api.nvim_buf_get_changedtick(0)
   lay_out()
-  tell("changes", vim.api.nvim_buf_get_changedtick(0) - tick)
-  tell("text again", text())
+  say("changes", vim.api.nvim_buf_get_changedtick(0) - tick)
+  say("text again", text())
 end
 
 local function run()
@@ -255,12 +255,12 @@ local function run()
   await("the server's end", function()
     return exited ~= nil
   end)
-  tell("ended", exited)
+  say("ended", exited)
 end
 
 local fine, why = pcall(run)
 if not fine then
-  tell("failed", tostring(why))
+  say("failed", tostring(why))
 end
 report:close()
 vim.cmd(fine and "qall!" or "cquit")

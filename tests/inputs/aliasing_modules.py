@@ -1,6 +1,6 @@
-"""Well-typed modules whose runs show where each value stands: few variables, of arrays and records within one another, passed
+"""Well-typed modules whose runs show where each value is: few variables, of arrays and records within one another, passed
 by value and by VAR, copied whole and in part, changed under an index that is used again, and seen by procedures within
-procedures that call one another anew. Nearly all is written in the end. `fuel` ends recursions, `i` and `j` are indexes."""
+procedures that call one another again. Nearly all is written in the end. `fuel` ends recursions, `i` and `j` are indexes."""
 import random
 
 NUMBERS = ["0", "1", "2", "3", "5", "(-1)", "(-4)", "(-7)", "2147483647"]
@@ -141,37 +141,37 @@ class Maker:
     def body(self, scope, depth=0):
         return "; ".join(self.statement(scope, depth) for _ in range(1 + self.chance.randrange(5 - 2 * depth)))
 
-    def told(self, name, type_):
+    def written(self, name, type_):
         """Statements that write all of a variable."""
         if type_ is INTEGER:
             return [f"Write({name})"]
         if type_ is BOOLEAN:
             return [f"IF {name} THEN Write(1) ELSE Write(0) END"]
         selectors = [(f"[{at}]", type_.element) for at in range(type_.count)] or type_.parts()
-        return [it for selector, part in selectors for it in self.told(name + selector, part)]
+        return [it for selector, part in selectors for it in self.written(name + selector, part)]
 
     def filled(self, variables):
         """Statements that give another number to each integer in some variables."""
-        places = [it[len("Write(") : -1] for name, of in variables for it in self.told(name, of) if it.startswith("Write")]
+        places = [it[len("Write(") : -1] for name, of in variables for it in self.written(name, of) if it.startswith("Write")]
         return [f"{name} := {at}" for at, name in enumerate(places[:24], 11)]
 
     # Blocks
 
     def block(self, scope, formals, first, depth):
-        """Declarations and statements behind a heading; some of what was declared is written at the end."""
+        """Declarations and statements after a heading; some of what was declared is written at the end."""
         own = [(self.fresh("v"), self.chance.choice(self.types)) for _ in range(1 + self.chance.randrange(2))]
         own += [] if depth else [(self.fresh("v"), it) for it in self.types]
         scope = {**scope, "variables": [*scope["variables"], *own, *formals], "procedures": list(scope["procedures"]), "counter": self.fresh("k")}
         inside = "".join(self.procedure(scope, depth + 1) for _ in range(self.chance.randrange(*[(1, 4), (0, 3), (0, 2), (0, 1)][depth])))
         if not depth:
             first += self.filled(own) + [self.called(scope, 0) for _ in range(4)]
-        end = [it for name, of in [*own, *formals] for it in self.told(name, of)]
+        end = [it for name, of in [*own, *formals] for it in self.written(name, of)]
         end = self.chance.sample(end, min(len(end), 8)) if depth else end
         declared = "".join(f" {name}: {of.name};" for name, of in own) + f" {scope['counter']}{'' if depth else ', fuel, i, j'}: INTEGER;"
         return f"VAR{declared}\n{inside}BEGIN\n  {'; '.join([*first, self.body(scope)])};\n  {'; '.join(end)}; WriteLn\n"
 
     def procedure(self, scope, depth):
-        """A procedure, which those within it and behind it may call, and itself."""
+        """A procedure, which those within it and after it may call, and itself."""
         name = self.fresh("p")
         formals = [(self.fresh("n"), self.chance.choice(self.types), self.chance.random() < 0.6) for _ in range(self.chance.randrange(4))]
         scope["procedures"].append((name, formals))

@@ -9,7 +9,7 @@ DOCUMENT = {"uri": "file:///m"}
 LITERALS = {"textDocument": {"codeAction": {"codeActionLiteralSupport": {}}}}
 
 
-def asked(ident, method, line, character, **params):
+def query(ident, method, line, character, **params):
     return request(ident, f"textDocument/{method}", {"position": place(line, character), "textDocument": DOCUMENT, **params})
 
 
@@ -52,11 +52,11 @@ KEPT = [f"file:///{it}" for it in "abc"]
 def several_documents():
     """Documents whose analyses are kept, dropped for others and made again."""
     opened = [about(it, did_open(COMMENT + LEAST)) for it in KEPT]
-    queried = [about(it, asked(10 + at, "hover", 4, 15)) for at, it in enumerate(KEPT + KEPT[:1])]
+    queried = [about(it, query(10 + at, "hover", 4, 15)) for at, it in enumerate(KEPT + KEPT[:1])]
     changed = [about(it, did_change([{"range": extent("4:0-4:0"), "text": new}], version=2)) for it, new in zip(KEPT, (" ", "$", "1"))]
-    again = [about(it, asked(20 + at, "definition", 4, 16)) for at, it in enumerate(KEPT)]
-    closed = [about(KEPT[0], did_close()), about(KEPT[0], asked(30, "hover", 4, 15)), about(KEPT[0], did_open(LEAST))]
-    return talk(*opened, *queried, *changed, *again, *closed, about(KEPT[0], asked(31, "hover", 3, 15)))
+    again = [about(it, query(20 + at, "definition", 4, 16)) for at, it in enumerate(KEPT)]
+    closed = [about(KEPT[0], did_close()), about(KEPT[0], query(30, "hover", 4, 15)), about(KEPT[0], did_open(LEAST))]
+    return talk(*opened, *queried, *changed, *again, *closed, about(KEPT[0], query(31, "hover", 3, 15)))
 
 
 BYTE_BY_BYTE = 1 << 40  # (the call that fails: there are never so many)
@@ -82,9 +82,9 @@ LONG = {
             did_change([], version=3),
             did_change([{"range": extent("1:0-4:0"), "text": ""}], version=4),
             notice("textDocument/didChange", {"textDocument": {**DOCUMENT, "version": 5}}),
-            asked(3, "hover", 0, 0),
+            query(3, "hover", 0, 0),
             did_close(),
-            asked(4, "hover", 0, 0),
+            query(4, "hover", 0, 0),
             "[]",
             "x",
             request(5, "x"),
@@ -96,18 +96,18 @@ LONG = {
         ["serve"],
         talk(
             did_open(WRITES_A_GLOBAL),
-            asked(3, "hover", 4, 10),
-            asked(4, "definition", 5, 9),
-            asked(5, "references", 4, 10, context={"includeDeclaration": True}),
-            asked(6, "prepareRename", 4, 10),
-            asked(7, "rename", 4, 10, newName="Q"),
-            asked(8, "rename", 4, 10, newName="P"),
+            query(3, "hover", 4, 10),
+            query(4, "definition", 5, 9),
+            query(5, "references", 4, 10, context={"includeDeclaration": True}),
+            query(6, "prepareRename", 4, 10),
+            query(7, "rename", 4, 10, newName="Q"),
+            query(8, "rename", 4, 10, newName="P"),
         ),
         None,
     ),
     "a name edited, with the version": (
         ["serve"],
-        talk(did_open(WRITES_A_GLOBAL, version=-7), asked(3, "rename", 4, 10, newName="B"), workspace={"workspaceEdit": {"documentChanges": True}}),
+        talk(did_open(WRITES_A_GLOBAL, version=-7), query(3, "rename", 4, 10, newName="B"), workspace={"workspaceEdit": {"documentChanges": True}}),
         None,
     ),
     "positions in bytes": (
@@ -120,7 +120,7 @@ LONG = {
     "a layout": (["serve"], talk(did_open(ON_ONE_LINE), laid_out(3)), None),
     "200 variables, renamed and laid out": (
         ["serve"],
-        talk(did_open(MANY), asked(3, "rename", 0, 14, newName="w"), laid_out(4), **LITERALS),
+        talk(did_open(MANY), query(3, "rename", 0, 14, newName="w"), laid_out(4), **LITERALS),
         None,
     ),
     "check a module of 5,000 bytes": (["check", "m.mod"], b"", corpus.module(5000)),

@@ -118,7 +118,7 @@ def module(seed):
 
 
 class Records:
-    """Modules of types alone: records in records, arrays and parameters, with names that are declared anew."""
+    """Modules of types alone: records in records, arrays and parameters, with names that are declared again."""
 
     def __init__(self, seed):
         self.chance = random.Random(f"records {seed}")

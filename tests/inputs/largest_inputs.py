@@ -2,7 +2,7 @@
 any size, so that bench/run.py can say how its cost grows."""
 import corpus
 from harness import EXIT, MESSAGES, SHUTDOWN, answer, capabilities, did_change, did_open, error, extent, frames, initialize
-from harness import place, published, request, told
+from harness import diagnostic, place, published, request
 
 
 MIB = 1 << 20
@@ -11,7 +11,7 @@ FIRST, LAST = answer(1, {"capabilities": capabilities()}), answer(2, None)
 
 
 def filled(before, middle, after=""):
-    """A text of so many bytes: a middle as often as there is room for it, and blanks."""
+    """A text of this many bytes: a middle as often as there is room for it, and blanks."""
     return lambda size: (before + middle * ((size - len(before) - len(after)) // len(middle)) + after).ljust(size)
 
 
@@ -28,18 +28,18 @@ def long_name(size):
 def faults(code, first, apart, length=1):
     """The first 100 faults of a list of them on one line."""
     starts = range(first, first + 100 * apart, apart)
-    return lambda size: [told(code, MESSAGES[code], f"0:{at}-0:{at + length}") for at in starts]
+    return lambda size: [diagnostic(code, MESSAGES[code], f"0:{at}-0:{at + length}") for at in starts]
 
 
 def one(code, where, message=None):
-    return lambda size: [told(code, message or MESSAGES[code], where.format(size=size))]
+    return lambda size: [diagnostic(code, message or MESSAGES[code], where.format(size=size))]
 
 
 def none(_size):
     return []
 
 
-# name: its size, the text of a size, what is told of it
+# name: its size, the text of a size, what is reported of it
 TEXTS = {
     "semicolons in a module": (MIB, filled("MODULE M; BEGIN", ";", " END M."), none),
     "semicolons alone": (MIB, filled("", ";"), one("Syntax", "0:0-0:1", "expected MODULE")),
@@ -53,7 +53,7 @@ TEXTS = {
     "digits of a number that is too large": (MIB, filled("", "7"), one("NumberTooLarge", "0:0-0:{size}")),
     "declarations of one name": (170000, lambda size: "MODULE M; VAR x" + ",x" * (size - 1) + ": INTEGER; END M.", faults("Duplicate", 16, 2)),
     "characters that are bad": (100000, lambda size: "$" * size, faults("BadChar", 0, 1)),
-    "bad characters behind 1 MiB of comment": (MIB, lambda size: ("(*" + " " * (size - 104) + "*)").ljust(size - 100) + "$" * 100, lambda size: faults("BadChar", size - 100, 1)(size)),
+    "bad characters after 1 MiB of comment": (MIB, lambda size: ("(*" + " " * (size - 104) + "*)").ljust(size - 100) + "$" * 100, lambda size: faults("BadChar", size - 100, 1)(size)),
     "names that aren't declared": (100000, lambda size: "MODULE M; BEGIN " + "a:=1;" * size + " END M.", faults("Undeclared", 16, 5)),
     "wrong types": (60000, lambda size: "MODULE M; VAR b: BOOLEAN; BEGIN " + "b:=1;" * size + " END M.", faults("TypeMismatch", 35, 5)),
 }
@@ -71,10 +71,10 @@ def changed_in_one_note(count):
 
 def whole_texts_in_one_note(count):
     text = corpus.module(MIB // 2)
-    return [did_open("$"), did_change([{"text": text}] * count)], [published([told("BadChar", "bad character", "0:0-0:1")]), published([], version=2)]
+    return [did_open("$"), did_change([{"text": text}] * count)], [published([diagnostic("BadChar", "bad character", "0:0-0:1")]), published([], version=2)]
 
 
-def asked_at_once(count):
+def queries_at_once(count):
     hover = lambda at: request(at + 9, "textDocument/hover", {"position": place(0, 0), "textDocument": {"uri": "file:///m"}})
     return [hover(at) for at in range(count)], [error(at + 9, -32803, "unopened") for at in range(count)]
 
@@ -90,7 +90,7 @@ def objects_in_a_message(size):
 def text_in_a_message(size):
     opening = did_open("")
     opening["params"]["textDocument"]["text"] = "$" * (size - len(frames([opening])) + len(b"Content-Length: 000\r\n\r\n"))
-    return [opening], [published([told("TooLong", "text too long", "0:0-0:0")])]
+    return [opening], [published([diagnostic("TooLong", "text too long", "0:0-0:0")])]
 
 
 # name: its size, the messages of a size, what is sent for them
@@ -98,7 +98,7 @@ TALKS = {
     "documents of 10,000 bytes, all open": (1000, opened),
     "changes in one note": (10000, changed_in_one_note),
     "texts of 0.5 MiB in one note": (30, whole_texts_in_one_note),
-    "requests, all there from the start": (10000, asked_at_once),
+    "requests, all there from the start": (10000, queries_at_once),
     "bytes of a message, blanks": (16777216, blanks_in_a_message),
     "bytes of a message, empty objects": (16777216, objects_in_a_message),
     "bytes of a message, a text": (16777216, text_in_a_message),

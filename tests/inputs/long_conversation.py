@@ -30,12 +30,12 @@ class Talk:
         self.text = self.good = None
 
     def begin(self):
-        """A module without a fault is opened, after a close or in the place of what is open."""
+        """A module without a fault is opened, after a close or replacing what is open."""
         if self.text is not None and self.chance.random() < 0.3:
-            self.server.tell(did_close(URI))
+            self.server.notify(did_close(URI))
         self.text = self.good = corpus.module(self.chance.choice([300, 900, 2000]), self.chance.randrange(1000))
         self.version += 1
-        return self.text, self.server.tell(did_open(self.text, URI, self.version))
+        return self.text, self.server.notify(did_open(self.text, URI, self.version))
 
     def change(self):
         """One to three changes in one note: other words at a place, or what was there before."""
@@ -56,9 +56,9 @@ class Talk:
             self.text = self.good
             changes.append({"text": self.text})
         self.version += 1
-        return self.text, self.server.tell(did_change(changes, URI, self.version))
+        return self.text, self.server.notify(did_change(changes, URI, self.version))
 
-    def ask(self):
+    def query(self):
         """Some question at some place, which is answered under its own number."""
         method = self.chance.choice(QUESTIONS)
         where = position_of(self.text, self.chance.randrange(len(self.text) + 1))
@@ -89,7 +89,7 @@ def resident(server):
 
 
 def converse(count, seed=0):
-    """A conversation of so many changes and questions. Returns a line with figures."""
+    """A conversation of this many changes and questions. Returns a line with figures."""
     chance = random.Random(seed)
     published, empty, early = 0, 0, None
     with Server(capabilities=LITERALS) as server, concurrent.futures.ThreadPoolExecutor(failing.PROCESSORS) as pool:
@@ -101,7 +101,7 @@ def converse(count, seed=0):
             elif way < 0.7:
                 pairs.append(talk.change())
             else:
-                talk.ask()
+                talk.query()
             if len(pairs) == 500 or number == count - 1:
                 published, empty = published + len(pairs), empty + sum(pool.map(checked, pairs))
                 pairs = []

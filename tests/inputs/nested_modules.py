@@ -62,7 +62,7 @@ def leaf(walk, kind):
 
 
 def of_one(name, depth):
-    """A module with so many of one construct inside one another, and the offset of the innermost one's token."""
+    """A module with this many of one construct inside one another, and the offset of the innermost one's token."""
     _, start, end, before, after = next(it for it in STEPS if it[0] == name)
     into = {"D": [], "T": [("VAR v: ", ";")], "S": [("BEGIN ", "")], "F": [("BEGIN x := ", "")]}[start]
     if name not in REPEATED:
@@ -80,7 +80,7 @@ def mixed(seed, depth):
     while left:
         steps = [it for it in STEPS if it[1] == kind]
         passes = [it for it in PASSES if it[0] == kind]
-        # (what stands in an expression is an expression, and in a type a type: stay above them at times)
+        # (what is in an expression is an expression, and in a type a type: stay above them at times)
         if chance.random() < 0.6:
             stay = [it for it in steps if it[2] == kind]
             steps, passes = stay or steps, passes if not steps else [] if stay else passes
@@ -104,13 +104,13 @@ ENTERED = [
 
 
 def around(statement, depth, choose):
-    """A statement inside so many others; `choose` gives the next one."""
+    """A statement inside this many others; `choose` gives the next one."""
     found = [choose() for _ in range(depth)]
     return "".join(it[1] for it in found) + statement + "".join(it[2] for it in reversed(found))
 
 
 def recursive(calls, choose):
-    """A module whose run has so many calls open, each made inside 100 nested constructs, and all it writes. A call copies
+    """A module whose run has this many calls open, each made inside 100 nested constructs, and all it writes. A call copies
     a value of a type of 100 arrays and records inside one another."""
     types = ["t0 = ARRAY 1 OF INTEGER"] + [f"t{at} = {'RECORD f: t%d END' if at % 2 else 'ARRAY 1 OF t%d'}" % (at - 1) for at in range(1, 100)]
     local = "b: BOOLEAN"

@@ -42,13 +42,13 @@ def at_random(text, chance):
         start = chance.randrange(lexeme.start(), lexeme.end() + 1)
         return start, chance.randrange(start, lexeme.end() + 1)
     if way < 0.7:  # the white space between two
-        behind = chance.choice(found)
-        before = max((it.end() for it in found if it.end() <= behind.start()), default=0)
-        return before, behind.start()
+        later = chance.choice(found)
+        before = max((it.end() for it in found if it.end() <= later.start()), default=0)
+        return before, later.start()
     if way < 0.9:  # a whole lexeme
         return lexeme.start(), lexeme.end()
-    behind = found[min(len(found) - 1, found.index(lexeme) + chance.choice([1, 2, 5, 30]))]
-    return lexeme.start(), behind.end()
+    later = found[min(len(found) - 1, found.index(lexeme) + chance.choice([1, 2, 5, 30]))]
+    return lexeme.start(), later.end()
 
 
 def replacement(text, chance):
@@ -95,29 +95,29 @@ class Edited:
         return self.put(start, end, new)
 
 
-def asked(server, uri, method, where):
+def answer_of(server, uri, method, where):
     """What a server answers to a question about a document, as text in which it has one name for each server."""
     params = {"position": where, "textDocument": {"uri": uri}, "context": {"includeDeclaration": True}, "newName": "k"}
     if method == "codeAction":
         params = {"context": {}, "range": {"end": where, "start": where}, "textDocument": {"uri": uri}}
     if method == "formatting":
         params = {"options": {"insertSpaces": True, "tabSize": 2}, "textDocument": {"uri": uri}}
-    found = server.ask(f"textDocument/{method}", params)
+    found = server.query(f"textDocument/{method}", params)
     return json.dumps({key: it for key, it in found.items() if key != "id"}, sort_keys=True).replace(uri, URI)
 
 
 QUESTIONS = ["hover", "definition", "references", "rename", "codeAction", "formatting"]
 
 
-def same_as_new(keeping, fresh, edited, told, uri, where):
+def same_as_new(keeping, fresh, edited, published, uri, where):
     """Holds what the server that keeps says of the present text to what one says that reads it for the first time."""
-    same(told, fresh.tell(did_open(edited.text, uri)), f"{where}: diagnostics of\n{edited.text}\n")
-    if not told or edited.chance.random() < 0.1:
+    same(published, fresh.notify(did_open(edited.text, uri)), f"{where}: diagnostics of\n{edited.text}\n")
+    if not published or edited.chance.random() < 0.1:
         for method in edited.chance.sample(QUESTIONS, 2):
             at = position_of(edited.text, edited.chance.randrange(len(edited.text) + 1))
-            got, wanted = asked(keeping, URI, method, at), asked(fresh, uri, method, at)
+            got, wanted = answer_of(keeping, URI, method, at), answer_of(fresh, uri, method, at)
             same(got, wanted, f"{where}: {method} at {at} of\n{edited.text}\n")
-    fresh.tell(did_close(uri))
+    fresh.notify(did_close(uri))
 
 
 def converse(seed):
@@ -126,14 +126,14 @@ def converse(seed):
     text = faulty_modules.records(seed) if chance.random() < 0.2 else corpus.module(chance.choice([300, 900, 2000]), seed, chance.random() < 0.2)
     edited, clean, ill_lexed = Edited(text, chance), 0, 0
     with Server(capabilities=LITERALS) as keeping, Server(capabilities=LITERALS) as fresh:
-        keeping.tell(did_open(edited.text, URI))
+        keeping.notify(did_open(edited.text, URI))
         for step in range(STEPS):
             while (change := edited.change()) is None:
                 pass
-            told = keeping.tell(did_change([change], URI, step + 2))
-            clean += not told
-            ill_lexed += any(it["code"] in ("BadChar", "OpenComment", "NumberTooLarge", "NumberJoinsLetter") for it in told)
-            same_as_new(keeping, fresh, edited, told, f"file:///n{step}", f"seed {seed}, step {step}")
+            published = keeping.notify(did_change([change], URI, step + 2))
+            clean += not published
+            ill_lexed += any(it["code"] in ("BadChar", "OpenComment", "NumberTooLarge", "NumberJoinsLetter") for it in published)
+            same_as_new(keeping, fresh, edited, published, f"file:///n{step}", f"seed {seed}, step {step}")
         for it in (keeping, fresh):
             same(it.end(), 0, "the status")
     return clean, ill_lexed
@@ -151,11 +151,11 @@ def seeds_of(count, first):
 
 
 def some_changes(count, first):
-    """So many changes, one conversation after the other. Returns a line with figures."""
+    """This many changes, one conversation after the other. Returns a line with figures."""
     return figures([converse(it) for it in seeds_of(count, first)])
 
 
 def many_changes(count, first, processes):
-    """So many changes, by some processes. Returns a line with figures."""
+    """This many changes, by some processes. Returns a line with figures."""
     with concurrent.futures.ProcessPoolExecutor(processes) as pool:
         return figures(list(pool.map(converse, seeds_of(count, first))))

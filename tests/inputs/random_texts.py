@@ -50,11 +50,11 @@ def program(seed):
     text = corpus.module(chance.choice([900, 1500, 2500]), seed)
     text = text.partition("END Corpus.")[0] + "END Corpus."
 
-    def told_too(it):
+    def reported_too(it):
         way = chance.random()
         return it[0] + (f"; Write({it[1]})" if way < 0.4 else f"; Read({it[1]})" if way < 0.45 else "; WriteLn" if way < 0.5 else "")
 
-    text = re.sub(r"\b([vnm][0-9]+) := [^;\n]*(?=;?\n)", told_too, text)
+    text = re.sub(r"\b([vnm][0-9]+) := [^;\n]*(?=;?\n)", reported_too, text)
     given = [chance.choice([0, 1, -1, 7, 1000, 2147483647, -2147483648]) for _ in range(chance.randrange(30))]
     return text, given, chance.choice([0, 1, 3, 8]), chance.choice([0, 1, 2, 5])
 

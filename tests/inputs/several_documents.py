@@ -33,15 +33,15 @@ class Document:
 
 
 class Talk:
-    """The conversation. What is to be compared with a server that keeps nothing is listed in `asked`."""
+    """The conversation. What is to be compared with a server that keeps nothing is listed in `queries`."""
 
     def __init__(self, server, chance):
-        self.server, self.chance, self.idents, self.asked = server, chance, 1000, []
+        self.server, self.chance, self.idents, self.queries = server, chance, 1000, []
         self.documents = [*(Document(it) for it in SMALL), *(Document(uri, size) for uri, size in LARGE.items())]
 
     def publishes(self, document, message):
         """Sends a message after which the document is reported."""
-        document.published = self.server.tell(message)
+        document.published = self.server.notify(message)
         if not document.published and document.size + 6000 > len(document.text):
             document.good = document.text
 
@@ -52,7 +52,7 @@ class Talk:
 
     def close(self, document):
         document.is_open, document.text = False, None
-        same(self.server.tell(did_close(document.uri)), [], "the diagnostics of a document that is closed")
+        same(self.server.notify(did_close(document.uri)), [], "the diagnostics of a document that is closed")
 
     def lose(self, document):
         """A change that can't be read."""
@@ -98,7 +98,7 @@ class Talk:
         new = self.chance.choice(["k", "fresh", word[0] if word else "x"])
         return {"context": {"includeDeclaration": self.chance.random() < 0.5}, "newName": new, "position": where, **known}
 
-    def ask(self, document):
+    def query(self, document):
         method = self.chance.choice(QUESTIONS)
         self.idents += 1
         question = request(self.idents, f"textDocument/{method}", self.params_of(document, method))
@@ -109,15 +109,15 @@ class Talk:
             same(found, json.loads(harness.error(self.idents, REFUSED, why)), f"{method} of {document.uri}")
         else:
             opening = did_open(document.text, document.uri, document.version)
-            self.asked.append((opening, document.published, question, found))
+            self.queries.append((opening, document.published, question, found))
 
     def step(self):
         document = self.chance.choice(self.documents[: len(SMALL)] if self.chance.random() < 0.97 else self.documents)
         way = self.chance.random()
         if not document.is_open:
-            return self.open(document) if way < 0.7 or not document.good else self.ask(document)
+            return self.open(document) if way < 0.7 or not document.good else self.query(document)
         if way < 0.4:
-            return self.ask(document)
+            return self.query(document)
         if way < 0.41:
             return self.close(document)
         if way < 0.42:
@@ -127,9 +127,9 @@ class Talk:
         return self.change(document)
 
 
-def answered_alike(asked):
+def answered_alike(query):
     """Whether a server that keeps nothing says the same, and if so what kind of answer that is."""
-    opening, published, question, answer = asked
+    opening, published, question, answer = query
     found = harness.serve([initialize(**CLIENT), opening, question, SHUTDOWN, EXIT])
     same(found.status, 0, "the status of a server that keeps nothing")
     first, second = (json.loads(it) for it in found.contents()[1:3])
@@ -140,16 +140,16 @@ def answered_alike(asked):
 
 
 def converse(count, seed=0):
-    """A conversation of so many messages. Returns a line with figures."""
+    """A conversation of this many messages. Returns a line with figures."""
     kinds, compared = {}, 0
     with Server(capabilities=CLIENT) as server, concurrent.futures.ThreadPoolExecutor(failing.PROCESSORS) as pool:
         talk = Talk(server, random.Random(seed))
         for number in range(count):
             talk.step()
-            if len(talk.asked) == 200 or number == count - 1:
-                for kind in pool.map(answered_alike, talk.asked):
+            if len(talk.queries) == 200 or number == count - 1:
+                for kind in pool.map(answered_alike, talk.queries):
                     kinds[kind] = kinds.get(kind, 0) + 1
-                compared, talk.asked = compared + len(talk.asked), []
+                compared, talk.queries = compared + len(talk.queries), []
         same(server.end(), 0, "the status")
     missing = [it for it in QUESTIONS if it not in kinds]
     # (in a short conversation no place of an action may come up)

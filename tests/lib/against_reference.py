@@ -4,7 +4,7 @@ import concurrent.futures
 
 import faulty_modules
 import random_texts
-from harness import MESSAGES, Server, did_open, on_file, same, told
+from harness import MESSAGES, Server, diagnostic, did_open, on_file, same
 from reference.runs import Run
 from reference.text import Text
 from reference.values import Ends
@@ -16,14 +16,14 @@ def diagnostics_of(text):
     """The diagnostics of a text by the reference."""
     found = Text(text)
     return [
-        told(code, message or MESSAGES[code], "{}:{}-{}:{}".format(*found.position(start), *found.position(end)))
+        diagnostic(code, message or MESSAGES[code], "{}:{}-{}:{}".format(*found.position(start), *found.position(end)))
         for code, start, end, message in found.faults
     ]
 
 
 def same_diagnostics(server, text, seed):
     """Holds what the server publishes of a text to the reference."""
-    same(server.tell(did_open(text)), diagnostics_of(text), f"seed {seed}, of the text\n{text}\n")
+    same(server.notify(did_open(text)), diagnostics_of(text), f"seed {seed}, of the text\n{text}\n")
 
 
 MAKERS = {
@@ -46,7 +46,7 @@ def compare(seeds):
 
 
 def many_texts(count, first, processes):
-    """So many texts, by some processes. Returns a line with figures."""
+    """This many texts, by some processes. Returns a line with figures."""
     size = 200
     parts = [range(at, min(at + size, first + count)) for at in range(first, first + count, size)]
     with concurrent.futures.ProcessPoolExecutor(processes) as pool:
@@ -90,7 +90,7 @@ def of_either(seed):
 
 
 def many_runs(count, first, processes):
-    """So many runs, half of them with arrays and records that are passed and copied, by some processes. Returns a line with figures."""
+    """This many runs, half of them with arrays and records that are passed and copied, by some processes. Returns a line with figures."""
     with concurrent.futures.ProcessPoolExecutor(processes) as pool:
         ends = list(pool.map(of_either, range(first, first + count), chunksize=50))
     return f"{len(ends) - ends.count(LONG):,} runs, each as by the reference: {counted(ends)}"

@@ -1,7 +1,7 @@
 /* Preloaded into a program: it runs again and again, each time from a fork before its main, and its calls for memory and its
    devices fail where the environment says so.
 
-   OB0_MEMORY=N     the Nth call that takes memory is refused; OB0_MEMORY=N.. it and all behind it
+   OB0_MEMORY=N     the Nth call that takes memory is refused; OB0_MEMORY=N.. it and all after it
    OB0_READS=N      standard input gives one byte a call, and fails at the Nth call
    OB0_FILE=N       any other file gives one byte a call, and fails at the Nth call
    OB0_WRITES=N     standard output takes one byte a call, and fails once it has taken N; OB0_WRITES=N.. it then takes none
@@ -9,7 +9,7 @@
    OB0_SHORT=N      the Nth read or write of several bytes moves one
    OB0_EACH=WORD A-B/S   the N of OB0_WORD (in capitals) is each number from A to B in steps of S, one a run; standard input
                     is a file, and read from its start in each run
-   OB0_REPORT=FD    to this descriptor goes a record for runs of one N behind the other that end alike */
+   OB0_REPORT=FD    to this descriptor goes a record for runs of one N after the other that end alike */
 #define _GNU_SOURCE
 #include <dlfcn.h>
 #include <errno.h>
@@ -46,7 +46,7 @@ static long number(const char *name, long otherwise, int *and_on) {
   return found;
 }
 
-static void tell(const void *bytes, size_t size) {
+static void emit(const void *bytes, size_t size) {
   if (real_write((int)report_to, bytes, size) != (ssize_t)size) _exit(99);
 }
 
@@ -74,8 +74,8 @@ static int are_alike(const struct ending *one, const struct ending *two) {
 
 static void put(struct ending *it) {
   char head[200];
-  tell(head, (size_t)snprintf(head, sizeof head, "%ld %ld %ld %ld %ld %ld %ld %ld %ld\n", it->first, it->last, it->status, it->known.is_touched, it->known.memory_calls, it->known.calls, it->known.long_calls, it->sizes[0], it->sizes[1]));
-  for (int which = 0; which < 2; which++) tell(it->wrote[which], (size_t)it->sizes[which]);
+  emit(head, (size_t)snprintf(head, sizeof head, "%ld %ld %ld %ld %ld %ld %ld %ld %ld\n", it->first, it->last, it->status, it->known.is_touched, it->known.memory_calls, it->known.calls, it->known.long_calls, it->sizes[0], it->sizes[1]));
+  for (int which = 0; which < 2; which++) emit(it->wrote[which], (size_t)it->sizes[which]);
 }
 
 static void drop(struct ending *it) {

@@ -38,7 +38,7 @@ def compiled():
 
 
 class Walked(harness.Ended):
-    """Runs that ended alike, one behind the other: their numbers, whether anything was refused or failed, and how many calls
+    """Runs that ended alike, one after the other: their numbers, whether anything was refused or failed, and how many calls
     of each kind the last of them made."""
 
     def __init__(self, out, err, status, numbers, is_touched, calls):
@@ -88,7 +88,7 @@ def undisturbed(words, given=b"", cwd=None, **fails):
 
 
 def fronts(written):
-    """What stands in a conversation's output before each message and behind the last."""
+    """What a conversation's output has before each message and after the last."""
     contents = harness.unframed(written)
     return [harness.frames(contents[:count]) for count in range(len(contents) + 1)]
 
@@ -104,7 +104,7 @@ def beside(text):
 
 
 def refused(name, words, given=b"", text=None, reads=None):
-    """Runs the program with each allocation refused in turn, alone and with all behind it. It has to end with the status of
+    """Runs the program with each allocation refused in turn, alone and with all after it. It has to end with the status of
     refused memory, what it wrote a front of whole messages (of a command: nothing, or all), or as if nothing had been
     refused. Returns how many runs ended either way."""
     counts = {"refused": 0, "undisturbed": 0}

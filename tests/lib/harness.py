@@ -167,7 +167,7 @@ def extent(text):
     return {"end": end, "start": start}
 
 
-def told(code, message, where):
+def diagnostic(code, message, where):
     """A diagnostic."""
     return {"code": code, "message": message, "range": extent(where), "severity": 1}
 
@@ -203,7 +203,7 @@ class Ended:
 
 
 def run(words, given=b"", stack=None, cwd=None):
-    """Runs the program with these words on this standard input, all at once, under a stack of so many kilobytes."""
+    """Runs the program with these words on this standard input, all at once, under a stack of this many kilobytes."""
     need_program()
     words = [BINARY, *words]
     if stack:
@@ -270,7 +270,7 @@ class Server:
         self.process = subprocess.Popen([BINARY, "serve"], **how)
         self.held, self.idents = b"", 0
         if not silent:
-            self.first = self.ask("initialize", {"capabilities": {}, **capabilities})
+            self.first = self.query("initialize", {"capabilities": {}, **capabilities})
             self.send(notice("initialized", {}))
 
     def __enter__(self):
@@ -306,7 +306,7 @@ class Server:
                 raise Failed("the server ended in the middle of the conversation")
             self.held += came
 
-    def ask(self, method, params=None):
+    def query(self, method, params=None):
         """Sends a request and returns its answer; nothing else may come before it."""
         self.idents += 1
         self.send(request(self.idents, method, params))
@@ -314,7 +314,7 @@ class Server:
         same(found.get("id"), self.idents, f"the id of the answer to {method}")
         return found
 
-    def tell(self, message):
+    def notify(self, message):
         """Sends an open, a change or a close and returns the diagnostics that come."""
         self.send(message)
         found = self.take()
@@ -323,7 +323,7 @@ class Server:
 
     def end(self):
         """Shuts the server down and returns its status."""
-        same(self.ask("shutdown").get("result", 0), None, "the answer to shutdown")
+        same(self.query("shutdown").get("result", 0), None, "the answer to shutdown")
         self.send(EXIT)
         try:
             return self.process.wait(SECONDS)
@@ -355,7 +355,7 @@ def want_proved():
 
 
 def marked(text, *codes):
-    """A text whose faulty places stand between ⟦ and ⟧, and what is told of them, a code for each place in order."""
+    """A text whose faulty places are between ⟦ and ⟧, and what is reported of them, a code for each place in order."""
     plain, starts, found = "", [], []
     for it in text:
         if it == "⟦":
@@ -367,7 +367,7 @@ def marked(text, *codes):
     found.sort()
     assert len(found) == len(codes) and not starts, text
     position = lambda at: f"{plain.count(chr(10), 0, at)}:{at - (plain.rfind(chr(10), 0, at) + 1)}"
-    return plain, [told(code, MESSAGES[code], f"{position(a)}-{position(b)}") for code, (a, b) in zip(codes, found)]
+    return plain, [diagnostic(code, MESSAGES[code], f"{position(a)}-{position(b)}") for code, (a, b) in zip(codes, found)]
 
 
 MESSAGES = {

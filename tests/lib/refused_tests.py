@@ -59,7 +59,7 @@ def plays_exactly(crate):
 
 
 def walk(crate, test, most):
-    """Runs a test with its allocations refused in turn: all of them, or of more than so many each second, third and so on.
+    """Runs a test with its allocations refused in turn: all of them, or of more than `most` each second, third and so on.
     Returns a line with figures."""
     words = [program_of(crate), test]
     plain = failing.undisturbed(words)

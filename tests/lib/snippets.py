@@ -1,4 +1,4 @@
-"""The code in the Markdown pages of this repository: what a page tells its reader to type is what the tests use."""
+"""The code in the Markdown pages of this repository: what a page has its reader type is what the tests use."""
 import os
 import re
 

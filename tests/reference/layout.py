@@ -40,7 +40,7 @@ def layout(text, indent):
     starts = lambda level: "\n" + indent * level
 
     def level_at(place):
-        """The level of the line of the token at or behind this place in the list."""
+        """The level of the line of the token at or after this place in the list."""
         token = next((it for it in lexemes[place:] if it.kind != "comment"), None)
         if token is None:
             return 0

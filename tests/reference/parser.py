@@ -23,7 +23,7 @@ class Parser:
     def __init__(self, text, tokens):
         end = Token("end", "", len(text))
         self.tokens, self.at = [*(it for it in tokens if it.kind != "comment"), end], 0
-        # what the layout asks for: signs, and parentheses that open parameters or arguments
+        # what the layout needs: signs, and parentheses that open parameters or arguments
         self.signs, self.opening = set(), set()
 
     @property

@@ -1,4 +1,4 @@
-"""A text with everything that the rules say of it, layer by layer: a layer is asked only where those before it found no fault."""
+"""A text with everything that the rules say of it, layer by layer: a layer is gone through only where those before it found no fault."""
 import re
 import sys
 

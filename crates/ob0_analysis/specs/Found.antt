@@ -1,4 +1,5 @@
 -- What a text is found to be.
+-- Rule: none; for private contracts: what an analysis keeps.
 use Rattle.std.specs.Prelude.{ℕ, List, string_bytes}
 use Rattle.ob0_scan.specs.Refused.{AreFaults}
 use Rattle.ob0_scan.specs.declared.rescanning.NotRescanned.{NotRescanned}

@@ -1,11 +1,13 @@
 //! What a text is, as one value that is kept.
 
-ghost use Rattle.std.specs.Prelude.{◌≡◌, true, IfErr, IfOk, MatchOption, map};
+ghost use Rattle.std.specs.Prelude.{◌≡◌, [], true, IfErr, IfOk, MatchOption, map};
 ghost use Rattle.std.specs.Str.{IsUtf8};
 ghost use Rattle.ob0_scan.specs.Refused.{AreFaults};
-ghost use Rattle.ob0_scan.specs.Reused.{kinds};
+ghost use Rattle.ob0_scan.specs.Reused.{kinds, names_in};
 ghost use Rattle.ob0_scan.specs.Scanned.{IsScannable, IsScanOf};
 ghost use Rattle.ob0_tree.specs.Parsed.{IsParsed, parsed_by};
+ghost use Rattle.ob0_scope_rules.specs.Bindings.{resolution_by};
+ghost use Rattle.ob0_scope_rules.specs.Resolution.{IsResolution};
 ghost use Rattle.ob0_analysis.specs.Found.{IsFound, IsRefusalOf};
 ghost use Rattle.ob0_analysis.specs.declared.analysis.Findings.TheVariants.{NoTree};
 ghost use Rattle.ob0_analysis.specs.Diagnosed.{IsWellTypedModule, Reports, complaint_in};
@@ -17,6 +19,8 @@ use crate::parts::ModuleParts;
 use ob0_parse::{ParseRefusal, tree_of};
 use ob0_scan::laws::one_scan;
 use ob0_scan::{Fault, NotRescanned, RescanInPlace, ScanRefusal, Tokens, rescan_in_place, scan};
+use ob0_scope::laws::bindings_stay;
+use ob0_scope_rules::Bindings;
 use ob0_tree::ModuleTree;
 use std::alloc::{AllocError, Global};
 use std::marker::Model;
@@ -37,8 +41,8 @@ pub(crate) enum Findings {
     Module(ModuleParts),
 }
 
-/// What a text is. Contracts see the text alone: what is kept of it is what an analysis of that text from nothing finds, so
-/// more can be kept without a change of any of them.
+/// What a text is. Contracts see the text alone: what is kept of it is what an analysis of that text from nothing
+/// finds, so more can be kept without a change of any of them.
 #[derive(Drop)]
 pub struct Analysis {
     found: Findings,
@@ -70,8 +74,9 @@ impl Analysis {
         }
     }
 
-    /// The analysis of another text. What it has in common with the text before is taken over from it: tokens, and where all
-    /// tokens are of the kinds that they were the tree, or where the parser stops.
+    /// The analysis of another text. What it has in common with the text before is taken over from it: tokens, and
+    /// where all tokens are of the kinds that they were the tree, or where the parser stops; where all identifiers are
+    /// written as they were also what they are bound to.
     pub fn after(self, alloc: Global, text: &str) -> Result<Analysis, AllocError>
         ensures { IfOk result (λ a. a ≡ text.now) }
     {
@@ -132,7 +137,11 @@ impl Analysis {
         requires { found.alike ≡ true → IsFound (NoTree found.rescan.tokens refusal) }
         ensures { IfOk result (λ a. a ≡ found.rescan.tokens.text) }
     {
-        let RescanInPlace { rescan, alike } = found;
+        let RescanInPlace {
+            rescan,
+            alike,
+            same_names: _,
+        } = found;
         if !alike {
             return Analysis::of_tokens(alloc, rescan.tokens);
         }
@@ -144,28 +153,67 @@ impl Analysis {
     fn after_module(alloc: Global, old: ModuleParts, text: &str) -> Result<Analysis, AllocError>
         ensures { IfOk result (λ a. a ≡ text.now) }
     {
-        let (tokens, tree) = old.into_tree();
+        bindings_stay();
+        let (tokens, tree, bindings) = old.into_bound();
         match scan_changed(alloc, tokens, text) {
-            Ok(found) => Analysis::of_scan(alloc, found, tree),
+            Ok(found) => Analysis::of_scan(alloc, found, tree, bindings),
             Err(refusal) => Analysis::not_scanned(alloc, text, refusal),
         }
     }
 
-    /// The analysis of a text with the tree of the text before, which is its own where the tokens are alike.
+    /// The analysis of a text by the tree of the text before, which is its own where the tokens are alike, and by its
+    /// bindings.
     fn of_scan(
         alloc: Global,
         found: RescanInPlace,
         tree: ModuleTree,
+        bindings: Bindings,
     ) -> Result<Analysis, AllocError>
-        requires { found.alike ≡ true → IsParsed (parsed_by found.rescan.tokens tree) }
+        requires parsed { found.alike ≡ true → IsParsed (parsed_by found.rescan.tokens tree) }
+        requires resolved { found.alike ≡ true
+            → found.same_names ≡ true
+            → bindings.faults.items ≡ []
+            → IsResolution (resolution_by (parsed_by found.rescan.tokens tree) bindings) }
         ensures { IfOk result (λ a. a ≡ found.rescan.tokens.text) }
     {
-        let RescanInPlace { rescan, alike } = found;
+        let RescanInPlace {
+            rescan,
+            alike,
+            same_names,
+        } = found;
         if alike {
-            Analysis::of_tree(alloc, rescan.tokens, tree)
+            Analysis::of_same_tree(alloc, rescan.tokens, tree, bindings, same_names)
         } else {
             drop(tree);
+            drop(bindings);
             Analysis::of_tokens(alloc, rescan.tokens)
+        }
+    }
+
+    /// The analysis of a text with the tree of the text before. The bindings of that text are its own where the
+    /// identifiers are written as they were; but the faults of names are in other places, so where there are some all
+    /// names are bound again.
+    fn of_same_tree(
+        alloc: Global,
+        tokens: Tokens,
+        tree: ModuleTree,
+        bindings: Bindings,
+        same_names: bool,
+    ) -> Result<Analysis, AllocError>
+        requires parsed { IsParsed (parsed_by tokens tree) }
+        requires resolved { same_names ≡ true
+            → bindings.faults.items ≡ []
+            → IsResolution (resolution_by (parsed_by tokens tree) bindings) }
+        ensures { IfOk result (λ a. a ≡ tokens.text) }
+    {
+        if same_names && bindings.faults.is_empty() {
+            let parts = ModuleParts::bound(alloc, tokens, tree, bindings)?;
+            Ok(Analysis {
+                found: Findings::Module(parts),
+            })
+        } else {
+            drop(bindings);
+            Analysis::of_tree(alloc, tokens, tree)
         }
     }
 
@@ -251,9 +299,9 @@ impl Analysis {
         }
     }
 
-    /// What is wrong with the text, which is nothing exactly for a well-typed module. Faults of its lexemes are reported in
-    /// text order, the first hundred, and then nothing else; of a text that has lexemes and no tree the one place at which
-    /// the parser refuses it; of one with a tree the faults of names and types, the first hundred.
+    /// What is wrong with the text, which is nothing exactly for a well-typed module. Faults of its lexemes are
+    /// reported in text order, the first hundred, and then nothing else; of a text that has lexemes and no tree the one
+    /// place at which the parser refuses it; of one with a tree the faults of names and types, the first hundred.
     pub fn diagnoses(&self, alloc: Global) -> Result<Vec<Diagnosis>, AllocError>
         ensures reported { IfOk result (λ list. Reports self.now (map complaint_in list.items)) }
         ensures utf8 { IsUtf8 self.now }
@@ -273,6 +321,9 @@ fn scan_changed(alloc: Global, old: Tokens, text: &str) -> Result<RescanInPlace,
     ensures ok { IfOk result (λ r. IsScanOf text.now r.rescan.tokens) }
     ensures alike { IfOk result
         (λ r. r.alike ≡ true → kinds r.rescan.tokens.tokens ≡ kinds old.tokens) }
+    ensures same_names { IfOk result
+        (λ r. r.same_names ≡ true → names_in r.rescan.tokens.text r.rescan.tokens.tokens
+        ≡ names_in old.text old.tokens) }
     ensures err { IfErr result (IsRefusalOf text.now) }
 {
     let change = Difference::between(old.text(), text);

@@ -13,7 +13,8 @@ pub(crate) struct Difference {
 }
 
 impl Difference {
-    /// What makes one text of another. What both have in common at the beginning is left out of it, and then what both have in common at the end.
+    /// What makes one text of another. What both have in common at the beginning is left out of it, and then what both
+    /// have in common at the end.
     pub(crate) fn between(old: &str, new: &str) -> Difference
         ensures { IsReplaced old.now new.now result.from result.removed result.added }
     {
@@ -41,7 +42,8 @@ fn common_prefix(a: &[u8], b: &[u8]) -> usize
     longer_prefix(a, b, known, 1)
 }
 
-/// How many bytes two texts have in common at the beginning, as far as they are found by pieces of this size after those that are known.
+/// How many bytes two texts have in common at the beginning, as far as they are found by pieces of this size after
+/// those that are known.
 fn longer_prefix(a: &[u8], b: &[u8], known: usize, size: usize) -> usize
     requires some { 0 < size }
     requires in_a { known ≤ length a.now }
@@ -71,8 +73,8 @@ fn common_back(a: &[u8], b: &[u8], from: usize) -> usize
     longer_suffix(a, b, most, known, 1)
 }
 
-/// How many bytes two texts have in common at the end, `most` at most, as far as they are found by pieces of this size before those
-/// that are known.
+/// How many bytes two texts have in common at the end, `most` at most, as far as they are found by pieces of this size
+/// before those that are known.
 fn longer_suffix(a: &[u8], b: &[u8], most: usize, known: usize, size: usize) -> usize
     requires some { 0 < size }
     requires in_a { most ≤ length a.now }

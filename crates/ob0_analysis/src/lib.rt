@@ -1,4 +1,5 @@
-//! What a text is, as one value that is made once, kept, and queried (`Analysis`, `ask`). What is wrong with a text (`diagnose`).
+//! What a text is, as one value that is made once, kept, and queried (`Analysis`, `ask`). What is wrong with a text
+//! (`diagnose`).
 #![tactic(auto)]
 
 mod analysis;

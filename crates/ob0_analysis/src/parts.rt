@@ -14,8 +14,8 @@ use ob0_types::{Checked, ModuleTypes, types_of};
 use std::alloc::{AllocError, Global};
 use std::marker::Model;
 
-/// The tokens of a text that is a module, the tree that they spell, what its names are bound to, and what checking its types
-/// finds. None borrows another.
+/// The tokens of a text that is a module, the tree that they spell, what its names are bound to, and what checking its
+/// types finds. None borrows another.
 #[derive(Drop)]
 pub(crate) struct ModuleParts {
     tokens: Tokens,
@@ -54,6 +54,20 @@ impl ModuleParts {
         ensures { IfOk result (λ m. m.module_read ≡ parsed_by tokens tree) }
     {
         let bindings = bindings_of(alloc, &Module::borrowed(&tokens, &tree))?;
+        ModuleParts::bound(alloc, tokens, tree, bindings)
+    }
+
+    /// Checks the types of a module whose names are bound so.
+    pub(crate) fn bound(
+        alloc: Global,
+        tokens: Tokens,
+        tree: ModuleTree,
+        bindings: Bindings,
+    ) -> Result<ModuleParts, AllocError>
+        requires parsed { IsParsed (parsed_by tokens tree) }
+        requires resolved { IsResolution (resolution_by (parsed_by tokens tree) bindings) }
+        ensures { IfOk result (λ m. m.module_read ≡ parsed_by tokens tree) }
+    {
         let types = check_types(alloc, &tokens, &tree, &bindings)?;
         Ok(ModuleParts {
             tokens,
@@ -102,17 +116,18 @@ impl ModuleParts {
         &self.tokens
     }
 
-    /// The tokens and the tree alone.
-    pub(crate) fn into_tree(self) -> (Tokens, ModuleTree)
-        ensures { IsParsed (parsed_by result.0 result.1) }
+    /// The tokens, the tree and what the names are bound to, without the types.
+    pub(crate) fn into_bound(self) -> (Tokens, ModuleTree, Bindings)
+        ensures parsed { IsParsed (parsed_by result.0 result.1) }
+        ensures resolved { IsResolution (resolution_by (parsed_by result.0 result.1) result.2) }
     {
         let ModuleParts {
             tokens,
             tree,
-            bindings: _,
+            bindings,
             types: _,
         } = self;
-        (tokens, tree)
+        (tokens, tree, bindings)
     }
 }
 

@@ -2,6 +2,7 @@
 
 ghost use Rattle.std.specs.Prelude.{◌≡◌, ◌<◌, ◌++◌, [], true, IfOk, IfNone, MatchOption, OnOk, IfErr, codes, length, map, string_bytes};
 ghost use Rattle.std.specs.Io.KnownBytes.{Appends};
+ghost use Rattle.core.specs.Mem.{manually_drop_value};
 ghost use Rattle.ob0_commands.specs.Printed.{PrintsFaults, complaint_lines, line_at, lines_at};
 ghost use Rattle.ob0_commands.specs.Statuses.{CanNotReport, IsOfOutput, IsStatus, StopsPrinting, StopsPrintingFaults};
 ghost use Rattle.ob0_scan.specs.Scanned.{max_text};
@@ -10,9 +11,10 @@ ghost use Rattle.ob0_analysis.specs.Diagnosed.{Reports, complaint_in};
 use crate::faults::{FileFault, print_fault};
 use crate::printing::{Output, print};
 use crate::reading::MAX_FILE;
-use ob0_analysis::{Diagnosis, diagnose};
+use ob0_analysis::{Analysis, Diagnosis};
 use ob0_text::{Lines, Position, TextStore};
 use std::alloc::{AllocError, Global};
+use std::mem::ManuallyDrop;
 
 /// Prints one line `L:C: Code: message` for each diagnostic of a file to `out`, by its start, in lines and UTF-16 units
 /// from 0 on, and a fault to `err` as `fault: NAME`. The file's bytes are all of it, or the first 1,048,577. Answers
@@ -51,12 +53,22 @@ pub fn check<'f, O: Output>(
     let Some(text) = text_of(file, out)? else {
         return Ok(None);
     };
-    let reported = diagnose(alloc, text)?;
+    let analysis = analyse(alloc, text)?;
+    let reported = analysis.diagnoses(alloc)?;
     if reported.is_empty() {
         return Ok(Some(text));
     }
     print_diagnoses(alloc, text, reported.as_slice(), out)?;
     Ok(None)
+}
+
+/// The analysis of a text for a command that ends with its process: what it has is left to the process, which frees all
+/// of it at once, and not freed part by part before.
+pub fn analyse(alloc: Global, text: &str) -> Result<ManuallyDrop<Analysis>, AllocError>
+    ensures { IfOk result (λ analysis. manually_drop_value analysis ≡ text.now) }
+{
+    let analysis = Analysis::of(alloc, text)?;
+    Ok(ManuallyDrop::new(analysis))
 }
 
 /// The text of a file that isn't too long; else that is printed.

@@ -5,10 +5,9 @@ ghost use Rattle.ob0_commands.specs.Outputs.{IsHandedOn};
 ghost use Rattle.ob0_commands.specs.Renamed.{IsRefusal, PrintsEdited, PrintsNoName, PrintsRenamed};
 ghost use Rattle.ob0_commands.specs.Statuses.{CanNotReport, IsOfOutput, IsStatus, StopsPrinting, StopsPrintingFaults};
 
-use crate::checking::{print_diagnoses, text_of};
+use crate::checking::{analyse, print_diagnoses, text_of};
 use crate::faults::{FileFault, print_fault};
 use crate::printing::{Output, print};
-use ob0_analysis::Analysis;
 use ob0_rename::rename_in;
 use ob0_text::{Edit, EditRefusal, Lines, Position, TextStore, patch};
 use std::alloc::Global;
@@ -85,7 +84,7 @@ fn rename_in_text<O: Output, E: Output>(
     ensures failed { IfErr result (IsOfOutput (O.has_failed out.new)) }
 {
     let store = Lines::from_str(alloc, text)?;
-    let analysis = Analysis::of(alloc, text)?;
+    let analysis = analyse(alloc, text)?;
     match rename_in(alloc, &store, &analysis, position, new)? {
         Some(outcome) => print_edited(alloc, &store, outcome, out, err),
         None => {

@@ -1,6 +1,6 @@
 -- Spans of a text as ranges of positions.
 -- Rule: docs/PROTOCOL.md, Positions; LSP 3.17, Range.
-use Rattle.std.specs.Prelude.{ℕ, List}
+use Rattle.std.specs.Prelude.{ℕ, List, [], ◌∷◌}
 use Rattle.ob0_scan.specs.declared.lexeme.Span.{Span}
 use Rattle.ob0_text.specs.declared.position_types.Range.{Range}
 use Rattle.ob0_text.specs.Texts.{position_of}
@@ -9,3 +9,8 @@ use Rattle.ob0_text.specs.Texts.{position_of}
 abbrev pub range_of : (ℕ → ℕ) → List ℕ → Span → Range
 range_of width text span =
     record { start = position_of width text span.start; end = position_of width text span.end }
+
+-- where spans start and end, one span after another
+unfoldable pub bounds : List Span → List ℕ
+bounds [] = []
+bounds (span ∷ spans) = span.start ∷ span.end ∷ bounds spans

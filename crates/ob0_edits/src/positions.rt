@@ -1,15 +1,18 @@
 //! Where tokens are, as spans and as ranges of positions.
 
-ghost use Rattle.std.specs.Prelude.{◌≡◌, IfOk, map};
+ghost use Rattle.std.specs.Prelude.{◌≡◌, ◌++◌, IfOk, OnOk, map};
 ghost use Rattle.ob0_edits.specs.Replaced.{span_at};
 ghost use Rattle.ob0_text.specs.Units.{width_of};
-ghost use Rattle.ob0_edits.specs.Ranges.{range_of};
+ghost use Rattle.ob0_edits.specs.Ranges.{bounds, range_of};
 
 use ob0_scan::{Span, Token};
 use ob0_text::{Range, TextStore};
 use std::alloc::{AllocError, Global};
 
-/// The ranges of spans, found in two passes over the text where the spans are in text order.
+/// As many spans are turned into ranges together: what is kept of them meanwhile is small.
+const PART: usize = 1024;
+
+/// The ranges of spans, found in one pass over the text where the spans are in text order.
 pub fn ranges<T: TextStore>(
     alloc: Global,
     store: &T,
@@ -18,30 +21,46 @@ pub fn ranges<T: TextStore>(
     ensures { IfOk result (λ ranges. ranges.items
         ≡ map (range_of (width_of (T.unit_of store.now)) (T.content store.now)) spans.now) }
 {
-    let starts = starts(alloc, spans)?;
-    let ends = ends(alloc, spans)?;
-    let from = store.positions(alloc, &starts)?;
-    let to = store.positions(alloc, &ends)?;
-    let mut ranges = Vec::new(alloc);
-    for i in 0..spans.len() {
-        ranges.push(Range {
-            start: from[i],
-            end: to[i],
-        })?;
+    let mut ranges = Vec::with_capacity(alloc, spans.len())?;
+    while ranges.len() < spans.len() {
+        let from = ranges.len();
+        let part = &spans[from..spans.len().min(from + PART)];
+        add_ranges(alloc, store, part, &mut ranges)?;
     }
     Ok(ranges)
 }
 
-fn starts(alloc: Global, spans: &[Span]) -> Result<Vec<usize>, AllocError>
-    ensures { IfOk result (λ offsets. offsets.items ≡ map (λ span. span.start) spans.now) }
+/// Adds the ranges of spans.
+fn add_ranges<T: TextStore>(
+    alloc: Global,
+    store: &T,
+    spans: &[Span],
+    ranges: &mut Vec<Range>,
+) -> Result<(), AllocError>
+    ensures { OnOk result (ranges.new.items ≡ ranges.old.items
+        ++ map (range_of (width_of (T.unit_of store.now)) (T.content store.now)) spans.now) }
 {
-    spans.iter().map(|span| span.start).collect(alloc)
+    let bounds = bounds(alloc, spans)?;
+    let positions = store.positions(alloc, &bounds)?;
+    for i in 0..spans.len() {
+        ranges.push(Range {
+            start: positions[2 * i],
+            end: positions[2 * i + 1],
+        })?;
+    }
+    Ok(())
 }
 
-fn ends(alloc: Global, spans: &[Span]) -> Result<Vec<usize>, AllocError>
-    ensures { IfOk result (λ offsets. offsets.items ≡ map (λ span. span.end) spans.now) }
+/// Where spans start and end, one span after another.
+fn bounds(alloc: Global, spans: &[Span]) -> Result<Vec<usize>, AllocError>
+    ensures { IfOk result (λ offsets. offsets.items ≡ bounds spans.now) }
 {
-    spans.iter().map(|span| span.end).collect(alloc)
+    let mut offsets = Vec::new(alloc);
+    for span in spans {
+        offsets.push(span.start)?;
+        offsets.push(span.end)?;
+    }
+    Ok(offsets)
 }
 
 /// Where the tokens with these numbers are.

@@ -96,7 +96,8 @@ refusal_everywhere m c =
 
 -- These edits take the declaration out, from its name to its `;`, write the value in place of each use, and touch no
 -- other character. They leave the text of the inlined module, which is well-typed and has the same runs.
-pub record InlinesEverywhere (unit : counting.Unit) (text : List ℕ) (m : Parsed) (c : NamedConstant) (edits : List Edit) : Type 0 where
+pub record InlinesEverywhere (unit : counting.Unit) (text : List ℕ) (m : Parsed)
+    (c : NamedConstant) (edits : List Edit) : Type 0 where
   pub everywhere : map parts edits
       ≡ (range_of (width_of unit) text (span_over m.source.tokens c.first c.last), [])
       ∷ map (edit_at unit text m.source.tokens (value_text c.value)) (uses_of m c.ordinal)

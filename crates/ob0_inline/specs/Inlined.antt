@@ -27,7 +27,8 @@ inlined_at m places value =
     (number_at (words_of m.source)) (tree_of m)
 
 -- The edits make of the text another one, which is the text of this module.
-pub record LeavesModule (unit : counting.Unit) (text : List ℕ) (edits : List Edit) (t : Tree (List ℕ) module_text) : Type 0 where
+pub record LeavesModule (unit : counting.Unit) (text : List ℕ) (edits : List Edit)
+    (t : Tree (List ℕ) module_text) : Type 0 where
   pub after : Scanned
   pub scan : IsScan after
   pub made : patched (width_of unit) text edits ≡ Some (chars after.text)

@@ -66,7 +66,8 @@ refusal_here m u =
 
 -- These edits write the value in place of the use and touch no other character. They leave the text of the inlined
 -- module, which is well-typed and has the same runs.
-pub record InlinesHere (unit : counting.Unit) (text : List ℕ) (m : Parsed) (u : Use) (edits : List Edit) : Type 0 where
+pub record InlinesHere (unit : counting.Unit) (text : List ℕ) (m : Parsed) (u : Use)
+    (edits : List Edit) : Type 0 where
   pub here : map parts edits ≡ edit_at unit text m.source.tokens (value_text u.value) u.token ∷ []
   pub leaves : LeavesModule unit text edits (inlined_here m u)
   pub well_typed : WellTyped (inlined_here m u)

@@ -31,7 +31,8 @@ use ob0_types_rules::laws::constants_are_alone;
 use std::alloc::{AllocError, Global};
 
 /// The edits that write a constant's value in place of all uses of it, and take its declaration out, from its name to
-/// its `;`. The place is on one of its names. The first edit takes the declaration out, the others are in text order after it.
+/// its `;`. The place is on one of its names. The first edit takes the declaration out, the others are in text order
+/// after it.
 pub fn inline_all<T: TextStore>(
     alloc: Global,
     store: &T,

@@ -72,7 +72,8 @@ pub(crate) fn is_ordinal(found: Option<usize>, ordinal: usize) -> bool
     }
 }
 
-/// Whether the name that would be written for a constant isn't the predeclared one at one of its uses. A number has none.
+/// Whether the name that would be written for a constant isn't the predeclared one at one of its uses. A number has
+/// none.
 pub(crate) fn any_hidden(
     alloc: Global,
     names: &Resolved,

@@ -11,8 +11,8 @@ ghost use Rattle.ob0_inline.specs.Values.{value_text, value_words};
 use ob0_values::Scalar;
 use std::alloc::{AllocError, Global};
 
-/// The text of a value: a negative number in parentheses, and the least number as a difference, since it has no digits of
-/// its own.
+/// The text of a value: a negative number in parentheses, and the least number as a difference, since it has no digits
+/// of its own.
 pub(crate) fn value_text(alloc: Global, value: Scalar) -> Result<String, AllocError>
     ensures text { IfOk result (λ text. string_bytes text ≡ value_text value) }
     ensures stands { ReplacesName (value_text value) (value_words value) }

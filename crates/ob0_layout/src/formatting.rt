@@ -19,8 +19,9 @@ use ob0_text::{Edit, EditRefusal, Indent, Range, TextStore};
 use ob0_tree::Module;
 use std::alloc::{AllocError, Global};
 
-/// One edit for each gap that the layout changes, in text order: it replaces the whole gap by what is to be there. Made at once in
-/// the text of the module, which the store is to hold, they give the layout. Refused where that is longer than a text may be.
+/// One edit for each gap that the layout changes, in text order: it replaces the whole gap by what is to be there. Made
+/// at once in the text of the module, which the store is to hold, they give the layout. Refused where that is longer
+/// than a text may be.
 pub fn format<T: TextStore>(
     alloc: Global,
     store: &T,

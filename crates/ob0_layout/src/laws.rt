@@ -15,7 +15,8 @@ ghost use Rattle.ob0_layout.specs.Layout.{gap_text, solid, laid_out, layout};
 ghost use Rattle.ob0_layout.specs.Sites.{IsWhite, all_sites, changed_sites, laid_len};
 ghost use Rattle.ob0_layout.specs.LineRoles.{line_roles};
 
-/// The layout of a module's text is cut into the lexemes that are laid out, and its tokens and comments are those of the text.
+/// The layout of a module's text is cut into the lexemes that are laid out, and its tokens and comments are those of
+/// the text.
 pub fn lexemes_stay()
     ensures lexed { (indent : Indent) (s : Scanned) (scan : IsScan s)
         (tree : Tree (List ℕ) module_text)
@@ -42,7 +43,8 @@ pub fn laid_out_once()
         → layout indent tree again.lexemes ≡ layout indent tree scan.lexemes }
 {}
 
-/// What is to be in the gaps that change makes of the text its layout, which is UTF-8, and the length that is counted is the layout's.
+/// What is to be in the gaps that change makes of the text its layout, which is UTF-8, and the length that is counted
+/// is the layout's.
 pub fn gaps_make_the_layout()
     ensures utf8 { (indent : Indent) (s : Scanned) (scan : IsScan s)
         (tree : Tree (List ℕ) module_text)

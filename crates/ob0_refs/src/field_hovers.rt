@@ -13,8 +13,8 @@ use ob0_tree::text_at;
 use ob0_types::{FieldRow, WellTyped, field_row_at};
 use std::alloc::{AllocError, Global};
 
-/// The hover text at a place, where it lies in a name or at its end: of a name its declaration, and of a field its type,
-/// where it is declared and where it is selected. None elsewhere.
+/// The hover text at a place, where it lies in a name or at its end: of a name its declaration, and of a field its
+/// type, where it is declared and where it is selected. None elsewhere.
 pub fn hover(
     alloc: Global,
     well_typed: &WellTyped<'_>,

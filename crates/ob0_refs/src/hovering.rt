@@ -11,8 +11,8 @@ use ob0_scope_rules::token_span;
 use ob0_types::WellTyped;
 use std::alloc::{AllocError, Global};
 
-/// The hover text of the name that a place is on, where it lies in the name or at its end. A closing name of a procedure
-/// has that of the procedure. None where there is no name, at a field and at the module's name.
+/// The hover text of the name that a place is on, where it lies in the name or at its end. A closing name of a
+/// procedure has that of the procedure. None where there is no name, at a field and at the module's name.
 pub(crate) fn hover(
     alloc: Global,
     well_typed: &WellTyped<'_>,

@@ -1,5 +1,6 @@
-//! Questions about the names and fields at the places of a well-typed module: what is at a place, where it is declared and
-//! named, its hover text, and where another name for a declaration isn't free (docs/PROTOCOL.md, Requests on documents).
+//! Questions about the names and fields at the places of a well-typed module: what is at a place, where it is declared
+//! and named, its hover text, and where another name for a declaration isn't free (docs/PROTOCOL.md, Requests on
+//! documents).
 #![tactic(auto)]
 
 mod answers;

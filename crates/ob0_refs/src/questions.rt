@@ -13,8 +13,9 @@ use ob0_tree::text_at;
 use ob0_types::{WellTyped, declaring_field, field_at, field_place, field_tokens};
 use std::alloc::{AllocError, Global};
 
-/// What a place is on, where it lies in an identifier or at its end: a name, or a field, at the identifier that declares it
-/// and at each that selects it. A closing name of a procedure is the procedure's. None at the module's name.
+/// What a place is on, where it lies in an identifier or at its end: a name, or a field, at the identifier that
+/// declares it and at each that selects it. A closing name of a procedure is the procedure's. None at the module's
+/// name.
 pub fn at(well_typed: &WellTyped<'_>, offset: usize) -> Option<At>
     ensures { result ≡ identified_at well_typed.now offset }
 {
@@ -78,8 +79,8 @@ fn field_declared(well_typed: &WellTyped<'_>, field: (usize, usize)) -> Option<S
     }
 }
 
-/// Where it is named what a place is on, in text order: with the identifier that declares it or without. None where there
-/// is no name.
+/// Where it is named what a place is on, in text order: with the identifier that declares it or without. None where
+/// there is no name.
 pub fn references(
     alloc: Global,
     well_typed: &WellTyped<'_>,

@@ -23,7 +23,8 @@ use Rattle.ob0_rename.specs.Renaming.{NamesDeclaration, MeansField, Renaming, fi
 
 -- The edits write the new name at these tokens, and nothing else. Made at once they leave a text of this tree, which is
 -- well-typed and has the same runs.
-pub record WritesName (r : Renaming) (tokens : List ℕ) (tree : Tree Name module_text) (edits : List Edit) : Type 0 where
+pub record WritesName (r : Renaming) (tokens : List ℕ) (tree : Tree Name module_text)
+    (edits : List Edit) : Type 0 where
   pub short : length (text_with r tokens) ≤ max_text
   pub changes : map parts edits
       ≡ map (edit_at r.unit r.text (module_of r).source.tokens r.new) tokens

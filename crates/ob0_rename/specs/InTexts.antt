@@ -27,7 +27,8 @@ Settles r (Ok edits) = AreEdits r edits.items
 Settles r (Err refusal) = IsRefused r refusal
 
 -- These edits write the new name. Made at once they leave a text whose module is the renamed one, and runs as before.
-pub record RenamesIn (unit : Unit) (text : List ℕ) (place : Position) (new : List ℕ) (edits : List Edit) : Type 0 where
+pub record RenamesIn (unit : Unit) (text : List ℕ) (place : Position) (new : List ℕ)
+    (edits : List Edit) : Type 0 where
   pub names : Resolution
   pub read : IsModuleIn (utf8 text) names
   pub are_edits : AreEdits (renaming_of unit text names place new) edits
@@ -36,7 +37,8 @@ pub record RenamesIn (unit : Unit) (text : List ℕ) (place : Position) (new : L
   pub runs : RunsAsBefore (utf8 text) (utf8 after)
 
 -- there is no edit, for this reason
-pub record IsRefusedIn (unit : Unit) (text : List ℕ) (place : Position) (new : List ℕ) (refusal : EditRefusal) : Type 0 where
+pub record IsRefusedIn (unit : Unit) (text : List ℕ) (place : Position) (new : List ℕ)
+    (refusal : EditRefusal) : Type 0 where
   pub names : Resolution
   pub read : IsModuleIn (utf8 text) names
   pub refused : IsRefused (renaming_of unit text names place new) refusal

@@ -27,11 +27,11 @@ use ob0_text::{Edit, EditRefusal, Position, TextStore};
 use std::alloc::Global;
 
 /// The edits that write `new` for the declaration or the field that is named at a place, in text order: one for each
-/// identifier that declares, closes or is bound to the declaration, or declares or selects the field; none where it has that
-/// name. The place may lie in the name or at its end. Refused are, the first of these where several apply: `NoName` where
-/// there is no name, and at the module's; `Predeclared`; `BadName`; `Duplicate` with the range of the other declaration, or of
-/// the other field of the record; `Captures` with that of the first occurrence that would be bound to another declaration,
-/// never for a field; `TooLong`.
+/// identifier that declares, closes or is bound to the declaration, or declares or selects the field; none where it has
+/// that name. The place may lie in the name or at its end. Refused are, the first of these where several apply:
+/// `NoName` where there is no name, and at the module's; `Predeclared`; `BadName`; `Duplicate` with the range of the
+/// other declaration, or of the other field of the record; `Captures` with that of the first occurrence that would be
+/// bound to another declaration, never for a field; `TooLong`.
 pub fn rename<T: TextStore>(
     alloc: Global,
     store: &T,

@@ -43,8 +43,8 @@ impl<'a, T: TextStore> Question for NewName<'a, T> {
     }
 }
 
-/// The edits that write `new` for what is named at a place of the text in a store, or why there are none. None for a text that
-/// isn't a well-typed module. Out of memory is never the reason: it is an error of its own.
+/// The edits that write `new` for what is named at a place of the text in a store, or why there are none. None for a
+/// text that isn't a well-typed module. Out of memory is never the reason: it is an error of its own.
 pub fn rename_in<T: TextStore>(
     alloc: Global,
     store: &T,

@@ -14,6 +14,7 @@ use Rattle.ob0_types_rules.specs.Typing.{add_type, complement_type, constant_of,
 use Rattle.ob0_types_rules.specs.WellTyped.{Formal, Signature, Typed, agree, same_fields, same_shape, signature_of}
 use Rattle.ob0_values.specs.Values.{FieldShapes, Shape, Value, array_shape, boolean_shape, elements, integer_shape, members, next_field_shape, no_field_shape, number, record_shape, truth}
 use Rattle.ob0_types_fields.specs.Fields.{FieldNames, record_of}
+use Rattle.ob0_types_fields.proofs.NamesMeant.{named}
 use Rattle.ob0_rename_laws.specs.FieldLaws.{KeepsApart}
 use Rattle.std.proofs.lemmas.Bool.{eqb-true}
 

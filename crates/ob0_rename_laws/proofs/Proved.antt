@@ -6,9 +6,8 @@ use Rattle.ob0_run_rules.specs.Runs.{run, run_over}
 use Rattle.ob0_rename_laws.specs.FieldLaws.{KeepsApart, RefieldingKeepsModules}
 use Rattle.ob0_rename_laws.proofs.RefieldedModules.{refielding_keeps_fitting-holds}
 use Rattle.ob0_rename_laws.proofs.RefieldedOnce.{declared_once-refield}
-use Rattle.ob0_types_fields.proofs.Bare.{refielded-bare}
 use Rattle.ob0_rename_laws.proofs.RefieldedRuns.{run-tagged}
-use Rattle.ob0_types_fields.proofs.Bare.{bare}
+use Rattle.ob0_types_fields.proofs.Bare.{bare, refielded-bare}
 
 bare-apart : KeepsApart bare
 bare-apart k x y = refl

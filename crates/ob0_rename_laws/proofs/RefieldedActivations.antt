@@ -12,8 +12,8 @@ use Rattle.ob0_types_rules.specs.WellTyped.{Mode, TypeEnvironment, bind_typed, b
 use Rattle.ob0_values.specs.Values.{FieldShapes, Shape, Store, Value, array_shape, boolean_shape, copies, elements, initial, initial_members, integer_shape, members, next_field_shape, next_member, next_value, no_field_shape, record_shape}
 use Rattle.ob0_run_rules.specs.Runs.{Activation, ProcedureText, Frame, Parameter, allocate, bind_parameter, bind_parameters, declare_block, declare_procedures, declare_variables, formal_modes, parameters, passing, statement_meanings, with_procedures}
 use Rattle.ob0_types_fields.specs.Fields.{FieldNames, types_after_heading, types_after_variables, parameters_of, refield_block, refield_procedure, refield_procedures, refield_sections, refield_type, refield_types, refield_variables}
-use Rattle.ob0_rename_laws.proofs.Apart.{fields_by, shape_by}
 use Rattle.ob0_types_fields.proofs.NamesMeant.{named}
+use Rattle.ob0_rename_laws.proofs.Apart.{fields_by, shape_by}
 use Rattle.ob0_rename_laws.proofs.RefieldedExecution.{Given, Modes, argument_by, place_given, value_given}
 use Rattle.ob0_rename_laws.proofs.RefieldedExpressions.{Scalar, Thing, Things, active, constant_thing, procedure_thing, scalar_value, standard_thing, thing_by, type_thing, variable_thing}
 use Rattle.ob0_rename_laws.proofs.RefieldedModules.{procedure_constructors-refield, procedure_formals-refield, procedure_name-refield, section_mode-refield, section_names-refield, section_types-refield, section_variables-refield, types_count-refield, variables_count-refield}

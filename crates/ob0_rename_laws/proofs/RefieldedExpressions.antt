@@ -8,8 +8,8 @@ use Rattle.ob0_types_rules.specs.Typing.{object_type}
 use Rattle.ob0_types_rules.specs.WellTyped.{Typed}
 use Rattle.ob0_values.specs.Values.{Outcome, Place, Shape, Step, Store, Value, add, add_is_settled, at_path, gives, multiply, multiply_is_settled, negated, number, or_stuck, part, read_place, relate, signed, truth, ◌>>=◌}
 use Rattle.ob0_types_fields.specs.Fields.{FieldNames, type_after, record_of, refield}
-use Rattle.ob0_rename_laws.specs.FieldLaws.{KeepsApart}
 use Rattle.ob0_types_fields.proofs.NamesMeant.{named}
+use Rattle.ob0_rename_laws.specs.FieldLaws.{KeepsApart}
 use Rattle.ob0_rename_laws.proofs.Apart.{shape_by}
 use Rattle.ob0_rename_laws.proofs.Outcomes.{Follows, ValuesFollow, add-follows, add_is_settled-by, element_step-follows, follows-then, multiply-follows, multiply_is_settled-by, negated-follows, or_stuck-follows, relate-follows, settled-follows, signed-follows}
 use Rattle.ob0_rename_laws.proofs.Values.{Move, Spot, at_path-finds, part-finds, place_by, read_place-finds, step_by, store_by, tagged, to_field, value_by}

@@ -10,9 +10,9 @@ use Rattle.ob0_types_rules.specs.Typing.{constant_of, constant_value, constructo
 use Rattle.ob0_types_rules.specs.WellTyped.{Mode, Signature, TypeEnvironment, TypedParameter, bind_names, bind_typed, block_fits, body_fits, declare_typed, fits_over, heading, some_and, procedure_fits, procedures_fit, section_mode, sequence_fits, typed_parameters}
 use Rattle.ob0_values.specs.Values.{Shape}
 use Rattle.ob0_types_fields.specs.Fields.{FieldNames, types_after_heading, types_after_procedures, types_after_variables, parameters_of, refield, refield_block, refield_formals, refield_procedure, refield_procedures, refield_section, refield_sections, refield_type, refield_type_section, refield_types, refield_variable_section, refield_variables}
+use Rattle.ob0_types_fields.proofs.NamesMeant.{named, parameter_of, stands_in}
 use Rattle.ob0_rename_laws.specs.FieldLaws.{KeepsApart, RefieldingKeepsFitting}
 use Rattle.ob0_rename_laws.proofs.Apart.{constant_of-by, each-then, formal_by, map-then, object_by, shape_by, type_of_name-by}
-use Rattle.ob0_types_fields.proofs.NamesMeant.{named}
 use Rattle.ob0_rename_laws.proofs.RefieldedTypes.{constant_value-alike, constructors-refield, denoted-refield}
 use Rattle.ob0_rename_laws.proofs.RefieldedStatements.{sequence_fits-refield}
 

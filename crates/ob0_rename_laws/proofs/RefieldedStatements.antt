@@ -8,9 +8,9 @@ use Rattle.ob0_types_rules.specs.Typing.{designated, object_type, type_at, type_
 use Rattle.ob0_types_rules.specs.WellTyped.{Formal, Mode, Signature, Typed, agree, argument_fits, arguments_fit, by_place, by_value, call_fits, condition_fits, else_fits, elsifs_fit, sequence_fits, signature_of, statement_fits, statements_fit, variable_type}
 use Rattle.ob0_values.specs.Values.{Shape, boolean_shape}
 use Rattle.ob0_types_fields.specs.Fields.{FieldNames, refield}
+use Rattle.ob0_types_fields.proofs.NamesMeant.{named}
 use Rattle.ob0_rename_laws.specs.FieldLaws.{KeepsApart}
 use Rattle.ob0_rename_laws.proofs.Apart.{agree-by, formal_by, named_by, object_by, shape_by, signature_of-by}
-use Rattle.ob0_types_fields.proofs.NamesMeant.{named}
 use Rattle.ob0_rename_laws.proofs.RefieldedTypes.{type_at-refield, type_of-refield}
 
 abbrev pub refield_designator : FieldNames → Typed Name → Name × Tree Name (items selector) → Name × Tree Name (items selector)

@@ -11,9 +11,9 @@ use Rattle.ob0_types_rules.specs.WellTyped.{Signature}
 use Rattle.ob0_types_rules.proofs.TypeNaturality.{constant_value-map}
 use Rattle.ob0_values.specs.Values.{FieldShapes, Shape, array_shape, integer_shape, record_shape}
 use Rattle.ob0_types_fields.specs.Fields.{FieldNames, refield, refield_group, refield_groups, refield_type}
+use Rattle.ob0_types_fields.proofs.NamesMeant.{named}
 use Rattle.ob0_rename_laws.specs.FieldLaws.{KeepsApart}
 use Rattle.ob0_rename_laws.proofs.Apart.{add_type-by, complement_type-by, each-then, field_type-by, fields_by, map-then, multiply_type-by, named_by, object_type-by, relation_type-by, shape_by, sign_type-by, with_fields-by, within_limits-by}
-use Rattle.ob0_types_fields.proofs.NamesMeant.{named}
 
 -- after an index
 index-step : (l : FieldNames) (s i : Shape) (at_there : Shape → Option Shape → Option Shape) (at_here : Shape → Option Shape) → ((u : Shape) → at_there (shape_by l u) (Some u) ≡ option_map (shape_by l) (at_here u))

@@ -13,8 +13,8 @@ use Rattle.ob0_scope_rules.specs.Names.{Name}
 use Rattle.ob0_types_rules.specs.Expressions.{Meanings, Object, a_constant, evaluate, evaluate_addends, evaluate_factor, evaluate_multipliers, evaluate_simple, evaluate_term, follow, value_of}
 use Rattle.ob0_types_rules.specs.Typing.{constant_of, constant_value, constants_only, given_value, type_of}
 use Rattle.ob0_values.specs.Values.{Outcome, Overflow, Place, Shape, Step, Value, add, add_is_settled, at_path, divided_by, elements, ends, fits, gives, in_range, members, multiply, multiply_is_settled, negated, number, or_stuck, quotient, relate, remainder, signed, truth, ◌>>=◌}
-use Rattle.ob0_types_fields.proofs.NamesMeant.{named}
 use Rattle.ob0_rename_laws.proofs.RefieldedExpressions.{Scalar, logical, scalar_value, whole}
+use Rattle.ob0_types_fields.proofs.NamesMeant.{named}
 
 abbrev pub IsScalarValue : Value → Type 0
 IsScalarValue (number n) = Unit {0}

@@ -6,6 +6,7 @@ use Rattle.std.proofs.lemmas.Option.{slice_get-map}
 use Rattle.ob0_scope_rules.specs.Names.{Name, same_name}
 use Rattle.ob0_values.specs.Values.{Members, Place, Step, Store, Value, Values, at_field, at_index, at_path, count_values, elements, members, named_member, next_member, next_value, no_member, no_value, nth_value, number, part, read_place, truth, with_at_path, with_named_member, with_nth_value, with_part, write_place}
 use Rattle.ob0_types_fields.specs.Fields.{FieldNames}
+use Rattle.ob0_types_fields.proofs.Bare.{bare}
 use Rattle.ob0_rename_laws.specs.FieldLaws.{KeepsApart}
 use Rattle.ob0_rename_laws.proofs.Apart.{choose-map}
 

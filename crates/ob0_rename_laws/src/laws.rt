@@ -13,7 +13,8 @@ pub fn refielding_keeps_modules()
     ensures { RefieldingKeepsModules }
 {}
 
-/// Where a new name for a field is free, the module with that field renamed is well-typed where the module was, and has its runs.
+/// Where a new name for a field is free, the module with that field renamed is well-typed where the module was, and has
+/// its runs.
 pub fn free_field_keeps_modules()
     ensures { FreeFieldKeepsModules }
 {}

@@ -152,7 +152,7 @@ utf8_member before k t rest ascii uk ut ur =
     IsUtf8-append (before ∷ []) _ (IsUtf8-are_ascii _ ascii) (IsUtf8-append (quoted k) _ uk (IsUtf8-append (58 ∷ []) _ (IsUtf8-are_ascii _ refl) (IsUtf8-append t rest ut ur)))
 
 -- a name's text, and what follows the colon
-abbrev named : List ℕ → List ℕ → List ℕ
+abbrev pub named : List ℕ → List ℕ → List ℕ
 named k rest = 34 ∷ (k ++ 34 ∷ 58 ∷ rest)
 
 name_text : (k rest : List ℕ) → IsName k → named k rest ≡ quoted k ++ 58 ∷ rest
@@ -226,7 +226,7 @@ object_named k d t0 t1 t2 t3 t4 t5 h1 h2 h3 h4 h5 = record {
 }
 
 -- the text of an object of two members, before another text
-object_text_of_two : (k l : List ℕ) (d e : Data) (rest : List ℕ) → IsName k → IsName l
+pub object_text_of_two : (k l : List ℕ) (d e : Data) (rest : List ℕ) → IsName k → IsName l
     → 123 ∷ named k (compact_text d ++ 44 ∷ named l (compact_text e ++ 125 ∷ rest)) ≡ compact_text (object (member k d (member l e no_members))) ++ rest
 object_text_of_two k l d e rest n o =
     ap (λ t. 123 ∷ named k (compact_text d ++ 44 ∷ t)) (name_text l (compact_text e ++ 125 ∷ rest) o)
@@ -235,10 +235,13 @@ object_text_of_two k l d e rest n o =
 
 -- ---- positions and ranges
 
+text_read : (s : List ℕ) → IsUtf8 s → IsReadBack (string s)
+text_read s utf8 = record { reads = refl; numbers = tt; utf8 = IsUtf8-quoted s utf8 }
+
 count_read : (n : ℕ) → n < 2 ^ 64 → IsReadBack (number (unsigned n))
 count_read n fits = record { reads = ap (option_map number) (number_of-decimal n fits); numbers = IsNumber-decimal n fits; utf8 = IsUtf8-from_ascii _ (IsAscii-decimal n fits) }
 
-read_two : (k l : List ℕ) (d e : Data) → IsName k → IsName l → rebuilt (member k d (member l e no_members)) no_members ≡ member k d (member l e no_members) → IsReadBack d → IsReadBack e
+pub read_two : (k l : List ℕ) (d e : Data) → IsName k → IsName l → rebuilt (member k d (member l e no_members)) no_members ≡ member k d (member l e no_members) → IsReadBack d → IsReadBack e
     → IsReadBack (object (member k d (member l e no_members)))
 read_two k l d e n o order r q =
     let last = more_members l e no_members o q (record { reads = λ found. refl; numbers = tt; utf8 = brace }) in
@@ -259,16 +262,29 @@ pub position_written : (p : Position) (t0 t1 t2 t3 t4 t5 : List ℕ) → t1 ≡ 
 position_written p t0 t1 t2 t3 t4 t5 h1 h2 h3 h4 h5 =
     rw (h5, h4, h3, h2, h1) (object_text_of_two (codes "character") (codes "line") (number (unsigned p.character)) (number (unsigned p.line)) t0 (name (codes "character") refl refl) (name (codes "line") refl refl))
 
--- a range's text, put together from its end on, follows another
-pub range_written : (start end : Position) (old new t0 t1 t2 t3 t4 t5 : List ℕ) → IsReadBack (position_value start) → IsReadBack (position_value end) → t0 ≡ [] → t1 ≡ (125 ∷ []) ++ t0
-    → t2 ≡ compact_text (position_value start) ++ t1 → t3 ≡ (44 ∷ named (codes "start") []) ++ t2 → t4 ≡ compact_text (position_value end) ++ t3 → t5 ≡ (123 ∷ named (codes "end") []) ++ t4
-    → new ≡ old ++ t5 → Appends (range_value start end) old new
-range_written start end old new t0 t1 t2 t3 t4 t5 r q none h1 h2 h3 h4 h5 is =
-    let all : t5 ≡ compact_text (range_value start end) ++ [] =
-    rw (h5, h4, h3, h2, h1, none) (object_text_of_two (codes "end") (codes "start") (position_value end) (position_value start) [] (name (codes "end") refl refl) (name (codes "start") refl refl)) in
+-- a range's text, put together from its end on before another text
+pub range_text : (start end : Position) (t0 t1 t2 t3 t4 t5 : List ℕ) → t1 ≡ (125 ∷ []) ++ t0 → t2 ≡ compact_text (position_value start) ++ t1 → t3 ≡ (44 ∷ named (codes "start") []) ++ t2
+    → t4 ≡ compact_text (position_value end) ++ t3 → t5 ≡ (123 ∷ named (codes "end") []) ++ t4 → t5 ≡ compact_text (range_value start end) ++ t0
+range_text start end t0 t1 t2 t3 t4 t5 h1 h2 h3 h4 h5 =
+    rw (h5, h4, h3, h2, h1) (object_text_of_two (codes "end") (codes "start") (position_value end) (position_value start) t0 (name (codes "end") refl refl) (name (codes "start") refl refl))
+
+pub range_read : (start end : Position) → IsReadBack (position_value start) → IsReadBack (position_value end) → IsReadBack (range_value start end)
+range_read start end r q = read_two (codes "end") (codes "start") (position_value end) (position_value start) (name (codes "end") refl refl) (name (codes "start") refl refl) refl q r
+
+-- a value's text, put together before nothing, follows another
+pub put_down : (d : Data) (old new t0 t1 : List ℕ) → t0 ≡ [] → t1 ≡ compact_text d ++ t0 → new ≡ old ++ t1 → IsReadBack d → Appends d old new
+put_down d old new t0 t1 none put is r = record { text = is ∙ ap (λ t. old ++ t) (put ∙ ap (λ t. compact_text d ++ t) none ∙ append-nil _); reads = r }
+
+-- an edit's text, whose range was put down with what is around it
+pub edit_put_down : (said : List ℕ) (start end : Position) (t0 t1 t2 t3 : List ℕ) → IsUtf8 said → t1 ≡ t0 ++ (123 ∷ named (codes "newText") (34 ∷ [])) → t2 ≡ t1 ++ escape said
+    → t3 ≡ t2 ++ (codes "\",\"range\":" ++ (compact_text (range_value start end) ++ 125 ∷ [])) → IsReadBack (range_value start end)
+    → Appends (object (member (codes "newText") (string said) (member (codes "range") (range_value start end) no_members))) t0 t3
+edit_put_down said start end t0 t1 t2 t3 utf8 h1 h2 h3 r =
+    let is : t3 ≡ t0 ++ (123 ∷ named (codes "newText") (compact_text (string said) ++ 44 ∷ named (codes "range") (compact_text (range_value start end) ++ 125 ∷ []))) =
+    rw (h3, h2, h1) (simp append_assoc refl) in
     record {
-      text = is ∙ ap (λ t. old ++ t) (all ∙ append-nil _);
-      reads = read_two (codes "end") (codes "start") (position_value end) (position_value start) (name (codes "end") refl refl) (name (codes "start") refl refl) refl q r;
+      text = is ∙ ap (λ t. t0 ++ t) (object_text_of_two (codes "newText") (codes "range") (string said) (range_value start end) [] (name (codes "newText") refl refl) (name (codes "range") refl refl) ∙ append-nil _);
+      reads = read_two (codes "newText") (codes "range") (string said) (range_value start end) (name (codes "newText") refl refl) (name (codes "range") refl refl) refl (text_read said utf8) r;
     }
 
 -- ---- lists

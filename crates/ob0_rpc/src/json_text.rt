@@ -1,5 +1,5 @@
 //! What is written as JSON, straight into the text of a message.
-ghost use Rattle.std.specs.Prelude.{◌≡◌, ◌<◌, ◌++◌, [], ◌∷◌, true, false, IfOk, OnOk, map};
+ghost use Rattle.std.specs.Prelude.{◌≡◌, ◌<◌, ◌≤◌, ◌^◌, ◌++◌, [], ◌∷◌, true, false, IfOk, OnOk, map};
 ghost use Rattle.std.specs.Char.{digit_char};
 ghost use Rattle.json.specs.Print.{escape, escape_byte, escape_letter};
 ghost use Rattle.serde_json.specs.Data.{Data, array, boolean, null, number, string, unsigned};
@@ -9,6 +9,9 @@ ghost use Rattle.serde_json.specs.Written.{comma_if};
 ghost use Rattle.ob0_rpc.specs.Appending.{Appends, AppendsEach, AppendsItem, or_null};
 
 use std::alloc::AllocError;
+
+/// No more room is made at once for the items of a list, in bytes.
+const MOST_ROOM: usize = 1 << 26;
 
 /// What is written as a JSON value.
 pub trait Written {
@@ -98,10 +101,35 @@ fn write_each<W: Written>(out: &mut Vec<u8>, values: &[W]) -> Result<(), AllocEr
 {
     let mut later = false;
     for value in values {
-        write_item(out, later, value)?;
+        write_one_of(out, values.len(), later, value)?;
         later = true;
     }
     Ok(())
+}
+
+/// Writes an item of a list. After the first there is room for the others, where they are about as long.
+fn write_one_of<W: Written>(
+    out: &mut Vec<u8>,
+    count: usize,
+    later: bool,
+    value: &W,
+) -> Result<(), AllocError>
+    ensures { OnOk result (AppendsItem later (W.value value.now) out.old.items out.new.items) }
+{
+    let before = out.len();
+    write_item(out, later, value)?;
+    if !later {
+        out.reserve(room_for(count, out.len().saturating_sub(before)))?;
+    }
+    Ok(())
+}
+
+/// Room for as many items as there are beside one of this length.
+fn room_for(count: usize, len: usize) -> usize
+    ensures { result ≤ 2 ^ 26 }
+{
+    let others = count.saturating_sub(1);
+    others.saturating_mul(len.saturating_add(16)).min(MOST_ROOM)
 }
 
 /// Writes the bracket that opens a list.
@@ -145,7 +173,7 @@ fn write_text(out: &mut Vec<u8>, text: &str) -> Result<(), AllocError>
     write_piece(out, b"\"")
 }
 
-fn write_escaped(out: &mut Vec<u8>, text: &[u8]) -> Result<(), AllocError>
+pub(crate) fn write_escaped(out: &mut Vec<u8>, text: &[u8]) -> Result<(), AllocError>
     ensures { OnOk result (out.new.items ≡ out.old.items ++ escape text.now) }
 {
     if is_plain(text) {

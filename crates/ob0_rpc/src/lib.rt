@@ -22,4 +22,5 @@ pub use objects::{OneMember, end_object, first_member, next_member};
 pub use outgoing::{
     ErrorResponse, Notification, Response, ResponseError, content_of, error, notify, result_of,
 };
+pub use ranges::{piece_before, range_before};
 pub use requests::{ClientRequest, DocumentPosition, request};

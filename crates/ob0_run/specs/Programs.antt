@@ -1,4 +1,5 @@
 -- What a lowered program does.
+-- Rule: none; for contracts: what a lowered program means.
 use Rattle.std.specs.Prelude.{◌≡◌, ℕ, suc, ◌*◌, ◌<◌, ◌^◌, List, ℤ}
 use Rattle.ob0_tree.specs.Tree.{Tree, module_text}
 use Rattle.ob0_scope_rules.specs.Names.{Name}

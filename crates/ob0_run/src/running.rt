@@ -95,8 +95,8 @@ pub fn lower(alloc: Global, checked: &WellTyped<'_>) -> Result<Program, AllocErr
 ///
 /// # Errors
 ///
-/// Out of memory. So is a program whose module and calls could have 2^64 cells or more between them, for which no machine
-/// has addresses.
+/// Out of memory. So is a program whose module and calls could have 2^64 cells or more between them, for which no
+/// machine has addresses.
 pub fn execute(
     alloc: Global,
     program: &Program,

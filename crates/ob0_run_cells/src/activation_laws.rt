@@ -2,7 +2,8 @@
 
 ghost use Rattle.ob0_run_cells.specs.ActivationLaws.{CallsLowered, RunsLowered};
 
-/// Calls of lowered procedures do what calls of the module's do that drop their variables, while there are fewer cells than addresses.
+/// Calls of lowered procedures do what calls of the module's do that drop their variables, while there are fewer cells
+/// than addresses.
 pub fn calls_lowered()
     ensures { CallsLowered }
 {}

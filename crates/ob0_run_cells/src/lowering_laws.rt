@@ -1,4 +1,5 @@
-//! Laws of lowering, one for each production of designators and expressions. Each function does nothing: its contract is the law.
+//! Laws of lowering, one for each production of designators and expressions. Each function does nothing: its contract
+//! is the law.
 
 ghost use Rattle.ob0_run_cells.specs.LoweringLaws.{AddendsLower, BlocksLower, CellsLower, ConjunctionsLower, ConstantsLower, DisjunctionsLower, ExpressionsLower, FieldsLower, IndexesLower, IntegersLower, NegationsLower, OperatorsEnd, ParenthesesLower, ProductsLower, RelationsLower, SelectorsEnd, SumsLower, TermsLower, VariablesLower};
 

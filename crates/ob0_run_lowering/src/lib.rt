@@ -1,5 +1,5 @@
-//! Lowering: designators, expressions and arguments, the statements of a body, and declarations, blocks and procedures. A
-//! well-typed module becomes a program of the machine that means it.
+//! Lowering: designators, expressions and arguments, the statements of a body, and declarations, blocks and procedures.
+//! A well-typed module becomes a program of the machine that means it.
 #![tactic(auto)]
 
 mod assigning;

@@ -23,8 +23,8 @@ use ob0_tree::{Block, Procedure};
 use ob0_types_table::Known;
 use std::alloc::{AllocError, Global};
 
-/// A module on its way to a program: where what is in scope is, the procedures so far, and the most cells of an activation so
-/// far.
+/// A module on its way to a program: where what is in scope is, the procedures so far, and the most cells of an
+/// activation so far.
 #[derive(Drop)]
 pub(crate) struct Lowering {
     pub(crate) sight: VisibleSites,
@@ -32,7 +32,8 @@ pub(crate) struct Lowering {
     pub(crate) most: usize,
 }
 
-/// The program of a module, none of whose activations has more than `most_cells` cells, those of its parameters among them.
+/// The program of a module, none of whose activations has more than `most_cells` cells, those of its parameters among
+/// them.
 #[derive(Drop)]
 pub struct Program {
     pub code: code::LoweredCode,
@@ -97,8 +98,8 @@ impl Lowering {
         Ok(index)
     }
 
-    /// A procedure is in scope after its heading, and so in its own body; its parameters and what it declares are in scope up to
-    /// its end.
+    /// A procedure is in scope after its heading, and so in its own body; its parameters and what it declares are in
+    /// scope up to its end.
     #[cycle(blocks)]
     fn procedure(
         &mut self,

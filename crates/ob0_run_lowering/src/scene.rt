@@ -10,8 +10,8 @@ use ob0_run_machine::code::{Place, Variable};
 use ob0_scope_rules::Resolved;
 use ob0_types_table::Object;
 
-/// Where a declaration is. The first number of a place in an activation is how deep that activation is: 1 for those of the
-/// module's own procedures.
+/// Where a declaration is. The first number of a place in an activation is how deep that activation is: 1 for those of
+/// the module's own procedures.
 #[derive(Clone, Copy, PartialEq, Eq)]
 pub enum Site {
     /// Nowhere in lowered code: a constant or a type.
@@ -26,8 +26,8 @@ pub enum Site {
     Procedure(usize, usize),
 }
 
-/// What lowering knows at a body: the module, its types, where each declaration is by its ordinal, and how deep the body's
-/// activation is, 0 for the module's own.
+/// What lowering knows at a body: the module, its types, where each declaration is by its ordinal, and how deep the
+/// body's activation is, 0 for the module's own.
 #[derive(Clone, Copy)]
 pub struct Scene<'s, 'k, 't> {
     pub resolved: &'s Resolved<'t>,

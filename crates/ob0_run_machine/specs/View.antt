@@ -44,11 +44,13 @@ operator_of operator.Product = lowered.product
 operator_of operator.Quotient = lowered.quotient
 operator_of operator.Remainder = lowered.remainder
 
+-- where a variable of the code is
 abbrev pub variable_of : Variable → lowered.Place
 variable_of (variable.Module offset) = lowered.in_module offset
 variable_of (variable.Here offset) = lowered.here offset
 variable_of (variable.ByReference index) = lowered.passed 0 index
 
+-- the element of an array at the index that a variable has
 abbrev pub row_of : Row → lowered.Place
 row_of r =
     lowered.element (variable_of r.array) (lowered.cell (variable_of r.index)) r.length r.stride

@@ -1,4 +1,5 @@
-//! Lowered code: variables are offsets of cells, designators are bases, bounds and offsets, and a call names its procedure by its index.
+//! Lowered code: variables are offsets of cells, designators are bases, bounds and offsets, and a call names its
+//! procedure by its index.
 
 /// The operators between two numbers.
 #[derive(Clone, Copy, PartialEq, Eq, Debug)]
@@ -10,8 +11,8 @@ pub enum Operator {
     Remainder,
 }
 
-/// A variable of the module or of the running activation, by its offset in the cells of either, or what a VAR parameter of the
-/// running activation leads to, by its index among these parameters.
+/// A variable of the module or of the running activation, by its offset in the cells of either, or what a VAR parameter
+/// of the running activation leads to, by its index among these parameters.
 #[derive(Clone, Copy, PartialEq, Eq, Debug)]
 pub enum Variable {
     Module(usize),
@@ -69,7 +70,8 @@ pub enum Number {
     Chain(Box<Chain>),
 }
 
-/// What operations in a row begin with: a number that is no operation. So no row is nested in the left operand of another.
+/// What operations in a row begin with: a number that is no operation. So no row is nested in the left operand of
+/// another.
 #[cycle(numbers)]
 #[derive(Drop)]
 pub enum FirstOperand {
@@ -95,8 +97,8 @@ pub struct Chain {
     pub rest: Vec<Link>,
 }
 
-/// An operator with its right operand: a literal, a variable or another number. Its left operand is what was computed so far; where
-/// the name begins with the variable, that is the left operand, and what was computed is the right one.
+/// An operator with its right operand: a literal, a variable or another number. Its left operand is what was computed
+/// so far; where the name begins with the variable, that is the left operand, and what was computed is the right one.
 #[cycle(numbers)]
 #[derive(Drop)]
 pub enum Link {

@@ -5,7 +5,8 @@ ghost use Rattle.ob0_run_machine.specs.Answers.{outcome_of, outcome_of_result};
 
 use crate::ending::Ending;
 
-/// What an evaluation gives, or how it ends the run, in one tag: this is returned in registers, a `Result` through memory.
+/// What an evaluation gives, or how it ends the run, in one tag: this is returned in registers, a `Result` through
+/// memory.
 #[derive(Clone, Copy, PartialEq, Eq, Debug)]
 pub(crate) enum Evaluated<T> {
     Value(T),

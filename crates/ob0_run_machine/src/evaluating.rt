@@ -1,5 +1,5 @@
-//! Places, numbers and truths, evaluated in an activation and over the cells. A step that is inlined returns a `Result`; one that
-//! is called returns an `Evaluated`, which comes back in registers.
+//! Places, numbers and truths, evaluated in an activation and over the cells. A step that is inlined returns a
+//! `Result`; one that is called returns an `Evaluated`, which comes back in registers.
 
 ghost use Rattle.std.specs.Prelude.{◌≡◌, List, ℤ, false, if◌then◌else◌, true};
 ghost use Rattle.ob0_run_machine.specs.Answers.{linked, outcome_of, outcome_of_result};
@@ -205,8 +205,8 @@ fn operations(c: &Chain, level: &Level<'_>, cells: &[i32]) -> Result<i32, Ending
     Ok(left)
 }
 
-/// An operation on a number. It is small, so that it is inlined: a right operand that is neither a literal nor a variable is
-/// evaluated in a call.
+/// An operation on a number. It is small, so that it is inlined: a right operand that is neither a literal nor a
+/// variable is evaluated in a call.
 #[inline(always)]
 #[cycle(evaluation)]
 fn apply(link: &Link, left: i32, level: &Level<'_>, cells: &[i32]) -> Result<i32, Ending>

@@ -4,7 +4,8 @@ ghost use Rattle.std.specs.Prelude.{◌≡◌, drop, slice_index_or};
 ghost use Rattle.ob0_run_machine.specs.Evaluation.{innermost, level_at};
 ghost use Rattle.ob0_run_machine.specs.Levels.{levels_of, levels_seen};
 
-/// An activation: where its cells begin, where its VAR parameters lead, and the activation in which its procedure is declared.
+/// An activation: where its cells begin, where its VAR parameters lead, and the activation in which its procedure is
+/// declared.
 #[derive(Clone, Copy)]
 pub(crate) struct Level<'l> {
     pub base: usize,

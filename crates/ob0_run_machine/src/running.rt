@@ -69,8 +69,8 @@ fn end_of(executed: Result<(), Stop>) -> Result<Halt, AllocError>
     }
 }
 
-/// Runs a program on an input, with at most `calls` calls open at a time, and at most `turns` iterations of each execution of a
-/// loop. The program's own statements are no call.
+/// Runs a program on an input, with at most `calls` calls open at a time, and at most `turns` iterations of each
+/// execution of a loop. The program's own statements are no call.
 ///
 /// # Errors
 ///

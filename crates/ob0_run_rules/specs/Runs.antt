@@ -276,7 +276,8 @@ unfoldable pub declare_block : {N : Type 0}
 unfolding declare_first declare_variables
 declare_block naming k b f =
     option_and_then (λ env. option_map (with_procedures (after_variables k b) (block_procedures b))
-    (declare_variables naming (after_types k b) (block_variables b) record { env = env; store = f.store }))
+    (declare_variables naming (after_types k b) (block_variables b)
+    record { env = env; store = f.store }))
     (declare_first naming f.env k b)
 
 -- a parameter of a call: a VAR parameter is its argument's place, another a variable with the argument's value
@@ -369,8 +370,11 @@ unfoldable pub activate : {N : Type 0}
     → Progress
 unfolding declare_block execute_body
 activate naming enter t ((x, a_procedure code) ∷ rest) args s =
-    in_frame s (option_and_then (declare_block naming (after_formals code.first_constructor code.text) (procedure_block code.text))
-    (bind_parameters (parameters (procedure_formals code.text)) args record { env = (x, a_procedure code) ∷ rest; store = s.store }))
+    in_frame s (option_and_then
+    (declare_block naming (after_formals code.first_constructor code.text)
+    (procedure_block code.text))
+    (bind_parameters (parameters (procedure_formals code.text)) args
+    record { env = (x, a_procedure code) ∷ rest; store = s.store }))
     (λ f. execute_body naming f.env (enter f.env) t (block_statements (procedure_block code.text)))
 activate naming enter t _ args s = stopped Stuck s.output
 
@@ -402,7 +406,8 @@ unfoldable pub run_by : {N : Type 0}
 unfolding declare_block execute_body
 run_by naming enter t m input =
     let start : State = record { store = []; input = input; output = [] } in
-    finished (in_frame start (declare_block naming 0 (module_block m) record { env = outermost naming; store = [] })
+    finished (in_frame start
+    (declare_block naming 0 (module_block m) record { env = outermost naming; store = [] })
     (λ f. execute_body naming f.env (enter f.env) t (block_statements (module_block m))))
 
 -- the run of a tree over any names that can be distinguished

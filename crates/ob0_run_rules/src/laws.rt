@@ -43,12 +43,14 @@ pub fn inlining_keeps_modules()
     ensures { InliningKeepsModules }
 {}
 
-/// A constant that no occurrence is bound to may go: the module without its declaration is well-typed and has the same runs.
+/// A constant that no occurrence is bound to may go: the module without its declaration is well-typed and has the same
+/// runs.
 pub fn leaving_out_keeps_modules()
     ensures { LeavingOutKeepsModules }
 {}
 
-/// A constant's literal in place of all its uses, and its declaration gone: the module stays well-typed and has the same runs.
+/// A constant's literal in place of all its uses, and its declaration gone: the module stays well-typed and has the
+/// same runs.
 pub fn inlining_everywhere_keeps_modules()
     ensures { InliningEverywhereKeepsModules }
 {}

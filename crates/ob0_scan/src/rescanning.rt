@@ -190,8 +190,8 @@ pub(crate) struct LexemeCounts {
     pub(crate) comments: usize,
 }
 
-/// What comes between the old tokens and comments that a changed text goes on to have: those before it, of which there are so many, and
-/// those from `following` on.
+/// What comes between the old tokens and comments that a changed text goes on to have: those before it, of which there
+/// are so many, and those from `following` on.
 #[derive(Drop)]
 pub(crate) struct Between {
     pub(crate) front: LexemeCounts,
@@ -338,8 +338,9 @@ impl From<AllocError> for NotRescanned {
     }
 }
 
-/// The tokens and comments of `new_text`, which is the text of `old` with the `removed` bytes from byte `from` on replaced by
-/// `added` others; or its faults. What `old` has before the change is kept, and the scan ends where a token or comment of `old` begins again.
+/// The tokens and comments of `new_text`, which is the text of `old` with the `removed` bytes from byte `from` on
+/// replaced by `added` others; or its faults. What `old` has before the change is kept, and the scan ends where a token
+/// or comment of `old` begins again.
 pub fn rescan(
     alloc: Global,
     old: &Tokens,
@@ -362,7 +363,8 @@ pub fn rescan(
     }
 }
 
-/// The same, in place of the old tokens and comments: those before it stay where they are. A text with faults gives the old ones back.
+/// The same, in place of the old tokens and comments: those before it stay where they are. A text with faults gives the
+/// old ones back.
 pub fn rescan_in_place(
     alloc: Global,
     old: Tokens,

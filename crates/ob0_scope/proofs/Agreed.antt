@@ -1,10 +1,10 @@
--- Where a table agrees with what the names of a part are bound to, the part numbered is the part with the table's ordinals.
+-- Where a table agrees with what the names of a part are bound to, the part numbered is the part with the table's ordinals, whatever
+-- its numbers.
 use Rattle.std.proofs.Common.{◌≡◌, ℕ, Option, None, List, [], ◌∷◌, ◌++◌, refl, sym}
 use Rattle.ob0_tree.specs.declared.tree.Role.{Role}
 use Rattle.ob0_tree.specs.declared.tree.Role.TheVariants as role
 use Rattle.ob0_tree.specs.Tree.{Sort, Tree, identifiers, mapped, adds, array_type, assigns, begins, branches, calls, compares, declares, declares_constant, declares_constants, declares_procedure, declares_type, declares_types, declares_variable, declares_variables, designator, else_branch, elsif_branch, empty, end, field, has_body, index, integer, is_module, listed, more, multiplies, named_type, negation, no_arguments, no_fields, no_formals, none, one, parenthesised, product, record_type, relates, repeat_loop, runs, some_arguments, some_fields, some_formals, sum, then_argument, then_fields, then_name, then_section, then_statement, value_section, variable_section, while_loop}
-use Rattle.ob0_tree.specs.Places.{value_at}
-use Rattle.ob0_scope.specs.Written.{Writing, name_at, spelled_by}
+use Rattle.ob0_scope.specs.Written.{Writing, name_at}
 use Rattle.ob0_scope_rules.specs.Names.{Name, as_names}
 use Rattle.ob0_scope_rules.specs.Scopes.{Labels, Scope, ordinal_of, relabel_uses}
 use Rattle.ob0_scope_rules.proofs.Peeling.{Two}
@@ -25,7 +25,7 @@ fit_first : (table : ℕ → Option ℕ) (src : Writing) (scope : Scope Name) (x
 fit_first table src scope [] ys h = (tt, h)
 fit_first table src scope (x ∷ xs) ys h = let rest = fit_first table src scope xs ys h.1 in ((h.0, rest.0), rest.1)
 
-module _ {M : Type 0} (table : ℕ → Option ℕ) (label : Labels Name M) (src : Writing) (scope : Scope Name) where
+module _ {M : Type 0} (table : ℕ → Option ℕ) (label : Labels Name M) (src : Writing) (scope : Scope Name) (value : ℕ → ℕ) where
   -- where the table fits these identifiers, P
   pub record Reads (xs : List (Role × ℕ)) (P : Type 0) : Type 0 where
     pub reads : AllFit table src scope xs → P
@@ -43,7 +43,7 @@ module _ {M : Type 0} (table : ℕ → Option ℕ) (label : Labels Name M) (src 
   to p f = record { reads = λ h. f (p.reads h) }
 
   pub agreed : {s : Sort} (r : Role) → ((i : ℕ) → Fits table src scope r i → table i ≡ None) → (t : Tree ℕ s)
-      → Reads (identifiers r t) (relabel_uses as_names label scope (spelled_by src t) ≡ mapped (λ i. label (table i) (name_at src i)) (value_at src.source) t)
+      → Reads (identifiers r t) (relabel_uses as_names label scope (mapped (name_at src) value t) ≡ mapped (λ i. label (table i) (name_at src i)) value t)
   agreed r other none = nothing refl
   agreed r other (one a) = to (agreed r other a) (λ p i. one (p i))
   agreed r other end = nothing refl

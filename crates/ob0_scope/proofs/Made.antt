@@ -80,12 +80,16 @@ no_more : (a b : Bool) → b ≡ false → (a || b) ≡ a
 no_more true b e = refl
 no_more false b e = e
 
+pub undeclared_unbound : (m : Parsed) (ordinals : List (Option ℕ)) → IsNumbering m ordinals → undeclared_at m.source ordinals (occurrences (tree_of m)) ≡ unbound_in m
+undeclared_unbound m ordinals numbering =
+    unbound_all m.source ordinals (occurrences (tree_of m)) ∙ ap (unbound_at m.source (occurrences (tree_of m))) (sym (bindings_by_table m ordinals numbering))
+
 -- the faults of declarations, and after them those of occurrences
-faults_reported : (m : Parsed) (ordinals : List (Option ℕ)) → IsNumbering m ordinals → AreFaultsOf m (twice_in m ++ undeclared_at m.source ordinals (occurrences (tree_of m)))
+pub faults_reported : (m : Parsed) (ordinals : List (Option ℕ)) → IsNumbering m ordinals → AreFaultsOf m (twice_in m ++ undeclared_at m.source ordinals (occurrences (tree_of m)))
 faults_reported m ordinals numbering =
     let once = twice_in m in
     let unbound = undeclared_at m.source ordinals (occurrences (tree_of m)) in
-    let each : unbound ≡ unbound_in m = unbound_all m.source ordinals (occurrences (tree_of m)) ∙ ap (unbound_at m.source (occurrences (tree_of m))) (sym (bindings_by_table m ordinals numbering)) in
+    let each : unbound ≡ unbound_in m = undeclared_unbound m ordinals numbering in
     record {
       by_kind = ap (λ fs. once ++ fs) each;
       declared_twice = list_any-append is_of_declarations once unbound

@@ -195,13 +195,17 @@ pub record Passed (table : ℕ → Option ℕ) (src : Writing) (v w : Visit) (id
   pub agree : HasMarks table w.marks → HasMarks table v.marks × P
   pub in_order : HasMarks table w.marks → (later : List (Role × ℕ)) → AreInOrder table k later → AreInOrder table (7 + length v.declarations) (ids ++ later)
 
-module _ {M : Type 0} (table : ℕ → Option ℕ) (label : Labels Name M) (src : Writing) where
+module _ {M : Type 0} (table : ℕ → Option ℕ) (label : Labels Name M) (src : Writing) (value : ℕ → ℕ) where
   abbrev Passes : Visit → Visit → List (Role × ℕ) → Scope Name → ℕ → Type 0 → Type 0
   Passes = Passed table src
 
+  -- a part with the names as they are written, and any numbers
+  abbrev spelled : {s : Sort} → Tree ℕ s → Tree Name s
+  spelled t = mapped (name_at src) value t
+
   -- a part with the table's ordinals
   abbrev by_table : {s : Sort} → Tree ℕ s → Tree M s
-  by_table t = mapped (λ i. label (table i) (name_at src i)) (value_at src.source) t
+  by_table t = mapped (λ i. label (table i) (name_at src i)) value t
 
   pass_nothing : (v : Visit) (s : Scope Name) (k : ℕ) → At v src s k → Passes v v [] s k (Unit {0})
   pass_nothing v s k at = record { at = at; declared = sym (append-nil v.declarations); used = sym (append-nil v.uses); tokens = sym (append-nil (tokens_of v.marks)); agree = λ h. (h, tt); in_order = λ h later. subst (λ n. AreInOrder table n later) (sym at.next) }
@@ -235,7 +239,7 @@ module _ {M : Type 0} (table : ℕ → Option ℕ) (label : Labels Name M) (src 
       }
 
   used_passed : {σ : Sort} (t : Tree ℕ σ) (v : Visit) (s : Scope Name) (k : ℕ) → IsPlain σ → At v src s k
-      → Passes v (used t v) (identifiers role.Declaring t) s k (relabel_uses as_names label s (spelled_by src t) ≡ by_table t)
+      → Passes v (used t v) (identifiers role.Declaring t) s k (relabel_uses as_names label s (spelled t) ≡ by_table t)
   used_passed t v s k is_plain at =
       let plain = (declares_nothing is_plain t).plain in
       let f = found_every table src (identifiers role.Declaring t) v in
@@ -246,7 +250,7 @@ module _ {M : Type 0} (table : ℕ → Option ℕ) (label : Labels Name M) (src 
         tokens = f.tokens;
         agree = λ h.
             let x = f.agree at.writing h in
-            (x.0, (agreed table label src s role.Declaring (λ i e. e) t).reads (subst (λ s. AllFit table src s (identifiers role.Declaring t)) at.scope x.1));
+            (x.0, (agreed table label src s value role.Declaring (λ i e. e) t).reads (subst (λ s. AllFit table src s (identifiers role.Declaring t)) at.scope x.1));
         in_order = λ h later o.
             let fit = subst (λ s. AllFit table src s (identifiers role.Declaring t)) at.scope (f.agree at.writing h).1 in
             subst (λ n. AreInOrder table n (identifiers role.Declaring t ++ later)) (sym at.next) (used_in_order table src s k (identifiers role.Declaring t) later at.before plain fit o);
@@ -300,22 +304,22 @@ module _ {M : Type 0} (table : ℕ → Option ℕ) (label : Labels Name M) (src 
   names_declaring : (ns : Tree ℕ names) → all_declaring (names_listed ns) ≡ identifiers role.Declaring ns
   names_declaring (listed x rest) = λ i. (role.Declaring, x) ∷ further_declaring rest i
 
-  further_named : (ns : Tree ℕ (items further_name)) → map (name_at src) (further_names ns) ≡ further_names (spelled_by src ns)
+  further_named : (ns : Tree ℕ (items further_name)) → map (name_at src) (further_names ns) ≡ further_names (spelled ns)
   further_named end = refl
   further_named (more (then_name x) rest) = λ i. name_at src x ∷ further_named rest i
 
-  names_named : (ns : Tree ℕ names) → map (name_at src) (names_listed ns) ≡ names_listed (spelled_by src ns)
+  names_named : (ns : Tree ℕ names) → map (name_at src) (names_listed ns) ≡ names_listed (spelled ns)
   names_named (listed x rest) = λ i. name_at src x ∷ further_named rest i
 
-  further_agree : (ns : Tree ℕ (items further_name)) (k : ℕ) → HasNumbers k (further_names ns) → relabel_further label k (spelled_by src ns) ≡ by_table ns
+  further_agree : (ns : Tree ℕ (items further_name)) (k : ℕ) → HasNumbers k (further_names ns) → relabel_further label k (spelled ns) ≡ by_table ns
   further_agree end k h = refl
   further_agree (more (then_name x) rest) k h = λ i. more (then_name (label (sym h.0 i) (name_at src x))) (further_agree rest (suc k) h.1 i)
 
-  names_agree : (ns : Tree ℕ names) (k : ℕ) → HasNumbers k (names_listed ns) → relabel_names label k (spelled_by src ns) ≡ by_table ns
+  names_agree : (ns : Tree ℕ names) (k : ℕ) → HasNumbers k (names_listed ns) → relabel_names label k (spelled ns) ≡ by_table ns
   names_agree (listed x rest) k h = λ i. listed (label (sym h.0 i) (name_at src x)) (further_agree rest (suc k) h.1 i)
 
   names_passed : (ns : Tree ℕ names) (v : Visit) (s : Scope Name) (k : ℕ) → At v src s k
-      → Passes v (numbered_all (names_listed ns) v) (identifiers role.Declaring ns) s (after_names k (names_listed (spelled_by src ns))) (relabel_names label k (spelled_by src ns) ≡ by_table ns)
+      → Passes v (numbered_all (names_listed ns) v) (identifiers role.Declaring ns) s (after_names k (names_listed (spelled ns))) (relabel_names label k (spelled ns) ≡ by_table ns)
   names_passed ns v s k at =
       pass_is (names_declaring ns) refl (ap (after_names k) (names_named ns)) (pass_to (numbers_passed (names_listed ns) v s k at) (names_agree ns k))
 
@@ -351,16 +355,16 @@ module _ {M : Type 0} (table : ℕ → Option ℕ) (label : Labels Name M) (src 
   -- names of one type, visible after it
   group_passed : (ns : Tree ℕ names) (t : Tree ℕ written_type) (v : Visit) (s : Scope Name) (k : ℕ) → At v src s k
       → Passes v (visible_from (length v.declarations) (used t (numbered_all (names_listed ns) v))) (identifiers role.Declaring ns ++ identifiers role.Declaring t)
-      (declare_names k (names_listed (spelled_by src ns)) s) (after_names k (names_listed (spelled_by src ns)))
-      (Two (relabel_names label k (spelled_by src ns) ≡ by_table ns) (relabel_uses as_names label s (spelled_by src t) ≡ by_table t))
+      (declare_names k (names_listed (spelled ns)) s) (after_names k (names_listed (spelled ns)))
+      (Two (relabel_names label k (spelled ns) ≡ by_table ns) (relabel_uses as_names label s (spelled t) ≡ by_table t))
   group_passed ns t v s k at =
       let a = names_passed ns v s k at in
-      let b = used_passed t (numbered_all (names_listed ns) v) s (after_names k (names_listed (spelled_by src ns))) tt a.at in
-      show_passed (names_listed (spelled_by src ns)) at (ap (map (name_at src)) (group_declaring ns t) ∙ names_named ns) (pass_then a b)
+      let b = used_passed t (numbered_all (names_listed ns) v) s (after_names k (names_listed (spelled ns))) tt a.at in
+      show_passed (names_listed (spelled ns)) at (ap (map (name_at src)) (group_declaring ns t) ∙ names_named ns) (pass_then a b)
 
   constants_passed : (cs : Tree ℕ (items constant)) (v : Visit) (s : Scope Name) (k : ℕ) → At v src s k
-      → Passes v (visit_constants cs v) (identifiers role.Declaring cs) (declare_names k (constant_names (spelled_by src cs)) s) (after_names k (constant_names (spelled_by src cs)))
-      (relabel_constants as_names label s k (spelled_by src cs) ≡ by_table cs)
+      → Passes v (visit_constants cs v) (identifiers role.Declaring cs) (declare_names k (constant_names (spelled cs)) s) (after_names k (constant_names (spelled cs)))
+      (relabel_constants as_names label s k (spelled cs) ≡ by_table cs)
   constants_passed end v s k at = pass_to (pass_nothing v s k at) (λ h. refl)
   constants_passed (more (declares_constant x e) cs) v s k at =
       let a = number_passed x v s k at in
@@ -370,8 +374,8 @@ module _ {M : Type 0} (table : ℕ → Option ℕ) (label : Labels Name M) (src 
       (λ p i. more (declares_constant (label (sym p.first.first i) (name_at src x)) (p.first.second i)) (p.second i))
 
   types_passed : (ts : Tree ℕ (items type_name)) (v : Visit) (s : Scope Name) (k : ℕ) → At v src s k
-      → Passes v (visit_types ts v) (identifiers role.Declaring ts) (declare_names k (named_types (spelled_by src ts)) s) (after_names k (named_types (spelled_by src ts)))
-      (relabel_types as_names label s k (spelled_by src ts) ≡ by_table ts)
+      → Passes v (visit_types ts v) (identifiers role.Declaring ts) (declare_names k (named_types (spelled ts)) s) (after_names k (named_types (spelled ts)))
+      (relabel_types as_names label s k (spelled ts) ≡ by_table ts)
   types_passed end v s k at = pass_to (pass_nothing v s k at) (λ h. refl)
   types_passed (more (declares_type x t) ts) v s k at =
       let a = number_passed x v s k at in
@@ -381,40 +385,40 @@ module _ {M : Type 0} (table : ℕ → Option ℕ) (label : Labels Name M) (src 
       (λ p i. more (declares_type (label (sym p.first.first i) (name_at src x)) (p.first.second i)) (p.second i))
 
   variables_passed : (gs : Tree ℕ (items variable)) (v : Visit) (s : Scope Name) (k : ℕ) → At v src s k
-      → Passes v (visit_variables gs v) (identifiers role.Declaring gs) (declare_names k (variable_names (spelled_by src gs)) s) (after_names k (variable_names (spelled_by src gs)))
-      (relabel_variables as_names label s k (spelled_by src gs) ≡ by_table gs)
+      → Passes v (visit_variables gs v) (identifiers role.Declaring gs) (declare_names k (variable_names (spelled gs)) s) (after_names k (variable_names (spelled gs)))
+      (relabel_variables as_names label s k (spelled gs) ≡ by_table gs)
   variables_passed end v s k at = pass_to (pass_nothing v s k at) (λ h. refl)
   variables_passed (more (declares_variable ns t) gs) v s k at =
-      let xs = names_listed (spelled_by src ns) in
-      let rest = variable_names (spelled_by src gs) in
+      let xs = names_listed (spelled ns) in
+      let rest = variable_names (spelled gs) in
       let a = group_passed ns t v s k at in
       pass_is refl (sym (declare_names-append k xs rest s)) (sym (after_names-append k xs rest))
       (pass_to (pass_then a (variables_passed gs (visit_variable (declares_variable ns t) v) (declare_names k xs s) (after_names k xs) a.at))
       (λ p i. more (declares_variable (p.first.first i) (p.first.second i)) (p.second i)))
 
   section_passed : (f : Tree ℕ section) (v : Visit) (s : Scope Name) (k : ℕ) → At v src s k
-      → Passes v (visit_section f v) (identifiers role.Declaring f) (declare_names k (section_names (spelled_by src f)) s) (after_names k (section_names (spelled_by src f)))
-      (relabel_section as_names label s k (spelled_by src f) ≡ by_table f)
+      → Passes v (visit_section f v) (identifiers role.Declaring f) (declare_names k (section_names (spelled f)) s) (after_names k (section_names (spelled f)))
+      (relabel_section as_names label s k (spelled f) ≡ by_table f)
   section_passed (value_section ns t) v s k at = pass_to (group_passed ns t v s k at) (λ p i. value_section (p.first i) (p.second i))
   section_passed (variable_section ns t) v s k at = pass_to (group_passed ns t v s k at) (λ p i. variable_section (p.first i) (p.second i))
 
   sections_passed : (fs : Tree ℕ (items further_section)) (v : Visit) (s : Scope Name) (k : ℕ) → At v src s k
-      → Passes v (visit_sections fs v) (identifiers role.Declaring fs) (declare_names k (formal_names (spelled_by src fs)) s) (after_names k (formal_names (spelled_by src fs)))
-      (relabel_sections as_names label s k (spelled_by src fs) ≡ by_table fs)
+      → Passes v (visit_sections fs v) (identifiers role.Declaring fs) (declare_names k (formal_names (spelled fs)) s) (after_names k (formal_names (spelled fs)))
+      (relabel_sections as_names label s k (spelled fs) ≡ by_table fs)
   sections_passed end v s k at = pass_to (pass_nothing v s k at) (λ h. refl)
   sections_passed (more (then_section f) fs) v s k at =
-      let xs = section_names (spelled_by src f) in
-      let rest = formal_names (spelled_by src fs) in
+      let xs = section_names (spelled f) in
+      let rest = formal_names (spelled fs) in
       let a = section_passed f v s k at in
       pass_is refl (sym (declare_names-append k xs rest s)) (sym (after_names-append k xs rest))
       (pass_to (pass_then a (sections_passed fs (visit_section f v) (declare_names k xs s) (after_names k xs) a.at))
       (λ p i. more (then_section (p.first i)) (p.second i)))
 
-  section_declaring : (f : Tree ℕ section) → map (name_at src) (declaring_only (identifiers role.Declaring f)) ≡ section_names (spelled_by src f)
+  section_declaring : (f : Tree ℕ section) → map (name_at src) (declaring_only (identifiers role.Declaring f)) ≡ section_names (spelled f)
   section_declaring (value_section ns t) = ap (map (name_at src)) (group_declaring ns t) ∙ names_named ns
   section_declaring (variable_section ns t) = ap (map (name_at src)) (group_declaring ns t) ∙ names_named ns
 
-  sections_declaring : (fs : Tree ℕ (items further_section)) → map (name_at src) (declaring_only (identifiers role.Declaring fs)) ≡ formal_names (spelled_by src fs)
+  sections_declaring : (fs : Tree ℕ (items further_section)) → map (name_at src) (declaring_only (identifiers role.Declaring fs)) ≡ formal_names (spelled fs)
   sections_declaring end = refl
   sections_declaring (more (then_section f) fs) =
       let xs = identifiers role.Declaring f in
@@ -422,38 +426,38 @@ module _ {M : Type 0} (table : ℕ → Option ℕ) (label : Labels Name M) (src 
       ap (map (name_at src)) (declaring_only-append xs ys) ∙ (map-append (name_at src) (declaring_only xs) (declaring_only ys) ∙ (λ i. section_declaring f i ++ sections_declaring fs i))
 
   formals_passed : (fs : Tree ℕ (maybe formals)) (v : Visit) (s : Scope Name) (k : ℕ) → At v src s k
-      → Passes v (visit_formals fs v) (identifiers role.Declaring fs) (declare_names k (formal_names (formal_sections (spelled_by src fs))) s) (after_names k (formal_names (formal_sections (spelled_by src fs))))
-      (relabel_formals as_names label s k (spelled_by src fs) ≡ by_table fs)
+      → Passes v (visit_formals fs v) (identifiers role.Declaring fs) (declare_names k (formal_names (formal_sections (spelled fs))) s) (after_names k (formal_names (formal_sections (spelled fs))))
+      (relabel_formals as_names label s k (spelled fs) ≡ by_table fs)
   formals_passed none v s k at = pass_to (pass_nothing v s k at) (λ h. refl)
   formals_passed (one no_formals) v s k at = pass_to (pass_nothing v s k at) (λ h. refl)
   formals_passed (one (some_formals f fs)) v s k at =
-      let xs = section_names (spelled_by src f) in
-      let rest = formal_names (spelled_by src fs) in
+      let xs = section_names (spelled f) in
+      let rest = formal_names (spelled fs) in
       let a = section_passed f v s k at in
       pass_is refl (sym (declare_names-append k xs rest s)) (sym (after_names-append k xs rest))
       (pass_to (pass_then a (sections_passed fs (visit_section f v) (declare_names k xs s) (after_names k xs) a.at))
       (λ p i. one (some_formals (p.first i) (p.second i))))
 
-  formals_declaring : (fs : Tree ℕ (maybe formals)) → map (name_at src) (declaring_only (identifiers role.Declaring fs)) ≡ formal_names (formal_sections (spelled_by src fs))
+  formals_declaring : (fs : Tree ℕ (maybe formals)) → map (name_at src) (declaring_only (identifiers role.Declaring fs)) ≡ formal_names (formal_sections (spelled fs))
   formals_declaring none = refl
   formals_declaring (one no_formals) = refl
   formals_declaring (one (some_formals f fs)) = sections_declaring (more (then_section f) fs)
 
   constant_section_passed : (cs : Tree ℕ (maybe constants)) (v : Visit) (s : Scope Name) (k : ℕ) → At v src s k
-      → Passes v (visit_constant_section cs v) (identifiers role.Declaring cs) (declare_names k (constant_names (section_constants (spelled_by src cs))) s) (after_names k (constant_names (section_constants (spelled_by src cs))))
-      (relabel_constant_section as_names label s k (spelled_by src cs) ≡ by_table cs)
+      → Passes v (visit_constant_section cs v) (identifiers role.Declaring cs) (declare_names k (constant_names (section_constants (spelled cs))) s) (after_names k (constant_names (section_constants (spelled cs))))
+      (relabel_constant_section as_names label s k (spelled cs) ≡ by_table cs)
   constant_section_passed none v s k at = pass_to (pass_nothing v s k at) (λ h. refl)
   constant_section_passed (one (declares_constants cs)) v s k at = pass_to (constants_passed cs v s k at) (λ p i. one (declares_constants (p i)))
 
   type_section_passed : (ts : Tree ℕ (maybe type_names)) (v : Visit) (s : Scope Name) (k : ℕ) → At v src s k
-      → Passes v (visit_type_section ts v) (identifiers role.Declaring ts) (declare_names k (named_types (section_types (spelled_by src ts))) s) (after_names k (named_types (section_types (spelled_by src ts))))
-      (relabel_type_section as_names label s k (spelled_by src ts) ≡ by_table ts)
+      → Passes v (visit_type_section ts v) (identifiers role.Declaring ts) (declare_names k (named_types (section_types (spelled ts))) s) (after_names k (named_types (section_types (spelled ts))))
+      (relabel_type_section as_names label s k (spelled ts) ≡ by_table ts)
   type_section_passed none v s k at = pass_to (pass_nothing v s k at) (λ h. refl)
   type_section_passed (one (declares_types ts)) v s k at = pass_to (types_passed ts v s k at) (λ p i. one (declares_types (p i)))
 
   variable_section_passed : (vs : Tree ℕ (maybe variables)) (v : Visit) (s : Scope Name) (k : ℕ) → At v src s k
-      → Passes v (visit_variable_section vs v) (identifiers role.Declaring vs) (declare_names k (variable_names (section_variables (spelled_by src vs))) s) (after_names k (variable_names (section_variables (spelled_by src vs))))
-      (relabel_variable_section as_names label s k (spelled_by src vs) ≡ by_table vs)
+      → Passes v (visit_variable_section vs v) (identifiers role.Declaring vs) (declare_names k (variable_names (section_variables (spelled vs))) s) (after_names k (variable_names (section_variables (spelled vs))))
+      (relabel_variable_section as_names label s k (spelled vs) ≡ by_table vs)
   variable_section_passed none v s k at = pass_to (pass_nothing v s k at) (λ h. refl)
   variable_section_passed (one (declares_variables vs)) v s k at = pass_to (variables_passed vs v s k at) (λ p i. one (declares_variables (p i)))
 
@@ -470,12 +474,12 @@ module _ {M : Type 0} (table : ℕ → Option ℕ) (label : Labels Name M) (src 
 
   mutual
     pub block_passed : (b : Tree ℕ block) (v : Visit) (s : Scope Name) (k : ℕ) → At v src s k
-        → Passes v (visit_block b v) (identifiers role.Declaring b) (body_scope k (spelled_by src b) s) (after_block k (spelled_by src b))
-        (relabel_block as_names label s k (spelled_by src b) ≡ by_table b)
+        → Passes v (visit_block b v) (identifiers role.Declaring b) (body_scope k (spelled b) s) (after_block k (spelled b))
+        (relabel_block as_names label s k (spelled b) ≡ by_table b)
     block_passed (has_body (declares cs ts vs ps) statements) v s k at =
-        let xs = constant_names (section_constants (spelled_by src cs)) in
-        let ys = named_types (section_types (spelled_by src ts)) in
-        let zs = variable_names (section_variables (spelled_by src vs)) in
+        let xs = constant_names (section_constants (spelled cs)) in
+        let ys = named_types (section_types (spelled ts)) in
+        let zs = variable_names (section_variables (spelled vs)) in
         let a = constant_section_passed cs v s k at in
         let v₁ = visit_constant_section cs v in
         let b = type_section_passed ts v₁ (declare_names k xs s) (after_names k xs) a.at in
@@ -483,27 +487,27 @@ module _ {M : Type 0} (table : ℕ → Option ℕ) (label : Labels Name M) (src 
         let c = variable_section_passed vs v₂ (declare_names (after_names k xs) ys (declare_names k xs s)) (after_names (after_names k xs) ys) b.at in
         let v₃ = visit_variable_section vs v₂ in
         let d = procedures_passed ps v₃ (declare_names (after_names (after_names k xs) ys) zs (declare_names (after_names k xs) ys (declare_names k xs s))) (after_names (after_names (after_names k xs) ys) zs) c.at in
-        let e = used_passed statements (visit_procedures ps v₃) (body_scope k (spelled_by src (has_body (declares cs ts vs ps) statements)) s) (after_block k (spelled_by src (has_body (declares cs ts vs ps) statements))) tt d.at in
+        let e = used_passed statements (visit_procedures ps v₃) (body_scope k (spelled (has_body (declares cs ts vs ps) statements)) s) (after_block k (spelled (has_body (declares cs ts vs ps) statements))) tt d.at in
         pass_to (pass_then (pass_then a (pass_then b (pass_then c d))) e)
         (λ p i. has_body (declares (p.first.first i) (p.first.second.first i) (p.first.second.second.first i) (p.first.second.second.second i)) (p.second i))
 
     pub procedures_passed : (ps : Tree ℕ (items procedure)) (v : Visit) (s : Scope Name) (k : ℕ) → At v src s k
-        → Passes v (visit_procedures ps v) (identifiers role.Declaring ps) (declare_procedure_names k (spelled_by src ps) s) (after_procedures k (spelled_by src ps))
-        (relabel_procedures as_names label s k (spelled_by src ps) ≡ by_table ps)
+        → Passes v (visit_procedures ps v) (identifiers role.Declaring ps) (declare_procedure_names k (spelled ps) s) (after_procedures k (spelled ps))
+        (relabel_procedures as_names label s k (spelled ps) ≡ by_table ps)
     procedures_passed end v s k at = pass_to (pass_nothing v s k at) (λ h. refl)
     procedures_passed (more p ps) v s k at =
         let a = procedure_passed p v s k at in
-        pass_to (pass_then a (procedures_passed ps (visit_procedure p v) ((procedure_name (spelled_by src p), k) ∷ s) (after_procedure (suc k) (spelled_by src p)) a.at))
+        pass_to (pass_then a (procedures_passed ps (visit_procedure p v) ((procedure_name (spelled p), k) ∷ s) (after_procedure (suc k) (spelled p)) a.at))
         (λ q i. more (q.first i) (q.second i))
 
     pub procedure_passed : (p : Tree ℕ (item procedure)) (v : Visit) (s : Scope Name) (k : ℕ) → At v src s k
-        → Passes v (visit_procedure p v) (identifiers role.Declaring p) ((procedure_name (spelled_by src p), k) ∷ s) (after_procedure (suc k) (spelled_by src p))
-        (relabel_procedure as_names label s k (spelled_by src p) ≡ by_table p)
+        → Passes v (visit_procedure p v) (identifiers role.Declaring p) ((procedure_name (spelled p), k) ∷ s) (after_procedure (suc k) (spelled p))
+        (relabel_procedure as_names label s k (spelled p) ≡ by_table p)
     procedure_passed (declares_procedure x fs b closing) v s k at =
         let own = length v.declarations in
         let outside = length v.scope in
         let name = name_at src x in
-        let formal = formal_names (formal_sections (spelled_by src fs)) in
+        let formal = formal_names (formal_sections (spelled fs)) in
         let k₁ = after_names (suc k) formal in
         let inside = declare_names (suc k) formal ((name, k) ∷ s) in
         let count : outside ≡ length s = ap length at.scope in
@@ -516,25 +520,30 @@ module _ {M : Type 0} (table : ℕ → Option ℕ) (label : Labels Name M) (src 
         let v₃ = after_heading own outside v₂ in
         let g = block_passed b v₃ inside k₁ h.at in
         let whole = pass_then h g in
-        let e = extends_then (extends_then (one_extends (name, k) s) (names_extend (suc k) formal ((name, k) ∷ s))) (block_extends k₁ (spelled_by src b) inside) in
+        let e = extends_then (extends_then (one_extends (name, k) s) (names_extend (suc k) formal ((name, k) ∷ s))) (block_extends k₁ (spelled b) inside) in
         let following = left_passed outside count e whole in
-        let low : k < after_block k₁ (spelled_by src b) = omega (arith, le-after_names (suc k) formal, le-after_block k₁ (spelled_by src b)) in
-        let shown_again : At (leave_block x (7 + own) outside (visit_block b v₃)) src ((name, k) ∷ s) (after_block k₁ (spelled_by src b)) =
+        let low : k < after_block k₁ (spelled b) = omega (arith, le-after_names (suc k) formal, le-after_block k₁ (spelled b)) in
+        let shown_again : At (leave_block x (7 + own) outside (visit_block b v₃)) src ((name, k) ∷ s) (after_block k₁ (spelled b)) =
         record { writing = following.at.writing; scope = (λ i. (name_at (following.at.writing i) x, at.next i) ∷ following.at.scope i); next = following.at.next; before = (low, following.at.before) } in
-        let visible : Passes v (leave_block x (7 + own) outside (visit_block b v₃)) (((role.Declaring, x) ∷ identifiers role.Declaring fs) ++ identifiers role.Declaring b) ((name, k) ∷ s) (after_block k₁ (spelled_by src b)) _ =
+        let visible : Passes v (leave_block x (7 + own) outside (visit_block b v₃)) (((role.Declaring, x) ∷ identifiers role.Declaring fs) ++ identifiers role.Declaring b) ((name, k) ∷ s) (after_block k₁ (spelled b)) _ =
         record { at = shown_again; declared = following.declared; used = following.used; tokens = following.tokens; agree = following.agree; in_order = following.in_order } in
-        let last = mark_passed role.ClosingName closing (Some (7 + own)) (leave_block x (7 + own) outside (visit_block b v₃)) ((name, k) ∷ s) (after_block k₁ (spelled_by src b)) refl refl (omega (arith, low, at.next)) shown_again in
+        let last = mark_passed role.ClosingName closing (Some (7 + own)) (leave_block x (7 + own) outside (visit_block b v₃)) ((name, k) ∷ s) (after_block k₁ (spelled b)) refl refl (omega (arith, low, at.next)) shown_again in
         pass_is (append_assoc ((role.Declaring, x) ∷ identifiers role.Declaring fs) (identifiers role.Declaring b) ((role.ClosingName, closing) ∷ []) ∙ append_assoc ((role.Declaring, x) ∷ []) (identifiers role.Declaring fs) (identifiers role.Declaring b ++ ((role.ClosingName, closing) ∷ []))) refl refl
         (pass_to (pass_then visible last)
         (λ p i. declares_procedure (label (sym p.first.first.first i) name) (p.first.first.second i) (p.first.second i) (label (sym (p.second ∙ ap Some at.next) i) (name_at src closing))))
 
-  pub module_passed : (m : Tree ℕ module_text) (v : Visit) → At v src (predeclared_scope as_names) 7
-      → Passes v (visit_module m v) (identifiers role.Declaring m) (body_scope 7 (module_block (spelled_by src m)) (predeclared_scope as_names)) (after_block 7 (module_block (spelled_by src m)))
-      (relabelled as_names label (spelled_by src m) ≡ by_table m)
-  module_passed (is_module x b closing) v at =
+  pub module_passed_with : (m : Tree ℕ module_text) (v : Visit) → At v src (predeclared_scope as_names) 7
+      → Passes v (visit_module m v) (identifiers role.Declaring m) (body_scope 7 (module_block (spelled m)) (predeclared_scope as_names)) (after_block 7 (module_block (spelled m)))
+      (relabelled as_names label (spelled m) ≡ by_table m)
+  module_passed_with (is_module x b closing) v at =
       let s = predeclared_scope as_names in
       let a = mark_passed role.ModuleName x None v s 7 refl refl tt at in
       let g = block_passed b (marked x None v) s 7 a.at in
-      let last = mark_passed role.ModuleName closing None (visit_block b (marked x None v)) (body_scope 7 (spelled_by src b) s) (after_block 7 (spelled_by src b)) refl refl tt g.at in
+      let last = mark_passed role.ModuleName closing None (visit_block b (marked x None v)) (body_scope 7 (spelled b) s) (after_block 7 (spelled b)) refl refl tt g.at in
       pass_to (pass_then a (pass_then g last))
       (λ p i. is_module (label (sym p.first i) (name_at src x)) (p.second.first i) (label (sym p.second.second i) (name_at src closing)))
+
+pub module_passed : {M : Type 0} (table : ℕ → Option ℕ) (label : Labels Name M) (src : Writing) (m : Tree ℕ module_text) (v : Visit) → At v src (predeclared_scope as_names) 7
+    → Passed table src v (visit_module m v) (identifiers role.Declaring m) (body_scope 7 (module_block (spelled_by src m)) (predeclared_scope as_names)) (after_block 7 (module_block (spelled_by src m)))
+    (relabelled as_names label (spelled_by src m) ≡ mapped (λ i. label (table i) (name_at src i)) (value_at src.source) m)
+module_passed table label src = module_passed_with table label src (value_at src.source)

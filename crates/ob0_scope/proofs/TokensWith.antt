@@ -30,11 +30,11 @@ marks_same : (f g : ℕ → Option ℕ) (ms : List OrdinalMark) → map f (token
 marks_same f g [] e h = tt
 marks_same f g (m ∷ ms) e h = (sym (ap (λ l. get_or l 0 None) e) ∙ h.0, marks_same f g ms (ap (drop 1) e) h.1)
 
-in_order : (r : Resolution) → IsResolution r → AreInOrder (ordinal_in r.ordinals) 7 (identifiers role.Declaring (tree_of r.module_read))
-in_order r is =
+-- the table of a resolution has all marks of its module
+pub marks_resolved : (r : Resolution) → IsResolution r → HasMarks (ordinal_in r.ordinals) (visit_module (tree_of r.module_read) (started (as_in r.module_read.source))).marks
+marks_resolved r is =
     let m = r.module_read in
     let w = as_in m.source in
-    let ids = identifiers role.Declaring (tree_of m) in
     let marks = (visit_module (tree_of m) (started w)).marks in
     let made = with_marks (replicate (length m.source.tokens) None) marks in
     let stand = marks_in_table m w (visit_module (tree_of m) (started w)) made is.parsed refl refl in
@@ -43,8 +43,14 @@ in_order r is =
     let read : (ordinals : List (Option ℕ)) → map label_ordinal (leaves (mapped (label_at m.source ordinals) (value_at m.source) (tree_of m))) ≡ map (ordinal_in ordinals) (leaves (tree_of m)) =
     λ ordinals. ap (map label_ordinal) (leaves-mapped (label_at m.source ordinals) (value_at m.source) (tree_of m)) ∙ ordinals_back (λ i. text_at m.source i) ordinals (leaves (tree_of m)) in
     let each : map (ordinal_in made) (leaves (tree_of m)) ≡ map (ordinal_in r.ordinals) (leaves (tree_of m)) = sym (read made) ∙ (ap (λ t. map label_ordinal (leaves t)) same ∙ read r.ordinals) in
-    let there = marks_same (ordinal_in made) (ordinal_in r.ordinals) marks (subst (λ ts. map (ordinal_in made) ts ≡ map (ordinal_in r.ordinals) ts) (sym passed.tokens) each) stand in
-    let all = (module_passed (ordinal_in r.ordinals) (as_label as_names) w (tree_of m) (started w) (at_start w)).in_order there [] tt in
+    marks_same (ordinal_in made) (ordinal_in r.ordinals) marks (subst (λ ts. map (ordinal_in made) ts ≡ map (ordinal_in r.ordinals) ts) (sym passed.tokens) each) stand
+
+in_order : (r : Resolution) → IsResolution r → AreInOrder (ordinal_in r.ordinals) 7 (identifiers role.Declaring (tree_of r.module_read))
+in_order r is =
+    let m = r.module_read in
+    let w = as_in m.source in
+    let ids = identifiers role.Declaring (tree_of m) in
+    let all = (module_passed (ordinal_in r.ordinals) (as_label as_names) w (tree_of m) (started w) (at_start w)).in_order (marks_resolved r is) [] tt in
     subst (AreInOrder (ordinal_in r.ordinals) 7) (append-nil ids) all
 
 -- ---- what a table has at identifiers that ascend, and nowhere else

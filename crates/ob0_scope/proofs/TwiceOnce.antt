@@ -1,13 +1,13 @@
 -- Faults of declarations are reported exactly where a name is declared twice or a closing name differs.
-use Rattle.std.proofs.Common.{◌≡◌, ℕ, Bool, true, false, not, ◌&&◌, ◌||◌, List, [], ◌∷◌, ◌++◌, map, refl, ap, ◌∙◌}
+use Rattle.std.proofs.Common.{◌≡◌, ℕ, Bool, true, false, not, ◌&&◌, ◌||◌, List, [], ◌∷◌, ◌++◌, map, refl, sym, ap, ◌∙◌}
 use Rattle.std.proofs.lemmas.List.{map-append}
 use Rattle.std.proofs.lemmas.List.Folds.{list_any-append}
 use Rattle.std.specs.List.{list_any}
 use Rattle.ob0_scan.specs.declared.fault.Fault.{Fault}
 use Rattle.ob0_scan.specs.Scanned.{Scanned}
 use Rattle.ob0_tree.specs.Parsed.{Parsed, named_tree_of, tree_of}
-use Rattle.ob0_tree.specs.Places.{named, text_at}
-use Rattle.ob0_tree.specs.Tree.{Tree, array_type, block, body, constant, constants, declares, declares_constant, declares_constants, declares_procedure, declares_type, declares_types, declares_variable, declares_variables, end, fields, formals, further_fields, further_name, further_section, has_body, is_module, item, items, listed, maybe, module_text, more, named_type, names, no_fields, no_formals, none, one, procedure, record_type, section, some_fields, some_formals, then_fields, then_name, then_section, type_name, type_names, value_section, variable, variable_section, variables, written_type}
+use Rattle.ob0_tree.specs.Places.{text_at, value_at}
+use Rattle.ob0_tree.specs.Tree.{Sort, Tree, mapped, array_type, block, body, constant, constants, declares, declares_constant, declares_constants, declares_procedure, declares_type, declares_types, declares_variable, declares_variables, end, fields, formals, further_fields, further_name, further_section, has_body, is_module, item, items, listed, maybe, module_text, more, named_type, names, no_fields, no_formals, none, one, procedure, record_type, section, some_fields, some_formals, then_fields, then_name, then_section, type_name, type_names, value_section, variable, variable_section, variables, written_type}
 use Rattle.ob0_scope_rules.specs.DeclaredOnce.{are_distinct, block_names, block_once, declared_once, fields_once, formals_once, group_fields, group_once, groups_fields, groups_once, is_among, procedure_names, procedure_once, procedures_once, types_once, variables_once}
 use Rattle.ob0_scope_rules.specs.DeclaredTwice.{again, block_twice, closing_other, duplicate_at, end_name_at, fields_twice, formals_twice, group_twice, groups_twice, module_twice, procedure_twice, procedures_twice, twice_in, types_twice, unless, variables_twice}
 use Rattle.ob0_scope_rules.specs.Names.{Name, same_name}
@@ -70,63 +70,6 @@ distinct_apart before (x ∷ xs) =
 distinct_alone : (xs : List Name) → distinct_from [] xs ≡ are_distinct xs
 distinct_alone xs = distinct_apart [] xs ∙ (ap (λ b. are_distinct xs && b) (none_before xs) ∙ and_true (are_distinct xs))
 
--- names and parts of a tree, by their texts
-names_texts : (src : Scanned) (ns : Tree ℕ names) → map (text_at src) (names_listed ns) ≡ names_listed (named src ns)
-names_texts src (listed x rest) = ap (λ l. text_at src x ∷ l) (further_texts rest)
-  where
-    further_texts : (ns : Tree ℕ (items further_name)) → map (text_at src) (further_names ns) ≡ further_names (named src ns)
-    further_texts end = refl
-    further_texts (more (then_name x) rest) = ap (λ l. text_at src x ∷ l) (further_texts rest)
-
-group_texts : (src : Scanned) (g : Tree ℕ fields) → map (text_at src) (group_fields g) ≡ group_fields (named src g)
-group_texts src no_fields = refl
-group_texts src (some_fields ns t) = names_texts src ns
-
-groups_texts : (src : Scanned) (gs : Tree ℕ (items further_fields)) → map (text_at src) (groups_fields gs) ≡ groups_fields (named src gs)
-groups_texts src end = refl
-groups_texts src (more (then_fields g) rest) = map-append (text_at src) (group_fields g) (groups_fields rest) ∙ (λ i. group_texts src g i ++ groups_texts src rest i)
-
-constants_texts : (src : Scanned) (cs : Tree ℕ (items constant)) → map (text_at src) (constant_names cs) ≡ constant_names (named src cs)
-constants_texts src end = refl
-constants_texts src (more (declares_constant x e) rest) = ap (λ l. text_at src x ∷ l) (constants_texts src rest)
-
-constant_section_texts : (src : Scanned) (cs : Tree ℕ (maybe constants)) → map (text_at src) (constant_names (section_constants cs)) ≡ constant_names (section_constants (named src cs))
-constant_section_texts src none = refl
-constant_section_texts src (one (declares_constants cs)) = constants_texts src cs
-
-types_texts : (src : Scanned) (ts : Tree ℕ (items type_name)) → map (text_at src) (named_types ts) ≡ named_types (named src ts)
-types_texts src end = refl
-types_texts src (more (declares_type x t) rest) = ap (λ l. text_at src x ∷ l) (types_texts src rest)
-
-type_section_texts : (src : Scanned) (ts : Tree ℕ (maybe type_names)) → map (text_at src) (named_types (section_types ts)) ≡ named_types (section_types (named src ts))
-type_section_texts src none = refl
-type_section_texts src (one (declares_types ts)) = types_texts src ts
-
-variables_texts : (src : Scanned) (gs : Tree ℕ (items variable)) → map (text_at src) (variable_names gs) ≡ variable_names (named src gs)
-variables_texts src end = refl
-variables_texts src (more (declares_variable ns t) rest) = map-append (text_at src) (names_listed ns) (variable_names rest) ∙ (λ i. names_texts src ns i ++ variables_texts src rest i)
-
-variable_section_texts : (src : Scanned) (vs : Tree ℕ (maybe variables)) → map (text_at src) (variable_names (section_variables vs)) ≡ variable_names (section_variables (named src vs))
-variable_section_texts src none = refl
-variable_section_texts src (one (declares_variables vs)) = variables_texts src vs
-
-section_texts : (src : Scanned) (f : Tree ℕ section) → map (text_at src) (section_names f) ≡ section_names (named src f)
-section_texts src (value_section ns t) = names_texts src ns
-section_texts src (variable_section ns t) = names_texts src ns
-
-sections_texts : (src : Scanned) (fs : Tree ℕ (items further_section)) → map (text_at src) (formal_names fs) ≡ formal_names (named src fs)
-sections_texts src end = refl
-sections_texts src (more (then_section f) rest) = map-append (text_at src) (section_names f) (formal_names rest) ∙ (λ i. section_texts src f i ++ sections_texts src rest i)
-
-formals_texts : (src : Scanned) (fs : Tree ℕ (maybe formals)) → map (text_at src) (formal_names (formal_sections fs)) ≡ formal_names (formal_sections (named src fs))
-formals_texts src none = refl
-formals_texts src (one no_formals) = refl
-formals_texts src (one (some_formals f rest)) = sections_texts src (more (then_section f) rest)
-
-procedures_texts : (src : Scanned) (ps : Tree ℕ (items procedure)) → map (text_at src) (procedure_names ps) ≡ procedure_names (named src ps)
-procedures_texts src end = refl
-procedures_texts src (more (declares_procedure x fs b closing) rest) = ap (λ l. text_at src x ∷ l) (procedures_texts src rest)
-
 five_texts : (text : ℕ → Name) (a b c d e : List ℕ) → map text (a ++ (b ++ (c ++ (d ++ e)))) ≡ map text a ++ (map text b ++ (map text c ++ (map text d ++ map text e)))
 five_texts text a b c d e =
     map-append text a (b ++ (c ++ (d ++ e))) ∙ ap (λ z. map text a ++ z) (map-append text b (c ++ (d ++ e)) ∙ ap (λ z. map text b ++ z) (map-append text c (d ++ e) ∙ ap (λ z. map text c ++ z) (map-append text d e)))
@@ -160,99 +103,165 @@ again-fine source before (x ∷ xs) =
 names-fine : (source : Scanned) (xs : List ℕ) (ys : List Name) → map (text_at source) xs ≡ ys → fine (again source [] xs) ≡ are_distinct ys
 names-fine source xs ys e = again-fine source [] xs ∙ (ap (distinct_from []) e ∙ distinct_alone ys)
 
-mutual
-  fields-fine : (source : Scanned) (t : Tree ℕ written_type) → fine (fields_twice source t) ≡ fields_once (named source t)
-  fields-fine source (named_type x) = refl
-  fields-fine source (array_type e t) = fields-fine source t
-  fields-fine source (record_type g rest) =
-      fine_both (again source [] (group_fields g ++ groups_fields rest)) (group_twice source g ++ groups_twice source rest)
-      (are_distinct (group_fields (named source g) ++ groups_fields (named source rest))) (group_once (named source g) && groups_once (named source rest))
-      (names-fine source (group_fields g ++ groups_fields rest) (group_fields (named source g) ++ groups_fields (named source rest)) (groups_texts source (more (then_fields g) rest)))
-      (fine_both (group_twice source g) (groups_twice source rest) (group_once (named source g)) (groups_once (named source rest)) (group-fine source g) (groups-fine source rest))
+-- the numbers of a tree don't matter
+module _ (value : ℕ → ℕ) where
+  abbrev named : {s : Sort} → Scanned → Tree ℕ s → Tree Name s
+  named src t = mapped (text_at src) value t
 
-  group-fine : (source : Scanned) (g : Tree ℕ fields) → fine (group_twice source g) ≡ group_once (named source g)
-  group-fine source no_fields = refl
-  group-fine source (some_fields ns t) = fields-fine source t
+  -- names and parts of a tree, by their texts
+  names_texts : (src : Scanned) (ns : Tree ℕ names) → map (text_at src) (names_listed ns) ≡ names_listed (named src ns)
+  names_texts src (listed x rest) = ap (λ l. text_at src x ∷ l) (further_texts rest)
+    where
+      further_texts : (ns : Tree ℕ (items further_name)) → map (text_at src) (further_names ns) ≡ further_names (named src ns)
+      further_texts end = refl
+      further_texts (more (then_name x) rest) = ap (λ l. text_at src x ∷ l) (further_texts rest)
 
-  groups-fine : (source : Scanned) (gs : Tree ℕ (items further_fields)) → fine (groups_twice source gs) ≡ groups_once (named source gs)
-  groups-fine source end = refl
-  groups-fine source (more (then_fields g) rest) = fine_both (group_twice source g) (groups_twice source rest) (group_once (named source g)) (groups_once (named source rest)) (group-fine source g) (groups-fine source rest)
+  group_texts : (src : Scanned) (g : Tree ℕ fields) → map (text_at src) (group_fields g) ≡ group_fields (named src g)
+  group_texts src no_fields = refl
+  group_texts src (some_fields ns t) = names_texts src ns
 
-types-fine : (source : Scanned) (ds : Tree ℕ (items type_name)) → fine (types_twice source ds) ≡ types_once (named source ds)
-types-fine source end = refl
-types-fine source (more (declares_type x t) ds) = fine_both (fields_twice source t) (types_twice source ds) (fields_once (named source t)) (types_once (named source ds)) (fields-fine source t) (types-fine source ds)
+  groups_texts : (src : Scanned) (gs : Tree ℕ (items further_fields)) → map (text_at src) (groups_fields gs) ≡ groups_fields (named src gs)
+  groups_texts src end = refl
+  groups_texts src (more (then_fields g) rest) = map-append (text_at src) (group_fields g) (groups_fields rest) ∙ (λ i. group_texts src g i ++ groups_texts src rest i)
 
-type_section-fine : (source : Scanned) (ts : Tree ℕ (maybe type_names)) → fine (types_twice source (section_types ts)) ≡ types_once (section_types (named source ts))
-type_section-fine source none = refl
-type_section-fine source (one (declares_types ts)) = types-fine source ts
+  constants_texts : (src : Scanned) (cs : Tree ℕ (items constant)) → map (text_at src) (constant_names cs) ≡ constant_names (named src cs)
+  constants_texts src end = refl
+  constants_texts src (more (declares_constant x e) rest) = ap (λ l. text_at src x ∷ l) (constants_texts src rest)
 
-variables-fine : (source : Scanned) (gs : Tree ℕ (items variable)) → fine (variables_twice source gs) ≡ variables_once (named source gs)
-variables-fine source end = refl
-variables-fine source (more (declares_variable ns t) gs) = fine_both (fields_twice source t) (variables_twice source gs) (fields_once (named source t)) (variables_once (named source gs)) (fields-fine source t) (variables-fine source gs)
+  constant_section_texts : (src : Scanned) (cs : Tree ℕ (maybe constants)) → map (text_at src) (constant_names (section_constants cs)) ≡ constant_names (section_constants (named src cs))
+  constant_section_texts src none = refl
+  constant_section_texts src (one (declares_constants cs)) = constants_texts src cs
 
-variable_section-fine : (source : Scanned) (vs : Tree ℕ (maybe variables)) → fine (variables_twice source (section_variables vs)) ≡ variables_once (section_variables (named source vs))
-variable_section-fine source none = refl
-variable_section-fine source (one (declares_variables vs)) = variables-fine source vs
+  types_texts : (src : Scanned) (ts : Tree ℕ (items type_name)) → map (text_at src) (named_types ts) ≡ named_types (named src ts)
+  types_texts src end = refl
+  types_texts src (more (declares_type x t) rest) = ap (λ l. text_at src x ∷ l) (types_texts src rest)
 
-section-fine : (source : Scanned) (s : Tree ℕ section) → fine (fields_twice source (section_type s)) ≡ fields_once (section_type (named source s))
-section-fine source (value_section ns t) = fields-fine source t
-section-fine source (variable_section ns t) = fields-fine source t
+  type_section_texts : (src : Scanned) (ts : Tree ℕ (maybe type_names)) → map (text_at src) (named_types (section_types ts)) ≡ named_types (section_types (named src ts))
+  type_section_texts src none = refl
+  type_section_texts src (one (declares_types ts)) = types_texts src ts
 
-sections-fine : (source : Scanned) (fs : Tree ℕ (items further_section)) → fine (formals_twice source fs) ≡ formals_once (named source fs)
-sections-fine source end = refl
-sections-fine source (more (then_section s) fs) = fine_both (fields_twice source (section_type s)) (formals_twice source fs) (fields_once (section_type (named source s))) (formals_once (named source fs)) (section-fine source s) (sections-fine source fs)
+  variables_texts : (src : Scanned) (gs : Tree ℕ (items variable)) → map (text_at src) (variable_names gs) ≡ variable_names (named src gs)
+  variables_texts src end = refl
+  variables_texts src (more (declares_variable ns t) rest) = map-append (text_at src) (names_listed ns) (variable_names rest) ∙ (λ i. names_texts src ns i ++ variables_texts src rest i)
 
-formals-fine : (source : Scanned) (fs : Tree ℕ (maybe formals)) → fine (formals_twice source (formal_sections fs)) ≡ formals_once (formal_sections (named source fs))
-formals-fine source none = refl
-formals-fine source (one no_formals) = refl
-formals-fine source (one (some_formals s fs)) = sections-fine source (more (then_section s) fs)
+  variable_section_texts : (src : Scanned) (vs : Tree ℕ (maybe variables)) → map (text_at src) (variable_names (section_variables vs)) ≡ variable_names (section_variables (named src vs))
+  variable_section_texts src none = refl
+  variable_section_texts src (one (declares_variables vs)) = variables_texts src vs
 
-block_texts : (source : Scanned) (own : List ℕ) (cs : Tree ℕ (maybe constants)) (ts : Tree ℕ (maybe type_names)) (vs : Tree ℕ (maybe variables)) (ps : Tree ℕ (items procedure)) (statements : Tree ℕ (maybe body))
-    → map (text_at source) (own ++ block_names (has_body (declares cs ts vs ps) statements)) ≡ map (text_at source) own ++ block_names (named source (has_body (declares cs ts vs ps) statements))
-block_texts source own cs ts vs ps statements =
-    five_texts (text_at source) own (constant_names (section_constants cs)) (named_types (section_types ts)) (variable_names (section_variables vs)) (procedure_names ps)
-    ∙ (λ i. map (text_at source) own ++ (constant_section_texts source cs i ++ (type_section_texts source ts i ++ (variable_section_texts source vs i ++ procedures_texts source ps i))))
+  section_texts : (src : Scanned) (f : Tree ℕ section) → map (text_at src) (section_names f) ≡ section_names (named src f)
+  section_texts src (value_section ns t) = names_texts src ns
+  section_texts src (variable_section ns t) = names_texts src ns
 
-mutual
-  block-fine : (source : Scanned) (own : List ℕ) (b : Tree ℕ block) → fine (block_twice source own b) ≡ block_once (map (text_at source) own) (named source b)
-  block-fine source own (has_body (declares cs ts vs ps) statements) =
-      let names = own ++ block_names (has_body (declares cs ts vs ps) statements) in
-      let T = types_twice source (section_types ts) in
-      let V = variables_twice source (section_variables vs) in
-      let P = procedures_twice source ps in
-      let t = types_once (section_types (named source ts)) in
-      let v = variables_once (section_variables (named source vs)) in
-      let p = procedures_once (named source ps) in
-      fine_both (again source [] names) (T ++ (V ++ P)) (are_distinct (map (text_at source) own ++ block_names (named source (has_body (declares cs ts vs ps) statements)))) (t && (v && p))
-      (names-fine source names (map (text_at source) own ++ block_names (named source (has_body (declares cs ts vs ps) statements))) (block_texts source own cs ts vs ps statements))
-      (fine_both T (V ++ P) t (v && p) (type_section-fine source ts) (fine_both V P v p (variable_section-fine source vs) (procedures-fine source ps)))
+  sections_texts : (src : Scanned) (fs : Tree ℕ (items further_section)) → map (text_at src) (formal_names fs) ≡ formal_names (named src fs)
+  sections_texts src end = refl
+  sections_texts src (more (then_section f) rest) = map-append (text_at src) (section_names f) (formal_names rest) ∙ (λ i. section_texts src f i ++ sections_texts src rest i)
 
-  procedures-fine : (source : Scanned) (ps : Tree ℕ (items procedure)) → fine (procedures_twice source ps) ≡ procedures_once (named source ps)
-  procedures-fine source end = refl
-  procedures-fine source (more p rest) = fine_both (procedure_twice source p) (procedures_twice source rest) (procedure_once (named source p)) (procedures_once (named source rest)) (procedure-fine source p) (procedures-fine source rest)
+  formals_texts : (src : Scanned) (fs : Tree ℕ (maybe formals)) → map (text_at src) (formal_names (formal_sections fs)) ≡ formal_names (formal_sections (named src fs))
+  formals_texts src none = refl
+  formals_texts src (one no_formals) = refl
+  formals_texts src (one (some_formals f rest)) = sections_texts src (more (then_section f) rest)
 
-  procedure-fine : (source : Scanned) (p : Tree ℕ (item procedure)) → fine (procedure_twice source p) ≡ procedure_once (named source p)
-  procedure-fine source (declares_procedure x fs b closing) =
-      let C = closing_other source x closing in
-      let F = formals_twice source (formal_sections fs) in
-      let B = block_twice source (formal_names (formal_sections fs)) b in
-      let c = same_name (text_at source x) (text_at source closing) in
-      let f = formals_once (formal_sections (named source fs)) in
-      let d = block_once (formal_names (formal_sections (named source fs))) (named source b) in
-      fine_both C (F ++ B) c (f && d) (fine_closing source closing c)
-      (fine_both F B f d (formals-fine source fs) (block-fine source (formal_names (formal_sections fs)) b ∙ ap (λ ns. block_once ns (named source b)) (formals_texts source fs)))
+  procedures_texts : (src : Scanned) (ps : Tree ℕ (items procedure)) → map (text_at src) (procedure_names ps) ≡ procedure_names (named src ps)
+  procedures_texts src end = refl
+  procedures_texts src (more (declares_procedure x fs b closing) rest) = ap (λ l. text_at src x ∷ l) (procedures_texts src rest)
 
-module-fine : (source : Scanned) (t : Tree ℕ module_text) → fine (module_twice source t) ≡ declared_once (named source t)
-module-fine source (is_module x b closing) =
-    fine_both (closing_other source x closing) (block_twice source [] b) (same_name (text_at source x) (text_at source closing)) (block_once [] (named source b))
-    (fine_closing source closing (same_name (text_at source x) (text_at source closing))) (block-fine source [] b)
+  mutual
+    fields-fine : (source : Scanned) (t : Tree ℕ written_type) → fine (fields_twice source t) ≡ fields_once (named source t)
+    fields-fine source (named_type x) = refl
+    fields-fine source (array_type e t) = fields-fine source t
+    fields-fine source (record_type g rest) =
+        fine_both (again source [] (group_fields g ++ groups_fields rest)) (group_twice source g ++ groups_twice source rest)
+        (are_distinct (group_fields (named source g) ++ groups_fields (named source rest))) (group_once (named source g) && groups_once (named source rest))
+        (names-fine source (group_fields g ++ groups_fields rest) (group_fields (named source g) ++ groups_fields (named source rest)) (groups_texts source (more (then_fields g) rest)))
+        (fine_both (group_twice source g) (groups_twice source rest) (group_once (named source g)) (groups_once (named source rest)) (group-fine source g) (groups-fine source rest))
+
+    group-fine : (source : Scanned) (g : Tree ℕ fields) → fine (group_twice source g) ≡ group_once (named source g)
+    group-fine source no_fields = refl
+    group-fine source (some_fields ns t) = fields-fine source t
+
+    groups-fine : (source : Scanned) (gs : Tree ℕ (items further_fields)) → fine (groups_twice source gs) ≡ groups_once (named source gs)
+    groups-fine source end = refl
+    groups-fine source (more (then_fields g) rest) = fine_both (group_twice source g) (groups_twice source rest) (group_once (named source g)) (groups_once (named source rest)) (group-fine source g) (groups-fine source rest)
+
+  types-fine : (source : Scanned) (ds : Tree ℕ (items type_name)) → fine (types_twice source ds) ≡ types_once (named source ds)
+  types-fine source end = refl
+  types-fine source (more (declares_type x t) ds) = fine_both (fields_twice source t) (types_twice source ds) (fields_once (named source t)) (types_once (named source ds)) (fields-fine source t) (types-fine source ds)
+
+  type_section-fine : (source : Scanned) (ts : Tree ℕ (maybe type_names)) → fine (types_twice source (section_types ts)) ≡ types_once (section_types (named source ts))
+  type_section-fine source none = refl
+  type_section-fine source (one (declares_types ts)) = types-fine source ts
+
+  variables-fine : (source : Scanned) (gs : Tree ℕ (items variable)) → fine (variables_twice source gs) ≡ variables_once (named source gs)
+  variables-fine source end = refl
+  variables-fine source (more (declares_variable ns t) gs) = fine_both (fields_twice source t) (variables_twice source gs) (fields_once (named source t)) (variables_once (named source gs)) (fields-fine source t) (variables-fine source gs)
+
+  variable_section-fine : (source : Scanned) (vs : Tree ℕ (maybe variables)) → fine (variables_twice source (section_variables vs)) ≡ variables_once (section_variables (named source vs))
+  variable_section-fine source none = refl
+  variable_section-fine source (one (declares_variables vs)) = variables-fine source vs
+
+  section-fine : (source : Scanned) (s : Tree ℕ section) → fine (fields_twice source (section_type s)) ≡ fields_once (section_type (named source s))
+  section-fine source (value_section ns t) = fields-fine source t
+  section-fine source (variable_section ns t) = fields-fine source t
+
+  sections-fine : (source : Scanned) (fs : Tree ℕ (items further_section)) → fine (formals_twice source fs) ≡ formals_once (named source fs)
+  sections-fine source end = refl
+  sections-fine source (more (then_section s) fs) = fine_both (fields_twice source (section_type s)) (formals_twice source fs) (fields_once (section_type (named source s))) (formals_once (named source fs)) (section-fine source s) (sections-fine source fs)
+
+  formals-fine : (source : Scanned) (fs : Tree ℕ (maybe formals)) → fine (formals_twice source (formal_sections fs)) ≡ formals_once (formal_sections (named source fs))
+  formals-fine source none = refl
+  formals-fine source (one no_formals) = refl
+  formals-fine source (one (some_formals s fs)) = sections-fine source (more (then_section s) fs)
+
+  block_texts : (source : Scanned) (own : List ℕ) (cs : Tree ℕ (maybe constants)) (ts : Tree ℕ (maybe type_names)) (vs : Tree ℕ (maybe variables)) (ps : Tree ℕ (items procedure)) (statements : Tree ℕ (maybe body))
+      → map (text_at source) (own ++ block_names (has_body (declares cs ts vs ps) statements)) ≡ map (text_at source) own ++ block_names (named source (has_body (declares cs ts vs ps) statements))
+  block_texts source own cs ts vs ps statements =
+      five_texts (text_at source) own (constant_names (section_constants cs)) (named_types (section_types ts)) (variable_names (section_variables vs)) (procedure_names ps)
+      ∙ (λ i. map (text_at source) own ++ (constant_section_texts source cs i ++ (type_section_texts source ts i ++ (variable_section_texts source vs i ++ procedures_texts source ps i))))
+
+  mutual
+    block-fine : (source : Scanned) (own : List ℕ) (b : Tree ℕ block) → fine (block_twice source own b) ≡ block_once (map (text_at source) own) (named source b)
+    block-fine source own (has_body (declares cs ts vs ps) statements) =
+        let names = own ++ block_names (has_body (declares cs ts vs ps) statements) in
+        let T = types_twice source (section_types ts) in
+        let V = variables_twice source (section_variables vs) in
+        let P = procedures_twice source ps in
+        let t = types_once (section_types (named source ts)) in
+        let v = variables_once (section_variables (named source vs)) in
+        let p = procedures_once (named source ps) in
+        fine_both (again source [] names) (T ++ (V ++ P)) (are_distinct (map (text_at source) own ++ block_names (named source (has_body (declares cs ts vs ps) statements)))) (t && (v && p))
+        (names-fine source names (map (text_at source) own ++ block_names (named source (has_body (declares cs ts vs ps) statements))) (block_texts source own cs ts vs ps statements))
+        (fine_both T (V ++ P) t (v && p) (type_section-fine source ts) (fine_both V P v p (variable_section-fine source vs) (procedures-fine source ps)))
+
+    procedures-fine : (source : Scanned) (ps : Tree ℕ (items procedure)) → fine (procedures_twice source ps) ≡ procedures_once (named source ps)
+    procedures-fine source end = refl
+    procedures-fine source (more p rest) = fine_both (procedure_twice source p) (procedures_twice source rest) (procedure_once (named source p)) (procedures_once (named source rest)) (procedure-fine source p) (procedures-fine source rest)
+
+    procedure-fine : (source : Scanned) (p : Tree ℕ (item procedure)) → fine (procedure_twice source p) ≡ procedure_once (named source p)
+    procedure-fine source (declares_procedure x fs b closing) =
+        let C = closing_other source x closing in
+        let F = formals_twice source (formal_sections fs) in
+        let B = block_twice source (formal_names (formal_sections fs)) b in
+        let c = same_name (text_at source x) (text_at source closing) in
+        let f = formals_once (formal_sections (named source fs)) in
+        let d = block_once (formal_names (formal_sections (named source fs))) (named source b) in
+        fine_both C (F ++ B) c (f && d) (fine_closing source closing c)
+        (fine_both F B f d (formals-fine source fs) (block-fine source (formal_names (formal_sections fs)) b ∙ ap (λ ns. block_once ns (named source b)) (formals_texts source fs)))
+
+  module-fine : (source : Scanned) (t : Tree ℕ module_text) → fine (module_twice source t) ≡ declared_once (named source t)
+  module-fine source (is_module x b closing) =
+      fine_both (closing_other source x closing) (block_twice source [] b) (same_name (text_at source x) (text_at source closing)) (block_once [] (named source b))
+      (fine_closing source closing (same_name (text_at source x) (text_at source closing))) (block-fine source [] b)
 
 not_not : (a b : Bool) → not a ≡ b → a ≡ not b
 not_not true b e = ap not e
 not_not false b e = ap not e
 
 pub twice_where : (m : Parsed) → list_any is_of_declarations (twice_in m) ≡ not (declared_once (named_tree_of m))
-twice_where m = not_not (list_any is_of_declarations (twice_in m)) (declared_once (named_tree_of m)) (module-fine m.source (tree_of m))
+twice_where m = not_not (list_any is_of_declarations (twice_in m)) (declared_once (named_tree_of m)) (module-fine (value_at m.source) m.source (tree_of m))
+
+-- nothing is reported of a tree as far as its names, read from a text, are declared once, whatever its numbers
+pub once_with : (source : Scanned) (f g : ℕ → ℕ) (t : Tree ℕ module_text) → declared_once (mapped (text_at source) f t) ≡ declared_once (mapped (text_at source) g t)
+once_with source f g t = sym (module-fine f source t) ∙ module-fine g source t
 
 -- ---- nothing else is reported
 

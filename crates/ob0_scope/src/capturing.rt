@@ -28,8 +28,8 @@ pub enum FirstCapture {
     Occurrence(usize),
 }
 
-/// Where another name for a declaration isn't free, if it isn't: where another declaration of its block has the name, or
-/// an occurrence would be bound to another declaration than it is. None where the name is free.
+/// Where another name for a declaration isn't free, if it isn't: where another declaration of its block has the name,
+/// or an occurrence would be bound to another declaration than it is. None where the name is free.
 pub fn captures(
     alloc: Global,
     names: &Resolved,

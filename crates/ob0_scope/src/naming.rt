@@ -20,8 +20,8 @@ pub struct Named {
     pub ordinal: usize,
 }
 
-/// The name that a place of the text is on, where it lies in the name or at its end, predeclared names too. A closing name
-/// of a procedure is the procedure's. None at a field, at the module's name and at a name that nothing binds.
+/// The name that a place of the text is on, where it lies in the name or at its end, predeclared names too. A closing
+/// name of a procedure is the procedure's. None at a field, at the module's name and at a name that nothing binds.
 pub fn name_at(names: &Resolved, offset: usize) -> Option<Named>
     ensures { result ≡ name_on names.now.module_read offset }
 {

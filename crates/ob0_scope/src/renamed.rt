@@ -13,8 +13,8 @@ use ob0_scope_rules::{Resolved, ordinal_at};
 use std::alloc::{AllocError, Global};
 
 /// For each occurrence of the module, in text order, the ordinal of the declaration to which it would be bound if the
-/// declaration with the ordinal `declaration`, its closing name and all names bound to it were written `new`. None where
-/// nothing would bind it.
+/// declaration with the ordinal `declaration`, its closing name and all names bound to it were written `new`. None
+/// where nothing would bind it.
 pub fn resolve_renamed(
     alloc: Global,
     names: &Resolved,

@@ -3,13 +3,13 @@
 ghost use Rattle.std.specs.Prelude.{◌≡◌, OnOk};
 ghost use Rattle.ob0_tree.specs.declared.tree.Role.TheVariants as roles;
 ghost use Rattle.ob0_tree.specs.Tree.{identifiers};
-ghost use Rattle.ob0_tree.specs.View.{expression_of, simple_of, term_of, factor_of, designator_of, selector_of, assignment_of, call_of, arguments_in, statement_of, if_of, elsifs_in, sequence_in, names_of, type_of, record_in, fields_of, body_of};
+ghost use Rattle.ob0_tree.specs.View.{expression_of, compound_of, simple_of, term_of, factor_of, designator_of, selector_of, assignment_of, call_of, arguments_in, statement_of, if_of, elsifs_in, sequence_in, names_of, type_of, record_in, fields_of, body_of};
 ghost use Rattle.ob0_scope.specs.Tabling.{found_all, used};
 
 use crate::numbering::Numbering;
 use ob0_tree::{
-    Assignment, Call, Designator, Elsif, Expression, Factor, Fields, If, Names, RecordType,
-    Selector, Simple, Statement, Term, WrittenType,
+    Assignment, Call, Compound, Designator, Elsif, Expression, Factor, Fields, If, Names,
+    RecordType, Selector, Simple, Statement, Term, WrittenType,
 };
 use std::alloc::AllocError;
 
@@ -18,8 +18,18 @@ impl<'t> Numbering<'t> {
     pub(crate) fn expression(&mut self, e: &Expression) -> Result<(), AllocError>
         ensures { OnOk result (self.new ≡ used (expression_of e.now) self.old) }
     {
-        self.simple(&e.left)?;
-        if let Some(compared) = &e.compared {
+        match e {
+            Expression::Factor(f) => self.factor(f),
+            Expression::Compound(c) => self.compound(c),
+        }
+    }
+
+    #[cycle(expressions)]
+    fn compound(&mut self, c: &Compound) -> Result<(), AllocError>
+        ensures { OnOk result (self.new ≡ used (compound_of c.now) self.old) }
+    {
+        self.simple(&c.left)?;
+        if let Some(compared) = &c.compared {
             self.simple(&compared.right)?;
         }
         Ok(())

@@ -18,8 +18,9 @@ pub(crate) struct Binding<'t> {
     hidden: Option<usize>,
 }
 
-/// The bindings of a place, oldest first, and the new name that a declaration has. For each name the index of its newest
-/// binding is kept. The new name may be far longer than any of the text, so what it is bound to is found without reading it.
+/// The bindings of a place, oldest first, and the new name that a declaration has. For each name the index of its
+/// newest binding is kept. The new name may be far longer than any of the text, so what it is bound to is found without
+/// reading it.
 #[derive(Drop)]
 pub(crate) struct Visible<'t> {
     new_name: &'t str,

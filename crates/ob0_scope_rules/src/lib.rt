@@ -1,5 +1,5 @@
-//! The names of a module and their scopes (docs/LANGUAGE.md, Scopes): which declaration each name is bound to, renaming and
-//! inlining, as definitions with their laws; and what is known of a module's names once they are resolved.
+//! The names of a module and their scopes (docs/LANGUAGE.md, Scopes): which declaration each name is bound to, renaming
+//! and inlining, as definitions with their laws; and what is known of a module's names once they are resolved.
 #![tactic(auto)]
 
 mod resolved;

@@ -14,8 +14,8 @@ use std::marker::Model;
 /// How many names are predeclared: INTEGER, BOOLEAN, TRUE, FALSE, Read, Write and WriteLn, with the ordinals 0 to 6.
 pub const PREDECLARED: usize = 7;
 
-/// What the names of a module are bound to, by indexes of tokens and ordinals alone: the ordinal of each token's name, the tokens
-/// that declare, those of the occurrences, and the faults. It borrows nothing.
+/// What the names of a module are bound to, by indexes of tokens and ordinals alone: the ordinal of each token's name,
+/// the tokens that declare, those of the occurrences, and the faults. It borrows nothing.
 #[derive(Drop)]
 pub struct Bindings {
     pub ordinals: Vec<Option<usize>>,
@@ -25,8 +25,8 @@ pub struct Bindings {
 }
 
 /// A module of which each name is bound to its declaration. Declarations go by ordinal: 0 to 6 are the predeclared
-/// names, from 7 on those of the text, in text order. What is said below of its parts is its invariant (`IsResolution`), which
-/// `module` gives as a clause.
+/// names, from 7 on those of the text, in text order. What is said below of its parts is its invariant
+/// (`IsResolution`), which `module` gives as a clause.
 #[derive(Drop)]
 pub struct Resolved<'t> {
     module: &'t Module<'t>,
@@ -143,7 +143,8 @@ impl<'t> Resolved<'t> {
         self.bindings().declarations.as_slice()
     }
 
-    /// The token that declares what has this ordinal. None for the predeclared names, and where there is no such ordinal.
+    /// The token that declares what has this ordinal. None for the predeclared names, and where there is no such
+    /// ordinal.
     pub fn declaring_token(&self, ordinal: usize) -> Option<usize>
         ensures { result ≡ token_declaring self.now.declarations ordinal }
     {
@@ -163,8 +164,8 @@ impl<'t> Resolved<'t> {
         self.bindings().occurrences.as_slice()
     }
 
-    /// Second declarations in a block or record and closing names that differ; after these the names that no declaration
-    /// binds, in text order.
+    /// Second declarations in a block or record and closing names that differ; after these the names that no
+    /// declaration binds, in text order.
     pub fn faults(&self) -> &[Fault]
         ensures { result.now ≡ self.now.faults }
     {

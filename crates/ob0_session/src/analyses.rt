@@ -7,8 +7,8 @@ use lru::LruCache;
 use ob0_analysis::Analysis;
 use std::alloc::{AllocError, Global};
 
-/// How many bytes the analyses that are kept count for together, at most.
-const MOST_BYTES: usize = 2_097_152;
+/// How many bytes the analyses that are kept count for together, at most: those of two of the longest texts.
+const MOST_BYTES: usize = 2_099_200;
 
 /// What an analysis counts for beside the bytes of its text, so that those of empty texts are bounded too.
 const BYTES_PER_ANALYSIS: usize = 1_024;

@@ -2,7 +2,8 @@
 //! where, no contract says.
 
 use crate::asking::reported_faults;
-use ob0_analysis::diagnose;
+use ob0_analysis::{Analysis, diagnose};
+use std::alloc::{AllocError, Global};
 use std::process::Abort;
 use std::test::Fail;
 
@@ -172,6 +173,54 @@ fn the_faults_of_worked_texts_are_reported(rt: HostRuntime) -> Result<(), Fail> 
         let faults = diagnose(rt.alloc(), text)?;
         let found = reported_faults(rt.alloc(), faults.as_slice())?;
         assert!(rt; found.as_str() == wanted, "{found} in {text}");
+    }
+    Ok(())
+}
+
+/// Texts that are changed where no identifier is, and where one is.
+static CHANGES: &[(&str, &str)] = &[
+    // A number that the types depend on.
+    (
+        "MODULE M; CONST n = 2; VAR a: ARRAY n OF INTEGER; BEGIN a[n - 1] := 1; a[2] := n END M.",
+        "MODULE M; CONST n = 20; VAR a: ARRAY n OF INTEGER; BEGIN a[n - 1] := 1; a[2] := n END M.",
+    ),
+    // A number before a name that nothing declares, and before one that is declared twice.
+    (
+        "MODULE M; CONST n = 2; VAR x, x: INTEGER; BEGIN y := n END M.",
+        "MODULE M; CONST n = 234; VAR x, x: INTEGER; BEGIN y := n END M.",
+    ),
+    // White space beside a name.
+    (
+        "MODULE M; VAR x: INTEGER; BEGIN x := TRUE END M.",
+        "MODULE M; VAR x : INTEGER; BEGIN x := TRUE END M.",
+    ),
+    // A name, by another and by one that is declared already.
+    (
+        "MODULE M; VAR x, y: INTEGER; BEGIN x := y END M.",
+        "MODULE M; VAR x, z: INTEGER; BEGIN x := y END M.",
+    ),
+    (
+        "MODULE M; VAR x, y: INTEGER; BEGIN x := y END M.",
+        "MODULE M; VAR x, x: INTEGER; BEGIN x := y END M.",
+    ),
+];
+
+/// Whether a changed text has the faults that an analysis of it from nothing finds.
+fn is_as_new(alloc: Global, old: &str, new: &str) -> Result<bool, AllocError> {
+    let analysis = Analysis::of(alloc, old)?.after(alloc, new)?;
+    let faults = analysis.diagnoses(alloc)?;
+    let found = reported_faults(alloc, faults.as_slice())?;
+    let faults = diagnose(alloc, new)?;
+    let wanted = reported_faults(alloc, faults.as_slice())?;
+    Ok(found.as_str() == wanted.as_str())
+}
+
+#[test]
+fn a_changed_text_has_the_faults_of_a_new_one(rt: HostRuntime) -> Result<(), Fail> {
+    for row in CHANGES {
+        let (a, b) = *row;
+        assert!(rt; is_as_new(rt.alloc(), a, b)?, "{b}");
+        assert!(rt; is_as_new(rt.alloc(), b, a)?, "{a}");
     }
     Ok(())
 }

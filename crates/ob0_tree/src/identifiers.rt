@@ -44,7 +44,8 @@ pub fn expression(found: &mut IdentifierRoles, e: &Expression) -> Result<(), All
 #[cycle(expressions)]
 fn compound(found: &mut IdentifierRoles, c: &Compound) -> Result<(), AllocError>
     ensures { IfOk result
-        (λ _. found.new.items ≡ found.old.items ++ identifiers roles.Declaring (compound_of c.now)) }
+        (λ _. found.new.items
+        ≡ found.old.items ++ identifiers roles.Declaring (compound_of c.now)) }
 {
     simple(found, &c.left)?;
     if let Some(compared) = &c.compared {

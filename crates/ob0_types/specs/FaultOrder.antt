@@ -54,5 +54,6 @@ pub record AreFirstOf (found faults : List Fault) : Type 0 where
 abbrev pub faults_in : Resolution → List Fault
 faults_in r = reported_module r ++ filter is_of_declarations r.faults
 
+-- these are the first of the module's faults
 abbrev pub AreFirstFaults : Resolution → List Fault → Type 0
 AreFirstFaults r faults = AreFirstOf (faults_in r) faults

@@ -19,8 +19,8 @@ use std::alloc::{AllocError, Global};
 use std::borrow::Cow;
 use std::marker::Model;
 
-/// What checking a module finds: what its declarations are and its fields, where it is well-typed; and the faults of its
-/// scopes and types. It borrows nothing.
+/// What checking a module finds: what its declarations are and its fields, where it is well-typed; and the faults of
+/// its scopes and types. It borrows nothing.
 #[derive(Drop)]
 pub struct ModuleTypes {
     pub known: Option<Known>,
@@ -133,8 +133,8 @@ fn known_fields<'t>(
     }
 }
 
-/// The faults of scopes and types, sorted by start, end and number, the first 100. Names that nothing binds are reported with
-/// the types, which were looked for before.
+/// The faults of scopes and types, sorted by start, end and number, the first 100. Names that nothing binds are
+/// reported with the types, which were looked for before.
 fn faults_of<'t>(resolved: &'t Resolved<'t>, of_types: Vec<Fault>) -> Result<Vec<Fault>, AllocError>
     ensures none { IfOk result (λ faults. (faults.items ≡ [])
         ↔ (of_types.items ++ filter is_of_declarations resolved.now.faults ≡ [])) }
@@ -301,8 +301,8 @@ impl<'t> WellTyped<'t> {
         }
     }
 
-    /// The value of a constant that a CONST section declares, by its ordinal. None for every other declaration, TRUE and
-    /// FALSE among them.
+    /// The value of a constant that a CONST section declares, by its ordinal. None for every other declaration, TRUE
+    /// and FALSE among them.
     pub fn constant(&self, declaration: usize) -> Option<Scalar>
         ensures { option_map scalar_value result
             ≡ value_of_constant (named_tree_of self.now.module_read) declaration }
@@ -334,8 +334,8 @@ impl<'t> Shape<'t> {
     ghost use Rattle.ob0_types_table.specs.Parts.{PartsAreCounted, has_parts, is_known_type, parts_shape};
     ghost use Rattle.ob0_types.specs.DeclaredShapes.{shape_of};
 
-    /// What the type is made of; the types of its parts are in the same table. Nothing exactly where it isn't a type of the
-    /// module.
+    /// What the type is made of; the types of its parts are in the same table. Nothing exactly where it isn't a type of
+    /// the module.
     pub fn parts(&self) -> Parts<'t>
         ensures shape { parts_shape (shapes_of self.now.known.now) result ≡ shape_of self.now }
         ensures counted { PartsAreCounted (shapes_of self.now.known.now) result }

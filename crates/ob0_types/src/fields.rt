@@ -8,8 +8,8 @@ ghost use Rattle.ob0_types.specs.RowsOfFields.{field_row_at, row_in};
 use crate::checked::{FieldRow, WellTyped};
 use std::alloc::{AllocError, Global};
 
-/// The field that a place is on, where it lies in an identifier of the field or at its end: the identifier's token, and the
-/// ordinal of the field's record.
+/// The field that a place is on, where it lies in an identifier of the field or at its end: the identifier's token, and
+/// the ordinal of the field's record.
 pub fn field_at(well_typed: &WellTyped<'_>, offset: usize) -> Option<(usize, usize)>
     ensures value { result ≡ field_at well_typed.now offset }
     ensures stand { IfSome result

@@ -1,8 +1,10 @@
 -- What is reported of expressions, part by part.
-use Rattle.std.proofs.Common.{◌≡◌, ℕ, [], ◌++◌, None, Option, refl, ◌∙◌, append-nil}
+use Rattle.std.proofs.Common.{◌≡◌, ℕ, List, [], ◌∷◌, ◌++◌, length, None, Option, refl, ◌∙◌, append-nil, arith}
 use Rattle.ob0_tree.specs.declared.tree.Relation.{Relation}
+use Rattle.ob0_tree.specs.declared.tree.Selector.{Selector}
 use Rattle.ob0_tree.specs.declared.tree.Sign.{Sign}
 use Rattle.ob0_tree.specs.Tree.{Tree, addend, adds, compares, designator, end, expression, factor, field, index, integer, item, items, more, multiplier, multiplies, negation, none, one, parenthesised, product, relates, selector, simple, sum, term}
+use Rattle.ob0_tree.specs.View.{items_of, selector_of}
 use Rattle.ob0_types_check.specs.Known.{Facts, Operand, Reported}
 use Rattle.ob0_types_check.specs.ExpressionFaults.{reported_addends, reported_expression, reported_factor, reported_multipliers, reported_selector, reported_selectors, reported_simple, reported_term}
 use Rattle.ob0_types_check.specs.Operations.{a_number, add_operands, complement_operand, element_selected, enclosed, field_selected, multiply_operands, named, relate_operands, right, sign_operand, ◌>>=◌}
@@ -96,6 +98,11 @@ module _ {T : Type 0} (facts : Facts T) where
 
   pub selected_chain : IsChain (reported_selectors facts) (reported_selector facts)
   selected_chain = record { ended = selected_ended; stepped = selected_stepped }
+
+  -- a name without selectors
+  pub nothing_selected : (x : Operand T) (xs : List Selector) → length xs ≡ 0 → reported_selectors facts x (items_of selector_of xs) ≡ right x
+  nothing_selected x [] e = selected_ended x
+  nothing_selected x (s ∷ xs) e = absurd (omega arith)
 
   pub constant_reported : (e : Tree ℕ expression) → reported_constant facts e ≡ (reported_expression facts e >>= evaluated facts)
   unfolding reported_constant

@@ -1,5 +1,5 @@
-//! Which faults of types a module has, and where (docs/LANGUAGE.md, Faults of scopes and types), and what is known of a module
-//! without faults; and the laws that a module with no reported fault is well-typed.
+//! Which faults of types a module has, and where (docs/LANGUAGE.md, Faults of scopes and types), and what is known of a
+//! module without faults; and the laws that a module with no reported fault is well-typed.
 #![tactic(auto)]
 
 pub mod laws;

@@ -1,5 +1,5 @@
-//! Reports the faults of a module's types, and gives what is known of a module without faults: one walk through the whole
-//! module.
+//! Reports the faults of a module's types, and gives what is known of a module without faults: one walk through the
+//! whole module.
 //!
 //! What has a fault is of an unknown type, which raises no second fault.
 
@@ -37,8 +37,8 @@ pub struct Report {
     pub known: Option<Known>,
 }
 
-/// The names of a module that nothing binds, in text order, and then the faults of its types; where there is none, what its
-/// declarations are. Its second declarations and closing names aren't looked at.
+/// The names of a module that nothing binds, in text order, and then the faults of its types; where there is none, what
+/// its declarations are. Its second declarations and closing names aren't looked at.
 pub fn report_faults<'t>(alloc: Global, resolved: &'t Resolved<'t>) -> Result<Report, AllocError>
     ensures faults { IfOk result (λ r. r.faults.items ≡ reported_module resolved.now) }
     ensures known { IfOk result (λ r. MatchOption r.known (reported_module resolved.now ≡ [] → ⊥)

@@ -10,7 +10,6 @@ use Rattle.ob0_types_rules.specs.Typing.{constructors, group_constructors, objec
 use Rattle.ob0_types_rules.specs.WellTyped.{TypeEnvironment, Typed, bind_typed}
 use Rattle.ob0_values.specs.Values.{Shape}
 use Rattle.ob0_types_fields.specs.Fields.{FieldNames, type_after, types_after_heading, types_after_procedures, types_after_variables, parameters_of, refield, refield_block, refield_formals, refield_group, refield_groups, refield_procedure, refield_procedures, refield_section, refield_sections, refield_type, refield_type_section, refield_types, refield_variable_section, refield_variables, refielded}
-use Rattle.ob0_types_fields.proofs.Bare.{bare}
 
 -- a field as it is written
 abbrev pub bare : FieldNames

@@ -63,7 +63,8 @@ abbrev mutual
   pub declared_in : ℕ → Tree ℕ block → List (ℕ × ℕ)
   declared_in k (has_body (declares cs ts vs ps) statements) =
       marked_types k (section_types ts)
-      ++ (marked_variables (after_types k (has_body (declares cs ts vs ps) statements)) (section_variables vs)
+      ++ (marked_variables (after_types k (has_body (declares cs ts vs ps) statements))
+      (section_variables vs)
       ++ declared_in_procedures (after_variables k (has_body (declares cs ts vs ps) statements)) ps)
 
   pub declared_in_procedures : ℕ → Tree ℕ (items procedure) → List (ℕ × ℕ)

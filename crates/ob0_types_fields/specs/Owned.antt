@@ -142,7 +142,8 @@ owned_formals k (one (some_formals f fs)) =
 abbrev mutual
   pub owned_block : {P : Type 0} → Meanings ℕ Shape P → ℕ → Tree ℕ block → List (ℕ × Option ℕ)
   owned_block m k (has_body (declares cs ts vs ps) statements) =
-      (unowned cs ++ (owned_type_section k ts ++ (owned_variable_section (after_types k (has_body (declares cs ts vs ps) statements)) vs
+      (unowned cs ++ (owned_type_section k ts
+      ++ (owned_variable_section (after_types k (has_body (declares cs ts vs ps) statements)) vs
       ++ owned_procedures m (after_variables k (has_body (declares cs ts vs ps) statements)) ps)))
       ++ owned m None statements
 
@@ -318,7 +319,9 @@ marked_sections k (more (then_section f) fs) =
 abbrev mutual
   pub marked_block : {P : Type 0} → Meanings ℕ Shape P → ℕ → Tree ℕ block → List (ℕ × ℕ)
   marked_block m k (has_body (declares cs ts vs ps) statements) =
-      (marked_types k (section_types ts) ++ (marked_variables (after_types k (has_body (declares cs ts vs ps) statements)) (section_variables vs)
+      (marked_types k (section_types ts)
+      ++ (marked_variables (after_types k (has_body (declares cs ts vs ps) statements))
+      (section_variables vs)
       ++ marked_procedures m (after_variables k (has_body (declares cs ts vs ps) statements)) ps))
       ++ marked m statements
 

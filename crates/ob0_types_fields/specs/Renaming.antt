@@ -65,7 +65,8 @@ abbrev mutual
   pub records_in_block : ℕ → Tree Name block → List RecordFields
   records_in_block k (has_body (declares cs ts vs ps) statements) =
       records_in_types k (section_types ts)
-      ++ (records_in_variables (after_types k (has_body (declares cs ts vs ps) statements)) (section_variables vs)
+      ++ (records_in_variables (after_types k (has_body (declares cs ts vs ps) statements))
+      (section_variables vs)
       ++ records_in_procedures (after_variables k (has_body (declares cs ts vs ps) statements)) ps)
 
   pub records_in_procedures : ℕ → Tree Name (items procedure) → List RecordFields

@@ -23,8 +23,8 @@ pub struct TypedField {
     pub of: TypeId,
 }
 
-/// The field that an identifier is of, by its token and the ordinal of its record: as the RECORD with this ordinal has it,
-/// by the table of declarations.
+/// The field that an identifier is of, by its token and the ordinal of its record: as the RECORD with this ordinal has
+/// it, by the table of declarations.
 pub fn typed_field<'a, 't>(
     known: &'a Known,
     resolved: &'a Resolved<'t>,

@@ -4,8 +4,8 @@ ghost use Rattle.ob0_types_fields.specs.FieldTypes.{FieldsTyped};
 ghost use Rattle.ob0_types_fields.specs.Identifiers.{DuplicateByToken, FieldsDeclared, FieldsListed, RenamedAtTokens};
 ghost use Rattle.ob0_types_fields.specs.Owned.{MarkedFields, OwnersByDeclaration, OwnersOfFields};
 
-/// In a well-typed module a table that has at each token the record whose field the token is, by what names are declared as,
-/// is a table of owners.
+/// In a well-typed module a table that has at each token the record whose field the token is, by what names are
+/// declared as, is a table of owners.
 pub fn owners_by_declaration()
     ensures { OwnersByDeclaration }
 {}

@@ -46,8 +46,8 @@ impl FieldList {
         }
     }
 
-    /// The fields of a module by the table of its declarations. Where no field is declared, none is looked for among what is
-    /// selected.
+    /// The fields of a module by the table of its declarations. Where no field is declared, none is looked for among
+    /// what is selected.
     pub fn of<'a, 't>(
         alloc: Global,
         known: &'a Known,
@@ -60,8 +60,8 @@ impl FieldList {
         Ok(FieldList { declared, all })
     }
 
-    /// The field that a place is on, where it lies in an identifier of the field or at its end: the identifier's token, and
-    /// the ordinal of the field's record. The tokens are those of the text that the fields are in.
+    /// The field that a place is on, where it lies in an identifier of the field or at its end: the identifier's token,
+    /// and the ordinal of the field's record. The tokens are those of the text that the fields are in.
     pub fn at(&self, tokens: &Tokens, offset: usize) -> Option<(usize, usize)>
         ensures { AreInTextOrder tokens.now self.now.all
             → result ≡ field_on tokens.now offset self.now.all }
@@ -69,7 +69,8 @@ impl FieldList {
         field_on(tokens, offset, &self.all)
     }
 
-    /// The tokens of the field of this name of a record: the one that declares it and all that select it, in text order.
+    /// The tokens of the field of this name of a record: the one that declares it and all that select it, in text
+    /// order.
     pub fn tokens(
         &self,
         alloc: Global,

@@ -14,8 +14,8 @@ use ob0_scope_rules::token_span;
 use ob0_tree::text_at;
 use std::alloc::{AllocError, Global};
 
-/// The first identifier that a place is on. It is found by halving: of identifiers in text order it is the first that doesn't
-/// end before the place, if any.
+/// The first identifier that a place is on. It is found by halving: of identifiers in text order it is the first that
+/// doesn't end before the place, if any.
 pub(crate) fn field_on(
     tokens: &Tokens,
     offset: usize,

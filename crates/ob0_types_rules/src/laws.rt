@@ -8,7 +8,8 @@ pub fn fits_by_ordinal()
     ensures { FitsByOrdinal }
 {}
 
-/// Of two modules with one numbered tree, in which no block declares a name twice and closing names are right, both are well-typed or neither is.
+/// Of two modules with one numbered tree, in which no block declares a name twice and closing names are right, both are
+/// well-typed or neither is.
 pub fn well_typed_by_shape()
     ensures { WellTypedByShape }
 {}

@@ -23,7 +23,8 @@ pub struct Field {
     pub of: TypeId,
 }
 
-/// A field of a record: which of the ARRAY and RECORD of the text the record is, and which of its fields, each from 0 on.
+/// A field of a record: which of the ARRAY and RECORD of the text the record is, and which of its fields, each from 0
+/// on.
 #[derive(Clone, Copy, PartialEq, Eq)]
 pub struct FieldOf {
     pub ordinal: usize,

@@ -96,11 +96,13 @@ fn add_truths(operator: AddOperator, a: bool, b: bool) -> Result<Scalar, Operato
     }
 }
 
-/// `left * right`, `left DIV right`, `left MOD right` or `left & right`. DIV rounds down, and MOD is the rest from 0 on.
+/// `left * right`, `left DIV right`, `left MOD right` or `left & right`. DIV rounds down, and MOD is the rest from 0
+/// on.
 ///
 /// # Errors
 ///
-/// `Overflow` past the 32 bits, `Divisor` for a divisor below 1, `Operand` where the operator isn't made for the operands.
+/// `Overflow` past the 32 bits, `Divisor` for a divisor below 1, `Operand` where the operator isn't made for the
+/// operands.
 pub fn multiply(
     operator: MultiplyOperator,
     left: Scalar,

@@ -43,6 +43,7 @@ new_both unit =
       to_editor = [];
     }
 
+-- a world in which nothing has happened
 abbrev pub new_world : Unit → World
 new_world unit = record { both = new_both unit; steps = 0; ended = false }
 

@@ -1,4 +1,5 @@
 -- Laws of the definitions of client and server.
+-- Rule: none; laws of the model of client and server.
 use Rattle.std.specs.Prelude.{◌≡◌, ℕ, List, All, Option, Some}
 use Rattle.ob0_text.specs.declared.edits.Edit.{Edit}
 use Rattle.ob0_text.specs.declared.position_types.Unit.{Unit}
@@ -54,10 +55,12 @@ OneCourse =
     → Course w events other
     → end ≡ other
 
+-- what every list of events leaves has what is said of every interleaving
 abbrev pub InEveryInterleaving : Type 0
 InEveryInterleaving =
     (unit : Unit) (events : List Event) (w : Ends) → Course (start unit) events w → Holds w
 
+-- each publication was made for a text that the editor had
 abbrev pub MadeForTheEditor : Type 0
 MadeForTheEditor =
     (unit : Unit) (events : List Event) (end : Ends)

@@ -1,4 +1,5 @@
 -- The order of publications: each is made for the next document that the editor announced to the server.
+-- Rule: docs/PROTOCOL.md, Publishing 1.
 use Rattle.std.specs.Prelude.{◌≡◌, ⊤, ℕ, ℤ, pos, List, [], ◌∷◌, ◌++◌, map, Option, Some, None}
 use Rattle.ob0_text.specs.declared.position_types.Unit.{Unit}
 use Rattle.ob0_text.specs.OpenDocuments.{Opened, Changed, Lost, Closed}
@@ -14,6 +15,7 @@ pub record Announced : Type 0 where
   pub uri : List ℕ
   pub document : Open
 
+-- the document at this uri, where it is open
 abbrev pub announced_at : List ℕ → Option Open → List Announced
 announced_at uri (Some d) = record { uri = uri; document = d } ∷ []
 announced_at uri None = []
@@ -26,10 +28,12 @@ announced_by e (notifies (Lost uri)) = []
 announced_by e (notifies (Closed uri)) = []
 announced_by e (requests number uri ask) = []
 
+-- the document that a move of the editor announces
 abbrev pub announced_in_move : Move → List Announced
 announced_in_move idle = []
 announced_in_move (sends e message) = announced_by e message
 
+-- the document that an applied answer announces
 abbrev pub announced_in_outcome : ApplyOutcome → List Announced
 announced_in_outcome not_held = []
 announced_in_outcome (drops_answer e) = []
@@ -65,6 +69,7 @@ AreAnnounced w (event ∷ events) announced =
 
 -- ---- what is published
 
+-- the publication is made for this document: its uri, version and text
 abbrev pub IsMadeOf : Made → Announced → Type 0
 IsMadeOf m t = (m.uri ≡ t.uri) × (m.version ≡ pos t.document.version) × (m.text ≡ t.document.text)
 
@@ -83,10 +88,12 @@ versions_announced (notifies (Lost uri)) = []
 versions_announced (notifies (Closed uri)) = []
 versions_announced (requests number uri ask) = []
 
+-- the uris and versions of the documents that these messages announce
 abbrev pub named_in : List ToServer → List (List ℕ × ℤ)
 named_in [] = []
 named_in (message ∷ queue) = versions_announced message ++ named_in queue
 
+-- the uri and the version of a document
 abbrev pub name_of : Announced → List ℕ × ℤ
 name_of t = (t.uri, pos t.document.version)
 
@@ -103,6 +110,7 @@ pub record AreMadeInOrder (unit : Unit) (events : List Event) (made : List Made)
 
 -- ---- the law
 
+-- publications are made for the announced documents, in their order
 abbrev pub MadeInOrder : Type 0
 MadeInOrder =
     (unit : Unit) (events : List Event) (end : Ends)

@@ -191,8 +191,8 @@ impl<'t> Supposed<'t> {
         Ok(given(operand.of, wanted))
     }
 
-    /// Requires the same type on both sides, and gives it where it is there. Only one wrong operand is reported, the left one
-    /// first.
+    /// Requires the same type on both sides, and gives it where it is there. Only one wrong operand is reported, the
+    /// left one first.
     fn require_both(
         &self,
         faults: &mut Vec<Fault>,
@@ -371,7 +371,11 @@ impl<'t> Supposed<'t> {
         match f {
             Factor::Designator(d) => {
                 let base = self.value_named(faults, d.name, only_constants)?;
-                self.selected(faults, base, d, only_constants)
+                if d.selectors.is_empty() {
+                    Ok(base)
+                } else {
+                    self.selected(faults, base, d, only_constants)
+                }
             }
             Factor::Integer(token) => Ok(self.integer(*token)),
             Factor::Parenthesised(e) => {

@@ -187,8 +187,8 @@ impl<'t> Reporter<'t> {
         self.make_array(ordinal, size, length, element)
     }
 
-    /// An array of a faulty length is unknown as a whole; the type of its elements was looked at all the same. The word ARRAY
-    /// precedes the length.
+    /// An array of a faulty length is unknown as a whole; the type of its elements was looked at all the same. The word
+    /// ARRAY precedes the length.
     fn make_array(
         &mut self,
         ordinal: usize,

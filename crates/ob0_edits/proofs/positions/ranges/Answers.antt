@@ -1,18 +1,16 @@
-use Rattle.std.proofs.Common.{map, ap, ◌∙◌}
-use Rattle.ob0_scan.specs.declared.lexeme.Span.{Span}
-use Rattle.ob0_text.specs.Texts.{position_of}
+use Rattle.std.proofs.Common.{◌≡◌, ◌∙◌, ◌++◌, ◌-◌, arith, drop, length, map, subst, take}
 use Rattle.ob0_text.specs.Units.{width_of}
-use Rattle.ob0_edits.proofs.Ranged.{position_at, range_further}
+use Rattle.ob0_edits.specs.Ranges.{range_of}
+use Rattle.ob0_edits.proofs.Ranged.{part_added}
 use Rattle.ob0_edits.proofs.positions.ranges.Goals as goal
 
-pub loop-i-preserved : goal.loop-i-preserved
-loop-i-preserved g c =
+pub loop-alloc-preserved : goal.loop-alloc-preserved
+loop-alloc-preserved g c =
     let content = g.T.TextStore.content c.args.store.now in
     let unit = g.T.TextStore.unit_of c.args.store.now in
     let spans = c.args.spans.now in
-    let none : Span = record { start = 0; end = 0 } in
-    let from = c.in_ok-from.ensures ∙ ap (map (position_of (width_of unit) content)) c.deref.ensures.value in
-    let to = c.in_ok-to.ensures ∙ ap (map (position_of (width_of unit) content)) c.deref-2.ensures.value in
-    let a = c.index.ensures ∙ position_at unit content spans c.loop-i.i c.loop-i-test.true none (λ (x : Span). x.start) c.in_ok-starts.starts.items c.in_ok-from.from.items c.index.result.now from c.in_ok-starts.ensures in
-    let b = c.index-in-loop-i.ensures ∙ position_at unit content spans c.loop-i.i c.loop-i-test.true none (λ (x : Span). x.end) c.in_ok-ends.ends.items c.in_ok-to.to.items c.index-in-loop-i.result.now to c.in_ok-ends.ensures in
-    c.in_ok-push.ensures.items ∙ range_further unit content spans c.loop-i.i c.loop-i-test.true none c.loop-i.ranges.items _ c.loop-i.invariant (λ j. record { start = a j; end = b j })
+    let found = c.loop-alloc.ranges.items in
+    let more = c.add_ranges.new.ranges.items in
+    let to = c.min.result in
+    let is = subst (λ k. more ≡ found ++ map (range_of (width_of unit) content) (take (to - k) (drop k spans))) (c.len-from.ensures ∙ c.loop-alloc.ranges.ok.0) c.in_ok-add_ranges.ensures in
+    part_added unit content spans (to - length found) found more (omega (arith, c.min.ensures, c.len-from.ensures, c.len.ensures, c.loop-alloc-test.true)) c.loop-alloc.invariant is

@@ -1,7 +1,10 @@
-use Rattle.std.proofs.Common.{◌≡◌, map, take}
+use Rattle.std.proofs.Common.{◌≡◌, ◌-◌, length, map, take}
 use Rattle.ob0_text.specs.Units.{width_of}
 use Rattle.ob0_edits.specs.Ranges.{range_of}
 use Rattle.ob0_edits.proofs.positions.ranges.Given as goal
 
-abbrev pub invariant-loop-i : goal.invariant-loop-i
-invariant-loop-i g l = l.ranges.items ≡ map (range_of (width_of (g.T.TextStore.unit_of l.store)) (g.T.TextStore.content l.store)) (take l.i l.spans)
+abbrev pub invariant-loop-alloc : goal.invariant-loop-alloc
+invariant-loop-alloc g l = l.ranges.items ≡ map (range_of (width_of (g.T.TextStore.unit_of l.store)) (g.T.TextStore.content l.store)) (take (length l.ranges.items) l.spans)
+
+abbrev pub decreases-loop-alloc : goal.decreases-loop-alloc
+decreases-loop-alloc g l = length l.spans - length l.ranges.items

@@ -1,17 +1,39 @@
-use Rattle.std.proofs.Common.{false, arith, refl, sym}
+use Rattle.std.proofs.Common.{◌≡◌, ◌∙◌, ◌++◌, ◌+◌, ◌-◌, if◌then◌else◌, ap, arith, drop, false, length, map, refl, subst, sym}
 use Rattle.std.proofs.lemmas.Bool.{lt-ltb}
+use Rattle.std.proofs.lemmas.List.{length-drop, take_all}
+use Rattle.ob0_rpc.specs.Appending.{AppendsEach}
 use Rattle.ob0_rpc.proofs.Appending.{each_done, each_next, each_none}
+use Rattle.ob0_session_json.specs.Places.{EndsInUri}
 use Rattle.ob0_session_json.specs.Shapes.{location_in}
+use Rattle.ob0_session_json.proofs.Placed.{location_put, still_ends}
 use Rattle.ob0_session_json.proofs.places.write_locations.Goals as goal
+use Rattle.ob0_session_json.proofs.places.write_locations.Goals.{then-later, else-later}
+
+pub location_before-at-requires : goal.location_before-at-requires
+location_before-at-requires c = c.loop-range.invariant.2.roomy
 
 pub loop-range-init : goal.loop-range-init
-loop-range-init c = (each_none false _, refl)
+loop-range-init c = (each_none false _, refl, subst (EndsInUri c.args.uri.now) (sym c.as_mut_slice-room.ensures.value) c.in_ok-text.ensures)
 
 pub loop-range-preserved : goal.loop-range-preserved
-loop-range-preserved c = (
-  each_next (location_in c.args.uri.now) c.args.ranges.now c.loop-range.range-index _ _ _ _ _ (omega arith) c.loop-range.invariant.0 c.loop-range.invariant.1 c.in_ok-write_item.ensures,
-  sym (lt-ltb 0 _ (omega arith)),
-)
+loop-range-preserved c =
+    let put = c.location_before-at in
+    let room = put.new.room in
+    let from = c.if-later.from in
+    let chosen : from ≡ (if c.loop-range.later then put.result else put.result + 1) =
+    elim c.if-later.branch [
+      | then-later w ↦ rw w.if-later.true w.from-is
+      | else-later w ↦ rw w.if-later.false w.from-is
+    ] in
+    let rest = take_all (length room - from) (drop from room) (omega (arith, length-drop from room)) in
+    let is = c.in_ok-extend_from_slice.ensures.items ∙ ap (λ t. c.loop-range.out.items ++ t) (rest ∙ ap (λ n. drop n room) chosen) in
+    let item = location_put c.args.uri.now _ put.result c.loop-range.room room c.loop-range.invariant.2 put.ensures.text c.loop-range.later _ _ put.ensures.reads is in (
+      each_next (location_in c.args.uri.now) c.args.ranges.now c.loop-range.range-index _ _ _ _ _ (omega arith) c.loop-range.invariant.0 c.loop-range.invariant.1 item,
+      sym (lt-ltb 0 _ (omega arith)),
+      still_ends c.args.uri.now c.loop-range.room room (omega arith) put.ensures.kept c.loop-range.invariant.2,
+    )
 
 pub returns : goal.returns
-returns c = each_done (location_in c.args.uri.now) c.args.ranges.now c.loop-range.range-index _ _ (omega arith) c.loop-range.invariant.0
+returns c =
+    let each = each_done (location_in c.args.uri.now) c.args.ranges.now c.loop-range.range-index _ _ (omega arith) c.loop-range.invariant.0 in
+    subst (λ t. AppendsEach false (map (location_in c.args.uri.now) c.args.ranges.now) t c.loop-range.out.items) c.reserve.ensures.items each

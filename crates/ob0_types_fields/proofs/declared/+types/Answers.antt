@@ -1,8 +1,12 @@
-use Rattle.std.proofs.Common.{◌≡◌, ◌++◌, ◌+◌, IfOk, length, sym, ap, ◌∙◌, subst}
+use Rattle.std.proofs.Common.{◌≡◌, ◌++◌, ◌+◌, IfOk, length, map, sym, ap, ◌∙◌, subst}
 use Rattle.ob0_tree.proofs.Viewed.{record_made}
-use Rattle.ob0_tree.specs.View.{type_of}
+use Rattle.ob0_tree.specs.declared.tree.FieldGroup.{FieldGroup}
+use Rattle.ob0_tree.specs.Tree.{some_fields}
+use Rattle.ob0_tree.specs.View.{fields_of, names_of, type_of}
+use Rattle.ob0_scope_rules.specs.Parts.{names_listed}
 use Rattle.ob0_types_rules.specs.Typing.{constructors}
-use Rattle.ob0_types_fields.specs.Owned.{marked_type}
+use Rattle.ob0_types_fields.specs.Owned.{marked_group, marked_type}
+use Rattle.ob0_types_fields.proofs.MarkWalks.{joined}
 use Rattle.ob0_types_fields.proofs.declared.+types.Goals as goal
 
 pub written_type-returns-in-Record-clause-found : goal.written_type-returns-in-Record-clause-found
@@ -14,3 +18,12 @@ pub written_type-returns-in-Record-clause-made : goal.written_type-returns-in-Re
 written_type-returns-in-Record-clause-made t c =
     subst (λ z. IfOk c.record.result (λ _. length c.record.new.made.items ≡ length c.args.made.now.items + z))
     (ap constructors (sym (record_made c.in-Record.r) ∙ sym (ap type_of c.in-Record.is))) c.record.ensures.made
+
+pub fields-returns-in_ok-names-in-Listed-clause-found : goal.fields-returns-in_ok-names-in-Listed-clause-found
+fields-returns-in_ok-names-in-Listed-clause-found t c =
+    let l = c.deref-l.result.now in
+    let k = length c.args.made.now.items in
+    let start = c.args.found.now.items in
+    let tree = ap (λ (g : FieldGroup). some_fields (names_of g.names) (type_of g.written)) c.deref-l.ensures ∙ sym (ap fields_of c.in-Listed.is) in
+    subst (λ z. IfOk c.written_type.result (λ _. c.written_type.new.found.items ≡ z))
+    (joined start (map (λ x. (x, c.args.owner)) (names_listed (names_of l.names))) (marked_type k (type_of l.written)) c.in_ok-names-in-Listed.ensures ∙ ap (λ f. start ++ marked_group c.args.owner k f) tree) c.written_type.ensures.found

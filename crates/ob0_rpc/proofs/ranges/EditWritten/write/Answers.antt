@@ -1,11 +1,14 @@
-use Rattle.std.proofs.Common.{codes, refl, subst}
+use Rattle.std.proofs.Common.{◌∙◌, ◌++◌, ap, subst}
+use Rattle.std.specs.Str.{IsUtf8}
 use Rattle.std.proofs.lemmas.Result.{on_ok_weaker}
-use Rattle.ob0_rpc.specs.Appending.{AppendsMember}
-use Rattle.ob0_rpc.specs.Shapes.{text}
-use Rattle.ob0_rpc.proofs.Appending.{object_of}
+use Rattle.json.specs.Print.{escape}
+use Rattle.ob0_rpc.proofs.Appending.{edit_put_down}
 use Rattle.ob0_rpc.proofs.ranges.EditWritten.write.Goals as goal
 
 pub returns : goal.returns
 returns c =
-    let new = subst (λ t. AppendsMember 123 (codes "newText") (text t) c.args.out.now.items c.first_member.new.out.items) c.as_str.ensures.value c.in_ok-first_member.ensures in
-    on_ok_weaker c.end_object.result (λ is. object_of _ _ _ _ _ refl refl (_, new, (_, c.in_ok-next_member.ensures, is))) c.end_object.ensures
+    let said = c.as_bytes.ensures.value ∙ c.as_str.ensures.value in
+    let utf8 = subst IsUtf8 said c.as_bytes.ensures.utf8 in
+    on_ok_weaker c.write_end_of_edit.result (λ is.
+    edit_put_down _ c.args.self.now.range.start c.args.self.now.range.end _ _ _ _ utf8 c.in_ok-write_piece.ensures (c.in_ok-write_escaped.ensures ∙ ap (λ t. c.write_piece.new.out.items ++ escape t) said) is c.write_end_of_edit.ensures.reads)
+    c.write_end_of_edit.ensures.text

@@ -1,15 +1,15 @@
 use Rattle.std.proofs.Common.{◌≡◌, ℕ, List, OnOk, sym, ap, ◌∙◌, subst}
-use Rattle.ob0_tree.proofs.Viewed.{addend_made, comparison_made, designator_made, expression_made, simple_parts, term_parts}
+use Rattle.ob0_tree.proofs.Viewed.{addend_made, comparison_made, compound_parts, designator_made, simple_parts, term_parts}
 use Rattle.ob0_tree.specs.declared.tree.Addend.{Addend, out-Addend, roll-out-Addend}
 use Rattle.ob0_tree.specs.declared.tree.Comparison.{Comparison, out-Comparison, roll-out-Comparison}
-use Rattle.ob0_tree.specs.declared.tree.Expression.{back-Expression-compared, out-Expression, roll-out-Expression}
+use Rattle.ob0_tree.specs.declared.tree.Compound.{back-Compound-compared, out-Compound}
 use Rattle.ob0_tree.specs.declared.tree.Multiplier.{Multiplier}
 use Rattle.ob0_tree.specs.declared.tree.Role.{Role}
 use Rattle.ob0_tree.specs.declared.tree.Simple.{out-Simple}
 use Rattle.ob0_tree.specs.declared.tree.Term.{out-Term}
 use Rattle.ob0_tree.specs.declared.tree.Role.TheVariants as role
 use Rattle.ob0_tree.specs.Tree.{adds, compares, identifiers, one, relates}
-use Rattle.ob0_tree.specs.View.{items_of, addend_of, compared_of, comparison_of, multiplier_of, selector_of, term_of, factor_of, simple_of, expression_of}
+use Rattle.ob0_tree.specs.View.{items_of, addend_of, compared_of, comparison_of, multiplier_of, selector_of, term_of, factor_of, simple_of, compound_of}
 use Rattle.ob0_scope.specs.Tabling.{found_all, used}
 use Rattle.ob0_scope.proofs.Using.{all_used, then_used, uses_on}
 use Rattle.ob0_scope.proofs.numbering.Numbering.+expressions.Goals as goal
@@ -20,16 +20,16 @@ addend_parts a = sym (ap addend_of (roll-out-Addend a)) ∙ addend_made (out-Add
 comparison_parts : (x : Comparison) → comparison_of x ≡ relates (out-Comparison x).relation (simple_of (out-Comparison x).right)
 comparison_parts x = sym (ap comparison_of (roll-out-Comparison x)) ∙ comparison_made (out-Comparison x)
 
-pub expression-returns-in_ok-simple-2 : goal.expression-returns-in_ok-simple-2
-expression-returns-in_ok-simple-2 t c =
-    let e = out-Expression c.args.e.now in
+pub compound-returns-in_ok-simple-2 : goal.compound-returns-in_ok-simple-2
+compound-returns-in_ok-simple-2 t c =
+    let x = out-Compound c.args.c.now in
     let right = c.in-Some.compared.value in
-    let tree : expression_of c.args.e.now ≡ compares (simple_of e.left) (one (relates (out-Comparison right).relation (simple_of (out-Comparison right).right))) =
-    sym (ap expression_of (roll-out-Expression c.args.e.now))
-    ∙ (expression_made e ∙ (ap (λ o. compares (simple_of e.left) (compared_of (back-Expression-compared o))) c.in-Some.is ∙ ap (λ x. compares (simple_of e.left) (one x)) (comparison_parts right))) in
+    let tree : compound_of c.args.c.now ≡ compares (simple_of x.left) (one (relates (out-Comparison right).relation (simple_of (out-Comparison right).right))) =
+    compound_parts c.args.c.now
+    ∙ (ap (λ o. compares (simple_of x.left) (compared_of (back-Compound-compared o))) c.in-Some.is ∙ ap (λ y. compares (simple_of x.left) (one y)) (comparison_parts right)) in
     c.in_ok-simple-2.ensures
     ∙ (ap (λ (x : Comparison). used (simple_of (out-Comparison x).right) c.simple.new.self) c.deref.ensures
-    ∙ (then_used c.args.self.now (identifiers role.Declaring (simple_of e.left)) (identifiers role.Declaring (simple_of (out-Comparison right).right)) c.in_ok-simple.ensures
+    ∙ (then_used c.args.self.now (identifiers role.Declaring (simple_of x.left)) (identifiers role.Declaring (simple_of (out-Comparison right).right)) c.in_ok-simple.ensures
     ∙ ap (λ t. used t c.args.self.now) (sym tree)))
 
 pub designator-loop-s-preserved : goal.designator-loop-s-preserved

@@ -1,5 +1,5 @@
 use Rattle.std.proofs.Common.{◌≡◌, OnOk, [], sym, ap, ◌∙◌, subst}
-use Rattle.ob0_tree.proofs.Viewed.{while_made, repeat_made, if_parts}
+use Rattle.ob0_tree.proofs.Viewed.{while_read, repeat_read, if_parts}
 use Rattle.ob0_tree.specs.declared.tree.If.{out-If}
 use Rattle.ob0_tree.specs.declared.tree.Role.TheVariants as role
 use Rattle.ob0_tree.specs.Tree.{identifiers, branches}
@@ -37,14 +37,18 @@ branches-returns-in-None t c =
 
 pub statement-returns-in_ok-expression-in-While : goal.statement-returns-in_ok-expression-in-While
 statement-returns-in_ok-expression-in-While t c =
-    let w = c.in-While.w in
+    let condition = c.deref-in-While.result.now.condition in
+    let body = c.deref-in-While-2.result.now.body in
+    let tree = while_read c.in-While.w c.deref-in-While.ensures c.deref-in-While-2.ensures in
     subst (λ z. OnOk c.sequence.result (c.sequence.new.self ≡ z))
-    (then_used c.args.self.now (identifiers role.Declaring (expression_of w.condition)) (identifiers role.Declaring (sequence_listed w.body.items)) c.in_ok-expression-in-While.ensures
-    ∙ ap (λ t. used t c.args.self.now) (sym (while_made w) ∙ sym (ap statement_of c.in-While.is))) c.sequence.ensures
+    (then_used c.args.self.now (identifiers role.Declaring (expression_of condition)) (identifiers role.Declaring (sequence_listed body.items)) c.in_ok-expression-in-While.ensures
+    ∙ ap (λ t. used t c.args.self.now) (sym tree ∙ sym (ap statement_of c.in-While.is))) c.sequence.ensures
 
 pub statement-returns-in_ok-sequence-in-Repeat : goal.statement-returns-in_ok-sequence-in-Repeat
 statement-returns-in_ok-sequence-in-Repeat t c =
-    let r = c.in-Repeat.r in
+    let body = c.deref-in-Repeat.result.now.body in
+    let condition = c.deref-in-Repeat-2.result.now.condition in
+    let tree = repeat_read c.in-Repeat.r c.deref-in-Repeat.ensures c.deref-in-Repeat-2.ensures in
     subst (λ z. OnOk c.expression-in-Repeat.result (c.expression-in-Repeat.new.self ≡ z))
-    (then_used c.args.self.now (identifiers role.Declaring (sequence_listed r.body.items)) (identifiers role.Declaring (expression_of r.condition)) c.in_ok-sequence-in-Repeat.ensures
-    ∙ ap (λ t. used t c.args.self.now) (sym (repeat_made r) ∙ sym (ap statement_of c.in-Repeat.is))) c.expression-in-Repeat.ensures
+    (then_used c.args.self.now (identifiers role.Declaring (sequence_listed body.items)) (identifiers role.Declaring (expression_of condition)) c.in_ok-sequence-in-Repeat.ensures
+    ∙ ap (λ t. used t c.args.self.now) (sym tree ∙ sym (ap statement_of c.in-Repeat.is))) c.expression-in-Repeat.ensures

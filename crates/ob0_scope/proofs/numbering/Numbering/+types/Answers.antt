@@ -2,7 +2,8 @@ use Rattle.std.proofs.Common.{◌≡◌, OnOk, sym, ap, ◌∙◌, subst}
 use Rattle.ob0_tree.proofs.Viewed.{record_made}
 use Rattle.ob0_tree.specs.declared.tree.Role.TheVariants as role
 use Rattle.ob0_tree.specs.declared.tree.WrittenType.{WrittenType}
-use Rattle.ob0_tree.specs.Tree.{identifiers}
+use Rattle.ob0_tree.specs.declared.tree.FieldGroup.{FieldGroup}
+use Rattle.ob0_tree.specs.Tree.{identifiers, some_fields}
 use Rattle.ob0_tree.specs.View.{expression_of, fields_of, further_fields_of_group, names_of, type_of}
 use Rattle.ob0_scope.specs.Tabling.{used}
 use Rattle.ob0_scope.proofs.Using.{then_used, uses_on}
@@ -10,10 +11,13 @@ use Rattle.ob0_scope.proofs.numbering.Numbering.+types.Goals as goal
 
 pub fields-returns-in-Listed : goal.fields-returns-in-Listed
 fields-returns-in-Listed t c =
-    let l = c.in-Listed.l in
+    let names = c.deref.result.now.names in
+    let written = c.deref-in-Listed.result.now.written in
+    let l = c.in-Listed.l.value in
+    let tree = ap (λ (x : FieldGroup). some_fields (names_of x.names) (type_of written)) c.deref.ensures ∙ ap (λ (x : FieldGroup). some_fields (names_of l.names) (type_of x.written)) c.deref-in-Listed.ensures in
     subst (λ z. OnOk c.written.result (c.written.new.self ≡ z))
-    (then_used c.args.self.now (identifiers role.FieldName (names_of l.names)) (identifiers role.Declaring (type_of l.written)) c.field_names.ensures
-    ∙ ap (λ t. used t c.args.self.now) (sym (ap fields_of c.in-Listed.is))) c.written.ensures
+    (then_used c.args.self.now (identifiers role.FieldName (names_of names)) (identifiers role.Declaring (type_of written)) c.field_names.ensures
+    ∙ ap (λ t. used t c.args.self.now) (tree ∙ sym (ap fields_of c.in-Listed.is))) c.written.ensures
 
 pub record-loop-group-preserved : goal.record-loop-group-preserved
 record-loop-group-preserved t c = uses_on further_fields_of_group c.group-item.result c.fields.new.self c.loop-group.invariant c.loop-group-test.true c.group-item.is c.in_ok-fields.ensures

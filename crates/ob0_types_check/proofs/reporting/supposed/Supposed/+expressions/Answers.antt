@@ -1,4 +1,5 @@
-use Rattle.std.proofs.Common.{sym, ap, ◌∙◌}
+use Rattle.std.proofs.Common.{◌≡◌, length, sym, ap, ◌∙◌, arith}
+use Rattle.std.proofs.lemmas.Bool.Decides.{nat_tests}
 use Rattle.std.proofs.lemmas.Result.{IfOk-weaker}
 use Rattle.ob0_tree.proofs.Viewed.{designator_made, simple_parts, term_parts}
 use Rattle.ob0_tree.specs.declared.tree.Addend.{out-Addend}
@@ -13,7 +14,7 @@ use Rattle.ob0_types_check.specs.ExpressionFaults.{reported_addends, reported_ex
 use Rattle.ob0_types_check.specs.Operations.{add_operands, complement_operand, element_selected, enclosed, multiply_operands, relate_operands, right, sign_operand, ◌>>=◌}
 use Rattle.ob0_types_check.specs.SupposedFacts.{facts_in, operand_of}
 use Rattle.ob0_types_check.proofs.Chains.{chain_ends, chain_goes_on, steps, reports_nothing, reports_same}
-use Rattle.ob0_types_check.proofs.ReportedParts.{added_chain, alone_reported, designator_reported, factor_reported, field_reported, index_reported, integer_reported, multiplied_chain, negation_reported, parentheses_reported, related_reported, selected_chain, simple_reported, term_reported, reported_added}
+use Rattle.ob0_types_check.proofs.ReportedParts.{added_chain, alone_reported, designator_reported, factor_reported, field_reported, index_reported, integer_reported, multiplied_chain, negation_reported, nothing_selected, parentheses_reported, related_reported, selected_chain, simple_reported, term_reported, reported_added}
 use Rattle.ob0_types_check.proofs.reporting.supposed.Supposed.+expressions.Goals as goal
 
 pub expression-returns-in-Factor : goal.expression-returns-in-Factor
@@ -42,13 +43,23 @@ compound-returns-in_ok-right-in-Some t c =
     ∙ sym (ap (λ k. reported_expression facts (compares left (one (relates (out-Comparison k).relation (simple_of (out-Comparison k).right))))) c.deref-compared.ensures)
     ∙ related_reported facts compared.relation left right))) c.relate.ensures
 
-pub factor-returns-in_ok-base-in-Designator : goal.factor-returns-in_ok-base-in-Designator
-factor-returns-in_ok-base-in-Designator t c =
+pub factor-returns-else-is_empty : goal.factor-returns-else-is_empty
+factor-returns-else-is_empty t c =
     let facts = facts_in c.args.self.now c.args.only_constants in
     let d = c.in-Designator.d in
     let path = items_of selector_of d.selectors.items in
     IfOk-weaker c.selected.result _ _ (λ o h. reports_same (steps (λ x. reported_selectors facts x path) c.in_ok-base-in-Designator.ensures h)
     (sym (ap (λ f. reported_factor facts (factor_of f)) c.in-Designator.is ∙ ap (reported_factor facts) (designator_made d) ∙ designator_reported facts d.name path))) c.selected.ensures
+
+pub factor-returns-then-is_empty : goal.factor-returns-then-is_empty
+factor-returns-then-is_empty t c =
+    let facts = facts_in c.args.self.now c.args.only_constants in
+    let d = c.in-Designator.d in
+    let path = items_of selector_of d.selectors.items in
+    let ok = d.selectors.ok.0 in
+    let none : length d.selectors.items ≡ 0 = grind (arith, nat_tests) in
+    reports_same (steps (λ x. reported_selectors facts x path) c.in_ok-base-in-Designator.ensures (reports_same (reports_nothing c.value_named.new.faults.items (operand_of c.in_ok-base-in-Designator.base)) (sym (nothing_selected facts (operand_of c.in_ok-base-in-Designator.base) d.selectors.items none))))
+    (sym (ap (λ f. reported_factor facts (factor_of f)) c.in-Designator.is ∙ ap (reported_factor facts) (designator_made d) ∙ designator_reported facts d.name path))
 
 pub factor-returns-in-Integer : goal.factor-returns-in-Integer
 factor-returns-in-Integer t c =

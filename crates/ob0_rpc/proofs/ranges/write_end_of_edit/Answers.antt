@@ -1,0 +1,14 @@
+use Rattle.std.proofs.Common.{◌∙◌, ◌++◌, ◌-◌, ap, arith, codes, drop}
+use Rattle.std.proofs.lemmas.List.{length-drop, take_all}
+use Rattle.std.proofs.lemmas.Result.{on_ok_weaker}
+use Rattle.serde_json.specs.Written.{compact_text}
+use Rattle.ob0_rpc.specs.Shapes.{range_value}
+use Rattle.ob0_rpc.proofs.ranges.write_end_of_edit.Goals as goal
+
+pub returns-clause-text : goal.returns-clause-text
+returns-clause-text c =
+    let room = c.piece_before-at.new.room in
+    let at = c.piece_before-at.result in
+    let whole = take_all (176 - at) (drop at room) (omega (arith, length-drop at room)) in
+    let range = c.range_before-at_range.ensures.text ∙ ap (λ t. compact_text (range_value c.args.start c.args.end) ++ t) c.piece_before-following.ensures.text in
+    on_ok_weaker c.write_piece.result (λ is. is ∙ ap (λ t. c.args.out.now.items ++ t) (whole ∙ c.piece_before-at.ensures.text ∙ ap (λ t. codes "\",\"range\":" ++ t) range)) c.write_piece.ensures

@@ -1,0 +1,129 @@
+-- Bindings stay where the tokens of a text are named as they were.
+use Rattle.std.proofs.Common.{◌≡◌, ◌<◌, ℕ, zero, suc, Bool, true, false, not, ◌||◌, Option, Some, None, List, [], ◌∷◌, ◌++◌, length, drop, get_or, slice_get, is_some, if◌then◌else◌, refl, sym, ap, ◌∙◌, subst, arith}
+use Rattle.std.specs.List.{HoldsAt, filter, list_any}
+use Rattle.ob0_scan.specs.declared.fault.Fault.{Fault}
+use Rattle.ob0_scan.specs.declared.lexeme.Token.{Token}
+use Rattle.ob0_scan.specs.declared.lexeme.TokenKind.{TokenKind}
+use Rattle.ob0_scan.specs.declared.lexeme.TokenKind.TheVariants as kind
+use Rattle.ob0_scan.specs.Reused.{kinds, name_of, names_in, valueless}
+use Rattle.ob0_scan.specs.Scanned.{Scanned, spanned}
+use Rattle.ob0_tree.specs.declared.tree.ModuleTree.{ModuleTree}
+use Rattle.ob0_tree.specs.declared.tree.Role.{Role}
+use Rattle.ob0_tree.specs.declared.tree.Role.TheVariants as role
+use Rattle.ob0_tree.specs.Order.{AreIdentifiers, names_only}
+use Rattle.ob0_tree.specs.Parsed.{IsParsed, named_tree_of, parsed_by, tree_of}
+use Rattle.ob0_tree.specs.Places.{text_at, text_in, value_at}
+use Rattle.ob0_tree.specs.Tree.{Tree, identifiers, mapped, module_text, occurrences}
+use Rattle.ob0_tree.proofs.Leaves.{leaves_are_identifiers}
+use Rattle.ob0_scope_rules.specs.Bindings.{resolution_by}
+use Rattle.ob0_scope_rules.specs.DeclaredOnce.{declared_once}
+use Rattle.ob0_scope_rules.specs.DeclaredTwice.{twice_in}
+use Rattle.ob0_scope_rules.specs.Names.{Name, as_names}
+use Rattle.ob0_scope_rules.specs.Resolution.{AreFaultsOf, IsNumbering, IsResolution, is_of_declarations, is_of_occurrences, ordinal_in, span_at, undeclared_at, unbound_in, with_ordinal}
+use Rattle.ob0_scope_rules.specs.Scopes.{Labels, as_label, relabelled}
+use Rattle.ob0_scope_rules.specs.declared.resolved.Bindings.{Bindings}
+use Rattle.ob0_scope.specs.Marking.{started}
+use Rattle.ob0_scope.specs.Respelled.{AreNamedAlike, BindingsStay}
+use Rattle.ob0_scope.specs.Written.{as_in}
+use Rattle.ob0_scope.proofs.Alike.{AllAlike, alike}
+use Rattle.ob0_scope.proofs.Made.{faults_reported, undeclared_unbound}
+use Rattle.ob0_scope.proofs.Passing.{at_start, module_passed_with}
+use Rattle.ob0_scope.proofs.TokensWith.{marks_resolved}
+use Rattle.ob0_scope.proofs.TwiceOnce.{once_with, twice_alone, twice_where}
+
+-- ---- identifiers are written alike
+
+is_identifier : (k : TokenKind) → valueless k ≡ kind.Identifier → k ≡ kind.Identifier
+is_identifier kind.Identifier e = refl
+is_identifier (kind.Integer value) e = absurd (cc)
+is_identifier (kind.Reserved word) e = absurd (cc)
+is_identifier (kind.Symbol symbol) e = absurd (cc)
+
+same_text : (u t : Token) (x y : List ℕ) → valueless u.kind ≡ valueless t.kind → t.kind ≡ kind.Identifier → name_of u.kind x ≡ name_of t.kind y → x ≡ y
+same_text u t x y k e n =
+    let other : u.kind ≡ kind.Identifier = is_identifier u.kind (k ∙ ap valueless e) in
+    sym (ap (λ z. name_of z x) other) ∙ (n ∙ ap (λ z. name_of z y) e)
+
+texts : (a b : List ℕ) (ts us : List Token) (i : ℕ) → kinds us ≡ kinds ts → names_in b us ≡ names_in a ts → i < length ts → HoldsAt (λ (t : Token). t.kind ≡ kind.Identifier) ts i → text_in b (slice_get us i) ≡ text_in a (slice_get ts i)
+texts a b [] us i k n less h = absurd (omega (arith, less))
+texts a b (t ∷ ts) [] i k n less h = absurd (omega (arith, ap length k))
+texts a b (t ∷ ts) (u ∷ us) zero k n less h = same_text u t (spanned b u.span) (spanned a t.span) (ap (λ l. get_or l 0 kind.Identifier) k) (h t) (ap (λ l. get_or l 0 []) n)
+texts a b (t ∷ ts) (u ∷ us) (suc i) k n less h = texts a b ts us i (ap (drop 1) k) (ap (drop 1) n) (omega (arith, less)) h
+
+all_texts : (old new : Scanned) → AreNamedAlike old new → (g : ℕ → ℕ) (xs : List (Role × ℕ)) → AreIdentifiers old.tokens (names_only xs) → AllAlike (text_at new) (text_at old) g xs
+all_texts old new w g [] h = tt
+all_texts old new w g (x ∷ xs) h = (texts old.text new.text old.tokens new.tokens x.1 w.same_kinds w.same_names h.0.0 h.0.1, all_texts old new w g xs h.1)
+
+-- so is what is made of each and of its text
+all_through : {M : Type 0} (f : ℕ → Name → M) (n m : ℕ → Name) (g : ℕ → ℕ) (xs : List (Role × ℕ)) → AllAlike n m g xs → AllAlike (λ i. f i (m i)) (λ i. f i (n i)) g xs
+all_through f n m g [] h = tt
+all_through f n m g (x ∷ xs) h = (sym (ap (f x.1) h.0), all_through f n m g xs h.1)
+
+-- ---- where nothing was reported nothing is
+
+none_unbound : (o : Option ℕ) (f g : Fault) (xs ys : List Fault) → (if is_some o then xs else f ∷ xs) ≡ [] → (xs ≡ [] → ys ≡ []) → (if is_some o then ys else g ∷ ys) ≡ []
+none_unbound None f g xs ys e h = absurd (cc)
+none_unbound (Some k) f g xs ys e h = h e
+
+all_bound : (old new : Scanned) (ordinals : List (Option ℕ)) (is : List ℕ) → undeclared_at old ordinals is ≡ [] → undeclared_at new ordinals is ≡ []
+all_bound old new ordinals [] e = refl
+all_bound old new ordinals (i ∷ is) e = none_unbound (ordinal_in ordinals i) _ _ (undeclared_at old ordinals is) (undeclared_at new ordinals is) e (all_bound old new ordinals is)
+
+neither : (a b c : Bool) → (a || b) ≡ false → (not a || c) ≡ false → ⊥
+neither true b c e h = absurd (cc)
+neither false b c e h = absurd (cc)
+
+none_reported : (fs : List Fault) → list_any is_of_declarations fs ≡ false → list_any (λ f. not (is_of_declarations f)) fs ≡ false → fs ≡ []
+none_reported [] e h = refl
+none_reported (f ∷ fs) e h = absurd (neither (is_of_declarations f) (list_any is_of_declarations fs) (list_any (λ f. not (is_of_declarations f)) fs) e h)
+
+-- ---- the bindings stay
+
+module _ (old new : Scanned) (tree : ModuleTree) (b : Bindings) (w : AreNamedAlike old new) (r : IsResolution (resolution_by (parsed_by old tree) b)) where
+  abbrev read : Tree ℕ module_text
+  read = tree_of (parsed_by old tree)
+
+  written_alike : AllAlike (text_at new) (text_at old) (value_at new) (identifiers role.Declaring read)
+  written_alike = all_texts old new w (value_at new) (identifiers role.Declaring read) (leaves_are_identifiers (parsed_by old tree) r.parsed)
+
+  same_names : named_tree_of (parsed_by new tree) ≡ mapped (text_at old) (value_at new) read
+  same_names = (alike (text_at new) (text_at old) (value_at new) role.Declaring read).reads written_alike
+
+  labelled : {M : Type 0} (label : Labels Name M) → relabelled as_names label (named_tree_of (parsed_by new tree)) ≡ mapped (λ i. label (ordinal_in b.ordinals.items i) (text_at new i)) (value_at new) read
+  labelled {M} label =
+      let by : ℕ → Name → M = λ i x. label (ordinal_in b.ordinals.items i) x in
+      let passed = module_passed_with (ordinal_in b.ordinals.items) label (as_in old) (value_at new) read (started (as_in old)) (at_start (as_in old)) in
+      ap (relabelled as_names label) same_names
+      ∙ ((passed.agree (marks_resolved (resolution_by (parsed_by old tree) b) r)).1
+      ∙ (alike (λ i. by i (text_at old i)) (λ i. by i (text_at new i)) (value_at new) role.Declaring read).reads (all_through by (text_at new) (text_at old) (value_at new) (identifiers role.Declaring read) written_alike))
+
+  numbering : IsNumbering (parsed_by new tree) b.ordinals.items
+  numbering = labelled (as_label as_names)
+
+  module _ (none : b.faults.items ≡ []) where
+    nothing_twice : twice_in (parsed_by new tree) ≡ []
+    nothing_twice =
+        let once : declared_once (named_tree_of (parsed_by new tree)) ≡ declared_once (named_tree_of (parsed_by old tree)) = ap declared_once same_names ∙ once_with old (value_at new) (value_at old) read in
+        none_reported (twice_in (parsed_by new tree))
+        (twice_where (parsed_by new tree) ∙ (ap not once ∙ (sym r.reported.declared_twice ∙ ap (list_any is_of_declarations) none)))
+        (twice_alone (parsed_by new tree))
+
+    nothing_unbound : undeclared_at new b.ordinals.items (occurrences read) ≡ []
+    nothing_unbound =
+        all_bound old new b.ordinals.items (occurrences read)
+        (undeclared_unbound (parsed_by old tree) b.ordinals.items r.numbering ∙ (sym r.reported.undeclared ∙ ap (filter is_of_occurrences) none))
+
+    nothing_at_fault : AreFaultsOf (parsed_by new tree) b.faults.items
+    nothing_at_fault =
+        subst (AreFaultsOf (parsed_by new tree)) ((λ i. nothing_twice i ++ nothing_unbound i) ∙ sym none) (faults_reported (parsed_by new tree) b.ordinals.items numbering)
+
+pub bindings_stay : BindingsStay
+bindings_stay old new tree b w parsed r none = record {
+  parsed = parsed;
+  numbering = numbering old new tree b w r;
+  binding = labelled old new tree b w r with_ordinal;
+  names_alone = r.names_alone;
+  declaring = r.declaring;
+  occurring = r.occurring;
+  reported = nothing_at_fault old new tree b w r none;
+}
