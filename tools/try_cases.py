@@ -30,7 +30,8 @@ for folder in ("tests", os.path.join("tests", "lib")):
 import harness  # noqa: E402
 
 WORDS = ("check:", "run:", "rename", "messages:", "examples")
-LARGEST = 100_000  # bytes of a file or an input: what is longer takes the checked program long, and is left to bin/ob0
+# bytes of a file (or an input): what is longer takes the program that `rt try` makes long, and is left to bin/ob0
+LARGEST = {"check": 1_100_000, "run": 100_000, "rename": 100_000}
 COMMANDS = ("check", "run", "rename")
 STEP = 15  # seconds between two lines while the program is compiled and run
 CHECKED = 8  # how many modules are checked by the command, before the others are opened in one conversation
@@ -54,13 +55,13 @@ class Cases:
         plain, texts, wants_help = list(words), [], {"-h", "--help"} & {*words}
         if words[:1] and words[0] in COMMANDS and not wants_help:
             at = next((at for at, it in enumerate(words) if at and os.path.isfile(os.path.join(cwd or ".", it))), None)
-            if at is None or os.path.getsize(os.path.join(cwd or ".", words[at])) > LARGEST:
+            if at is None or os.path.getsize(os.path.join(cwd or ".", words[at])) > LARGEST[words[0]]:
                 raise Unknown("a file that isn't there, or a long one")
             with open(os.path.join(cwd or ".", words[at]), "rb") as file:
                 texts.append(file.read())
             plain[at] = "FILE"
         key = (tuple(plain), *texts, bytes(given))
-        if stack or len(given) > LARGEST or (words[:1] == ["serve"] and not wants_help) or not (can_be_case(key) or can_be_requested(key)):
+        if stack or len(given) > LARGEST["run"] or (words[:1] == ["serve"] and not wants_help) or not (can_be_case(key) or can_be_requested(key)):
             raise Unknown("a conversation, a long input or other words")
         if self.noting:
             self.wanted[key] = None
