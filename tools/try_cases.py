@@ -96,7 +96,7 @@ class Cases:
         contents = [harness.did_open(text.decode(), uri=f"file:///{at}") for at, (_, text, _) in enumerate(self.opened + self.requested)]
         for at, ((_, _, line, column, new), _, _) in enumerate(self.requested, len(self.opened)):
             where = {"position": harness.place(int(line), int(column)), "textDocument": {"uri": f"file:///{at}"}}
-            contents.append(harness.request(at, "textDocument/rename", {**where, "newName": new}))
+            contents.append(harness.request(f"rename {at}", "textDocument/rename", {**where, "newName": new}))
         if contents:
             begin = harness.initialize("begin")
             self.wanted[("serve",), harness.frames([begin, *contents, harness.SHUTDOWN, harness.EXIT])] = None
@@ -112,7 +112,7 @@ class Cases:
         self.found.update((it, printed[at]) for at, it in enumerate(self.opened))
         answers = {it["id"]: it for it in contents if "id" in it}
         for at, it in enumerate(self.requested, len(self.opened)):
-            self.found[it] = printed[at] if printed[at].status else renamed(it[1].decode(), answers[at])
+            self.found[it] = printed[at] if printed[at].status else renamed(it[1].decode(), answers[f"rename {at}"])
 
     def write(self, room, lanes):
         """Writes the cases as files for `rt try`, dealt out to this many folders, and returns their names and for each folder the
