@@ -2,7 +2,7 @@
 
 ghost use Rattle.std.specs.Prelude.{◌≡◌, ◌<◌, ◌++◌, [], true, IfOk, IfNone, MatchOption, OnOk, IfErr, codes, length, map, string_bytes};
 ghost use Rattle.std.specs.Io.KnownBytes.{Appends};
-ghost use Rattle.core.specs.Mem.{manually_drop_value};
+ghost use Rattle.std.specs.Mem.{manually_drop_value};
 ghost use Rattle.ob0_commands.specs.Printed.{PrintsFaults, complaint_lines, line_at, lines_at};
 ghost use Rattle.ob0_commands.specs.Statuses.{CanNotReport, IsOfOutput, IsStatus, StopsPrinting, StopsPrintingFaults};
 ghost use Rattle.ob0_scan.specs.Scanned.{max_text};
@@ -53,13 +53,20 @@ pub fn check<'f, O: Output>(
     let Some(text) = text_of(file, out)? else {
         return Ok(None);
     };
-    let analysis = analyse(alloc, text)?;
-    let reported = analysis.diagnoses(alloc)?;
+    let reported = diagnose(alloc, text)?;
     if reported.is_empty() {
         return Ok(Some(text));
     }
     print_diagnoses(alloc, text, reported.as_slice(), out)?;
     Ok(None)
+}
+
+/// What is wrong with a text.
+fn diagnose(alloc: Global, text: &str) -> Result<Vec<Diagnosis>, AllocError>
+    ensures { IfOk result (λ list. Reports text.now (map complaint_in list.items)) }
+{
+    let analysis = analyse(alloc, text)?;
+    analysis.diagnoses(alloc)
 }
 
 /// The analysis of a text for a command that ends with its process: what it has is left to the process, which frees all

@@ -1,4 +1,4 @@
-use Rattle.std.proofs.Common.{ℕ, List, ap, inl, inr, map, subst}
+use Rattle.std.proofs.Common.{◌∙◌, ℕ, List, ap, inl, inr, map, subst}
 use Rattle.std.proofs.lemmas.Result.{IfOk-weaker}
 use Rattle.ob0_analysis.specs.Diagnosed.{Reports, complaint_in}
 use Rattle.ob0_commands.proofs.Renames.{edited_in_text, found_in_text, prints_renamed, refuses_name}
@@ -21,7 +21,7 @@ returns-in-Some-clause-other g c =
 pub returns-clause-other : goal.returns-clause-other
 returns-clause-other g c =
     λ one. inl (ill_typed _ c.args.text.now c.in_ok-reported-in-None.reported.items c.as_slice.result.now (g.O.Write.contents c.args.out.now) (g.O.Write.contents c.print_diagnoses.new.out)
-    c.in_ok-store.ensures.content c.utf8.text c.as_slice.ensures.value (rw c.in-None.is at c.in_ok-outcome.ensures) (subst (λ (t : List ℕ). Reports t (map complaint_in c.in_ok-reported-in-None.reported.items)) c.in_ok-analysis.ensures c.in_ok-reported-in-None.ensures.reported) c.in_ok-print_diagnoses-in-None.ensures.printed)
+    c.in_ok-store.ensures.content c.utf8.text c.as_slice.ensures.value (rw c.in-None.is at c.in_ok-outcome.ensures) (subst (λ (t : List ℕ). Reports t (map complaint_in c.in_ok-reported-in-None.reported.items)) (c.deref-in-None.ensures ∙ c.in_ok-analysis.ensures) c.in_ok-reported-in-None.ensures.reported) c.in_ok-print_diagnoses-in-None.ensures.printed)
 
 pub returns-in-Some-clause-handed_on : goal.returns-in-Some-clause-handed_on
 returns-in-Some-clause-handed_on g c =
