@@ -11,6 +11,8 @@ mod edits;
 #[cfg(test)]
 mod faults;
 #[cfg(test)]
+mod forms;
+#[cfg(test)]
 mod layers;
 #[cfg(test)]
 mod names;

@@ -1,0 +1,64 @@
+//! The forms that the parser gives to expressions, which no contract tells apart, and the sizes of nodes.
+
+use ob0_parse::parse;
+use ob0_scan::scan;
+use ob0_tree::{Expression, Fields, Statement};
+use std::alloc::Global;
+use std::mem::size_of;
+
+const _: () = prove!(size_of::<Expression>() == 48);
+
+const _: () = prove!(size_of::<Statement>() == 48);
+
+const _: () = prove!(size_of::<Fields>() == 16);
+
+const ONE_FACTOR: &str =
+    "MODULE M; VAR x: INTEGER; BEGIN x := x; x := 1; x := (x); x := a[i].b; x := ~b; x := (x + 1); x := f.g[1] END M.";
+
+const OPERATIONS: &str =
+    "MODULE M; VAR x: INTEGER; BEGIN x := -x; x := +1; x := (x) * 2; x := a[i].b + 1; x := ~b & c; x := x = 1; x := (x) # y; x := a.b < 3; x := -(x) END M.";
+
+fn is_factor(e: &Expression) -> bool {
+    match e {
+        Expression::Factor(_) => true,
+        Expression::Compound(_) => false,
+    }
+}
+
+fn assigns(s: &Statement, factor: bool) -> bool {
+    match s {
+        Statement::Assign(a) => is_factor(&a.value) == factor,
+        _ => false,
+    }
+}
+
+/// Whether the body of a text has this many assignments, all of a value of this form.
+fn all_assign(alloc: Global, text: &str, count: usize, factor: bool) -> bool {
+    let Ok(tokens) = scan(alloc, text) else {
+        return false;
+    };
+    let Ok(module) = parse(alloc, &tokens) else {
+        return false;
+    };
+    let Some(body) = &module.block().body else {
+        return false;
+    };
+    for s in body {
+        if !assigns(s, factor) {
+            return false;
+        }
+    }
+    body.len() == count
+}
+
+#[test]
+fn one_factor_has_the_small_form(rt: HostRuntime) {
+    assert!(rt; all_assign(rt.alloc(), ONE_FACTOR, 7, true));
+    assert!(rt; !all_assign(rt.alloc(), OPERATIONS, 9, true));
+}
+
+#[test]
+fn operations_are_compound(rt: HostRuntime) {
+    assert!(rt; all_assign(rt.alloc(), OPERATIONS, 9, false));
+    assert!(rt; !all_assign(rt.alloc(), ONE_FACTOR, 7, false));
+}
