@@ -5,21 +5,12 @@ ghost use Rattle.ob0_parse.specs.RefusedBy.{RefusedBy};
 ghost use Rattle.ob0_analysis.specs.Diagnosed.{Reports, complaint_in};
 ghost use Rattle.ob0_analysis.specs.Found.{IsDecided};
 
-use crate::analysis::Analysis;
 use crate::diagnoses::{Diagnosis, of_faults, of_refusal};
 use crate::parts::ModuleParts;
 use ob0_parse::{ParseRefusal, one_tree};
 use ob0_scan::Tokens;
 use ob0_scan::laws::one_scan;
 use std::alloc::{AllocError, Global};
-
-/// What is wrong with a text, which is nothing exactly for a well-typed module (`Analysis::diagnoses`).
-pub fn diagnose(alloc: Global, text: &str) -> Result<Vec<Diagnosis>, AllocError>
-    ensures { IfOk result (λ list. Reports text.now (map complaint_in list.items)) }
-{
-    let analysis = Analysis::of(alloc, text)?;
-    analysis.diagnoses(alloc)
-}
 
 /// What is wrong with a text without a tree: the one place at which the parser refuses it.
 pub(crate) fn diagnose_refusal(

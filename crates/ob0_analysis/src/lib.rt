@@ -1,5 +1,5 @@
-//! What a text is, as one value that is made once, kept, and queried (`Analysis`, `ask`). What is wrong with a text
-//! (`diagnose`).
+//! What a text is, as one value that is made once, kept, and queried (`Analysis`, `ask`); what is wrong with the text
+//! (`Analysis::diagnoses`).
 #![tactic(auto)]
 
 mod analysis;
@@ -13,5 +13,4 @@ mod parts;
 pub use analysis::Analysis;
 pub use asking::{Question, ask};
 pub use diagnoses::Diagnosis;
-pub use diagnosing::diagnose;
 pub use ob0_types::{WellTyped, declaring_field, field_at, field_tokens};

@@ -2,7 +2,7 @@
 //! where, no contract says.
 
 use crate::asking::reported_faults;
-use ob0_analysis::{Analysis, diagnose};
+use ob0_analysis::Analysis;
 use std::alloc::{AllocError, Global};
 use std::process::Abort;
 use std::test::Fail;
@@ -170,7 +170,8 @@ static ROWS: &[(&str, &str)] = &[
 fn the_faults_of_worked_texts_are_reported(rt: HostRuntime) -> Result<(), Fail> {
     for row in ROWS {
         let (text, wanted) = *row;
-        let faults = diagnose(rt.alloc(), text)?;
+        let analysis = Analysis::of(rt.alloc(), text)?;
+        let faults = analysis.diagnoses(rt.alloc())?;
         let found = reported_faults(rt.alloc(), faults.as_slice())?;
         assert!(rt; found.as_str() == wanted, "{found} in {text}");
     }
@@ -210,7 +211,8 @@ fn is_as_new(alloc: Global, old: &str, new: &str) -> Result<bool, AllocError> {
     let analysis = Analysis::of(alloc, old)?.after(alloc, new)?;
     let faults = analysis.diagnoses(alloc)?;
     let found = reported_faults(alloc, faults.as_slice())?;
-    let faults = diagnose(alloc, new)?;
+    let analysis = Analysis::of(alloc, new)?;
+    let faults = analysis.diagnoses(alloc)?;
     let wanted = reported_faults(alloc, faults.as_slice())?;
     Ok(found.as_str() == wanted.as_str())
 }
