@@ -1,5 +1,5 @@
 -- How long a text is with another one at the places of identifiers.
-use Rattle.std.proofs.Common.{◌≡◌, ℕ, zero, suc, ◌+◌, ◌-◌, ◌<◌, ◌≤◌, true, List, [], ◌∷◌, ◌++◌, length, get_or, take, drop, map, refl, sym, ap, ◌∙◌, subst, arith, length-append, length-drop}
+use Rattle.std.proofs.Common.{◌≡◌, ℕ, suc, ◌+◌, ◌-◌, ◌<◌, ◌≤◌, true, List, [], ◌∷◌, ◌++◌, length, get_or, take, drop, map, refl, sym, ap, ◌∙◌, subst, arith, length-append, length-drop}
 use Rattle.std.specs.Prelude.{codes}
 use Rattle.std.specs.Char.{is_ascii_alphanumeric}
 use Rattle.std.proofs.lemmas.List.{drop_more, drop_all, length-take}
@@ -93,9 +93,6 @@ counted_start s scan new places count end names chain low inside = record {
 
 module _ (s : Scanned) (new places : List ℕ) (total count end i : ℕ) (c : Counted s new places total count end i) where
   module _ (less : i < length places) where
-    next : ℕ
-    next = get_or places i 0
-
     here : drop i places ≡ get_or places i 0 ∷ drop (i + 1) places
     here = drop_more places i 0 less
 
@@ -143,11 +140,6 @@ module _ (s : Scanned) (new places : List ℕ) (total count end i : ℕ) (c : Co
   pub counted_all : length places ≤ i → count + (length s.text - end) ≡ total
   counted_all done =
       ap (λ n. count + n) (sym (last_length s.text end)) ∙ ap (λ ps. count + length (pieced s.text end (map (cut_of s.tokens new) ps))) (sym (drop_all i places done)) ∙ c.sum
-
-pub name_is_token : (tokens : List Token) (least : ℕ) (places : List ℕ) (i : ℕ) → AreNames tokens least places → i < length places → get_or places i 0 < length tokens
-name_is_token tokens least [] i names less = absurd (omega (arith, less))
-name_is_token tokens least (p ∷ ps) zero names less = names.1
-name_is_token tokens least (p ∷ ps) (suc i) names less = name_is_token tokens (suc p) ps i names.3 (omega (arith, less))
 
 -- the text without a declaration is what precedes it, and then what follows
 pub chain_without : (s : Scanned) (scan : IsScan s) (new places : List ℕ) (first last : ℕ) → IsDeclaration s.tokens first last → AreNames s.tokens (suc last) places → Chain 0 (removal s.tokens first last ∷ map (cut_of s.tokens new) places)

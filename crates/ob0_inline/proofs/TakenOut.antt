@@ -1,6 +1,5 @@
 -- The declaration of a constant taken out of a tree: what is left, over any names, and which tokens are gone.
-use Rattle.std.proofs.Common.{zero, slice_get, length-append, ◌≡◌, ◌⊎◌, inl, inr, ℕ, suc, ◌+◌, ◌<◌, ◌≤◌, ◌==◌, Bool, true, false, if◌then◌else◌, nat_lt, Option, Some, None, List, [], ◌∷◌, ◌++◌, length, refl, sym, ap, ◌∙◌, subst, arith, append_assoc, append-nil, eqb-true, ne_eqb, option_and_then}
-use Rattle.std.proofs.lemmas.Bool.{ltb-true, ltb-false}
+use Rattle.std.proofs.Common.{zero, slice_get, length-append, ◌≡◌, ◌⊎◌, ℕ, suc, ◌+◌, ◌<◌, ◌≤◌, ◌==◌, Bool, true, false, if◌then◌else◌, Option, Some, None, List, [], ◌∷◌, ◌++◌, length, refl, sym, ap, ◌∙◌, arith, append_assoc, append-nil, ne_eqb}
 use Rattle.ob0_scan.specs.declared.lexeme.Reserved.TheVariants as reserved
 use Rattle.ob0_scan.specs.declared.lexeme.Symbol.TheVariants as symbol
 use Rattle.ob0_scan.specs.declared.lexeme.TokenKind.{TokenKind}
@@ -15,23 +14,16 @@ use Rattle.ob0_tree.specs.declared.tree.Sign.{Sign}
 use Rattle.ob0_tree.specs.declared.tree.Sign.TheVariants as sign
 use Rattle.ob0_tree.specs.Lexeme.{Terminal, Mark, add_mark, multiply_mark, relation_mark, sign_marks}
 use Rattle.ob0_tree.specs.Lexeme as lexeme
-use Rattle.ob0_tree.specs.Tree.{Sort, Tree, identifiers, addend, adds, compares, designator, expression, factor, field, index, integer, multiplier, multiplies, negation, parenthesised, product, relates, selector, simple, sum, term, block, constant, constants, declares, declares_constant, declares_constants, declares_procedure, declares_type, declares_types, declares_variable, declares_variables, end, formals, further_name, further_section, has_body, is_module, item, items, listed, maybe, module_text, more, names, no_formals, none, one, procedure, section, some_formals, spell, then_name, then_section, type_name, type_names, value_section, variable, variable_section, variables, body}
+use Rattle.ob0_tree.specs.Tree.{Sort, Tree, identifiers, addend, adds, compares, designator, expression, factor, field, index, integer, multiplier, multiplies, negation, parenthesised, product, relates, selector, simple, sum, term, block, constant, constants, declares, declares_constant, declares_constants, declares_procedure, declares_type, declares_types, declares_variable, declares_variables, end, formals, further_name, further_section, has_body, is_module, item, items, listed, maybe, module_text, more, names, no_formals, none, one, procedure, section, some_formals, spell, then_name, then_section, type_name, type_names, value_section, variable, variable_section, variables}
 use Rattle.ob0_edits.specs.Inlined.{ReplacesFactors, inlined}
 use Rattle.ob0_scope_rules.specs.Inlining.{block_without, module_without, procedure_without, procedures_without, section_without, without}
-use Rattle.ob0_scope_rules.specs.Names.{Name, as_names}
+use Rattle.ob0_scope_rules.specs.Names.{Name}
 use Rattle.ob0_scope_rules.specs.Parts.{constant_names, formal_names, formal_sections, further_names, named_types, names_listed, section_constants, section_names, section_types, section_variables, variable_names, procedure_name, module_block}
 use Rattle.ob0_tree.specs.declared.tree.Role.{Role}
 use Rattle.ob0_tree.specs.declared.tree.Role.TheVariants as role
 use Rattle.ob0_scope_rules.specs.Resolution.{declaring_only}
 use Rattle.ob0_scope_rules.proofs.Plain.{IsPlain, declares_nothing, declaring_only-append}
 use Rattle.ob0_scope_rules.specs.Scopes.{after_block, after_names, after_procedure, after_procedures, first_procedure, first_type}
-use Rattle.ob0_types_rules.specs.Declarations.{declare_constants}
-use Rattle.ob0_types_rules.specs.WellTyped.{bind_names}
-use Rattle.ob0_types_rules.specs.ConstantValues.{Known, no_constant, predeclared_known, value_among, value_in_block, value_in_procedure, value_in_procedures, value_of_constant}
-use Rattle.ob0_types_rules.specs.Environments.{meanings}
-use Rattle.ob0_types_rules.specs.Expressions.{a_constant}
-use Rattle.ob0_types_rules.specs.Typing.{constant_value}
-use Rattle.ob0_values.specs.Values.{Value}
 use Rattle.ob0_scope_rules.proofs.Ordinals.{after_names-append, le-after_names, le-after_procedure, le-after_procedures}
 
 -- as the module without a declaration, over any names
@@ -428,218 +420,6 @@ mutual
 
 pub gone_here : (d k : ℕ) (c : Tree ℕ (item constant)) (cs : Tree ℕ (items constant)) (b : Bool) → (k == d) ≡ b → gone_constants d k (more c cs) ≡ (if b then cs else more c (gone_constants d (suc k) cs))
 gone_here d k c cs b e = ap (λ v. if v then cs else more c (gone_constants d (suc k) cs)) e
-
-module _ (c : ℕ → Option (Tree Name factor)) (f : ℕ → Name) (g : ℕ → ℕ) (d : ℕ) (w : Value) where
-  taken_constants : (known : Known) (k : ℕ) (cs : Tree ℕ (items constant)) (front : List (Terminal ℕ)) (border : TokenKind)
-      → (border ≡ kind.Reserved reserved.Const) ⊎ (border ≡ kind.Symbol symbol.Semicolon) → value_among known d k (inlined c f g cs) ≡ Some w
-      → Taken d k (constant_names cs) (front ++ (Mark border ∷ spell cs)) (front ++ (Mark border ∷ spell (gone_constants d k cs)))
-  unfolding value_among
-  taken_constants known k end front border opens e = absurd (cc)
-  taken_constants known k (more (declares_constant x a) cs) front border opens e =
-      by_value (constant_value (meanings as_names known) (inlined c f g a)) e
-      (λ v h. taken_constants ((f x, a_constant v) ∷ known) (suc k) cs (front ++ (Mark border ∷ lexeme.Name x ∷ Mark (kind.Symbol symbol.Equal) ∷ spell a)) (kind.Symbol symbol.Semicolon) (inr refl) h)
-    where
-      here : (k == d) ≡ true → Taken d k (x ∷ constant_names cs) (front ++ (Mark border ∷ spell (more (declares_constant x a) cs))) (front ++ (Mark border ∷ spell (gone_constants d k (more (declares_constant x a) cs))))
-      here q = record {
-        place = 0;
-        ordinal_is = (let e = eqb-true k d q in omega (arith, e));
-        named_there = refl;
-        before = front;
-        border = border;
-        opens = opens;
-        name = x;
-        right = spell a;
-        no_end = expression_no_end a;
-        after = spell cs;
-        whole_is = sym (append_assoc front (Mark border ∷ []) (spell (more (declares_constant x a) cs)));
-        left_is = ap (λ t. front ++ (Mark border ∷ spell t)) (gone_here d k (declares_constant x a) cs true q) ∙ sym (append_assoc front (Mark border ∷ []) (spell cs));
-      }
-
-      there : (k == d) ≡ false
-          → Taken d (suc k) (constant_names cs) ((front ++ (Mark border ∷ lexeme.Name x ∷ Mark (kind.Symbol symbol.Equal) ∷ spell a)) ++ (Mark (kind.Symbol symbol.Semicolon) ∷ spell cs))
-          ((front ++ (Mark border ∷ lexeme.Name x ∷ Mark (kind.Symbol symbol.Equal) ∷ spell a)) ++ (Mark (kind.Symbol symbol.Semicolon) ∷ spell (gone_constants d (suc k) cs)))
-          → Taken d k (x ∷ constant_names cs) (front ++ (Mark border ∷ spell (more (declares_constant x a) cs))) (front ++ (Mark border ∷ spell (gone_constants d k (more (declares_constant x a) cs))))
-      there q t =
-          let moved = λ (l : List (Terminal ℕ)). append_assoc front (Mark border ∷ lexeme.Name x ∷ Mark (kind.Symbol symbol.Equal) ∷ spell a) (Mark (kind.Symbol symbol.Semicolon) ∷ l)
-          ∙ ap (λ z. front ++ (Mark border ∷ lexeme.Name x ∷ Mark (kind.Symbol symbol.Equal) ∷ z)) (sym (append_assoc (spell a) (Mark (kind.Symbol symbol.Semicolon) ∷ []) l)) in
-          record {
-            place = suc t.place;
-            ordinal_is = (let e = t.ordinal_is in omega (arith, e));
-            named_there = t.named_there;
-            before = t.before;
-            border = t.border;
-            opens = t.opens;
-            name = t.name;
-            right = t.right;
-            no_end = t.no_end;
-            after = t.after;
-            whole_is = sym (moved (spell cs)) ∙ t.whole_is;
-            left_is = ap (λ z. front ++ (Mark border ∷ spell z)) (gone_here d k (declares_constant x a) cs false q) ∙ (sym (moved (spell (gone_constants d (suc k) cs))) ∙ t.left_is);
-          }
-
-      by_test : (v : Value) (b : Bool) → (k == d) ≡ b → (if b then Some v else value_among ((f x, a_constant v) ∷ known) d (suc k) (inlined c f g cs)) ≡ Some w
-          → (value_among ((f x, a_constant v) ∷ known) d (suc k) (inlined c f g cs) ≡ Some w
-          → Taken d (suc k) (constant_names cs) ((front ++ (Mark border ∷ lexeme.Name x ∷ Mark (kind.Symbol symbol.Equal) ∷ spell a)) ++ (Mark (kind.Symbol symbol.Semicolon) ∷ spell cs))
-          ((front ++ (Mark border ∷ lexeme.Name x ∷ Mark (kind.Symbol symbol.Equal) ∷ spell a)) ++ (Mark (kind.Symbol symbol.Semicolon) ∷ spell (gone_constants d (suc k) cs))))
-          → Taken d k (x ∷ constant_names cs) (front ++ (Mark border ∷ spell (more (declares_constant x a) cs))) (front ++ (Mark border ∷ spell (gone_constants d k (more (declares_constant x a) cs))))
-      by_test v true q e later = here q
-      by_test v false q e later = there q (later e)
-
-      by_value : (o : Option Value) → option_and_then (λ v. if k == d then Some v else value_among ((f x, a_constant v) ∷ known) d (suc k) (inlined c f g cs)) o ≡ Some w
-          → ((v : Value) → value_among ((f x, a_constant v) ∷ known) d (suc k) (inlined c f g cs) ≡ Some w
-          → Taken d (suc k) (constant_names cs) ((front ++ (Mark border ∷ lexeme.Name x ∷ Mark (kind.Symbol symbol.Equal) ∷ spell a)) ++ (Mark (kind.Symbol symbol.Semicolon) ∷ spell cs))
-          ((front ++ (Mark border ∷ lexeme.Name x ∷ Mark (kind.Symbol symbol.Equal) ∷ spell a)) ++ (Mark (kind.Symbol symbol.Semicolon) ∷ spell (gone_constants d (suc k) cs))))
-          → Taken d k (x ∷ constant_names cs) (front ++ (Mark border ∷ spell (more (declares_constant x a) cs))) (front ++ (Mark border ∷ spell (gone_constants d k (more (declares_constant x a) cs))))
-      by_value None e later = absurd (cc)
-      by_value (Some v) e later = by_test v (k == d) refl e (later v)
-
-  taken_section : (known : Known) (k : ℕ) (cs : Tree ℕ (maybe constants)) → value_among known d k (section_constants (inlined c f g cs)) ≡ Some w → Taken d k (constant_names (section_constants cs)) (spell cs) (spell (gone_section d k cs))
-  unfolding value_among
-  taken_section known k none e = absurd (cc)
-  taken_section known k (one (declares_constants cs)) e = taken_constants known k cs [] (kind.Reserved reserved.Const) (inl refl) e
-
-  -- the section of a block, or its procedures; what isn't concerned stays
-  by_section : (cs : Tree ℕ (maybe constants)) (ts : Tree ℕ (maybe type_names)) (vs : Tree ℕ (maybe variables)) (ps : Tree ℕ (items procedure)) (statements : Tree ℕ (maybe body)) (k : ℕ)
-      → d < first_type k (has_body (declares cs ts vs ps) statements) → Taken d k (constant_names (section_constants cs)) (spell cs) (spell (gone_section d k cs))
-      → Taken d k (block_declares (has_body (declares cs ts vs ps) statements)) (spell (has_body (declares cs ts vs ps) statements)) (spell (gone_block d k (has_body (declares cs ts vs ps) statements)))
-  by_section cs ts vs ps statements k h t =
-      let b : Tree ℕ block = has_body (declares cs ts vs ps) statements in
-      let labels = block_declares b in
-      let up2 = le-after_names (after_names k (constant_names (section_constants cs))) (named_types (section_types ts)) in
-      let up3 = le-after_names (after_names (after_names k (constant_names (section_constants cs))) (named_types (section_types ts))) (variable_names (section_variables vs)) in
-      let kept = low_procedures d (first_procedure k b) ps (omega (arith, h, up2, up3)) in
-      let there = among_others d k k (constant_names (section_constants cs)) labels (spell cs) (spell (gone_section d k cs)) t t.place t.ordinal_is
-      (get_first (constant_names (section_constants cs)) (named_types (section_types ts) ++ (variable_names (section_variables vs) ++ procedures_declare ps)) t.place t.name t.named_there) in
-      subst (λ (qs : Tree ℕ (items procedure)). Taken d k labels (spell b) ((spell (gone_section d k cs) ++ (spell ts ++ (spell vs ++ spell qs))) ++ spell statements)) (sym kept)
-      (put_following d k labels (spell cs ++ (spell ts ++ (spell vs ++ spell ps))) (spell (gone_section d k cs) ++ (spell ts ++ (spell vs ++ spell ps))) (spell statements)
-      (put_following d k labels (spell cs) (spell (gone_section d k cs)) (spell ts ++ (spell vs ++ spell ps)) there))
-
-  by_procedures : (cs : Tree ℕ (maybe constants)) (ts : Tree ℕ (maybe type_names)) (vs : Tree ℕ (maybe variables)) (ps : Tree ℕ (items procedure)) (statements : Tree ℕ (maybe body)) (k : ℕ)
-      → first_type k (has_body (declares cs ts vs ps) statements) ≤ d
-      → Taken d (first_procedure k (has_body (declares cs ts vs ps) statements)) (procedures_declare ps) (spell ps) (spell (gone_procedures d (first_procedure k (has_body (declares cs ts vs ps) statements)) ps))
-      → Taken d k (block_declares (has_body (declares cs ts vs ps) statements)) (spell (has_body (declares cs ts vs ps) statements)) (spell (gone_block d k (has_body (declares cs ts vs ps) statements)))
-  by_procedures cs ts vs ps statements k h t =
-      let b : Tree ℕ block = has_body (declares cs ts vs ps) statements in
-      let labels = block_declares b in
-      let left = spell (gone_procedures d (first_procedure k b) ps) in
-      let xs = constant_names (section_constants cs) in
-      let ys = named_types (section_types ts) in
-      let zs = variable_names (section_variables vs) in
-      let e1 = names_counted k xs in
-      let e2 = names_counted (after_names k xs) ys in
-      let e3 = names_counted (after_names (after_names k xs) ys) zs in
-      let there = among_others d k (first_procedure k b) (procedures_declare ps) labels (spell ps) left t (length xs + (length ys + (length zs + t.place))) (omega (arith, t.ordinal_is, e1, e2, e3))
-      (get_later xs (ys ++ (zs ++ procedures_declare ps)) (length ys + (length zs + t.place)) ∙ (get_later ys (zs ++ procedures_declare ps) (length zs + t.place) ∙ get_later zs (procedures_declare ps) t.place)) in
-      subst (λ (qs : Tree ℕ (maybe constants)). Taken d k labels (spell b) ((spell qs ++ (spell ts ++ (spell vs ++ left))) ++ spell statements)) (sym (high_section d k cs h))
-      (put_following d k labels (spell cs ++ (spell ts ++ (spell vs ++ spell ps))) (spell cs ++ (spell ts ++ (spell vs ++ left))) (spell statements)
-      (put_before d k labels (spell cs) (spell ts ++ (spell vs ++ spell ps)) (spell ts ++ (spell vs ++ left))
-      (put_before d k labels (spell ts) (spell vs ++ spell ps) (spell vs ++ left)
-      (put_before d k labels (spell vs) (spell ps) left there))))
-
-  by_procedure : (q : Tree ℕ (item procedure)) (rest : Tree ℕ (items procedure)) (k : ℕ) → d < after_procedure (suc k) q → Taken d (suc k) (procedure_declares q) (spell q) (spell (gone_procedure d (suc k) q))
-      → Taken d k (procedures_declare (more q rest)) (spell (more q rest)) (spell (gone_procedures d k (more q rest)))
-  by_procedure q rest k h t =
-      let labels = procedures_declare (more q rest) in
-      let there = among_others d k (suc k) (procedure_declares q) labels (spell q) (spell (gone_procedure d (suc k) q)) t (suc t.place) (omega (arith, t.ordinal_is))
-      (get_first (procedure_declares q) (procedures_declare rest) t.place t.name t.named_there) in
-      subst (λ (qs : Tree ℕ (items procedure)). Taken d k labels (spell q ++ spell rest) (spell (gone_procedure d (suc k) q) ++ spell qs)) (sym (low_procedures d (after_procedure (suc k) q) rest h))
-      (put_following d k labels (spell q) (spell (gone_procedure d (suc k) q)) (spell rest) there)
-
-  by_rest : (q : Tree ℕ (item procedure)) (rest : Tree ℕ (items procedure)) (k : ℕ) → after_procedure (suc k) q ≤ d
-      → Taken d (after_procedure (suc k) q) (procedures_declare rest) (spell rest) (spell (gone_procedures d (after_procedure (suc k) q) rest))
-      → Taken d k (procedures_declare (more q rest)) (spell (more q rest)) (spell (gone_procedures d k (more q rest)))
-  by_rest q rest k h t =
-      let labels = procedures_declare (more q rest) in
-      let front = procedure_name q ∷ procedure_declares q in
-      let count = procedure_counted (suc k) q in
-      let there = among_others d k (after_procedure (suc k) q) (procedures_declare rest) labels (spell rest) (spell (gone_procedures d (after_procedure (suc k) q) rest)) t (length front + t.place) (omega (arith, t.ordinal_is, count))
-      (get_later front (procedures_declare rest) t.place) in
-      subst (λ (p : Tree ℕ (item procedure)). Taken d k labels (spell q ++ spell rest) (spell p ++ spell (gone_procedures d (after_procedure (suc k) q) rest))) (sym (high_procedure d (suc k) q h))
-      (put_before d k labels (spell q) (spell rest) (spell (gone_procedures d (after_procedure (suc k) q) rest)) there)
-
-  in_procedure : (x closing : ℕ) (fs : Tree ℕ (maybe formals)) (b : Tree ℕ block) (k : ℕ)
-      → Taken d (after_names k (formal_names (formal_sections fs))) (block_declares b) (spell b) (spell (gone_block d (after_names k (formal_names (formal_sections fs))) b))
-      → Taken d k (procedure_declares (declares_procedure x fs b closing)) (spell (declares_procedure x fs b closing)) (spell (gone_procedure d k (declares_procedure x fs b closing)))
-  in_procedure x closing fs b k t =
-      let xs = formal_names (formal_sections fs) in
-      let labels = xs ++ block_declares b in
-      let left = spell (gone_block d (after_names k xs) b) in
-      let tail : List (Terminal ℕ) = Mark (kind.Reserved reserved.End) ∷ lexeme.Name closing ∷ (Mark (kind.Symbol symbol.Semicolon) ∷ []) in
-      let count = names_counted k xs in
-      let there = among_others d k (after_names k xs) (block_declares b) labels (spell b) left t (length xs + t.place) (omega (arith, t.ordinal_is, count)) (get_later xs (block_declares b) t.place) in
-      put_before d k labels (Mark (kind.Reserved reserved.Procedure) ∷ lexeme.Name x ∷ []) (spell fs ++ (Mark (kind.Symbol symbol.Semicolon) ∷ (spell b ++ tail))) (spell fs ++ (Mark (kind.Symbol symbol.Semicolon) ∷ (left ++ tail)))
-      (put_before d k labels (spell fs) (Mark (kind.Symbol symbol.Semicolon) ∷ (spell b ++ tail)) (Mark (kind.Symbol symbol.Semicolon) ∷ (left ++ tail))
-      (put_before d k labels (Mark (kind.Symbol symbol.Semicolon) ∷ []) (spell b ++ tail) (left ++ tail)
-      (put_following d k labels (spell b) left tail there)))
-
-  mutual
-    unfolding value_in_block
-
-    taken_block : (known : Known) (k n : ℕ) → n ≡ k → (b : Tree ℕ block) → value_in_block known d n (inlined c f g b) ≡ Some w → Taken d k (block_declares b) (spell b) (spell (gone_block d k b))
-    taken_block known k n same (has_body (declares cs ts vs ps) statements) e =
-        let b : Tree ℕ block = has_body (declares cs ts vs ps) statements in
-        elim (nat_lt d (first_type n (inlined c f g b))) as (λ x. nat_lt d (first_type n (inlined c f g b)) ≡ x
-        → (if x then value_among known d n (section_constants (inlined c f g cs))
-        else if nat_lt d (first_procedure n (inlined c f g b)) then None
-        else option_and_then (λ inner. value_in_procedures (bind_names (named_types (section_types (inlined c f g ts)) ++ variable_names (section_variables (inlined c f g vs))) no_constant inner) d (first_procedure n (inlined c f g b)) (inlined c f g ps))
-        (declare_constants as_names known (section_constants (inlined c f g cs)))) ≡ Some w → Taken d k (block_declares b) (spell b) (spell (gone_block d k b))) [
-          | true ↦ λ q h.
-              by_section cs ts vs ps statements k (subst (λ m. d < m) (first_type_count c f g n b ∙ ap (λ m. first_type m b) same) (ltb-true d (first_type n (inlined c f g b)) q))
-              (subst (λ m. Taken d m (constant_names (section_constants cs)) (spell cs) (spell (gone_section d m cs))) same (taken_section known n cs h))
-          | false ↦ λ q h.
-              by_procedures cs ts vs ps statements k (subst (λ m. m ≤ d) (first_type_count c f g n b ∙ ap (λ m. first_type m b) same) (ltb-false d (first_type n (inlined c f g b)) q))
-              (elim (nat_lt d (first_procedure n (inlined c f g b))) as (λ y. (if y then None
-              else option_and_then (λ inner. value_in_procedures (bind_names (named_types (section_types (inlined c f g ts)) ++ variable_names (section_variables (inlined c f g vs))) no_constant inner) d (first_procedure n (inlined c f g b)) (inlined c f g ps))
-              (declare_constants as_names known (section_constants (inlined c f g cs)))) ≡ Some w → Taken d (first_procedure k b) (procedures_declare ps) (spell ps) (spell (gone_procedures d (first_procedure k b) ps))) [
-                | true ↦ λ g0. absurd (cc)
-                | false ↦
-                    elim (declare_constants as_names known (section_constants (inlined c f g cs))) as (λ o. option_and_then (λ inner. value_in_procedures (bind_names (named_types (section_types (inlined c f g ts)) ++ variable_names (section_variables (inlined c f g vs))) no_constant inner) d (first_procedure n (inlined c f g b)) (inlined c f g ps)) o ≡ Some w
-                    → Taken d (first_procedure k b) (procedures_declare ps) (spell ps) (spell (gone_procedures d (first_procedure k b) ps))) [
-                      | None ↦ λ g0. absurd (cc)
-                      | Some inner ↦ λ g0.
-                          taken_procedures (bind_names (named_types (section_types (inlined c f g ts)) ++ variable_names (section_variables (inlined c f g vs))) no_constant inner)
-                          (first_procedure k b) (first_procedure n (inlined c f g b)) (first_procedure_count c f g n b ∙ ap (λ m. first_procedure m b) same) ps g0
-                    ]
-              ] h)
-        ] refl e
-
-    taken_procedures : (known : Known) (k n : ℕ) → n ≡ k → (ps : Tree ℕ (items procedure)) → value_in_procedures known d n (inlined c f g ps) ≡ Some w → Taken d k (procedures_declare ps) (spell ps) (spell (gone_procedures d k ps))
-    taken_procedures known k n same end e = absurd (cc)
-    taken_procedures known k n same (more q rest) e =
-        elim (nat_lt d (after_procedure (suc n) (inlined c f g q))) as (λ x. nat_lt d (after_procedure (suc n) (inlined c f g q)) ≡ x
-        → (if x then value_in_procedure ((procedure_name (inlined c f g q), no_constant) ∷ known) d (suc n) (inlined c f g q)
-        else value_in_procedures ((procedure_name (inlined c f g q), no_constant) ∷ known) d (after_procedure (suc n) (inlined c f g q)) (inlined c f g rest)) ≡ Some w
-        → Taken d k (procedures_declare (more q rest)) (spell (more q rest)) (spell (gone_procedures d k (more q rest)))) [
-          | true ↦ λ t h.
-              by_procedure q rest k (subst (λ m. d < m) (procedure_count c f g (suc n) q ∙ ap (λ m. after_procedure (suc m) q) same) (ltb-true d (after_procedure (suc n) (inlined c f g q)) t))
-              (taken_procedure ((procedure_name (inlined c f g q), no_constant) ∷ known) (suc k) (suc n) (ap suc same) q h)
-          | false ↦ λ t h.
-              by_rest q rest k (subst (λ m. m ≤ d) (procedure_count c f g (suc n) q ∙ ap (λ m. after_procedure (suc m) q) same) (ltb-false d (after_procedure (suc n) (inlined c f g q)) t))
-              (taken_procedures ((procedure_name (inlined c f g q), no_constant) ∷ known) (after_procedure (suc k) q) (after_procedure (suc n) (inlined c f g q))
-              (procedure_count c f g (suc n) q ∙ ap (λ m. after_procedure (suc m) q) same) rest h)
-        ] refl e
-
-    taken_procedure : (known : Known) (k n : ℕ) → n ≡ k → (q : Tree ℕ (item procedure)) → value_in_procedure known d n (inlined c f g q) ≡ Some w → Taken d k (procedure_declares q) (spell q) (spell (gone_procedure d k q))
-    taken_procedure known k n same (declares_procedure x fs b closing) e =
-        in_procedure x closing fs b k
-        (elim (nat_lt d (after_names n (formal_names (formal_sections (inlined c f g fs))))) as (λ y. (if y then None
-        else value_in_block (bind_names (formal_names (formal_sections (inlined c f g fs))) no_constant known) d (after_names n (formal_names (formal_sections (inlined c f g fs)))) (inlined c f g b)) ≡ Some w
-        → Taken d (after_names k (formal_names (formal_sections fs))) (block_declares b) (spell b) (spell (gone_block d (after_names k (formal_names (formal_sections fs))) b))) [
-          | true ↦ λ h. absurd (cc)
-          | false ↦ λ h.
-              taken_block (bind_names (formal_names (formal_sections (inlined c f g fs))) no_constant known) (after_names k (formal_names (formal_sections fs))) (after_names n (formal_names (formal_sections (inlined c f g fs))))
-              (formals_count c f g n fs ∙ ap (λ m. after_names m (formal_names (formal_sections fs))) same) b h
-        ] e)
-
-  pub taken_module : (m : Tree ℕ module_text) → value_of_constant (inlined c f g m) d ≡ Some w → Taken d 7 (block_declares (module_block m)) (spell m) (spell (gone_module d m))
-  unfolding value_of_constant
-  taken_module (is_module x b closing) e =
-      let left = spell (gone_block d 7 b) in
-      let tail : List (Terminal ℕ) = Mark (kind.Reserved reserved.End) ∷ lexeme.Name closing ∷ (Mark (kind.Symbol symbol.Dot) ∷ []) in
-      put_before d 7 (block_declares b) (Mark (kind.Reserved reserved.Module) ∷ lexeme.Name x ∷ Mark (kind.Symbol symbol.Semicolon) ∷ []) (spell b ++ tail) (left ++ tail)
-      (put_following d 7 (block_declares b) (spell b) left tail
-      (elim (nat_lt d 7) as (λ y. (if y then None else value_in_block predeclared_known d 7 (inlined c f g b)) ≡ Some w → Taken d 7 (block_declares b) (spell b) (spell (gone_block d 7 b)))
-      [ true ↦ λ h. absurd (cc) | false ↦ λ h. taken_block predeclared_known 7 7 refl b h ] e))
 
 -- these names are those of the identifiers that declare
 

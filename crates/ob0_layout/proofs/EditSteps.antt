@@ -15,9 +15,6 @@ module _ (width : ℕ → ℕ) (content : List ℕ) (gs : List GapSite) (i : ℕ
       ap (λ qs. get_or qs i p) (e ∙ ap (map (position_of width content)) f) ∙ get_or-map (position_of width content) (map part gs) i 0 p long
       ∙ ap (position_of width content) (get_or-map part gs i d 0 low)
 
-  pub positions_long : (part : GapSite → ℕ) (offsets : List ℕ) (ps : List Position) → ps ≡ map (position_of width content) offsets → offsets ≡ map part gs → i < length ps
-  positions_long part offsets ps e f = omega (arith, ap length e, length-map offsets (position_of width content), ap length f, length-map gs part)
-
   pub edit_further : (indent : Indent) (edits : List Edit) (e : Edit) → map edit_text edits ≡ map (edit_of indent width content) (take i gs)
       → edit_text e ≡ edit_of indent width content (get_or gs i d) → map edit_text (edits ++ (e ∷ [])) ≡ map (edit_of indent width content) (take (i + 1) gs)
   edit_further indent edits e so_far is =

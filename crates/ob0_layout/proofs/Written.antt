@@ -1,11 +1,10 @@
 -- Bytes that are the text of a gap, and the gaps that change among those that are found.
-use Rattle.std.proofs.Common.{◌≡◌, ℕ, zero, suc, ◌+◌, ◌*◌, Bool, true, false, ◌&&◌, Option, List, [], ◌∷◌, ◌++◌, length, replicate, refl, sym, ap, ◌∙◌, subst, arith}
+use Rattle.std.proofs.Common.{◌≡◌, ℕ, zero, suc, ◌+◌, ◌*◌, ◌&&◌, Option, List, [], ◌∷◌, ◌++◌, length, replicate, refl, sym, ap, ◌∙◌, subst, arith}
 use Rattle.std.specs.Prelude.{bytes_eq, ◌==◌}
 use Rattle.std.specs.List.{All}
 use Rattle.std.proofs.lemmas.Bool.{both_ways}
 use Rattle.std.proofs.lemmas.List.{length-replicate}
 use Rattle.std.proofs.lemmas.List.Elements.{All-filter, filter-append}
-use Rattle.std.proofs.lemmas.Slice.Eq.{bytes_eq-Decides}
 use Rattle.ob0_scan.specs.declared.lexeme.Span.{Span}
 use Rattle.ob0_scan.specs.declared.lexeme.Token.{Token}
 use Rattle.ob0_text.specs.declared.edits.Indent.{Indent}
@@ -22,14 +21,6 @@ use Rattle.ob0_layout.proofs.Ahead.{Sited}
 pub run_of : (b : ℕ) (bs : List ℕ) → all_are b bs ≡ bytes_eq bs (replicate (length bs) b)
 run_of b [] = refl
 run_of b (c ∷ cs) = ap (λ t. (c == b) && t) (run_of b cs)
-
--- bytes of another length are other bytes
-pub other_length : (xs ys : List ℕ) → (length xs ≡ length ys → ⊥) → bytes_eq xs ys ≡ false
-other_length xs ys differ = by_test (bytes_eq xs ys) refl
-  where
-    by_test : (t : Bool) → bytes_eq xs ys ≡ t → bytes_eq xs ys ≡ false
-    by_test true e = absurd (differ (ap length ((bytes_eq-Decides xs ys).0 e)))
-    by_test false e = e
 
 pub tabs : (bs : List ℕ) (level : ℕ) → length bs ≡ length (indentation indent_by.Tab level) → all_are 9 bs ≡ bytes_eq bs (indentation indent_by.Tab level)
 tabs bs level long = run_of 9 bs ∙ ap (λ n. bytes_eq bs (replicate n 9)) (long ∙ length-replicate level 9)

@@ -23,8 +23,8 @@ use Rattle.ob0_edits.specs.Written.{name_word}
 use Rattle.ob0_rename_laws.specs.FieldLaws.{FreeFieldKeepsModules}
 use Rattle.ob0_types_fields.specs.Identifiers.{DuplicateByToken, RenamedAtTokens, declaring_field, field_identifiers, field_tokens, tokens_among}
 use Rattle.ob0_types_fields.specs.Renaming.{FieldFree, field_renamed}
-use Rattle.ob0_rename.specs.Answers.{RenameAnswers, AnswersForField, IsRefused, IsRefusedToField, OnlyMemory, TakesOwnName}
-use Rattle.ob0_rename.specs.Renaming.{MeansField, Renaming, declaration, field_of, field_tokens_to_rename, token_range}
+use Rattle.ob0_rename.specs.Answers.{RenameAnswers, AnswersForField, IsRefused, IsRefusedToField, OnlyMemory}
+use Rattle.ob0_rename.specs.Renaming.{MeansField, Renaming, field_tokens_to_rename, token_range}
 use Rattle.ob0_rename.proofs.Outcomes.{Edited, whole, written}
 use Rattle.ob0_rename.proofs.Rewritten.{number_same, of_rewritten, text_same}
 
@@ -145,9 +145,3 @@ field_refused_there a k f means refusal.Memory h = absurd h
 pub field_answered_there : (a : Renaming) (k : ℕ) (f : Name) → MeansField a k f → (result : Result (Vec Edit Global) EditRefusal) → AnswersForField a k f result → RenameAnswers a result
 field_answered_there a k f means (Ok edits) h = inr (k, (f, means, h))
 field_answered_there a k f means (Err why) h = elim h [ inl e ↦ inl e | inr e ↦ inr (field_refused_there a k f means why e) ]
-
-pub own_field_there : (a : Renaming) (k : ℕ) (f : Name) → MeansField a k f → (result : Result (Vec Edit Global) EditRefusal) → (a.new ≡ f → OnlyMemory result) → TakesOwnName a result
-own_field_there a k f means result own = (
-  λ d also declared. let both : field_of k f ≡ declaration d = sym means ∙ also in absurd (cc),
-  λ j g also same. let both : field_of k f ≡ field_of j g = sym means ∙ also in let alike : f ≡ g = cc in own (same ∙ sym alike),
-)

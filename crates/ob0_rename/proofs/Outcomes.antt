@@ -1,6 +1,6 @@
 -- What is answered for a declaration: by what conflicts with the new name, or by the edits.
 use Rattle.std.proofs.Common.{◌≡◌, ◌⊎◌, ℕ, ◌≤◌, ◌<◌, Bool, true, false, if◌then◌else◌, Option, Some, None, Result, Ok, Err, Vec, List, [], ◌∷◌, length, map, slice_get, option_map, option_and_then, inl, inr, refl, sym, ap, ◌∙◌, subst, arith}
-use Rattle.std.proofs.lemmas.Bool.{ltb-false, ltb-true}
+use Rattle.std.proofs.lemmas.Bool.{ltb-true}
 use Rattle.std.specs.Prelude.{IfErr, IfOk, IsErrOf, nat_lt}
 use Rattle.std.specs.declared.alloc.Global.{Global}
 use Rattle.ob0_scan.specs.Classes.{IsIdentifier}
@@ -33,8 +33,8 @@ use Rattle.ob0_scope.specs.declared.naming.Named as named
 use Rattle.ob0_types_fields.specs.Identifiers.{field_at}
 use Rattle.ob0_scope.proofs.Written.{renamed_there}
 use Rattle.ob0_tree.specs.Module.{ModuleOf}
-use Rattle.ob0_rename.specs.Answers.{RenameAnswers, AnswersDeclaration, IsRefused, IsRefusedTo, OnlyMemory, TakesOwnName, WritesName}
-use Rattle.ob0_rename.specs.Renaming.{NamesDeclaration, MeansField, Renaming, by_ordinal, by_token, declaration, meant_at, meant_by, declaring_token, field_of, is_declared_as, meant, module_of, nothing, predeclared, token_range, tokens_to_rename}
+use Rattle.ob0_rename.specs.Answers.{RenameAnswers, AnswersDeclaration, IsRefused, IsRefusedTo, WritesName}
+use Rattle.ob0_rename.specs.Renaming.{NamesDeclaration, Renaming, by_ordinal, by_token, declaration, meant_at, meant_by, declaring_token, is_declared_as, predeclared, token_range, tokens_to_rename}
 use Rattle.ob0_rename.proofs.Owned.{other_stands}
 use Rattle.ob0_rename.proofs.Rewritten.{of_renamed}
 use Rattle.ob0_rename.proofs.Told.{occurrence_stands}
@@ -155,23 +155,6 @@ answered_there a d means (Err why) h = elim h [ inl e ↦ inl e | inr e ↦ inr 
 
 -- what is named at the place is one thing
 
-pub own_there : (a : Renaming) (d : ℕ) → NamesDeclaration a d → (result : Result (Vec Edit Global) EditRefusal) → (is_declared_as (module_of a) d a.new ≡ true → OnlyMemory result) → TakesOwnName a result
-own_there a d means result own = (
-  λ e also. let both : declaration d ≡ declaration e = sym means ∙ also in let same : d ≡ e = cc in subst (λ n. is_declared_as (module_of a) n a.new ≡ true → OnlyMemory result) same own,
-  λ k f also. let both : declaration d ≡ field_of k f = sym means ∙ also in absurd (cc),
-)
-
-pub own_nowhere : (a : Renaming) (result : Result (Vec Edit Global) EditRefusal) → ((d : ℕ) → NamesDeclaration a d → ⊥) → ((k : ℕ) (f : Name) → MeansField a k f → ⊥) → TakesOwnName a result
-own_nowhere a result none no_field = (λ d means own. absurd (none d means), λ k f means own. absurd (no_field k f means))
-
-pub own_nothing : (a : Renaming) (result : Result (Vec Edit Global) EditRefusal) → meant a ≡ nothing → TakesOwnName a result
-own_nothing a result is =
-    own_nowhere a result (λ d means. let both : nothing ≡ declaration d = sym is ∙ means in absurd (cc)) (λ k f means. let both : nothing ≡ field_of k f = sym is ∙ means in absurd (cc))
-
-pub own_predeclared : (a : Renaming) (result : Result (Vec Edit Global) EditRefusal) → meant a ≡ predeclared → TakesOwnName a result
-own_predeclared a result is =
-    own_nowhere a result (λ d means. let both : predeclared ≡ declaration d = sym is ∙ means in absurd (cc)) (λ k f means. let both : predeclared ≡ field_of k f = sym is ∙ means in absurd (cc))
-
 -- ---- what is at the place
 
 pub meant_named : (r : Resolution) (offset : ℕ) (n : named.Named) → name_on r.module_read offset ≡ Some n → meant_at r offset ≡ by_ordinal n.ordinal
@@ -180,13 +163,6 @@ meant_named r offset n is = ap (λ o. meant_by r.module_read.source o (field_at 
 pub meant_unnamed : (r : Resolution) (offset : ℕ) (found : Option (ℕ × ℕ)) → name_on r.module_read offset ≡ None → field_at r offset ≡ found
     → meant_at r offset ≡ by_token r.module_read.source found
 meant_unnamed r offset found is there = (λ i. meant_by r.module_read.source (is i) (there i))
-
-pub is_predeclared : (ordinal : ℕ) → ordinal < 7 → by_ordinal ordinal ≡ predeclared
-is_predeclared ordinal low = one (nat_lt ordinal 7) refl
-  where
-    one : (b : Bool) → nat_lt ordinal 7 ≡ b → (if b then predeclared else declaration ordinal) ≡ predeclared
-    one true e = refl
-    one false e = absurd (omega (arith, low, ltb-false ordinal 7 e))
 
 pub is_declaration : (ordinal : ℕ) → 7 ≤ ordinal → by_ordinal ordinal ≡ declaration ordinal
 is_declaration ordinal high = one (nat_lt ordinal 7) refl

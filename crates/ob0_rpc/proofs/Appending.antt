@@ -80,15 +80,6 @@ are_plain (x ∷ xs) = is_plain_byte x && are_plain xs
 
 -- ---- texts, numbers and words
 
-pub null_written : (old new : List ℕ) → new ≡ old ++ codes "null" → Appends null old new
-null_written old new is = record { text = is; reads = record { reads = refl; numbers = tt; utf8 = IsUtf8-are_ascii _ refl } }
-
-pub true_written : (old new : List ℕ) → new ≡ old ++ codes "true" → Appends (boolean true) old new
-true_written old new is = record { text = is; reads = record { reads = refl; numbers = tt; utf8 = IsUtf8-are_ascii _ refl } }
-
-pub false_written : (old new : List ℕ) → new ≡ old ++ codes "false" → Appends (boolean false) old new
-false_written old new is = record { text = is; reads = record { reads = refl; numbers = tt; utf8 = IsUtf8-are_ascii _ refl } }
-
 escape_plain : (k : List ℕ) → are_plain k ≡ true → escape k ≡ k
 escape_plain [] h = refl
 escape_plain (x ∷ xs) h =
@@ -131,9 +122,6 @@ integer_written (negsuc n) old new fits utf8 is = record {
 }
 
 -- ---- objects
-
-utf8_joined : (xs ys : List ℕ) → IsUtf8 xs → IsUtf8 ys → IsUtf8 (xs ++ ys)
-utf8_joined xs ys h k = IsUtf8-append xs ys h k
 
 -- a name of a member that is in order: its text is the name between quotes
 pub record IsName (k : List ℕ) : Type 0 where

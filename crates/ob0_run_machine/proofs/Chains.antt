@@ -1,6 +1,5 @@
 -- Chains: operations in a row, from left to right.
-use Rattle.std.proofs.Common.{◌≡◌, ℕ, ◌+◌, ◌<◌, ◌≤◌, ℤ, List, [], ◌∷◌, length, get_or, drop, refl, sym, ap, ◌∙◌}
-use Rattle.std.proofs.lemmas.List.{drop_all, drop_more}
+use Rattle.std.proofs.Common.{◌≡◌, ℕ, ℤ, List, [], ◌∷◌, drop, refl, sym, ap, ◌∙◌}
 use Rattle.ob0_run_machine.specs.declared.code.Link.{Link}
 use Rattle.ob0_run_machine.specs.declared.code.Link as link
 use Rattle.ob0_run_machine.specs.declared.code.Variable.{Variable}
@@ -20,10 +19,6 @@ bind_gives (ends e) = refl
 pub bind_assoc : {A B C : Type 0} (o : StepResult A) (f : A → StepResult B) (g : B → StepResult C) → ((o >>= f) >>= g) ≡ (o >>= (λ a. f a >>= g))
 bind_assoc (gives a) f g = refl
 bind_assoc (ends e) f g = refl
-
-pub bind_same : {A B : Type 0} (o : StepResult A) (f g : A → StepResult B) → ((a : A) → f a ≡ g a) → (o >>= f) ≡ (o >>= g)
-bind_same (gives a) f g h = h a
-bind_same (ends e) f g h = refl
 
 -- what a number becomes by the operations that are left
 abbrev pub continued : Levels → List ℤ → List Link → ℤ → StepResult ℤ
@@ -69,23 +64,6 @@ chain_fails ls cells first links o h = ap (λ o. o >>= continued ls cells links)
 
 pub chain_begins : (ls : Levels) (cells : List ℤ) (first : lowered.Number) (links : List Link) (a : ℤ) → gives a ≡ number ls cells first → Continuing ls cells (number ls cells (chained_from first links)) links 0 a
 chain_begins ls cells first links a h = record { so_far = sym (chain_fails ls cells first links (gives a) h) }
-
-pub chain_goes : {ls : Levels} {cells : List ℤ} {whole : StepResult ℤ} {links : List Link} {done : ℕ} {left : ℤ} (l : Link) (o : StepResult ℤ)
-    → Continuing ls cells whole links done left → done < length links → l ≡ get_or links done l
-    → o ≡ linked ls cells l left
-    → whole ≡ (o >>= continued ls cells (drop (done + 1) links))
-chain_goes {ls = ls} {cells = cells} {links = links} {done = done} {left = left} l o c less is h =
-    let split : drop done links ≡ l ∷ drop (done + 1) links = drop_more links done l less ∙ ap (λ z. z ∷ drop (done + 1) links) (sym is) in
-    c.so_far ∙ ap (λ ls'. continued ls cells ls' left) split ∙ ap (λ o. o >>= continued ls cells (drop (done + 1) links)) (sym h)
-
-pub chain_on : {ls : Levels} {cells : List ℤ} {whole : StepResult ℤ} {links : List Link} {done : ℕ} {left : ℤ} (l : Link) (b : ℤ)
-    → Continuing ls cells whole links done left → done < length links → l ≡ get_or links done l
-    → gives b ≡ linked ls cells l left
-    → Continuing ls cells whole links (done + 1) b
-chain_on l b c less is h = record { so_far = chain_goes l (gives b) c less is h }
-
-pub chain_ends : {ls : Levels} {cells : List ℤ} {whole : StepResult ℤ} {links : List Link} {done : ℕ} {left : ℤ} → Continuing ls cells whole links done left → length links ≤ done → gives left ≡ whole
-chain_ends {ls = ls} {cells = cells} {links = links} {done = done} {left = left} c all = sym (c.so_far ∙ ap (λ ls'. continued ls cells ls' left) (drop_all done links all))
 
 chained_listed : (n : _) (row : Row_of-Link n) (left : lowered.Number) → chained_by row left ≡ chained_from left (items-the_row-Link n row)
 chained_listed _ end_of-Link left = refl

@@ -1,6 +1,5 @@
 -- Many truths in a row, between which `&` or `OR` is, from left to right.
-use Rattle.std.proofs.Common.{◌≡◌, ℕ, ◌+◌, ◌<◌, ◌≤◌, ℤ, Bool, true, false, List, [], ◌∷◌, length, get_or, drop, refl, sym, ap, ◌∙◌, if◌then◌else◌}
-use Rattle.std.proofs.lemmas.List.{drop_all, drop_more}
+use Rattle.std.proofs.Common.{◌≡◌, ℕ, ℤ, Bool, true, false, List, [], ◌∷◌, drop, refl, sym, ap, ◌∙◌, if◌then◌else◌}
 use Rattle.ob0_run_machine.specs.declared.code.Several.{out-Several}
 use Rattle.ob0_run_machine.specs.declared.code.Truth.{Truth, All, Any, Row_of-Truth, end_of-Truth, more_of-Truth, items-the_row-Truth, items_hidden-the_row-Truth-0}
 use Rattle.ob0_run_machine.specs.declared.code.Truth.TheBlock.{hidden-the_row-Truth-0}
@@ -43,21 +42,6 @@ all_fails ls cells first ts o h = ap (λ o. o >>= joined with_and ls cells ts) h
 
 pub any_fails : (ls : Levels) (cells : List ℤ) (first : lowered.Truth) (ts : List Truth) (o : StepResult Bool) → o ≡ truth ls cells first → (o >>= joined with_or ls cells ts) ≡ truth ls cells (any_from first ts)
 any_fails ls cells first ts o h = ap (λ o. o >>= joined with_or ls cells ts) h ∙ sym (any_joined ls cells first ts)
-
-pub joined_goes : {join : Joining} {ls : Levels} {cells : List ℤ} {whole : StepResult Bool} {ts : List Truth} {done : ℕ} {left : Bool} (t : Truth) (o : StepResult Bool)
-    → Joined join ls cells whole ts done left → done < length ts → t ≡ get_or ts done t → o ≡ join left (truth ls cells (truth_of t))
-    → whole ≡ (o >>= joined join ls cells (drop (done + 1) ts))
-joined_goes {join = join} {ls = ls} {cells = cells} {ts = ts} {done = done} {left = left} t o c less is h =
-    let split : drop done ts ≡ t ∷ drop (done + 1) ts = drop_more ts done t less ∙ ap (λ z. z ∷ drop (done + 1) ts) (sym is) in
-    c.so_far ∙ ap (λ us. joined join ls cells us left) split ∙ ap (λ o. o >>= joined join ls cells (drop (done + 1) ts)) (sym h)
-
-pub joined_on : {join : Joining} {ls : Levels} {cells : List ℤ} {whole : StepResult Bool} {ts : List Truth} {done : ℕ} {left : Bool} (t : Truth) (b : Bool)
-    → Joined join ls cells whole ts done left → done < length ts → t ≡ get_or ts done t → gives b ≡ join left (truth ls cells (truth_of t))
-    → Joined join ls cells whole ts (done + 1) b
-joined_on t b c less is h = record { so_far = joined_goes t (gives b) c less is h }
-
-pub joined_ends : {join : Joining} {ls : Levels} {cells : List ℤ} {whole : StepResult Bool} {ts : List Truth} {done : ℕ} {left : Bool} → Joined join ls cells whole ts done left → length ts ≤ done → gives left ≡ whole
-joined_ends {join = join} {ls = ls} {cells = cells} {ts = ts} {done = done} {left = left} c all = sym (c.so_far ∙ ap (λ us. joined join ls cells us left) (drop_all done ts all))
 
 all_listed : (n : _) (row : Row_of-Truth n) (left : lowered.Truth) → all_of row left ≡ all_from left (items-the_row-Truth n row)
 all_listed _ end_of-Truth left = refl

@@ -16,7 +16,7 @@ use Rattle.ob0_values.specs.Values.{FieldShapes, Index, Members, Outcome, Overfl
 use Rattle.ob0_types_rules.specs.WellTyped.{Mode, Signature, Typed}
 use Rattle.ob0_types_rules.proofs.Conditions.{of_some}
 use Rattle.ob0_run_rules.specs.Fitting.{EachHasShape, HasShape, HaveShapes, MeaningsFit, ObjectFits, PlaceFits, StoreFits, StoreTyping, part_shape, shape_at_path}
-use Rattle.ob0_run_rules.proofs.Soundness.{ExpressionsFit, OutcomeFits}
+use Rattle.ob0_run_rules.proofs.Soundness.{OutcomeFits}
 
 pub fits-then : {A B : Type 0} (P : A → Type 0) (Q : B → Type 0) (o : Outcome A) (next : A → Outcome B) → OutcomeFits P o → ((a : A) → P a → OutcomeFits Q (next a)) → OutcomeFits Q (o >>= next)
 fits-then P Q (gives a) next h each = each a h
@@ -296,7 +296,3 @@ mutual
       fits-then (λ w. HasShape w u) (λ steps. shape_at_path steps t ≡ Some s) (or_stuck (part v step)) (λ w. follow active store w rest >>= (λ steps. gives (step ∷ steps))) (or_stuck-fits (λ w. HasShape w u) (part v step) w ew hw)
       (λ w hw. fits-then (λ steps. shape_at_path steps u ≡ Some s) (λ steps. shape_at_path steps t ≡ Some s) (follow active store w rest) (λ steps. gives (step ∷ steps)) (follow-sound typing checked active store f w u rest s hw h₂)
       (λ steps e. ap (option_and_then (shape_at_path steps)) es ∙ e))))
-
-pub expressions_fit : ExpressionsFit
-expressions_fit N typing checked active store e s known store_fits h =
-    evaluate-sound typing checked active store record { store_fits = store_fits; names_fit = known } e s h

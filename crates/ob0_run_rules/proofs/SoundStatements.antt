@@ -11,7 +11,7 @@ use Rattle.ob0_types_rules.proofs.Conditions.{agree-true, both_true, call-typed,
 use Rattle.ob0_run_rules.specs.Runs.{Argument, Calls, Progress, State, choose, evaluate_argument, evaluate_arguments, execute, execute_all, execute_else, execute_elsifs, execute_further, continue_with, line_out, modes_of, number_out, perform, place_argument, append_output, read_number, running, stopped, store_at, turns, turns_until, use_in, value_argument}
 use Rattle.ob0_run_rules.proofs.Sound.{Fitting, evaluate-sound, fits-then, follow-sound, is_number, or_stuck-fits, part-fits, place-fits, some-gives, variable-fits}
 use Rattle.ob0_run_rules.specs.Fitting.{ArgumentsFit, EachHasShape, HasShape, HaveShapes, MeaningsFit, ObjectFits, PlaceFits, StoreFits, StoreTyping, modes_in, part_shape, shape_at_path}
-use Rattle.ob0_run_rules.proofs.Soundness.{CallsFit, OutcomeFits, ProgressFits, StatementsFit}
+use Rattle.ob0_run_rules.proofs.Soundness.{CallsFit, OutcomeFits, ProgressFits}
 
 -- a typing may grow
 
@@ -381,7 +381,3 @@ mutual
   pub execute_else-keeps : {N : Type 0} (typing : StoreTyping) (checked : Typed N) (active : Meanings N Place (List Mode)) (enter : Calls N) → Sound typing checked active enter → (t : ℕ) (a : Tree N (maybe else_part)) → else_fits checked a ≡ true → Keeps typing (execute_else active enter t a)
   execute_else-keeps typing checked active enter sound t none h others s store = same_store-fits (typing ++ others) s store
   execute_else-keeps typing checked active enter sound t (one (else_branch statements)) h others s store = execute_all-keeps typing checked active enter sound t statements h others s store
-
-pub statements_keep : StatementsFit
-statements_keep N typing checked active enter t a s known calls_fit store h =
-    keeps-here typing (execute active enter t a) (execute-keeps typing checked active enter record { names_fit = known; calls_fit = calls_fit } t a h) s store

@@ -120,18 +120,6 @@ pub ascending_higher : (low : ℕ) (xs : List ℕ) (high above : ℕ) → high �
 ascending_higher low [] high above h p = omega (arith, h, p)
 ascending_higher low (x ∷ xs) high above h p = (p.0, ascending_higher (x + 1) xs high above h p.1)
 
--- what ascends splits where the list does
-pub ascending_split : (low : ℕ) (xs ys : List ℕ) (high : ℕ) → Ascending low (xs ++ ys) high → Split low xs ys high
-ascending_split low [] ys high p = record { middle = low; front = omega arith; back = p }
-ascending_split low (x ∷ xs) ys high p =
-    let s = ascending_split (x + 1) xs ys high p.1 in
-    record { middle = s.middle; front = (p.0, s.front); back = s.back }
-
--- and joins
-pub ascending_joined : (low : ℕ) (xs : List ℕ) (middle : ℕ) (ys : List ℕ) (high : ℕ) → Ascending low xs middle → Ascending middle ys high → Ascending low (xs ++ ys) high
-ascending_joined low [] middle ys high p q = ascending_lower low middle ys high p q
-ascending_joined low (x ∷ xs) middle ys high p q = (p.0, ascending_joined (x + 1) xs middle ys high p.1 q)
-
 identifiers_ascend : (ts : List Token) (i : ℕ) → Ascending i (identifiers_from i ts) (i + length ts)
 identifiers_ascend [] i = omega arith
 identifiers_ascend (t ∷ ts) i =
@@ -146,15 +134,6 @@ identifiers_ascend (t ∷ ts) i =
 -- The identifiers of a module's tree ascend.
 pub leaves_ascend : (m : Parsed) → IsParsed m → Ascending 0 (leaves (tree_of m)) (length m.source.tokens)
 leaves_ascend m p = subst (λ l. Ascending 0 l (length m.source.tokens)) (sym (leaves_parsed m p)) (subst (λ n. Ascending 0 (identifiers_from 0 m.source.tokens) n) (zero-add (length m.source.tokens)) (identifiers_ascend m.source.tokens 0))
-
--- What is said of each splits where the list does.
-pub are_identifiers_split : (ts : List Token) (xs ys : List ℕ) → AreIdentifiers ts (xs ++ ys) → AreIdentifiers ts xs × AreIdentifiers ts ys
-are_identifiers_split ts [] ys p = (tt, p)
-are_identifiers_split ts (x ∷ xs) ys p = let s = are_identifiers_split ts xs ys p.1 in ((p.0, s.0), s.1)
-
-pub are_identifiers_joined : (ts : List Token) (xs ys : List ℕ) → AreIdentifiers ts xs → AreIdentifiers ts ys → AreIdentifiers ts (xs ++ ys)
-are_identifiers_joined ts [] ys p q = q
-are_identifiers_joined ts (x ∷ xs) ys p q = (p.0, are_identifiers_joined ts xs ys p.1 q)
 
 after_front : (front back : List Token) (t d : Token) → slice_index_or (front ++ (t ∷ back)) (length front) d ≡ t
 after_front [] back t d = refl

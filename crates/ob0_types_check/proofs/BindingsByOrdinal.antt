@@ -135,13 +135,6 @@ given-both {X} {Y} {Z} p q P r s (a, e, e', holds) y h = go a e' holds (sym e �
     go (Some x) e' holds h = (x, holds, some_inverse h, e')
 
 module _ {N : Type 0} (naming : Naming N) (env : TypeEnvironment N) where
-  block-held : (j : ℕ) (b : Tree N block) → block_fits naming env j b ≡ true
-      → (inner : TypeEnvironment N) × (declare_block naming env j b ≡ Some inner)
-  unfolding block_fits
-  block-held j (has_body (declares cs ts vs ps) statements) h =
-      let a = held (declare_block naming env j (has_body (declares cs ts vs ps) statements)) (λ inner. procedures_fit naming inner (after_variables j (has_body (declares cs ts vs ps) statements)) statements ps) h in
-      (a.0, a.1)
-
   block-listed : (j : ℕ) (cs : _) (ts : _) (vs : _) (ps : Tree N (items procedure)) (statements : Tree N (maybe body)) (inner : TypeEnvironment N) → declare_block naming env j (has_body (declares cs ts vs ps) statements) ≡ Some inner
       → block_bindings naming env j (has_body (declares cs ts vs ps) statements) ≡ procedures_bindings naming inner (after_variables j (has_body (declares cs ts vs ps) statements)) ps ++ since env inner
   unfolding block_bindings

@@ -80,10 +80,6 @@ formals_same : (shape : TypeId → Option Shape) (text : ℕ → Name) (by : Boo
 formals_same shape text by t s e [] = tt
 formals_same shape text by t s e (x ∷ xs) = (refl, e, formals_same shape text by t s e xs)
 
-bound_typed : (mode : Mode) (s : Shape) (xs : List Name) (env : TypeEnvironment Name) → bind_typed (map (typed_as mode s) xs) env ≡ bind_names xs (meant.a_variable s) env
-bound_typed mode s [] env = refl
-bound_typed mode s (x ∷ xs) env = bound_typed mode s xs ((x, meant.a_variable s) ∷ env)
-
 own_stand : (w : Numbering) (p : SoFar) (shapes : List Shape) (n : ℕ) (scope : Scope Name) (env : TypeEnvironment Name) (mode : Mode) (t : TypeId) (s : Shape) (xs : List ℕ) → shape_in shapes t ≡ Some s → Stands w p shapes n scope env → NamesPlaced w n xs
     → ParametersStand shapes (define_all p (a_variable t) xs).declared n (map (text_at w.source) xs) (map (typed_as mode s) (map (text_at w.source) xs))
 own_stand w p shapes n scope env mode t s [] is st placed = tt

@@ -1,8 +1,7 @@
 -- The fields of a record as they are gathered, name by name and group by group.
-use Rattle.std.proofs.Common.{◌≡◌, ℕ, ◌+◌, ◌-◌, ◌^◌, ◌<◌, ◌≤◌, min, max, List, [], ◌∷◌, ◌++◌, length, get_or, drop, refl, sym, ap, ◌∙◌, subst, arith, string_bytes, suc, length-append}
-use Rattle.std.proofs.lemmas.List.{drop_all, drop_more, map-append}
+use Rattle.std.proofs.Common.{◌≡◌, ℕ, ◌+◌, ◌-◌, ◌^◌, ◌<◌, ◌≤◌, min, max, List, [], ◌∷◌, ◌++◌, length, get_or, drop, refl, sym, ap, ◌∙◌, subst, arith, suc, length-append}
+use Rattle.std.proofs.lemmas.List.{drop_all, drop_more}
 use Rattle.ob0_scan.specs.declared.fault.Fault.{Fault}
-use Rattle.ob0_types_table.specs.declared.known.Field.{Field}
 use Rattle.ob0_types_table.specs.declared.types.TypeId.{TypeId}
 use Rattle.ob0_tree.specs.Places.{text_at}
 use Rattle.ob0_tree.specs.View.{fields_of, further_fields_of_group}
@@ -20,10 +19,6 @@ use Rattle.ob0_types_check.proofs.ReportedTypes.{group_reported, groups_chain}
 -- inside of one more
 pub inside : (xs : List ℕ) (x : ℕ) (ys : List ℕ) → ys ≡ xs ++ x ∷ [] → length ys ≡ suc (length xs)
 inside xs x ys e = omega (arith, ap length e, length-append xs (x ∷ []))
-
--- a field is put after those before it
-pub field_added : (fs gs : List Field) (f : Field) → gs ≡ fs ++ f ∷ [] → fields_in gs ≡ fields_in fs ++ record { name = string_bytes f.name; of = f.of } ∷ []
-field_added fs gs f e = ap fields_in e ∙ map-append (λ (f : Field). record { name = string_bytes f.name; of = f.of }) fs (f ∷ [])
 
 -- sizes beside one another, counted to the end of `usize`
 beside_counted : (z w : Size) → counted (beside (counted z) w) ≡ counted (beside z w)

@@ -62,9 +62,6 @@ nothing_reported before e = sym (append-nil before) ∙ sym (ap (λ f. before ++
 pub record RepeatedSoFar {A B : Type 0} (y : A) (before : List A) (xs : List B) (done : ℕ) (now : List A) : Type 0 where
   pub so_far : now ++ map (λ (x : B). y) (drop done xs) ≡ before ++ map (λ (x : B). y) xs
 
-pub repeated_begins : {A B : Type 0} {y : A} {before : List A} {xs : List B} → RepeatedSoFar y before xs 0 before
-repeated_begins = record { so_far = refl }
-
 pub repeated_on : {A B : Type 0} {y : A} {before : List A} {xs : List B} {done : ℕ} {now next : List A} (d : B) → RepeatedSoFar y before xs done now → done < length xs → next ≡ now ++ y ∷ [] → RepeatedSoFar y before xs (done + 1) next
 repeated_on {B = B} {y = y} {xs = xs} {done = done} {now = now} d s less e =
     let rest = map (λ (x : B). y) (drop (done + 1) xs) in

@@ -1,6 +1,6 @@
 -- What is supposed is what is known so far.
-use Rattle.std.proofs.Common.{◌≡◌, ℕ, ◌≤◌, Bool, List, [], ◌∷◌, if◌then◌else◌, string_bytes, Option, Some, None, map, length, option_map, option_and_then, slice_get, slice_index_or, set, refl, sym, ap, ◌∙◌, arith}
-use Rattle.std.proofs.lemmas.List.{length-map, map-set, set_past}
+use Rattle.std.proofs.Common.{◌≡◌, ℕ, Bool, List, [], ◌∷◌, if◌then◌else◌, string_bytes, Option, Some, None, map, option_map, option_and_then, slice_get, slice_index_or, set, refl, sym, ap, ◌∙◌}
+use Rattle.std.proofs.lemmas.List.{map-set}
 use Rattle.std.proofs.lemmas.Option.{slice_get-map}
 use Rattle.std.proofs.Math.ListN.{get_or-map}
 use Rattle.ob0_scope_rules.specs.Names.{Name, same_name}
@@ -54,6 +54,3 @@ facts_same s only_constants = λ j. record {
 -- the list of what declarations are, with one more, or past its end
 pub declared_within : (ms : List (Option Meaning)) (k : ℕ) (m : Meaning) → map (option_map meaning_of) (set ms k (Some m)) ≡ set (map (option_map meaning_of) ms) k (Some (meaning_of m))
 declared_within ms k m = map-set (option_map meaning_of) ms k (Some m)
-
-pub declared_past : (ms : List (Option Meaning)) (k : ℕ) (m : Meaning) → length ms ≤ k → map (option_map meaning_of) ms ≡ set (map (option_map meaning_of) ms) k (Some (meaning_of m))
-declared_past ms k m past = sym (set_past (map (option_map meaning_of) ms) k (Some (meaning_of m)) (omega (arith, length-map ms (option_map meaning_of), past)))

@@ -2,11 +2,9 @@
 use Rattle.std.proofs.Common.{◌≡◌, ℕ, zero, suc, ◌+◌, ◌-◌, ◌==◌, ◌<◌, ◌≤◌, Bool, true, false, List, [], ◌∷◌, ◌++◌, length, get_or, drop, Option, None, if◌then◌else◌, refl, sym, ap, ◌∙◌, arith, eqb-true}
 use Rattle.std.proofs.lemmas.List.{drop_all, drop_more}
 use Rattle.ob0_tree.specs.declared.tree.Fields.{Fields}
-use Rattle.ob0_tree.specs.declared.tree.Section.{Section}
-use Rattle.ob0_tree.specs.Tree.{Tree, Item, item, value_section, variable_section}
-use Rattle.ob0_tree.specs.View.{formals_listed, further_fields_of_group, further_section_of, items_of, names_of, record_listed, section_of, type_of}
+use Rattle.ob0_tree.specs.Tree.{Tree, Item, item}
+use Rattle.ob0_tree.specs.View.{further_fields_of_group, items_of, record_listed}
 use Rattle.ob0_types_rules.specs.Expressions.{Meanings}
-use Rattle.ob0_types_rules.specs.Typing.{type_declared}
 use Rattle.ob0_types_rules.specs.WellTyped.{Signature}
 use Rattle.ob0_values.specs.Values.{Shape}
 use Rattle.ob0_types_fields.specs.FieldTypes.{constructed}
@@ -55,14 +53,3 @@ items_end {f = f} {m = m} {t = t} {xs = xs} {done = done} {now = now} w all =
 pub record_walked : (m : Meanings ℕ Shape Signature) (t : Option Shape) (gs : List Fields) → constructed m t (record_listed gs) ≡ t ∷ constructed m t (items_of further_fields_of_group gs)
 record_walked m t [] = refl
 record_walked m t (g ∷ gs) = refl
-
-pub formals_walked : (m : Meanings ℕ Shape Signature) (t : Option Shape) (ss : List Section) → constructed m t (formals_listed ss) ≡ constructed m t (items_of further_section_of ss)
-formals_walked m t [] = refl
-formals_walked m t (s ∷ ss) = refl
-
-pub section_walked : (m : Meanings ℕ Shape Signature) (t : Option Shape) (s : Section) → constructed m t (section_of s) ≡ constructed m (type_declared (m.object_for s.names.first)) (type_of s.written)
-section_walked m t s = by s.by_reference
-  where
-    by : (b : Bool) → constructed m t (if b then variable_section (names_of s.names) (type_of s.written) else value_section (names_of s.names) (type_of s.written)) ≡ constructed m (type_declared (m.object_for s.names.first)) (type_of s.written)
-    by true = refl
-    by false = refl

@@ -1,6 +1,6 @@
 -- A designator's selectors one by one, each from the type after the one before.
-use Rattle.std.proofs.Common.{◌≡◌, ℕ, ◌+◌, ◌<◌, ◌≤◌, List, ◌∷◌, ◌++◌, length, get_or, drop, Option, refl, sym, ap, ◌∙◌, append_assoc, append-nil}
-use Rattle.std.proofs.lemmas.List.{drop_all, drop_more}
+use Rattle.std.proofs.Common.{◌≡◌, ℕ, ◌+◌, ◌<◌, List, ◌∷◌, ◌++◌, length, get_or, drop, Option, refl, sym, ap, ◌∙◌, append_assoc}
+use Rattle.std.proofs.lemmas.List.{drop_more}
 use Rattle.ob0_tree.specs.declared.tree.Selector.{Selector}
 use Rattle.ob0_tree.specs.Tree.{Tree, field, index, item, items, more, selector}
 use Rattle.ob0_tree.specs.View.{items_of, selector_of}
@@ -19,9 +19,6 @@ path_more m base (index e) rest = refl
 pub record OnPath (m : Meanings ℕ Shape Signature) (start : List (ℕ × ℕ)) (base : Option Shape) (xs : List Selector) (done : ℕ) (out : List (ℕ × ℕ)) (at : Option Shape) : Type 0 where
   pub so_far : out ++ marked_path m at (items_of selector_of (drop done xs)) ≡ start ++ marked_path m base (items_of selector_of xs)
 
-pub path_begins : (m : Meanings ℕ Shape Signature) (start : List (ℕ × ℕ)) (base : Option Shape) (xs : List Selector) → OnPath m start base xs 0 start base
-path_begins m start base xs = record { so_far = refl }
-
 pub path_goes_on : {m : Meanings ℕ Shape Signature} {start : List (ℕ × ℕ)} {base : Option Shape} {xs : List Selector} {done : ℕ} {out : List (ℕ × ℕ)} {at : Option Shape} (x : Selector) (next : List (ℕ × ℕ)) (following : Option Shape)
     → OnPath m start base xs done out at → done < length xs → x ≡ get_or xs done x → next ≡ out ++ marked_at m at (selector_of x) → following ≡ passed m at (selector_of x) → OnPath m start base xs (done + 1) next following
 path_goes_on {m = m} {xs = xs} {done = done} {out = out} {at = at} x next following w less here found typed =
@@ -34,8 +31,3 @@ path_goes_on {m = m} {xs = xs} {done = done} {out = out} {at = at} x next follow
           ∙ ap (λ z. out ++ z) (sym (path_more m at (selector_of x) rest) ∙ ap (marked_path m at) (sym cut))
           ∙ w.so_far;
     }
-
-pub path_ends : {m : Meanings ℕ Shape Signature} {start : List (ℕ × ℕ)} {base : Option Shape} {xs : List Selector} {done : ℕ} {out : List (ℕ × ℕ)} {at : Option Shape}
-    → OnPath m start base xs done out at → length xs ≤ done → out ≡ start ++ marked_path m base (items_of selector_of xs)
-path_ends {m = m} {xs = xs} {done = done} {out = out} {at = at} w all =
-    sym (append-nil out) ∙ sym (ap (λ ys. out ++ marked_path m at (items_of selector_of ys)) (drop_all done xs all)) ∙ w.so_far

@@ -13,7 +13,6 @@ pub mod WorkedValues
 pub mod InlinedTypes
 pub mod Numbers
 pub mod TreeParts
-pub mod SameTypes
 pub mod RenamedTypes
 pub mod Literals
 pub mod FitInlined
@@ -29,7 +28,6 @@ pub mod TypedElsewhere
 pub mod AloneInBlocks
 pub mod InlinedEverywhere
 pub mod ConstantsAlone
-pub mod AllFit
 pub mod Bound
 pub mod Counted
 pub mod Parts

@@ -1,30 +1,19 @@
 -- Parts of sections, of procedures and of lists, in labels.
-use Rattle.std.proofs.Common.{◌≡◌, ℕ, ◌+◌, ◌<◌, Bool, true, false, cond, List, [], ◌∷◌, length, get_or, drop, Result, Ok, Err, IfOk, refl, sym, ap, ◌∙◌}
+use Rattle.std.proofs.Common.{◌≡◌, ℕ, ◌+◌, ◌<◌, Bool, true, false, cond, List, [], ◌∷◌, length, get_or, drop, refl, sym, ap, ◌∙◌}
 use Rattle.std.proofs.lemmas.List.{drop_more}
 use Rattle.ob0_tree.specs.declared.tree.Expression.{Expression}
 use Rattle.ob0_tree.specs.declared.tree.Procedure.{Procedure, out-Procedure, roll-out-Procedure}
 use Rattle.ob0_tree.specs.declared.tree.Section.{Section}
-use Rattle.ob0_tree.specs.Places.{value_at}
 use Rattle.ob0_tree.specs.Tree.{declares_procedure, one, value_section, variable_section}
 use Rattle.ob0_tree.specs.View as view
 use Rattle.ob0_tree.specs.View.{block_of, expression_of, formals_of, further_argument_of, items_of, names_of, procedure_of, section_of, type_of}
 use Rattle.ob0_tree.proofs.Viewed.{procedure_made}
-use Rattle.ob0_scope_rules.specs.Parts.{names_listed, section_names, section_type}
+use Rattle.ob0_scope_rules.specs.Parts.{names_listed, section_names}
 use Rattle.ob0_scope_rules.specs.Resolution.{Resolution}
 use Rattle.ob0_types_rules.specs.Designators.{all_in_labels}
-use Rattle.ob0_types_rules.specs.InLabels.{in_labels, label_in}
-use Rattle.ob0_types_rules.proofs.Counted.{counted_section}
+use Rattle.ob0_types_rules.specs.InLabels.{in_labels}
 use Rattle.ob0_types_rules.specs.Arguments.{arguments_listed, further_arguments}
-use Rattle.ob0_types_rules.specs.Typing.{constructors}
 use Rattle.ob0_types_rules.specs.WellTyped.{Mode, by_place, by_value, section_mode}
-
--- a section's parts
-pub section-type : (r : Resolution) (s : Section) → section_type (in_labels r (section_of s)) ≡ in_labels r (type_of s.written)
-section-type r s = by_mode s.by_reference
-  where
-    by_mode : (b : Bool) → section_type (in_labels r (cond b (variable_section (names_of s.names) (type_of s.written)) (value_section (names_of s.names) (type_of s.written)))) ≡ in_labels r (type_of s.written)
-    by_mode true = refl
-    by_mode false = refl
 
 pub section-names : (r : Resolution) (s : Section) → section_names (in_labels r (section_of s)) ≡ names_listed (in_labels r (names_of s.names))
 section-names r s = by_mode s.by_reference
@@ -40,13 +29,6 @@ section-mode mode_of marked unmarked r s = by_mode s.by_reference
     by_mode : (b : Bool) → section_mode (in_labels r (cond b (variable_section (names_of s.names) (type_of s.written)) (value_section (names_of s.names) (type_of s.written)))) ≡ mode_of b
     by_mode true = sym marked
     by_mode false = sym unmarked
-
-pub section-constructors : (r : Resolution) (s : Section) → constructors (section_type (in_labels r (section_of s))) ≡ constructors (type_of s.written)
-section-constructors r s = counted_section (label_in r) (value_at r.module_read.source) (section_of s) ∙ by_mode s.by_reference
-  where
-    by_mode : (b : Bool) → constructors (section_type (cond b (variable_section (names_of s.names) (type_of s.written)) (value_section (names_of s.names) (type_of s.written)))) ≡ constructors (type_of s.written)
-    by_mode true = refl
-    by_mode false = refl
 
 -- a procedure's parts
 pub procedure_parts : (p : Procedure) → procedure_of p ≡ declares_procedure (out-Procedure p).name (formals_of (out-Procedure p).formals) (block_of (out-Procedure p).block) (out-Procedure p).closing
@@ -64,7 +46,3 @@ all_listed r (e ∷ es) = ap (λ z. in_labels r (expression_of e) ∷ z) (furthe
 -- what is left of a list, and what is done with a result
 pub split : {A : Type 0} (done : ℕ) (xs : List A) (x : A) → done < length xs → x ≡ get_or xs done x → drop done xs ≡ x ∷ drop (done + 1) xs
 split done xs x less here = drop_more xs done x less ∙ ap (λ y. y ∷ drop (done + 1) xs) (sym here)
-
-pub ifok_map : {A E : Type 0} (P Q : A → Type 0) (res : Result A E) → ((x : A) → P x → Q x) → IfOk res P → IfOk res Q
-ifok_map P Q (Ok x) f h = f x h
-ifok_map P Q (Err e) f h = tt

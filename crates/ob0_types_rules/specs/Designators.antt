@@ -7,16 +7,12 @@ use Rattle.ob0_tree.specs.declared.tree.Designator.{Designator, out-Designator}
 use Rattle.ob0_tree.specs.declared.tree.Expression.{Expression}
 use Rattle.ob0_scope_rules.specs.Names.{Label}
 use Rattle.ob0_scope_rules.specs.Resolution.{Resolution}
-use Rattle.ob0_types_rules.specs.InLabels.{in_labels, label_in}
+use Rattle.ob0_types_rules.specs.InLabels.{in_labels}
 use Rattle.ob0_types_rules.specs.Selected.{selectors_in}
 
 -- a designator's name and its selectors
 abbrev pub designator_parts : Designator → ℕ × Tree ℕ (items selector)
 designator_parts d = ((out-Designator d).name, selectors_in d)
-
--- a designator with labels
-abbrev pub designator_in : Resolution → Designator → Label × Tree Label (items selector)
-designator_in r d = (label_in r (out-Designator d).name, in_labels r (selectors_in d))
 
 -- a designator alone, where no sign and no operator is beside it
 abbrev pub designated_factor : {N : Type 0} → Tree N factor → Option (N × Tree N (items selector))

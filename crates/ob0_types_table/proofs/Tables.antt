@@ -12,7 +12,7 @@ use Rattle.ob0_types_table.specs.declared.known.TypeEntry.TheVariants as made
 use Rattle.ob0_types_table.specs.declared.known.Field.{Field}
 use Rattle.ob0_types_table.specs.declared.known.Object as declaration
 use Rattle.ob0_types_table.specs.declared.known.Object.TheVariants as kind
-use Rattle.ob0_types_table.specs.Tables.{AreEntriesInOrder, CountsParts, IsEntry, IsTypeMade, PartsAreMade, fields_shape, made_shape, no_shape, only_array, only_record, shapes_from, type_shape}
+use Rattle.ob0_types_table.specs.Tables.{AreEntriesInOrder, CountsParts, IsTypeMade, PartsAreMade, fields_shape, made_shape, no_shape, only_array, only_record, shapes_from, type_shape}
 
 pub shapes_from-push : (known : List Shape) (ms : List code.TypeEntry) (m : code.TypeEntry) → shapes_from known (ms ++ m ∷ []) ≡ shapes_from known ms ++ made_shape (shapes_from known ms) m ∷ []
 shapes_from-push known [] m = refl
@@ -80,11 +80,3 @@ counted_at-table ms i m h less e = (shape_at-entry [] ms i m h less e).1
 
 pub shape_at-past : (ms : List code.TypeEntry) (i : ℕ) → length ms ≤ i → get_or (shapes_from [] ms) i no_shape ≡ no_shape
 shape_at-past ms i h = get_or_past (shapes_from [] ms) i no_shape (omega (arith, length-shapes_from [] ms))
-
--- one more entry
-pub in_order-push : (known : List Shape) (ms : List code.TypeEntry) (m : code.TypeEntry) → AreEntriesInOrder known ms → IsEntry (shapes_from known ms) m → AreEntriesInOrder known (ms ++ m ∷ [])
-in_order-push known [] m h entry = (entry, tt)
-in_order-push known (x ∷ ms) m h entry = (h.0, in_order-push (known ++ made_shape known x ∷ []) ms m h.1 entry)
-
-pub length-table : (ms : List code.TypeEntry) → length (shapes_from [] ms) ≡ length ms
-length-table ms = omega (arith, length-shapes_from [] ms)

@@ -95,9 +95,6 @@ some_reported text reported (inr (inr types)) none = go types.faults types.some 
     go [] some none = omega (arith, some)
     go (f ∷ fs) some none = cc
 
-empty_of : List Diagnostic → Bool
-empty_of ds = has_none (items_of (map diagnostic_value ds))
-
 reports_right : (unit : Unit) (text : List ℕ) (ds : List Diagnostic) → Diagnoses unit text ds → IsEmptyIfCorrect text (has_none (items_of (map diagnostic_value ds)))
 reports_right unit text ds (reported, telling, is) =
     subst (λ ds. IsEmptyIfCorrect text (has_none (items_of (map diagnostic_value ds)))) (sym is) (go telling)

@@ -2,7 +2,6 @@ mod Answering
 mod Waiting
 mod Moved
 mod Serving
-mod Beginning
 mod Counting
 mod Courses
 mod Tied

@@ -1,6 +1,6 @@
 -- What the editor's moves make of both ends.
 use Rattle.std.proofs.Common.{◌≡◌, ◌∙◌, ℕ, Bool, true, false, cond, List, [], ◌∷◌, ◌++◌, Option, Some, None, Result, Ok, Err, refl, sym, ap, subst}
-use Rattle.std.specs.Prelude.{⊤, ℤ, All, Vec, map, IfOk, OnErr, is_some}
+use Rattle.std.specs.Prelude.{⊤, All, Vec, map, IfOk, OnErr, is_some}
 use Rattle.std.specs.declared.alloc.Global.{Global}
 use Rattle.std.proofs.lemmas.List.{append-nil, map-append}
 use Rattle.std.proofs.lemmas.List.Elements.{All-head, All-push, All-tail}
@@ -16,18 +16,14 @@ use Rattle.ob0_world_editor.proofs.Hearing.{says_heard}
 use Rattle.ob0_world_editor.proofs.Moving.{none_goes}
 use Rattle.ob0_world_rules.specs.Edited.{Replacement, edited, after_changes}
 use Rattle.ob0_world_rules.specs.Asks.{Ask}
-use Rattle.ob0_world_rules.specs.Ends.{Open, SentAsk, Editor, numbered, open_at, ToServer, ToEditor, publishes, answers, Ends}
-use Rattle.ob0_world_rules.specs.Editing.{Move, idle, sends, opens_document, changes_text, changes_document, closes_document, asks_about, keeps, has_edits, ApplyOutcome, not_held, drops_answer, makes, kept_answer, without_answer, discards, if_same, applies_text, applies_edits, applies_requested, applies_answer}
-use Rattle.ob0_world_rules.specs.Events.{Is, after_move, comes_of, takes, applies, drops, nothing, published, answered}
+use Rattle.ob0_world_rules.specs.Ends.{Open, SentAsk, Editor, numbered, open_at, ToServer, answers, Ends}
+use Rattle.ob0_world_rules.specs.Editing.{Move, idle, sends, opens_document, changes_text, changes_document, closes_document, asks_about, keeps, ApplyOutcome, not_held, drops_answer, makes, kept_answer, without_answer, discards, if_same, applies_text, applies_edits, applies_requested, applies_answer}
+use Rattle.ob0_world_rules.specs.Events.{Is, after_move, comes_of, applies, drops, nothing}
 use Rattle.ob0_world.specs.declared.events.Seen as seen
 use Rattle.ob0_world.specs.declared.played.Made as made
 use Rattle.ob0_world.specs.Code.{seen_of}
 use Rattle.ob0_world.specs.Queues.{Contents, all_heard, all_understood, IsHeard, IsUnderstood, Sound, ends_from, IsSent}
-use Rattle.ob0_world.proofs.Waiting.{all_heard_still, all_understood_still, heard_still, understood_same, said_push, said_first}
-
-pub on_err : {T E P : Type 0} (r : Result T E) → P → OnErr r P
-on_err (Ok x) p = tt
-on_err (Err e) p = p
+use Rattle.ob0_world.proofs.Waiting.{all_heard_still, all_understood_still, heard_still, understood_same, said_push}
 
 -- ---- the asks of an editor only grow
 
@@ -143,20 +139,6 @@ apply_keeps_asks e k (Some edits) = of_requested (numbered e.requested k)
     of_requested None = refl
     of_requested (Some a) = of_document a.uri (if_same a (open_at f a.uri))
 
--- nothing was sent
-pub let_go_happens : (e new : Editor) (k : ℕ) (o : ApplyOutcome) (q r : Contents) (s : SessionState) (ap_list : List applied.Applied) (md : List made.Made) → KeepsAsks e o → ComesOf o e applying.TheVariants.Dropped new
-    → Is (comes_of (ends_from e q s r ap_list md) k o) (drops k) (ends_from new q s r ap_list md)
-let_go_happens e new k not_held q r s ap_list md keeps is = absurd is
-let_go_happens e new k (drops_answer f) q r s ap_list md keeps is =
-    (refl, (λ i. ends_from (is i) q s r ap_list md) ∙ (λ i. record (ends_from e q s r ap_list md) { editor = f; to_server = all_heard (keeps i) q; to_editor = all_understood (keeps i) r }))
-let_go_happens e new k (makes f a m) q r s ap_list md keeps is = absurd is
-
-pub not_held_happens : (e new : Editor) (k : ℕ) (o : ApplyOutcome) (q r : Contents) (s : SessionState) (ap_list : List applied.Applied) (md : List made.Made) → ComesOf o e applying.TheVariants.NotHeld new
-    → Is (comes_of (ends_from e q s r ap_list md) k o) nothing (ends_from new q s r ap_list md)
-not_held_happens e new k not_held q r s ap_list md is = (refl, (λ i. ends_from (is i) q s r ap_list md))
-not_held_happens e new k (drops_answer f) q r s ap_list md is = absurd is
-not_held_happens e new k (makes f a m) q r s ap_list md is = absurd is
-
 pub comes_asks : (e new : Editor) (o : ApplyOutcome) (made : applying.Applying) → KeepsAsks e o → ComesOf o e made new → new.requested ≡ e.requested
 comes_asks e new not_held applying.TheVariants.NotHeld keeps is = ap (λ (x : Editor). x.requested) is
 comes_asks e new not_held applying.TheVariants.Dropped keeps is = absurd is
@@ -192,25 +174,6 @@ made_happens e new k (makes f b m) a c q q' r s ap_list ap_new md keeps (is_new,
 pub keep_asks : (e : Editor) (number : ℕ) (edits : List Replacement) → (keeps e number edits).requested ≡ e.requested
 keep_asks e number [] = refl
 keep_asks e number (edit ∷ edits) = refl
-
-pub take_nothing : (e : Editor) (q r : Contents) (s : SessionState) (ap_list : List applied.Applied) (md : List made.Made) → r ≡ [] → Is (takes (ends_from e q s r ap_list md) (all_understood e.requested r)) nothing (ends_from e q s r ap_list md)
-take_nothing e q r s ap_list md none = subst (λ x. Is (takes (ends_from e q s r ap_list md) (all_understood e.requested x)) nothing (ends_from e q s r ap_list md)) (sym none) (refl, refl)
-
-first_taken : (e : Editor) (c : Vec ℕ Global) (rest r : Contents) (m : ToEditor) → r ≡ c ∷ rest → understood e.requested c.items ≡ Some m → all_understood e.requested r ≡ m ∷ all_understood e.requested rest
-first_taken e c rest r m is says = ap (all_understood e.requested) is ∙ said_first (understood e.requested) c rest m says
-
-pub take_published : (e : Editor) (q r rest : Contents) (s : SessionState) (ap_list : List applied.Applied) (md : List made.Made) (c : Vec ℕ Global) (uri : List ℕ) (version : Option ℤ) (empty : Bool) → r ≡ c ∷ rest
-    → understood e.requested c.items ≡ Some (publishes uri version empty) → Is (takes (ends_from e q s r ap_list md) (all_understood e.requested r)) (published uri empty) (ends_from e q s rest ap_list md)
-take_published e q r rest s ap_list md c uri version empty is says =
-    subst (λ x. Is (takes (ends_from e q s r ap_list md) x) (published uri empty) (ends_from e q s rest ap_list md)) (sym (first_taken e c rest r (publishes uri version empty) is says)) (refl, refl)
-
-pub take_answered : (e new : Editor) (q r rest : Contents) (s : SessionState) (ap_list : List applied.Applied) (md : List made.Made) (c : Vec ℕ Global) (number : ℕ) (edits : List Replacement) (kept : Bool) → r ≡ c ∷ rest
-    → understood e.requested c.items ≡ Some (answers number edits) → new ≡ keeps e number edits → kept ≡ has_edits edits
-    → Is (takes (ends_from e q s r ap_list md) (all_understood e.requested r)) (answered number kept) (ends_from new q s rest ap_list md)
-take_answered e new q r rest s ap_list md c number edits kept is says is_new is_kept =
-    let same : new.requested ≡ e.requested = ap (λ (x : Editor). x.requested) is_new ∙ keep_asks e number edits in
-    subst (λ x. Is (takes (ends_from e q s r ap_list md) x) (answered number kept) (ends_from new q s rest ap_list md)) (sym (first_taken e c rest r (answers number edits) is says))
-    (ap (answered number) is_kept, (λ i. record (ends_from e q s rest ap_list md) { editor = is_new i; to_server = all_heard (same i) q; to_editor = all_understood (same i) rest }))
 
 -- ---- sending
 

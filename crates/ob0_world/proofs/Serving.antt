@@ -17,7 +17,6 @@ use Rattle.ob0_world_editor.proofs.Hearing.{says_heard}
 use Rattle.ob0_world_rules.specs.Ends.{SentAsk, Editor, ToServer, ToEditor, Made, Ends, after_message}
 use Rattle.ob0_world_rules.specs.Serving.{Replies}
 use Rattle.ob0_world_rules.specs.Happens.{ServerTakes}
-use Rattle.ob0_world_rules.specs.Events.{nothing}
 use Rattle.ob0_world_rules.specs.Events as events
 use Rattle.ob0_world.specs.declared.played.Made as made
 use Rattle.ob0_world.specs.Code.{publication_of}
@@ -43,10 +42,6 @@ made_as_sent held requested (c ∷ sent) all =
 -- one that serves goes on as what it is
 session_is : (s : SessionState) (before : ServerState) → s ≡ serving before → IsRunningOrFailed s → IsRunning before
 session_is s before is running = subst IsRunningOrFailed is running
-
-pub nothing_served : (e : Editor) (q q' r : Contents) (s : SessionState) (ap_list : List applied.Applied) (md : List made.Made) → q ≡ [] → q' ≡ q → ServerTakes (ends_from e q s r ap_list md) (all_heard e.requested q) nothing (ends_from e q' s r ap_list md)
-nothing_served e q q' r s ap_list md none same =
-    subst (λ x. ServerTakes (ends_from e q s r ap_list md) (all_heard e.requested x) nothing (ends_from e q' s r ap_list md)) (sym none) (refl, ap (λ x. ends_from e x s r ap_list md) same)
 
 -- the session was handed the first content
 pub record Turn (e : Editor) (q rest : Contents) (s s' : SessionState) (content : Vec ℕ Global) (sent : Contents) : Type 0 where
@@ -130,7 +125,3 @@ pub turn_taken : (e f : Editor) (q rest r r' : Contents) (s s' : SessionState) (
 turn_taken e f q rest r r' s s' ap_list ap_new md md' content sent first answered grown =
     subst (λ x. TakesFirst (bytes x) (both_from e q s r ap_list md) (both_from f rest s' r' ap_new md')) (sym first)
     (bytes sent, answered, refl, ap bytes grown ∙ map-append (λ v. v.items) r sent)
-
-pub none_taken : (e f : Editor) (q q' r : Contents) (s : SessionState) (ap_list ap_new : List applied.Applied) (md md' : List made.Made) → q ≡ [] → q' ≡ q → TakesFirst (bytes q) (both_from e q s r ap_list md) (both_from f q' s r ap_new md')
-none_taken e f q q' r s ap_list ap_new md md' none same =
-    subst (λ x. TakesFirst (bytes x) (both_from e q s r ap_list md) (both_from f q' s r ap_new md')) (sym none) (refl, ap bytes (same ∙ none), refl)

@@ -1,5 +1,5 @@
 -- What a step makes of a world.
-use Rattle.std.proofs.Common.{◌≡◌, ◌+◌, true, false, [], ◌∷◌, ◌++◌, refl, sym, subst}
+use Rattle.std.proofs.Common.{◌≡◌, ◌+◌, false, [], ◌∷◌, ◌++◌, refl, sym, subst}
 use Rattle.ob0_world_rules.specs.Ends.{Ends, start}
 use Rattle.ob0_world_rules.specs.Events.{Event, Seen}
 use Rattle.ob0_world_rules.specs.Happens.{Happens}
@@ -16,13 +16,6 @@ pub made_step : (w old : World) (event : Event) (seen : Seen) (new : World) → 
     → new.steps ≡ w.steps + 1 → new.ended ≡ false → WorldSteps old event seen new
 made_step w old event seen new same on happens moves tied counted goes_on =
     subst (λ (x : World). WorldSteps x event seen new) same (subst (λ b. StepsFrom b w event seen new) (sym on) (happens, moves, tied, counted, goes_on))
-
-pub failed_step : (w old new : World) → w ≡ old → w.ended ≡ false → SameHistory w.both.ends new.both.ends → new.steps ≡ w.steps → new.ended ≡ true → WorldFails old Memory new
-failed_step w old new same on history counted over =
-    subst (λ (x : World). WorldFails x Memory new) same (subst (λ b. FailsFrom b w Memory new) (sym on) (history, counted, over))
-
-pub ended_step : (w old new : World) → w ≡ old → w.ended ≡ true → new ≡ old → WorldFails old Ended new
-ended_step w old new same over is = subst (λ (x : World). new ≡ x → WorldFails x Ended new) same (λ here. subst (λ b. FailsFrom b w Ended new) (sym over) here) is
 
 -- what is known of a step of a world that hasn't ended
 pub step_made : (old : World) (event : Event) (seen : Seen) (new : World) → old.ended ≡ false → WorldSteps old event seen new → StepsFrom false old event seen new

@@ -3,4 +3,3 @@ mod Lists
 mod Shallow
 pub mod Hearing
 pub mod Moving
-mod Counting

@@ -2,21 +2,20 @@
 use Rattle.std.proofs.Common.{◌≡◌, ◌∙◌, ◌<◌, ◌≤◌, ◌+◌, ℕ, zero, suc, Bool, true, false, cond, List, [], ◌∷◌, ◌++◌, length, take, drop, get_or, map, Option, Some, None, option_map, arith, refl, ap, sym, subst, add-one}
 use Rattle.std.specs.Prelude.{Vec, slice_get, ◌==◌}
 use Rattle.std.specs.declared.alloc.Global.{Global}
-use Rattle.std.proofs.lemmas.List.{append_assoc, map-append, length-map}
+use Rattle.std.proofs.lemmas.List.{map-append, length-map}
 use Rattle.std.proofs.lemmas.Option.{slice_get-map, slice_get_read}
-use Rattle.std.proofs.Math.Seq.{drop-cons, drop-nil, take-suc}
+use Rattle.std.proofs.Math.Seq.{drop-cons}
 use Rattle.ob0_world_editor.specs.declared.editor.SentAsk as requested
 use Rattle.ob0_world_editor.specs.declared.editor.HeldAnswer as answer
-use Rattle.ob0_world_editor.specs.declared.editor.Rewritten as rewritten
 use Rattle.ob0_world_editor.specs.declared.applied.Applying as applying
 use Rattle.ob0_world_rules.specs.Edited.{Replacement}
 use Rattle.ob0_world_rules.specs.Asks.{Ask}
 use Rattle.ob0_world_rules.specs.Ends.{Open, SentAsk, Answer, Editor, numbered, open_at}
-use Rattle.ob0_world_rules.specs.Editing.{asks_about, kept_answer, all_but, without_answer, applies_answer, ApplyOutcome, not_held, drops_answer, makes}
+use Rattle.ob0_world_rules.specs.Editing.{asks_about, kept_answer, all_but, without_answer, applies_answer}
 use Rattle.ob0_world_editor.specs.Code.{requested_of, answer_of}
 use Rattle.ob0_world_rules.specs.Edited.{replacements}
-use Rattle.ob0_world_editor.specs.Heard.{IsRequest, SaysToServer}
-use Rattle.ob0_world_editor.specs.Moves.{AreFew, Moves, IsPlaceOf, IsRewritten, IsMade, ComesOf, text_sent}
+use Rattle.ob0_world_editor.specs.Heard.{IsRequest}
+use Rattle.ob0_world_editor.specs.Moves.{AreFew, Moves, IsPlaceOf, ComesOf}
 
 -- ---- asks
 
@@ -41,18 +40,6 @@ pub record Looked (xs : List answer.HeldAnswer) (k i : ℕ) : Type 0 where
   pub held : kept_answer k (map answer_of xs) ≡ kept_answer k (map answer_of (drop i xs))
   pub rest : all_but k (map answer_of xs) ≡ map answer_of (take i xs) ++ all_but k (map answer_of (drop i xs))
 
-pub looked_none : (xs : List answer.HeldAnswer) (k : ℕ) → Looked xs k 0
-looked_none xs k = record { held = refl; rest = refl }
-
-pub looked_more : (xs : List answer.HeldAnswer) (k i : ℕ) (a : answer.HeldAnswer) → i < length xs → a ≡ get_or xs i a → a.number == k ≡ false → Looked xs k i → Looked xs k (i + 1)
-looked_more xs k i a h at other looked =
-    let cut : drop i xs ≡ a ∷ drop (suc i) xs = drop-cons xs i a h ∙ ap (λ x. x ∷ drop (suc i) xs) (sym at) in
-    record {
-      held = looked.held ∙ rw (cut, other, add-one) refl;
-      rest = looked.rest ∙ rw (cut, other, add-one, take-suc xs i a h, map-append answer_of (take i xs) (get_or xs i a ∷ []), sym at)
-          (sym (append_assoc (map answer_of (take i xs)) (answer_of a ∷ []) (all_but k (map answer_of (drop (suc i) xs)))));
-    }
-
 pub looked_here : (xs : List answer.HeldAnswer) (k i : ℕ) (a : answer.HeldAnswer) → i < length xs → a ≡ get_or xs i a → a.number == k ≡ true → Looked xs k i → IsPlaceOf xs k (Some i)
 looked_here xs k i a h at this looked =
     let cut : drop i xs ≡ a ∷ drop (suc i) xs = drop-cons xs i a h ∙ ap (λ x. x ∷ drop (suc i) xs) (sym at) in (
@@ -60,14 +47,6 @@ looked_here xs k i a h at this looked =
       looked.held ∙ rw (cut, this) refl ∙ sym (ap (option_map (λ (x : answer.HeldAnswer). replacements x.edits.items)) (slice_get_read xs (length xs) i a refl h at)),
       looked.rest ∙ rw (cut, this) (sym (map-append answer_of (take i xs) (drop (suc i) xs))),
     )
-
-nothing_left : (xs : List answer.HeldAnswer) (i : ℕ) → length xs ≤ i → drop i xs ≡ []
-nothing_left [] i h = drop-nil i
-nothing_left (x ∷ xs) zero h = absurd (omega arith)
-nothing_left (x ∷ xs) (suc i) h = nothing_left xs i (omega arith)
-
-pub looked_all : (xs : List answer.HeldAnswer) (k i : ℕ) → length xs ≤ i → Looked xs k i → IsPlaceOf xs k None
-looked_all xs k i h looked = looked.held ∙ ap (λ ys. kept_answer k (map answer_of ys)) (nothing_left xs i h)
 
 -- where no answer is held, all stay
 pub none_goes : (k : ℕ) (list : List Answer) → kept_answer k list ≡ None → all_but k list ≡ list
@@ -79,22 +58,6 @@ none_goes k (a ∷ rest) h = go (a.number == k) h (none_goes k rest)
     go false h next = ap (λ xs. a ∷ xs) (next h)
 
 -- ---- what becomes of an answer
-
-pub comes_dropped : (e old : Editor) (o : ApplyOutcome) → IsRewritten e o None → ComesOf o old applying.TheVariants.Dropped e
-comes_dropped e old not_held h = h
-comes_dropped e old (drops_answer f) h = sym h
-comes_dropped e old (makes f a m) h = h
-
-pub comes_made : (e old new : Editor) (o : ApplyOutcome) (r : rewritten.Rewritten) (made : applying.Applying) → IsRewritten e o (Some r) → IsMade e r made new → ComesOf o old made new
-comes_made e old new not_held r made h is = absurd h
-comes_made e old new (drops_answer f) r made h is = absurd h
-comes_made e old new (makes f a m) r applying.TheVariants.NotHeld h is = is
-comes_made e old new (makes f a m) r applying.TheVariants.Dropped h is = is
-comes_made e old new (makes f a m) r (applying.TheVariants.Made applied content) (is_f, is_a, is_m, few) (is_new, is_applied, says) = (
-  is_new ∙ sym is_f,
-  is_applied ∙ sym is_a,
-  subst (λ x. SaysToServer f.requested x content.items) (sym is_m) (subst (λ x. SaysToServer x.requested (text_sent r) content.items) (is_new ∙ sym is_f) says),
-)
 
 pub edits_at : (xs : List answer.HeldAnswer) (i : ℕ) (a : answer.HeldAnswer) → i < length xs → a ≡ get_or xs i a → Some (replacements a.edits.items) ≡ option_map (λ (x : answer.HeldAnswer). replacements x.edits.items) (slice_get xs i)
 edits_at xs i a h at = sym (ap (option_map (λ (x : answer.HeldAnswer). replacements x.edits.items)) (slice_get_read xs (length xs) i a refl h at))
