@@ -73,12 +73,13 @@ reported_following {room = room} {faults = faults} s text (l ∷ ls) after f e h
     (reported_following (s + length l.text) (joined ls ++ after) ls after f.1 refl (subst (λ n. FaultsFrom room n after faults) place h))
 
 -- a scanner may begin after what is cut already
-pub progress_following : (text : List ℕ) (at : ℕ) (tokens : List Token) (comments : List Span) → IsUtf8 text → at ≤ length text → IsCutTo text at tokens comments → ScanProgress text at tokens comments []
-progress_following text at tokens comments utf8 inside cut =
+pub progress_following : (text : List ℕ) (at : ℕ) (tokens : List Token) (comments : List Span) → IsUtf8 text → length text ≤ max_text → at ≤ length text → IsCutTo text at tokens comments → ScanProgress text at tokens comments []
+progress_following text at tokens comments utf8 short inside cut =
     let whole : joined cut.lexemes ++ drop at text ≡ text = ap (λ t. t ++ drop at text) cut.front ∙ take-append-drop at text in
     let place : 0 + length (joined cut.lexemes) ≡ at = omega (arith, ap length cut.front, length-take-le at text inside) in
     record {
       utf8 = utf8;
+      short = short;
       place = subst (IsCharBoundary text) place (boundary_following text 0 cut.lexemes (drop at text) (record { utf8 = utf8; place = IsCharBoundary-start text utf8; each = cut.each; rest = sym whole }));
       few = omega arith;
       room = λ more. omega arith;

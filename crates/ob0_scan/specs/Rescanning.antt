@@ -40,7 +40,7 @@ comment_begins place (c ∷ comments) = c.start == place
 pub record IsMovable (removed added : ℕ) (span : Span) : Type 0 where
   pub following : removed ≤ span.start
   pub ordered : span.start ≤ span.end
-  pub small : span.end + added < 2 ^ 64
+  pub small : span.end + added < 2 ^ 32
 
 -- the scanner took one lexeme, at the place where it was
 pub record TakesOne (s t : Scanner) : Type 0 where

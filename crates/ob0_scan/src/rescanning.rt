@@ -43,8 +43,8 @@ impl ReplacedRange {
         ensures { result ≡ moved self.removed self.added span }
     {
         Span {
-            start: span.start + self.added - self.removed,
-            end: span.end + self.added - self.removed,
+            start: (span.start as usize + self.added - self.removed) as u32,
+            end: (span.end as usize + self.added - self.removed) as u32,
         }
     }
 }
@@ -106,7 +106,7 @@ fn token_begins(tokens: &[Token], place: usize) -> bool
     ensures { result ≡ token_begins place tokens.now }
 {
     match tokens {
-        [token, ..] => token.span.start == place,
+        [token, ..] => token.span.start as usize == place,
         [] => false,
     }
 }
@@ -116,7 +116,7 @@ fn comment_begins(comments: &[Span], place: usize) -> bool
     ensures { result ≡ comment_begins place comments.now }
 {
     match comments {
-        [comment, ..] => comment.start == place,
+        [comment, ..] => comment.start as usize == place,
         [] => false,
     }
 }
@@ -125,7 +125,7 @@ fn token_end(token: Option<&Token>) -> usize
     ensures { result ≡ token_end (option_copied token.entry) }
 {
     match token {
-        Some(token) => token.span.end,
+        Some(token) => token.span.end as usize,
         None => 0,
     }
 }
@@ -134,7 +134,7 @@ fn comment_end(comment: Option<&Span>) -> usize
     ensures { result ≡ comment_end (option_copied comment.entry) }
 {
     match comment {
-        Some(comment) => comment.end,
+        Some(comment) => comment.end as usize,
         None => 0,
     }
 }
@@ -146,7 +146,7 @@ fn tokens_ending_before(tokens: &[Token], place: usize) -> usize
 {
     tokens
         .iter()
-        .take_while(|token| token.span.end < place)
+        .take_while(|token| (token.span.end as usize) < place)
         .count()
 }
 
@@ -157,7 +157,7 @@ fn comments_ending_before(comments: &[Span], place: usize) -> usize
 {
     comments
         .iter()
-        .take_while(|comment| comment.end < place)
+        .take_while(|comment| (comment.end as usize) < place)
         .count()
 }
 
@@ -168,7 +168,7 @@ fn tokens_beginning_before(tokens: &[Token], place: usize) -> usize
 {
     tokens
         .iter()
-        .take_while(|token| token.span.start < place)
+        .take_while(|token| (token.span.start as usize) < place)
         .count()
 }
 
@@ -179,7 +179,7 @@ fn comments_beginning_before(comments: &[Span], place: usize) -> usize
 {
     comments
         .iter()
-        .take_while(|comment| comment.start < place)
+        .take_while(|comment| (comment.start as usize) < place)
         .count()
 }
 
@@ -274,10 +274,10 @@ fn is_same_piece(a: &[u8], in_a: Span, b: &[u8], in_b: Span) -> bool
     ensures { result ≡ true → spanned a.now in_a ≡ spanned b.now in_b }
 {
     in_a.start <= in_a.end
-        && in_a.end <= a.len()
+        && in_a.end as usize <= a.len()
         && in_b.start <= in_b.end
-        && in_b.end <= b.len()
-        && a[in_a.start..in_a.end] == b[in_b.start..in_b.end]
+        && in_b.end as usize <= b.len()
+        && a[in_a.start as usize..in_a.end as usize] == b[in_b.start as usize..in_b.end as usize]
 }
 
 /// Whether tokens are of the same kinds, one after the other.
@@ -394,7 +394,7 @@ pub fn rescan_in_place(
             let read = between.tokens.len() + between.comments.len();
             let alike = between.is_alike(old.tokens());
             let same_names = between.has_names_of(new_text, &old);
-            let tokens = old.with(alloc, new_text, between, change)?;
+            let tokens = old.with(new_text, between, change)?;
             Ok(RescanInPlace {
                 rescan: Rescan { tokens, read },
                 alike,
@@ -461,7 +461,6 @@ fn scan_on<'o>(
 ) -> Result<Pieces<'o>, AllocError>
     requires replaced { IsReplaced old.now.text scanner.old.text.now change.from change.removed
         change.added }
-    requires short { length scanner.old.text.now ≤ 1048576 }
     requires under_way { IsUnderWay scanner.old }
     ensures under_way { OnOk result (IsUnderWay scanner.new) }
     ensures text { scanner.new.text ≡ scanner.old.text }

@@ -16,4 +16,4 @@ returns-clause-under_way c =
     let end = last_end tokens comments in
     subst (λ (n : ℕ). ScanProgress text n (tokens ++ us) (comments ++ ds) gs) (sym c.end.ensures)
     (progress_same text end tokens (tokens ++ us) comments (comments ++ ds) [] gs (ap (λ x. tokens ++ x) c.new.ensures.items ∙ append-nil tokens) (ap (λ x. comments ++ x) c.new-2.ensures.items ∙ append-nil comments) c.new-3.ensures.items
-    (progress_following text end tokens comments c.utf8.text c.requires.inside c.requires.cut))
+    (progress_following text end tokens comments c.utf8.text c.requires.short c.requires.inside c.requires.cut))
