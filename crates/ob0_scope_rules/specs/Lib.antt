@@ -7,6 +7,7 @@ pub mod DeclaredOnce
 pub mod Spans
 pub mod DeclaredTwice
 pub mod Resolution
+pub mod Entries
 pub mod Inlining
 pub mod Laws
 pub mod RenamingLaws

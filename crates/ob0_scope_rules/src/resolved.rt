@@ -5,6 +5,7 @@ ghost use Rattle.ob0_tree.specs.Parsed.{named_tree_of};
 ghost use Rattle.ob0_scope_rules.specs.Occurrences.{binds};
 ghost use Rattle.ob0_scope_rules.specs.Resolution.{IsResolution, ordinal_in, token_declaring};
 
+use crate::ordinal_entry::OrdinalEntry;
 use crate::table::ordinal_at;
 use ob0_scan::{Fault, Tokens};
 use ob0_tree::Module;
@@ -18,7 +19,7 @@ pub const PREDECLARED: usize = 7;
 /// the tokens that declare, those of the occurrences, and the faults. It borrows nothing.
 #[derive(Drop)]
 pub struct Bindings {
-    pub ordinals: Vec<Option<usize>>,
+    pub ordinals: Vec<OrdinalEntry>,
     pub declarations: Vec<usize>,
     pub occurrences: Vec<usize>,
     pub faults: Vec<Fault>,
@@ -130,7 +131,7 @@ impl<'t> Resolved<'t> {
     }
 
     /// The ordinals by token.
-    pub fn ordinals(&self) -> &[Option<usize>]
+    pub fn ordinals(&self) -> &[OrdinalEntry]
         ensures { result.now ≡ self.now.ordinals }
     {
         self.bindings().ordinals.as_slice()

@@ -3,14 +3,15 @@
 ghost use Rattle.std.specs.Prelude.{◌≡◌};
 ghost use Rattle.ob0_scope_rules.specs.Resolution.{ordinal_in, span_at};
 
+use crate::ordinal_entry::OrdinalEntry;
 use ob0_scan::{Span, Tokens};
 
 /// The ordinal that a table has at a token; None also where it has no such token.
-pub fn ordinal_at(ordinals: &[Option<usize>], token: usize) -> Option<usize>
+pub fn ordinal_at(ordinals: &[OrdinalEntry], token: usize) -> Option<usize>
     ensures { result ≡ ordinal_in ordinals.now token }
 {
     match ordinals.get(token) {
-        Some(ordinal) => *ordinal,
+        Some(entry) => entry.ordinal(),
         None => None,
     }
 }
