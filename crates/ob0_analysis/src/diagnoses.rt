@@ -82,7 +82,7 @@ fn place_of(tokens: &Tokens, token: usize) -> Span
     match tokens.tokens().get(token) {
         Some(token) => token.span,
         None => {
-            let end = tokens.text().len();
+            let end = tokens.text().len() as u32;
             Span { start: end, end }
         }
     }

@@ -130,7 +130,7 @@ fn starts_of(alloc: Global, reported: &[Diagnosis]) -> Result<Vec<usize>, AllocE
 {
     reported
         .iter()
-        .map(|diagnosis| diagnosis.span.start)
+        .map(|diagnosis| diagnosis.span.start as usize)
         .collect(alloc)
 }
 

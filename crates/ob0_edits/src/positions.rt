@@ -57,8 +57,8 @@ fn bounds(alloc: Global, spans: &[Span]) -> Result<Vec<usize>, AllocError>
 {
     let mut offsets = Vec::new(alloc);
     for span in spans {
-        offsets.push(span.start)?;
-        offsets.push(span.end)?;
+        offsets.push(span.start as usize)?;
+        offsets.push(span.end as usize)?;
     }
     Ok(offsets)
 }

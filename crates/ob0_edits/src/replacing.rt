@@ -81,7 +81,7 @@ pub fn edits_without<T: TextStore>(
     let _text = tokens.text();
     let start = tokens.tokens()[first].span.start;
     let end = tokens.tokens()[last].span.end;
-    if is_too_long(tokens, start, end, places, new) {
+    if is_too_long(tokens, start as usize, end as usize, places, new) {
         return Err(EditRefusal::TooLong);
     }
     let mut edits = Vec::new(alloc);
@@ -127,8 +127,8 @@ pub fn range_of<T: TextStore>(store: &T, span: Span) -> Range
     ensures { result ≡ range_of (width_of (T.unit_of store.now)) (T.content store.now) span }
 {
     Range {
-        start: store.position(span.start),
-        end: store.position(span.end),
+        start: store.position(span.start as usize),
+        end: store.position(span.end as usize),
     }
 }
 
@@ -147,8 +147,8 @@ fn is_too_long(tokens: &Tokens, counted: usize, end: usize, places: &[usize], ne
     let mut end = end;
     for place in places {
         let span = tokens.tokens()[*place].span;
-        length += span.start - end + new.len();
-        end = span.end;
+        length += span.start as usize - end + new.len();
+        end = span.end as usize;
         if length > MAX_TEXT {
             return true;
         }

@@ -54,26 +54,26 @@ pub fn changed_sites(
     while let Some(next) = next_of(left, comments) {
         match next {
             NextLexeme::Comment(span) => {
-                let broken = begins_line(before, &text[start..span.start]);
+                let broken = begins_line(before, &text[start..span.start as usize]);
                 let role = comment_role(broken, next_line(level, roles));
                 let kind = LexemeKind::Comment;
                 let gap = gap_before(before, kind, role);
-                let end = span.start;
+                let end = span.start as usize;
                 add(&mut sites, text, GapSite { start, end, gap }, indent)?;
                 before = Some(Solid { kind, role });
-                start = span.end;
+                start = span.end as usize;
                 comments = after_first(comments);
             }
             NextLexeme::Token(token) => {
                 let role = next_role(roles);
                 let kind = LexemeKind::Token(token.kind);
                 let gap = gap_before(before, kind, role);
-                let end = token.span.start;
+                let end = token.span.start as usize;
                 add(&mut sites, text, GapSite { start, end, gap }, indent)?;
                 before = Some(Solid { kind, role });
                 level = next_line(level, roles);
                 roles = after_first(roles);
-                start = token.span.end;
+                start = token.span.end as usize;
                 left = after_first(left);
             }
         }

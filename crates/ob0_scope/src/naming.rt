@@ -157,13 +157,15 @@ fn ended_before(tokens: &[Token], offset: usize) -> usize
         → IsPartitionPoint (λ (t : token.Token). nat_lt t.span.end offset ≡ true)
         (λ (t : token.Token). nat_lt t.span.end offset ≡ false) tokens.now result }
 {
-    tokens.partition_point(|token| token.span.end < offset)
+    tokens.partition_point(|token| (token.span.end as usize) < offset)
 }
 
 fn is_name_on(token: &Token, offset: usize) -> bool
     ensures { result ≡ is_name_on offset token.now }
 {
-    is_identifier(token.kind) && token.span.start <= offset && offset <= token.span.end
+    is_identifier(token.kind)
+        && token.span.start as usize <= offset
+        && offset <= token.span.end as usize
 }
 
 fn is_identifier(kind: TokenKind) -> bool

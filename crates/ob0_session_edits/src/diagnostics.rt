@@ -54,8 +54,8 @@ fn all_diagnostics<T: TextStore>(
 fn offsets_of(alloc: Global, reported: &[Diagnosis]) -> Result<Vec<usize>, AllocError> {
     let mut offsets = Vec::new(alloc);
     for diagnosis in reported {
-        offsets.push(diagnosis.span.start)?;
-        offsets.push(diagnosis.span.end)?;
+        offsets.push(diagnosis.span.start as usize)?;
+        offsets.push(diagnosis.span.end as usize)?;
     }
     offsets.sort_unstable();
     Ok(offsets)
@@ -77,8 +77,8 @@ fn list_diagnostics<T: TextStore>(
 {
     let mut list = Vec::new(alloc);
     for diagnosis in reported {
-        let start = position_at(store, offsets, positions, diagnosis.span.start);
-        let end = position_at(store, offsets, positions, diagnosis.span.end);
+        let start = position_at(store, offsets, positions, diagnosis.span.start as usize);
+        let end = position_at(store, offsets, positions, diagnosis.span.end as usize);
         list.push(diagnostic(alloc, diagnosis, start, end)?)?;
     }
     Ok(list)

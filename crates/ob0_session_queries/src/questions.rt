@@ -288,8 +288,8 @@ fn range_of_span<T: TextStore>(store: &T, span: Span) -> Range
     ensures { result ≡ range_of (width_of (T.unit_of store.now)) (T.content store.now) span }
 {
     Range {
-        start: store.position(span.start),
-        end: store.position(span.end),
+        start: store.position(span.start as usize),
+        end: store.position(span.end as usize),
     }
 }
 

@@ -182,7 +182,7 @@ impl Question for Shown {
             if token.span.start == end {
                 continue;
             }
-            if let Some(found) = hover(alloc, module, token.span.start)? {
+            if let Some(found) = hover(alloc, module, token.span.start as usize)? {
                 end = token.span.end;
                 lines.push_str(found.text.as_str())?;
                 lines.push('\n')?;

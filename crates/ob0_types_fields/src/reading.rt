@@ -38,7 +38,7 @@ fn ended_before(tokens: &Tokens, offset: usize, found: &[(usize, usize)]) -> usi
         → IsPartitionPoint (λ x. nat_lt (span_at tokens.now x.0).end offset ≡ true)
         (λ x. nat_lt (span_at tokens.now x.0).end offset ≡ false) found.now result }
 {
-    found.partition_point(|field| token_span(tokens, field.0).end < offset)
+    found.partition_point(|field| (token_span(tokens, field.0).end as usize) < offset)
 }
 
 /// An identifier, where a place is on it.
@@ -55,7 +55,7 @@ fn if_on(tokens: &Tokens, offset: usize, field: (usize, usize)) -> Option<(usize
 fn is_on(offset: usize, span: Span) -> bool
     ensures { result ≡ is_on offset span }
 {
-    span.start <= offset && offset <= span.end
+    span.start as usize <= offset && offset <= span.end as usize
 }
 
 /// The place of the field of this name among those of a record.
