@@ -2,4 +2,5 @@ mod Gathering
 mod Lines
 mod Pieces
 mod Renames
+mod Words
 mod Wrong

@@ -1,14 +1,16 @@
 -- The numbers that an input writes.
--- Rule: docs/PROTOCOL.md, The program 2.
-use Rattle.std.specs.Prelude.{◌≡◌, ◌≢◌, ℕ, ℤ, List, [], ◌∷◌, ◌++◌, IsTrue, ⊤, slice_index}
+-- Rule: docs/PROTOCOL.md, The program 2 and 6.
+use Rattle.std.specs.Prelude.{◌≡◌, ◌≢◌, ◌≤◌, ◌⊎◌, ℕ, ℤ, List, [], ◌∷◌, ◌++◌, Bool, true, Option, IfSome, IsTrue, ⊤, length, slice_index}
 use Rattle.std.specs.Str.Parse.{IsNumeral, signed_digits_value, without_leading_sign}
+use Rattle.ob0_run_machine.specs.Evaluation.{fits}
 use Rattle.ob0_scan.specs.Classes.{is_space}
 
--- a word writes a number: one decimal digit or more, with or without a `-` before them
+-- a word writes a number of 32 bits: one decimal digit or more, with or without a `-` before them
 pub record WritesNumber (word : List ℕ) (n : ℤ) : Type 0 where
   pub no_plus : slice_index word 0 ≢ 43
   pub digits : IsNumeral 10 (without_leading_sign word)
   pub value : n ≡ signed_digits_value 10 word
+  pub small : fits n ≡ true
 
 -- a word ends where nothing follows, or white space
 abbrev pub EndsWord : List ℕ → Type 0
@@ -26,3 +28,20 @@ pub data WritesNumbers : List ℕ → List ℤ → Type 0 where
       → text ≡ word ++ after
       → WritesNumber word n
       → EndsWord after → WritesNumbers after ns → WritesNumbers text (n ∷ ns)
+
+-- the text is a list of numbers
+abbrev pub IsListOfNumbers : List ℕ → Type 0
+IsListOfNumbers text = (ns : List ℤ) × WritesNumbers text ns
+
+-- the text of an input writes these numbers, in at most 16,777,216 bytes
+pub record IsInputOf (ns : List ℤ) (text : List ℕ) : Type 0 where
+  pub short : length text ≤ 16777216
+  pub writes : WritesNumbers text ns
+
+-- the text is none of an input: it is too long, or not a list of numbers
+abbrev pub IsNoInput : List ℕ → Type 0
+IsNoInput text = ¬ ((ns : List ℤ) × IsInputOf ns text)
+
+-- there are no numbers: the reader has failed, or what it had to give isn't an input
+abbrev pub HasNoNumbers : Option (List ℕ) → Bool → Type 0
+HasNoNumbers given failed = (failed ≡ true) ⊎ IfSome given IsNoInput

@@ -1,11 +1,14 @@
 -- The statuses with which a command on a file ends.
 -- Rule: docs/PROTOCOL.md, The program 8.
-use Rattle.std.specs.Prelude.{◌≡◌, ◌≤◌, ◌⊎◌, ℕ, List, Bool, true}
+use Rattle.std.specs.Prelude.{◌≡◌, ◌≤◌, ◌⊎◌, ℕ, List, Option, Bool, true, length}
 use Rattle.std.specs.Str.{IsUtf8}
+use Rattle.ob0_scan.specs.Scanned.{max_text}
+use Rattle.ob0_analysis.specs.Diagnosed.{IsWellTypedModule}
 use Rattle.ob0_run.specs.declared.running.End.{End}
 use Rattle.ob0_run.specs.declared.running.End.TheVariants as end
 use Rattle.ob0_commands.specs.declared.faults.FileFault.{FileFault}
 use Rattle.ob0_commands.specs.declared.faults.FileFault.TheVariants as fault
+use Rattle.ob0_commands.specs.Numbers.{HasNoNumbers}
 
 -- 5 where memory runs out, 4 for what can't be read or written
 abbrev pub status_of : FileFault → ℕ
@@ -19,14 +22,17 @@ status_of fault.Memory = 5
 abbrev pub StopsPrinting : FileFault → Type 0
 StopsPrinting f = (f ≡ fault.Write) ⊎ (f ≡ fault.Memory)
 
--- why nothing is reported of a file: its bytes aren't UTF-8, or what is wrong with it can't be printed
-abbrev pub StopsPrintingFaults : List ℕ → FileFault → Type 0
-StopsPrintingFaults file f = ((f ≡ fault.Utf8) × ¬ (IsUtf8 file)) ⊎ StopsPrinting f
+-- the file has no text: its bytes aren't UTF-8 (of one that is too long these aren't looked at)
+abbrev pub HasNoText : List ℕ → Type 0
+HasNoText file = (length file ≤ max_text) × ¬ (IsUtf8 file)
 
--- why reading fails: what is read can't be read, or isn't what it has to be, for which it has one name; or an
--- allocation failed
-abbrev pub StopsReading : FileFault → FileFault → Type 0
-StopsReading name f = (f ≡ name) ⊎ (f ≡ fault.Memory)
+-- why nothing is reported of a file: it has no text, or what is wrong with it can't be printed
+abbrev pub StopsPrintingFaults : List ℕ → FileFault → Type 0
+StopsPrintingFaults file f = ((f ≡ fault.Utf8) × HasNoText file) ⊎ StopsPrinting f
+
+-- why reading fails: for a reason, for which there is one name, or an allocation failed
+abbrev pub StopsFor : FileFault → Type 0 → FileFault → Type 0
+StopsFor name reason f = ((f ≡ name) × reason) ⊎ (f ≡ fault.Memory)
 
 -- 0 for a run that reaches the end of the module's body, else 1
 abbrev pub status_at : End → ℕ
@@ -42,10 +48,30 @@ status_at end.TurnBound = 1
 abbrev pub IsStatus : ℕ → Type 0
 IsStatus status = (status ≤ 1) ⊎ ((status ≡ 4) ⊎ (status ≡ 5))
 
--- what is wrong where nothing is reported of a file: its bytes aren't UTF-8, or the output has failed
+-- what is wrong where nothing is reported of a file: it has no text, or the output has failed
 abbrev pub CanNotReport : List ℕ → Bool → Type 0
-CanNotReport file failed = ¬ (IsUtf8 file) ⊎ (failed ≡ true)
+CanNotReport file failed = HasNoText file ⊎ (failed ≡ true)
 
 -- the output has failed where the fault says so
 abbrev pub IsOfOutput : Bool → FileFault → Type 0
 IsOfOutput failed f = f ≡ fault.Write → failed ≡ true
+
+-- ---- runs
+
+-- a well-typed module has no numbers to run on
+abbrev pub HasNoInput : List ℕ → Option (List ℕ) → (input_failed : Bool) → Type 0
+HasNoInput file given input_failed = IsWellTypedModule file × HasNoNumbers given input_failed
+
+-- why a run isn't reported: there is no input for it, or nothing can be reported of the file
+abbrev pub StopsRunning : List ℕ → Option (List ℕ) → (input_failed : Bool) → FileFault → Type 0
+StopsRunning file given input_failed f =
+    ((f ≡ fault.Input) × HasNoInput file given input_failed) ⊎ StopsPrintingFaults file f
+
+-- what is wrong where neither a run nor what is wrong with a file is reported: there is no input, or nothing can be
+-- reported
+abbrev pub CanNotRun : List ℕ
+    → Option (List ℕ)
+    → (input_failed output_failed : Bool)
+    → Type 0
+CanNotRun file given input_failed output_failed =
+    HasNoInput file given input_failed ⊎ CanNotReport file output_failed

@@ -11,7 +11,7 @@ use Rattle.ob0_run.specs.Outcomes.{end_in}
 use Rattle.ob0_run.specs.Programs as lowered
 use Rattle.ob0_run_lowering.specs.declared.programs.Program.{Program}
 use Rattle.ob0_run.specs.declared.running.End.TheVariants as end
-use Rattle.ob0_commands.specs.Numbers.{WritesNumbers}
+use Rattle.ob0_commands.specs.Numbers.{IsInputOf}
 use Rattle.ob0_commands.specs.Printed.{PrintsFaults, output_text}
 
 -- the text is a well-typed module, and this is its run
@@ -32,7 +32,7 @@ pub record IsLoweredTo (text : List ℕ) (program : Program) : Type 0 where
 pub record PrintsRun (file : List ℕ) (given : Option (List ℕ)) (c t : ℕ)
     (before after : Option (List ℕ)) (r : Run) : Type 0 where
   pub input : List ℤ
-  pub written : IfSome given (λ text. WritesNumbers text input)
+  pub written : IfSome given (IsInputOf input)
   pub runs : TextRunsAs file input c t r
   pub printed : Appends before after (output_text r.output)
 

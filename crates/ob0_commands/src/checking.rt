@@ -1,10 +1,10 @@
 //! Printing what is wrong with a file.
 
-ghost use Rattle.std.specs.Prelude.{◌≡◌, ◌<◌, ◌++◌, [], true, IfOk, IfNone, MatchOption, OnOk, IfErr, codes, length, map, string_bytes};
+ghost use Rattle.std.specs.Prelude.{◌≡◌, ◌<◌, ◌≤◌, ◌++◌, [], true, IfOk, IfNone, MatchOption, OnOk, IfErr, codes, length, map, string_bytes};
 ghost use Rattle.std.specs.Io.KnownBytes.{Appends};
 ghost use Rattle.std.specs.Mem.{manually_drop_value};
 ghost use Rattle.ob0_commands.specs.Printed.{PrintsFaults, complaint_lines, line_at, lines_at};
-ghost use Rattle.ob0_commands.specs.Statuses.{CanNotReport, IsOfOutput, IsStatus, StopsPrinting, StopsPrintingFaults};
+ghost use Rattle.ob0_commands.specs.Statuses.{CanNotReport, HasNoText, IsOfOutput, IsStatus, StopsPrinting, StopsPrintingFaults};
 ghost use Rattle.ob0_scan.specs.Scanned.{max_text};
 ghost use Rattle.ob0_analysis.specs.Diagnosed.{Reports, complaint_in};
 
@@ -27,6 +27,8 @@ pub fn check_text<O: Output, E: Output>(alloc: Global, file: &[u8], out: &mut O,
         (O.contents out.new) }
     ensures flushed { result ≡ 1 → O.is_flushed out.new ≡ true }
     ensures statuses { IsStatus result }
+    ensures readable { result ≤ 1 → ¬ HasNoText file.now }
+    ensures unfailed { result ≤ 1 → O.has_failed out.new ≡ O.has_failed out.old }
     ensures unreported { result ≡ 4 → CanNotReport file.now (O.has_failed out.new) }
 {
     match check(alloc, file, out) {
@@ -47,6 +49,8 @@ pub fn check<'f, O: Output>(
         (PrintsFaults file.entry.now (O.contents out.old) (O.contents out.new))
         (λ text. (text.now ≡ file.entry.now) × Reports file.entry.now [] × (out.new ≡ out.old))) }
     ensures flushed { IfOk result (λ found. IfNone found (O.is_flushed out.new ≡ true)) }
+    ensures readable { OnOk result (¬ HasNoText file.entry.now) }
+    ensures unfailed { OnOk result (O.has_failed out.new ≡ O.has_failed out.old) }
     ensures fault { IfErr result (StopsPrintingFaults file.entry.now) }
     ensures failed { IfErr result (IsOfOutput (O.has_failed out.new)) }
 {
@@ -84,6 +88,8 @@ pub fn text_of<'f, O: Output>(file: &'f [u8], out: &mut O) -> Result<Option<&'f 
         × Appends (O.contents out.old) (O.contents out.new) (codes "0:0: TooLong: text too long\n"))
         (λ text. (text.now ≡ file.entry.now) × (out.new ≡ out.old))) }
     ensures flushed { IfOk result (λ found. IfNone found (O.is_flushed out.new ≡ true)) }
+    ensures readable { OnOk result (¬ HasNoText file.entry.now) }
+    ensures unfailed { OnOk result (O.has_failed out.new ≡ O.has_failed out.old) }
     ensures fault { IfErr result (StopsPrintingFaults file.entry.now) }
     ensures failed { IfErr result (IsOfOutput (O.has_failed out.new)) }
 {
@@ -107,6 +113,7 @@ pub fn print_diagnoses<O: Output>(
     ensures printed { OnOk result (Appends (O.contents out.old) (O.contents out.new)
         (complaint_lines text.now (map complaint_in reported.now))) }
     ensures flushed { OnOk result (O.is_flushed out.new ≡ true) }
+    ensures unfailed { OnOk result (O.has_failed out.new ≡ O.has_failed out.old) }
     ensures fault { IfErr result StopsPrinting }
     ensures failed { IfErr result (IsOfOutput (O.has_failed out.new)) }
 {

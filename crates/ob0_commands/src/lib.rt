@@ -13,6 +13,6 @@ mod running;
 pub use checking::check_text;
 pub use faults::{FileFault, print_fault};
 pub use printing::{Flushed, Output};
-pub use reading::{MAX_FILE, read_file};
+pub use reading::{Input, MAX_FILE, Watched, read_file};
 pub use renaming::rename_text;
 pub use running::run_text;

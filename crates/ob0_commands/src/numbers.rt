@@ -1,23 +1,24 @@
 //! The numbers of an input.
 
-ghost use Rattle.std.specs.Prelude.{◌≡◌, ◌≤◌, IfOk, IfErr, IfSome, length};
+ghost use Rattle.std.specs.Prelude.{◌≡◌, ◌≤◌, ℤ, IfOk, OnOk, IfErr, IfSome, MatchOption, length};
 ghost use Rattle.std.specs.List.{position_or_len};
 ghost use Rattle.ob0_scan.specs.Classes.{is_space};
-ghost use Rattle.ob0_commands.specs.Numbers.{WritesNumber, WritesNumbers};
-ghost use Rattle.ob0_commands.specs.Statuses.{StopsReading};
+ghost use Rattle.ob0_commands.specs.Numbers.{HasNoNumbers, IsInputOf, IsListOfNumbers, WritesNumber, WritesNumbers};
+ghost use Rattle.ob0_commands.specs.Statuses.{StopsFor};
 ghost use Rattle.ob0_commands.specs.declared.faults.FileFault.TheVariants as faults;
 
 use crate::faults::FileFault;
-use crate::reading::read_input;
+use crate::reading::{Input, read_input};
 use std::alloc::{AllocError, Global};
-use std::io::Read;
 
 /// Reads the numbers of the input: whole numbers of 32 bits, digits with an optional `-` before them, between white
 /// space.
-pub fn read_numbers<R: Read>(alloc: Global, input: &mut R) -> Result<Vec<i32>, FileFault>
+pub fn read_numbers<R: Input>(alloc: Global, input: &mut R) -> Result<Vec<i32>, FileFault>
     ensures numbers { IfOk result
-        (λ numbers. IfSome (R.remaining input.old) (λ text. WritesNumbers text numbers.items)) }
-    ensures fault { IfErr result (StopsReading faults.Input) }
+        (λ numbers. IfSome (R.remaining input.old) (IsInputOf numbers.items)) }
+    ensures unfailed { OnOk result (R.has_failed input.new ≡ R.has_failed input.old) }
+    ensures fault { IfErr result
+        (StopsFor faults.Input (HasNoNumbers (R.remaining input.old) (R.has_failed input.new))) }
 {
     let text = read_input(alloc, input)?;
     match numbers_in(alloc, text.as_slice())? {
@@ -26,10 +27,10 @@ pub fn read_numbers<R: Read>(alloc: Global, input: &mut R) -> Result<Vec<i32>, F
     }
 }
 
-/// The numbers that a text writes, in their order. None where a word of it writes none.
+/// The numbers that a text writes, in their order. None exactly where a word of it writes none.
 fn numbers_in(alloc: Global, text: &[u8]) -> Result<Option<Vec<i32>>, AllocError>
-    ensures { IfOk result
-        (λ found. IfSome found (λ numbers. WritesNumbers text.now numbers.items)) }
+    ensures { IfOk result (λ found. MatchOption found (¬ IsListOfNumbers text.now)
+        (λ numbers. WritesNumbers text.now numbers.items)) }
 {
     let mut numbers = Vec::new(alloc);
     let mut at = 0;
@@ -63,9 +64,10 @@ fn word_len(bytes: &[u8]) -> usize
     bytes.iter().take_while(|byte| !is_space(**byte)).count()
 }
 
-/// The number that a word writes.
+/// The number that a word writes. None exactly where it writes none.
 fn number_of(word: &[u8]) -> Option<i32>
-    ensures { IfSome result (λ number. WritesNumber word.now number) }
+    ensures { MatchOption result (¬ ((n : ℤ) × WritesNumber word.now n))
+        (λ number. WritesNumber word.now number) }
 {
     let Ok(digits) = str::from_utf8(word) else {
         return None;

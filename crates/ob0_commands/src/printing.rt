@@ -104,6 +104,7 @@ impl<W: Write> Output for Flushed<W> {
 /// Writes all of a text.
 pub(crate) fn write<W: Output>(out: &mut W, text: &str) -> Result<(), FileFault>
     ensures written { OnOk result (Appends (W.contents out.old) (W.contents out.new) text.now) }
+    ensures unfailed { OnOk result (W.has_failed out.new ≡ W.has_failed out.old) }
     ensures fault { IfErr result (λ fault. fault ≡ faults.Write) }
     ensures failed { OnErr result (W.has_failed out.new ≡ true) }
 {
@@ -117,6 +118,7 @@ pub(crate) fn write<W: Output>(out: &mut W, text: &str) -> Result<(), FileFault>
 pub fn print<W: Output>(out: &mut W, text: &str) -> Result<(), FileFault>
     ensures printed { OnOk result (Appends (W.contents out.old) (W.contents out.new) text.now) }
     ensures flushed { OnOk result (W.is_flushed out.new ≡ true) }
+    ensures unfailed { OnOk result (W.has_failed out.new ≡ W.has_failed out.old) }
     ensures fault { IfErr result (λ fault. fault ≡ faults.Write) }
     ensures failed { OnErr result (W.has_failed out.new ≡ true) }
 {

@@ -1,13 +1,15 @@
 //! Reading a file and the input.
 
-ghost use Rattle.std.specs.Prelude.{◌≡◌, ◌≤◌, ◌<◌, IfOk, IfErr, length};
-ghost use Rattle.std.specs.Io.KnownBytes.{Consumes, IsAtEnd};
-ghost use Rattle.ob0_commands.specs.Statuses.{StopsReading};
+ghost use Rattle.std.specs.Prelude.{◌≡◌, ◌≤◌, ◌<◌, ◌||◌, ◌⊎◌, Bool, true, false, is_err, IfOk, OnOk, IfErr, IfSome, length};
+ghost use Rattle.std.specs.Io.{ReadsAtMost};
+ghost use Rattle.std.specs.Io.KnownBytes.{Consumes, IsAtEnd, ReadConsumes};
+ghost use Rattle.ob0_commands.specs.Inputs.{input_device, input_failed};
+ghost use Rattle.ob0_commands.specs.Statuses.{StopsFor};
 ghost use Rattle.ob0_commands.specs.declared.faults.FileFault.TheVariants as faults;
 
 use crate::faults::FileFault;
 use std::alloc::Global;
-use std::io::Read;
+use std::io::{self, Read};
 
 /// How many bytes of a file are read at most: one more than a text may have.
 pub const MAX_FILE: usize = 1_048_577;
@@ -17,25 +19,88 @@ const MAX_INPUT: usize = 16_777_216;
 
 const PIECE_SIZE: usize = 8192;
 
+/// A reader that knows whether it has failed.
+pub trait Input: Read {
+    // Whether a call of the one below has failed.
+    ghost has_failed: { Self → Bool };
+
+    /// Reads some bytes, and remembers where that fails.
+    fn take_some(&mut self, buf: &mut [u8]) -> io::Result<usize>
+        ensures bound { ReadsAtMost result buf.new }
+        ensures bytes { ReadConsumes
+            (Self.remaining self.old) (Self.remaining self.new) result buf.new }
+        ensures failed { has_failed self.new ≡ (has_failed self.old || is_err result) };
+}
+
+/// A device that is read, and whether it has failed.
+#[derive(Drop)]
+pub struct Watched<R> {
+    device: R,
+    has_failed: bool,
+}
+
+impl<R> Watched<R> {
+    /// A device that hasn't failed.
+    pub fn new(device: R) -> Watched<R>
+        ensures device { input_device result ≡ device }
+        ensures works { input_failed result ≡ false }
+    {
+        Watched {
+            device,
+            has_failed: false,
+        }
+    }
+}
+
+impl<R: Read> Read for Watched<R> {
+    ghost remaining = { λ input. R.remaining (input_device input) };
+
+    fn read(&mut self, buf: &mut [u8]) -> io::Result<usize>
+        ensures bound { ReadsAtMost result buf.new }
+        ensures bytes { ReadConsumes (R.remaining (input_device self.old))
+            (R.remaining (input_device self.new)) result buf.new }
+        ensures failed { input_failed self.new ≡ (input_failed self.old || is_err result) }
+    {
+        match self.device.read(buf) {
+            Ok(count) => Ok(count),
+            Err(error) => {
+                self.has_failed = true;
+                Err(error)
+            }
+        }
+    }
+}
+
+impl<R: Read> Input for Watched<R> {
+    ghost has_failed = { λ input. input_failed input };
+
+    fn take_some(&mut self, buf: &mut [u8]) -> io::Result<usize> {
+        self.read(buf)
+    }
+}
+
 /// Reads a file's bytes, or the first 1,048,577 of them.
-pub fn read_file<R: Read>(alloc: Global, file: &mut R) -> Result<Vec<u8>, FileFault>
+pub fn read_file<R: Input>(alloc: Global, file: &mut R) -> Result<Vec<u8>, FileFault>
     ensures bound { IfOk result (λ bytes. length bytes.items ≤ 1048577) }
     ensures taken { IfOk result
         (λ bytes. Consumes (R.remaining file.old) (R.remaining file.new) bytes.items) }
     ensures end { IfOk result
         (λ bytes. length bytes.items < 1048577 → IsAtEnd (R.remaining file.new)) }
-    ensures fault { IfErr result (StopsReading faults.File) }
+    ensures unfailed { OnOk result (R.has_failed file.new ≡ R.has_failed file.old) }
+    ensures fault { IfErr result (StopsFor faults.File (R.has_failed file.new ≡ true)) }
 {
     read_up_to(alloc, file, MAX_FILE, FileFault::File)
 }
 
 /// Reads the input's bytes, which are at most 16,777,216.
-pub fn read_input<R: Read>(alloc: Global, input: &mut R) -> Result<Vec<u8>, FileFault>
+pub fn read_input<R: Input>(alloc: Global, input: &mut R) -> Result<Vec<u8>, FileFault>
     ensures bound { IfOk result (λ bytes. length bytes.items ≤ 16777216) }
     ensures taken { IfOk result
         (λ bytes. Consumes (R.remaining input.old) (R.remaining input.new) bytes.items) }
     ensures end { IfOk result (λ bytes. IsAtEnd (R.remaining input.new)) }
-    ensures fault { IfErr result (StopsReading faults.Input) }
+    ensures unfailed { OnOk result (R.has_failed input.new ≡ R.has_failed input.old) }
+    ensures fault { IfErr result (StopsFor faults.Input ((R.has_failed input.new ≡ true)
+        ⊎ IfSome (R.remaining input.old) (λ text. 16777216 < length text))) }
 {
     let bytes = read_up_to(alloc, input, MAX_INPUT + 1, FileFault::Input)?;
     if bytes.len() > MAX_INPUT {
@@ -45,7 +110,7 @@ pub fn read_input<R: Read>(alloc: Global, input: &mut R) -> Result<Vec<u8>, File
 }
 
 /// Reads to the end, or the first `most` bytes. A failed read is answered as `fault`.
-fn read_up_to<R: Read>(
+fn read_up_to<R: Input>(
     alloc: Global,
     reader: &mut R,
     most: usize,
@@ -56,13 +121,14 @@ fn read_up_to<R: Read>(
         (λ bytes. Consumes (R.remaining reader.old) (R.remaining reader.new) bytes.items) }
     ensures end { IfOk result
         (λ bytes. length bytes.items < most → IsAtEnd (R.remaining reader.new)) }
-    ensures stops { IfErr result (StopsReading fault) }
+    ensures unfailed { OnOk result (R.has_failed reader.new ≡ R.has_failed reader.old) }
+    ensures stops { IfErr result (StopsFor fault (R.has_failed reader.new ≡ true)) }
 {
     let mut bytes = Vec::new(alloc);
     let mut piece = [0u8; PIECE_SIZE];
     while bytes.len() < most {
         let wanted = (most - bytes.len()).min(PIECE_SIZE);
-        let Ok(count) = reader.read(&mut piece[..wanted]) else {
+        let Ok(count) = reader.take_some(&mut piece[..wanted]) else {
             return Err(fault);
         };
         if count == 0 {

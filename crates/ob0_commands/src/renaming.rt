@@ -3,7 +3,7 @@
 ghost use Rattle.std.specs.Prelude.{◌≡◌, ◌≤◌, true, IfOk, IfErr, OnOk};
 ghost use Rattle.ob0_commands.specs.Outputs.{IsHandedOn};
 ghost use Rattle.ob0_commands.specs.Renamed.{IsRefusal, PrintsEdited, PrintsNoName, PrintsRenamed};
-ghost use Rattle.ob0_commands.specs.Statuses.{CanNotReport, IsOfOutput, IsStatus, StopsPrinting, StopsPrintingFaults};
+ghost use Rattle.ob0_commands.specs.Statuses.{CanNotReport, HasNoText, IsOfOutput, IsStatus, StopsPrinting, StopsPrintingFaults};
 
 use crate::checking::{analyse, print_diagnoses, text_of};
 use crate::faults::{FileFault, print_fault};
@@ -31,6 +31,8 @@ pub fn rename_text<O: Output, E: Output>(
     ensures flushed { result ≡ 0 → O.is_flushed out.new ≡ true }
     ensures handed_on { result ≡ 1 → IsHandedOn (O.is_flushed out.new) out.old out.new }
     ensures statuses { IsStatus result }
+    ensures readable { result ≤ 1 → ¬ HasNoText file.now }
+    ensures unfailed { result ≤ 1 → O.has_failed out.new ≡ O.has_failed out.old }
     ensures unreported { result ≡ 4 → CanNotReport file.now (O.has_failed out.new) }
 {
     match rename_file(alloc, file, position, new, out, err) {
@@ -55,6 +57,8 @@ fn rename_file<O: Output, E: Output>(
     ensures handed_on { IfOk result
         (λ status. status ≡ 1 → IsHandedOn (O.is_flushed out.new) out.old out.new) }
     ensures ends { IfOk result (λ status. status ≤ 1) }
+    ensures readable { OnOk result (¬ HasNoText file.now) }
+    ensures unfailed { OnOk result (O.has_failed out.new ≡ O.has_failed out.old) }
     ensures fault { IfErr result (StopsPrintingFaults file.now) }
     ensures failed { IfErr result (IsOfOutput (O.has_failed out.new)) }
 {
@@ -80,6 +84,7 @@ fn rename_in_text<O: Output, E: Output>(
     ensures handed_on { IfOk result
         (λ status. status ≡ 1 → IsHandedOn (O.is_flushed out.new) out.old out.new) }
     ensures ends { IfOk result (λ status. status ≤ 1) }
+    ensures unfailed { OnOk result (O.has_failed out.new ≡ O.has_failed out.old) }
     ensures fault { IfErr result StopsPrinting }
     ensures failed { IfErr result (IsOfOutput (O.has_failed out.new)) }
 {
@@ -110,6 +115,7 @@ pub fn print_edited<T: TextStore, O: Output, E: Output>(
     ensures refused { IfOk result (λ status. status ≡ 1 → IsRefusal edits × (out.new ≡ out.old)) }
     ensures flushed { IfOk result (λ status. status ≡ 0 → O.is_flushed out.new ≡ true) }
     ensures ends { IfOk result (λ status. status ≤ 1) }
+    ensures unfailed { OnOk result (O.has_failed out.new ≡ O.has_failed out.old) }
     ensures fault { IfErr result StopsPrinting }
     ensures failed { IfErr result (IsOfOutput (O.has_failed out.new)) }
 {

@@ -7,18 +7,18 @@ ghost use Rattle.ob0_run.specs.Outcomes.{run_of};
 ghost use Rattle.ob0_run.specs.Programs as lowered;
 ghost use Rattle.ob0_run.specs.States.{item_of, items_out};
 ghost use Rattle.ob0_commands.specs.Printed.{IsWrittenBut, PrintsFaults, end_line, output_text, written_text};
-ghost use Rattle.ob0_commands.specs.Statuses.{IsStatus, StopsPrinting, status_at};
+ghost use Rattle.ob0_commands.specs.Statuses.{CanNotRun, HasNoText, IsOfOutput, IsStatus, StopsPrinting, StopsRunning, status_at};
 ghost use Rattle.ob0_commands.specs.TextRuns.{IsLoweredTo, PrintsDone, PrintsOther, TextRunsAs};
 
 use crate::checking::{print_diagnoses, text_of};
 use crate::faults::{FileFault, print_fault};
 use crate::numbers::read_numbers;
 use crate::printing::{Output, print, write};
+use crate::reading::Input;
 use itoa::Buffer;
 use ob0_analysis::{Analysis, Question, WellTyped, ask};
 use ob0_run::{End, Item, Outcome, Program, execute, lower};
 use std::alloc::{AllocError, Global};
-use std::io::Read;
 
 /// The program that a text's module is lowered to.
 #[derive(Drop)]
@@ -39,7 +39,7 @@ impl Question for LoweringQuestion {
 /// A file that isn't a module is reported as by `check_text`, before the input is read. Answers the status with which
 /// the program ends: 0 for Done, 1 for another end and for diagnostics, 4 and 5 as `check_text`, 4 also for an input
 /// that can't be read, is too long or isn't a list of numbers.
-pub fn run_text<R: Read, O: Output, E: Output>(
+pub fn run_text<R: Input, O: Output, E: Output>(
     alloc: Global,
     file: &[u8],
     input: &mut R,
@@ -56,6 +56,11 @@ pub fn run_text<R: Read, O: Output, E: Output>(
         (O.contents out.new) }
     ensures flushed { result ≤ 1 → O.is_flushed out.new ≡ true }
     ensures statuses { IsStatus result }
+    ensures readable { result ≤ 1 → ¬ HasNoText file.now }
+    ensures read { result ≤ 1 → R.has_failed input.new ≡ R.has_failed input.old }
+    ensures unfailed { result ≤ 1 → O.has_failed out.new ≡ O.has_failed out.old }
+    ensures unreported { result ≡ 4 → CanNotRun file.now (R.remaining input.old)
+        (R.has_failed input.new) (O.has_failed out.new) }
 {
     match run_file(alloc, file, input, calls, turns, out, err) {
         Ok(status) => status,
@@ -63,7 +68,7 @@ pub fn run_text<R: Read, O: Output, E: Output>(
     }
 }
 
-fn run_file<R: Read, O: Output, E: Output>(
+fn run_file<R: Input, O: Output, E: Output>(
     alloc: Global,
     file: &[u8],
     input: &mut R,
@@ -80,6 +85,12 @@ fn run_file<R: Read, O: Output, E: Output>(
         (O.contents out.new)) }
     ensures flushed { OnOk result (O.is_flushed out.new ≡ true) }
     ensures ends { IfOk result (λ status. status ≤ 1) }
+    ensures readable { OnOk result (¬ HasNoText file.now) }
+    ensures read { OnOk result (R.has_failed input.new ≡ R.has_failed input.old) }
+    ensures unfailed { OnOk result (O.has_failed out.new ≡ O.has_failed out.old) }
+    ensures fault { IfErr result
+        (StopsRunning file.now (R.remaining input.old) (R.has_failed input.new)) }
+    ensures failed { IfErr result (IsOfOutput (O.has_failed out.new)) }
 {
     let Some(text) = text_of(file, out)? else {
         return Ok(1);
@@ -102,6 +113,9 @@ fn lower_text<O: Output>(
         (PrintsFaults text.now (O.contents out.old) (O.contents out.new))
         (λ program. IsLoweredTo text.now program × (out.new ≡ out.old))) }
     ensures flushed { IfOk result (λ found. IfNone found (O.is_flushed out.new ≡ true)) }
+    ensures unfailed { OnOk result (O.has_failed out.new ≡ O.has_failed out.old) }
+    ensures fault { IfErr result StopsPrinting }
+    ensures failed { IfErr result (IsOfOutput (O.has_failed out.new)) }
 {
     let analysis = Analysis::of(alloc, text)?;
     match ask(alloc, &analysis, &LoweringQuestion {})? {
@@ -158,7 +172,9 @@ pub fn print_outcome<O: Output, E: Output>(
     ensures flushed { OnOk result (O.is_flushed out.new ≡ true) }
     ensures status { IfOk result (λ status. status ≡ status_at end) }
     ensures ends { IfOk result (λ status. status ≤ 1) }
+    ensures unfailed { OnOk result (O.has_failed out.new ≡ O.has_failed out.old) }
     ensures fault { IfErr result StopsPrinting }
+    ensures failed { IfErr result (IsOfOutput (O.has_failed out.new)) }
 {
     print_items(alloc, output, out)?;
     match line_of(end) {
@@ -181,7 +197,9 @@ fn print_items<O: Output>(alloc: Global, output: &[Item], out: &mut O) -> Result
     ensures printed { OnOk result
         (Appends (O.contents out.old) (O.contents out.new) (output_text (items_out output.now))) }
     ensures flushed { OnOk result (O.is_flushed out.new ≡ true) }
+    ensures unfailed { OnOk result (O.has_failed out.new ≡ O.has_failed out.old) }
     ensures fault { IfErr result StopsPrinting }
+    ensures failed { IfErr result (IsOfOutput (O.has_failed out.new)) }
 {
     let mut text = String::with_capacity(alloc, PIECE_SIZE + LONGEST_ITEM)?;
     let mut digits = Buffer::new();
@@ -200,7 +218,9 @@ fn append_item<O: Output>(
 ) -> Result<(), FileFault>
     ensures written { OnOk result (IsWrittenBut (O.contents out.old) (O.contents out.new)
         (string_bytes text.old ++ written_text (item_of item)) (string_bytes text.new)) }
+    ensures unfailed { OnOk result (O.has_failed out.new ≡ O.has_failed out.old) }
     ensures fault { IfErr result StopsPrinting }
+    ensures failed { IfErr result (IsOfOutput (O.has_failed out.new)) }
 {
     push_item(text, digits, item)?;
     if text.len() < PIECE_SIZE {

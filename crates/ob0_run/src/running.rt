@@ -1,6 +1,6 @@
 //! Runs of well-typed modules.
 
-ghost use Rattle.std.specs.Prelude.{◌≡◌, ◌<◌, ◌*◌, ◌^◌, IfOk, suc, true};
+ghost use Rattle.std.specs.Prelude.{◌≡◌, ◌*◌, ◌^◌, IfOk, nat_lt, suc};
 ghost use Rattle.ob0_tree.specs.Parsed.{named_tree_of};
 ghost use Rattle.ob0_tree.specs.Tree.{Tree, module_text};
 ghost use Rattle.ob0_scope_rules.specs.Names.{Name};
@@ -72,7 +72,7 @@ fn have_numbers(input: &[i32])
 
 /// Whether the cells of the module and of `calls` open calls have addresses, where none has more than `most_cells`.
 fn have_addresses(most_cells: usize, calls: u32) -> bool
-    ensures { result ≡ true → suc calls * most_cells < 2 ^ 64 }
+    ensures { result ≡ nat_lt (suc calls * most_cells) (2 ^ 64) }
 {
     let activations = calls as usize + 1;
     activations.checked_mul(most_cells).is_some()

@@ -2,7 +2,7 @@
 
 use crate::devices::{Count, Counter, Source};
 use ob0_cli::{CommandLine, command};
-use ob0_commands::{Flushed, check_text, rename_text, run_text};
+use ob0_commands::{Flushed, Watched, check_text, rename_text, run_text};
 use ob0_text::Position;
 use std::alloc::Global;
 use std::process::Abort;
@@ -34,11 +34,11 @@ const READS: &[u8] = b"MODULE M; VAR x: INTEGER; BEGIN Read(x); Write(x) END M."
 /// The status of a run on this input, and how many bytes are printed.
 fn ran(alloc: Global, input: &[u8]) -> (u8, usize) {
     let (mut printed, mut reported) = (Count::new(512, 1), Count::new(512, 1));
-    let mut input = Source {
+    let mut input = Watched::new(Source {
         bytes: input,
         most: 1,
         calls_left: 16,
-    };
+    });
     let mut out = Flushed::new(Counter {
         count: &mut printed,
     });
