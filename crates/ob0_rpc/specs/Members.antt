@@ -18,33 +18,33 @@ is_absent (Some (array ds)) = false
 is_absent (Some (object ms)) = false
 
 -- a member's text
-abbrev pub text_in : List ℕ → Data → Option (List ℕ)
-text_in name d = option_and_then as_str (get name d)
+abbrev pub text_member : List ℕ → Data → Option (List ℕ)
+text_member name d = option_and_then as_str (get name d)
 
 -- the truth value of a member
-abbrev pub truth_in : List ℕ → Data → Option Bool
-truth_in name d = option_and_then as_bool (get name d)
+abbrev pub truth_member : List ℕ → Data → Option Bool
+truth_member name d = option_and_then as_bool (get name d)
 
 -- a member's whole number from 0 to 2^64-1
-abbrev pub count_in : List ℕ → Data → Option ℕ
-count_in name d = option_and_then as_u64 (option_and_then as_number (get name d))
+abbrev pub count_member : List ℕ → Data → Option ℕ
+count_member name d = option_and_then as_u64 (option_and_then as_number (get name d))
 
 -- a member of the member `textDocument`
 abbrev pub of_document : List ℕ → Data → Option Data
 of_document name params = option_and_then (get name) (get (codes "textDocument") params)
 
 -- the uri of the document in params
-abbrev pub uri_of : Data → Option (List ℕ)
-uri_of params = option_and_then as_str (of_document (codes "uri") params)
+abbrev pub document_uri : Data → Option (List ℕ)
+document_uri params = option_and_then as_str (of_document (codes "uri") params)
 
 -- a whole number of 64 bits with a sign
-abbrev pub version_of : Data → Option ℤ
-version_of params =
+abbrev pub document_version : Data → Option ℤ
+document_version params =
     option_and_then as_i64 (option_and_then as_number (of_document (codes "version") params))
 
 -- the text of the document in params
-abbrev pub text_of : Data → Option (List ℕ)
-text_of params = option_map chars (option_and_then as_str (of_document (codes "text") params))
+abbrev pub document_text : Data → Option (List ℕ)
+document_text params = option_map chars (option_and_then as_str (of_document (codes "text") params))
 
 -- a position, where both numbers can be read
 abbrev pub position_by : Option ℕ → Option ℕ → Option Position
@@ -53,12 +53,12 @@ position_by (Some line) None = None
 position_by None character = None
 
 -- {"character":c,"line":l}
-abbrev pub position_of : Data → Option Position
-position_of d = position_by (count_in (codes "line") d) (count_in (codes "character") d)
+abbrev pub json_position : Data → Option Position
+json_position d = position_by (count_member (codes "line") d) (count_member (codes "character") d)
 
 -- the position of a member
-abbrev pub position_in : List ℕ → Data → Option Position
-position_in name d = option_and_then position_of (get name d)
+abbrev pub position_member : List ℕ → Data → Option Position
+position_member name d = option_and_then json_position (get name d)
 
 -- a range, where both positions can be read
 abbrev pub range_by : Option Position → Option Position → Option Range
@@ -67,9 +67,9 @@ range_by (Some start) None = None
 range_by None end = None
 
 -- {"end":P,"start":P}
-abbrev pub range_of : Data → Option Range
-range_of d = range_by (position_in (codes "start") d) (position_in (codes "end") d)
+abbrev pub json_range : Data → Option Range
+json_range d = range_by (position_member (codes "start") d) (position_member (codes "end") d)
 
 -- the range of a member
-abbrev pub range_in : List ℕ → Data → Option Range
-range_in name d = option_and_then range_of (get name d)
+abbrev pub range_member : List ℕ → Data → Option Range
+range_member name d = option_and_then json_range (get name d)

@@ -6,7 +6,7 @@ use Rattle.serde_json.specs.Data.{Data, Items, no_items, item}
 use Rattle.serde_json.specs.Find.{get, as_array}
 use Rattle.ob0_text.specs.OpenDocuments.{TextChange}
 use Rattle.ob0_text.specs.declared.position_types.Range.{Range}
-use Rattle.ob0_rpc.specs.Members.{is_absent, text_in, uri_of, version_of, text_of, range_of}
+use Rattle.ob0_rpc.specs.Members.{is_absent, text_member, document_uri, document_version, document_text, json_range}
 
 -- what a notification says
 pub data Notification : Type 0 where
@@ -21,9 +21,9 @@ pub data Notification : Type 0 where
   other : Notification
 
 -- the range that a change has, or that it has none; none where it can't be read
-abbrev pub changed_range : Option Data → Option (Option Range)
-changed_range found =
-    if is_absent found then Some None else option_map Some (option_and_then range_of found)
+abbrev pub range_of_change : Option Data → Option (Option Range)
+range_of_change found =
+    if is_absent found then Some None else option_map Some (option_and_then json_range found)
 
 -- a change, where its range and its text can be read
 abbrev pub change_by : Option (Option Range) → Option (List ℕ) → Option TextChange
@@ -34,7 +34,7 @@ change_by None text = None
 -- A change of a range, or of the whole text.
 abbrev pub change_in : Data → Option TextChange
 change_in entry =
-    change_by (changed_range (get (codes "range") entry)) (text_in (codes "text") entry)
+    change_by (range_of_change (get (codes "range") entry)) (text_member (codes "text") entry)
 
 -- all changes; none where one of them can't be read
 abbrev pub all_changes : Items → Option (List TextChange)
@@ -72,8 +72,8 @@ abbrev pub note_of : List ℕ → Data → Notification
 note_of method params =
     if bytes_eq method (codes "exit") then exits
     else if bytes_eq method (codes "textDocument/didOpen")
-    then open_of (uri_of params) (version_of params) (text_of params)
+    then open_of (document_uri params) (document_version params) (document_text params)
     else if bytes_eq method (codes "textDocument/didChange")
-    then change_of (uri_of params) (version_of params) (changes_of params)
-    else if bytes_eq method (codes "textDocument/didClose") then close_of (uri_of params)
+    then change_of (document_uri params) (document_version params) (changes_of params)
+    else if bytes_eq method (codes "textDocument/didClose") then close_of (document_uri params)
     else other

@@ -8,7 +8,7 @@ use Rattle.ob0_text.specs.declared.position_types.Position.{Position}
 use Rattle.ob0_text.specs.declared.position_types.Range.{Range}
 use Rattle.ob0_text.specs.declared.edits.Indent.{Indent}
 use Rattle.ob0_text.specs.declared.edits.Indent.TheVariants.{Tab, Spaces}
-use Rattle.ob0_rpc.specs.Members.{is_absent, text_in, truth_in, count_in, uri_of, position_in, range_in}
+use Rattle.ob0_rpc.specs.Members.{is_absent, text_member, truth_member, count_member, document_uri, position_member, range_member}
 use Rattle.ob0_rpc.specs.declared.clients.Client.{Client}
 use Rattle.ob0_rpc.specs.declared.incoming.RpcFault.{RpcFault}
 use Rattle.ob0_rpc.specs.declared.incoming.RpcFault.TheVariants.{UnknownMethod, BadParams}
@@ -98,7 +98,7 @@ at_by None position = None
 
 -- the document and the place in params
 abbrev pub at_of : Data → Option At
-at_of params = at_by (uri_of params) (position_in (codes "position") params)
+at_of params = at_by (document_uri params) (position_member (codes "position") params)
 
 -- {"context":{"includeDeclaration":b}} beside the place
 abbrev pub references_by : Option At → Option Bool → Option ClientRequest
@@ -110,7 +110,7 @@ references_by None include = None
 abbrev pub references_of : Data → Option ClientRequest
 references_of params =
     references_by (at_of params)
-    (option_and_then (truth_in (codes "includeDeclaration")) (get (codes "context") params))
+    (option_and_then (truth_member (codes "includeDeclaration")) (get (codes "context") params))
 
 -- a rename, where the place and the name can be read
 abbrev pub rename_by : Option At → Option (List ℕ) → Option ClientRequest
@@ -120,7 +120,7 @@ rename_by None name = None
 
 -- `textDocument/rename`
 abbrev pub rename_of : Data → Option ClientRequest
-rename_of params = rename_by (at_of params) (text_in (codes "newName") params)
+rename_of params = rename_by (at_of params) (text_member (codes "newName") params)
 
 -- texts; none where an item is no text
 abbrev pub texts_of : Items → Option (List (List ℕ))
@@ -152,7 +152,7 @@ code_action_by None range only = None
 -- `textDocument/codeAction`
 abbrev pub code_action_of : Data → Option ClientRequest
 code_action_of params =
-    code_action_by (uri_of params) (range_in (codes "range") params)
+    code_action_by (document_uri params) (range_member (codes "range") params)
     (option_and_then only_of (get (codes "context") params))
 
 -- a level is one tab, or 1 to 16 spaces
@@ -164,7 +164,7 @@ indent_by None spaces = None
 -- the indent in formatting options: a tab, or 1 to 16 spaces
 abbrev pub indent_of : Data → Option Indent
 indent_of options =
-    indent_by (count_in (codes "tabSize") options) (truth_in (codes "insertSpaces") options)
+    indent_by (count_member (codes "tabSize") options) (truth_member (codes "insertSpaces") options)
 
 -- a formatting, where the document and the options can be read
 abbrev pub formatting_by : Option (List ℕ) → Option Indent → Option ClientRequest
@@ -175,7 +175,7 @@ formatting_by None indent = None
 -- `textDocument/formatting`
 abbrev pub formatting_of : Data → Option ClientRequest
 formatting_of params =
-    formatting_by (uri_of params) (option_and_then indent_of (get (codes "options") params))
+    formatting_by (document_uri params) (option_and_then indent_of (get (codes "options") params))
 
 -- ---- requests
 
@@ -199,8 +199,8 @@ language_call_of method params =
     else Err UnknownMethod
 
 -- a request by its method; `shutdown` takes whatever params come
-abbrev pub call_of : List ℕ → Data → Result ClientRequest RpcFault
-call_of method params =
+abbrev pub request_by_method : List ℕ → Data → Result ClientRequest RpcFault
+request_by_method method params =
     if bytes_eq method (codes "initialize") then or_bad (initialize_of params)
     else if bytes_eq method (codes "shutdown") then Ok shutdown
     else language_call_of method params

@@ -3,7 +3,7 @@ ghost use Rattle.std.specs.Prelude.{◌≡◌, IfOk, codes, option_and_then, opt
 ghost use Rattle.ob0_text.specs.OpenDocuments.{reported_change};
 ghost use Rattle.serde_json.specs.Find.{get, as_array};
 ghost use Rattle.serde_json.specs.View.{view, items_view};
-ghost use Rattle.ob0_rpc.specs.Notifications.{changes_of as changes_in, change_in, changed_range};
+ghost use Rattle.ob0_rpc.specs.Notifications.{changes_of as changes_in, change_in, range_of_change};
 
 use crate::members::{into_member, into_text_in, is_absent, range_of};
 use ob0_text::{Change, Range};
@@ -59,7 +59,7 @@ fn read_change_in(entry: Value) -> Option<Change>
 
 /// The range that is reported, or that none is; none where it can't be read.
 fn read_range(member: Option<&Value>) -> Option<Option<Range>>
-    ensures { result ≡ changed_range (option_map (λ v. view v.now) member.entry) }
+    ensures { result ≡ range_of_change (option_map (λ v. view v.now) member.entry) }
 {
     if is_absent(member) {
         return Some(None);

@@ -3,7 +3,7 @@ ghost use Rattle.std.specs.Prelude.{◌≡◌, option_map, string_bytes};
 ghost use Rattle.std.specs.Str.{chars};
 ghost use Rattle.serde_json.specs.Find.{as_str, get};
 ghost use Rattle.serde_json.specs.View.{view};
-ghost use Rattle.ob0_rpc.specs.Members.{is_absent as absent, text_in as text_of_member, truth_in as truth_of_member, count_in as count_of_member, uri_of as uri_reported, version_of as version_reported, text_of as text_reported, position_of as position_reported, position_in as position_of_member, range_of as range_reported, range_in as range_of_member};
+ghost use Rattle.ob0_rpc.specs.Members.{is_absent as absent, text_member as text_of_member, truth_member as truth_of_member, count_member as count_of_member, document_uri as uri_reported, document_version as version_reported, document_text as text_reported, json_position as position_reported, position_member as position_of_member, json_range as range_reported, range_member as range_of_member};
 
 use ob0_text::{Position, Range};
 use serde_json::Value;

@@ -1,7 +1,7 @@
 //! What notifications say.
 ghost use Rattle.std.specs.Prelude.{◌≡◌, IfOk};
 ghost use Rattle.serde_json.specs.View.{view};
-ghost use Rattle.ob0_rpc.specs.Members.{uri_of as uri_in, version_of as version_in, text_of as text_in};
+ghost use Rattle.ob0_rpc.specs.Members.{document_uri as uri_in, document_version as version_in, document_text as text_in};
 ghost use Rattle.ob0_rpc.specs.Notifications.{open_of, change_of, close_of, changes_of as changes_in};
 ghost use Rattle.ob0_rpc.specs.Seen.{ReportsAs, seen_note};
 

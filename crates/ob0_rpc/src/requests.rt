@@ -3,8 +3,8 @@ ghost use Rattle.std.specs.Prelude.{◌≡◌, IfOk, max, min, option_map, optio
 ghost use Rattle.serde_json.specs.Find.{get};
 ghost use Rattle.serde_json.specs.View.{view, items_view};
 ghost use Rattle.ob0_rpc.specs.Requesting as asks;
-ghost use Rattle.ob0_rpc.specs.Requesting.{at_of, call_of, references_of, rename_of, code_action_of, formatting_of, language_call_of, only_by, only_of, texts_of as texts_in, indent_of as indent_in, or_bad, initialize_of};
-ghost use Rattle.ob0_rpc.specs.Members.{truth_in as truth_reported};
+ghost use Rattle.ob0_rpc.specs.Requesting.{at_of, request_by_method, references_of, rename_of, code_action_of, formatting_of, language_call_of, only_by, only_of, texts_of as texts_in, indent_of as indent_in, or_bad, initialize_of};
+ghost use Rattle.ob0_rpc.specs.Members.{truth_member as truth_reported};
 ghost use Rattle.ob0_rpc.specs.Seen.{Requests, at_seen, kinds_seen};
 
 use crate::clients::{Client, client_of};
@@ -51,7 +51,7 @@ pub enum ClientRequest {
 
 /// Reads a request by its method. `initialize` requires params that are an object, `shutdown` requires nothing.
 pub fn request(alloc: Global, method: &str, params: &Value) -> Result<ClientRequest, RpcFault>
-    ensures { Requests (call_of method.now (view params.now)) result }
+    ensures { Requests (request_by_method method.now (view params.now)) result }
 {
     if method == "initialize" {
         initialize(params)

@@ -17,7 +17,7 @@ use Rattle.ob0_text.specs.OpenDocuments.{OpenDocuments, Document, InStep, OutOfS
 use Rattle.ob0_text.specs.RefusalTexts.{refusal_text}
 use Rattle.ob0_text.specs.declared.refusals.EditRefusal.TheVariants.{TooLong}
 use Rattle.ob0_text.proofs.EntryLaws.{updated-some, updated-none}
-use Rattle.ob0_rpc.specs.Requesting.{call_of}
+use Rattle.ob0_rpc.specs.Requesting.{request_by_method}
 use Rattle.ob0_rpc.specs.Faults.{minus}
 use Rattle.ob0_rpc.specs.Messages.{ReadsContent, meaning, meaning_of}
 use Rattle.ob0_rpc.specs.Shapes.{result_message, error_message}
@@ -389,7 +389,7 @@ about_document requested k uri ask say before after sent running of in_step (Som
     asks_served requested k uri ask before after sent running same (subst (λ o. Answered requested k ask before.held.unit o sent) (sym at) (in_step version text saying))
 
 -- a request of the editor, while the session runs
-request_served : (requested : List SentAsk) (k : ℕ) (uri : List ℕ) (ask : Ask) (params : Data) (before after : ServerState) (sent : List (List ℕ)) → IsRunning before → IsAsk requested k uri ask → call_of (method_of ask) params ≡ Ok (call_for uri ask)
+request_served : (requested : List SentAsk) (k : ℕ) (uri : List ℕ) (ask : Ask) (params : Data) (before after : ServerState) (sent : List (List ℕ)) → IsRunning before → IsAsk requested k uri ask → request_by_method (method_of ask) params ≡ Ok (call_for uri ask)
     → after ≡ (reaction_to_call before (number (unsigned k)) (method_of ask) params).after → Says (reaction_to_call before (number (unsigned k)) (method_of ask) params).say sent → Served requested (requests k uri ask) before after sent
 request_served requested k uri (rename position name) params before after sent running of call is saying =
     let id : Data = number (unsigned k) in

@@ -8,7 +8,7 @@ use Rattle.ob0_text.specs.declared.edits.Change.{Change}
 use Rattle.ob0_text.specs.declared.edits.Indent.TheVariants.{Tab, Spaces}
 use Rattle.ob0_text.specs.declared.position_types.Range.{Range}
 use Rattle.ob0_text.specs.OpenDocuments.{Opened, Changed, Closed, TextChange, reported_change}
-use Rattle.ob0_rpc.specs.Requesting.{call_of}
+use Rattle.ob0_rpc.specs.Requesting.{request_by_method}
 use Rattle.ob0_rpc.specs.Messages.{ReadsContent}
 use Rattle.ob0_rpc.specs.Notifications.{change_in, all_changes, change_of, open_of}
 use Rattle.ob0_rpc.specs.Shapes.{notification_message}
@@ -108,7 +108,7 @@ pub ask_requested : (content : List ℕ) (k : ℕ) (uri : List ℕ) (ask : Ask) 
 ask_requested content k uri ask reads =
     record { json = request_message k (method_of ask) (params_for uri ask); reads = reads; params = params_for uri ask; means = refl; calls = called ask }
   where
-    called : (ask : Ask) → call_of (method_of ask) (params_for uri ask) ≡ Ok (call_for uri ask)
+    called : (ask : Ask) → request_by_method (method_of ask) (params_for uri ask) ≡ Ok (call_for uri ask)
     called (rename position name) = refl
     called (inline_here position) = refl
     called (inline_all position) = refl

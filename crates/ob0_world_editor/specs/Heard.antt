@@ -7,7 +7,7 @@ use Rattle.serde_json.specs.Find.{as_i64, of_integer}
 use Rattle.serde_json.specs.Read.{read}
 use Rattle.ob0_text.specs.OpenDocuments.{DocumentEvent, Opened, Changed, Lost, Closed}
 use Rattle.ob0_rpc.specs.Requesting as wire
-use Rattle.ob0_rpc.specs.Requesting.{call_of}
+use Rattle.ob0_rpc.specs.Requesting.{request_by_method}
 use Rattle.ob0_rpc.specs.Messages.{ReadsContent, MessageMeaning, not_json, not_a_message, response, request, notice, meaning_of}
 use Rattle.ob0_rpc.specs.Notifications.{Notification, exits, opens, changes, closes, unreadable, other, note_of}
 use Rattle.ob0_world_rules.specs.Asks.{Ask, rename, inline_here, inline_all, format, indent_read}
@@ -96,7 +96,7 @@ pub record IsRequest (k : ℕ) (uri : List ℕ) (ask : Ask) (content : List ℕ)
   pub reads : ReadsContent content (Some json)
   pub params : Data
   pub means : meaning_of json ≡ request (number (unsigned k)) (method_of ask) params
-  pub calls : call_of (method_of ask) params ≡ Ok (call_for uri ask)
+  pub calls : request_by_method (method_of ask) params ≡ Ok (call_for uri ask)
 
 -- ask k is this one
 pub record IsAsk (requested : List SentAsk) (k : ℕ) (uri : List ℕ) (ask : Ask) : Type 0 where

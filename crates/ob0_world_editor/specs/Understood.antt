@@ -6,7 +6,7 @@ use Rattle.serde_json.specs.Data.{Data, Items, no_items, item}
 use Rattle.serde_json.specs.Find.{get, at, as_array, as_number, as_i64}
 use Rattle.serde_json.specs.Read.{read}
 use Rattle.ob0_text.specs.declared.position_types.Range.{Range}
-use Rattle.ob0_rpc.specs.Members.{text_in, range_in}
+use Rattle.ob0_rpc.specs.Members.{text_member, range_member}
 use Rattle.ob0_world_rules.specs.Edited.{Replacement}
 use Rattle.ob0_world_rules.specs.Asks.{Ask, rename, inline_here, inline_all, format}
 use Rattle.ob0_world_rules.specs.Ends.{SentAsk, numbered, ToEditor, publishes, answers}
@@ -29,7 +29,7 @@ publication_by None version diagnostics = None
 -- a publication
 abbrev pub publication_understood : Data → Option ToEditor
 publication_understood params =
-    publication_by (text_in (codes "uri") params)
+    publication_by (text_member (codes "uri") params)
     (option_and_then as_i64 (option_and_then as_number (get (codes "version") params)))
     (option_and_then as_array (get (codes "diagnostics") params))
 
@@ -43,7 +43,7 @@ edit_by None text = None
 
 -- an edit
 abbrev pub edit_in : Data → Option Replacement
-edit_in d = edit_by (range_in (codes "range") d) (text_in (codes "newText") d)
+edit_in d = edit_by (range_member (codes "range") d) (text_member (codes "newText") d)
 
 -- all edits of a list; none where one of them can't be read
 abbrev pub edits_in : Items → Option (List Replacement)
@@ -65,7 +65,7 @@ is_titled title None = false
 abbrev pub titled_action : List ℕ → Items → Option Data
 titled_action title no_items = None
 titled_action title (item d ds) =
-    if is_titled title (text_in (codes "title") d) then Some d else titled_action title ds
+    if is_titled title (text_member (codes "title") d) then Some d else titled_action title ds
 
 -- the edits of the action with this title
 abbrev pub action_items : List ℕ → Data → Option Items

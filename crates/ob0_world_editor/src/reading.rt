@@ -3,7 +3,7 @@ ghost use Rattle.std.specs.Prelude.{◌≡◌, IfOk, codes, option_map, option_a
 ghost use Rattle.serde_json.specs.Data.{Items};
 ghost use Rattle.serde_json.specs.Find.{get, as_str, as_number, as_i64, as_array};
 ghost use Rattle.serde_json.specs.View.{view, items_view};
-ghost use Rattle.ob0_rpc.specs.Members.{text_in as text_of_member};
+ghost use Rattle.ob0_rpc.specs.Members.{text_member as text_of_member};
 ghost use Rattle.ob0_world_editor.specs.Code.{message_of, ask_of, requested_of};
 ghost use Rattle.ob0_world_rules.specs.Edited.{replacement_of, replacements};
 ghost use Rattle.ob0_world_editor.specs.Heard.{request_number};
