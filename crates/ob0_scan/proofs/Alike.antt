@@ -4,11 +4,11 @@ use Rattle.std.proofs.lemmas.List.{take-append-drop, drop-drop}
 use Rattle.ob0_scan.specs.declared.lexeme.Token.{Token}
 use Rattle.ob0_scan.specs.Reused.{valueless, kinds, moved_token}
 
-kinds-moved : (removed added : ℕ) (tokens : List Token) → kinds (map (moved_token removed added) tokens) ≡ kinds tokens
+pub kinds-moved : (removed added : ℕ) (tokens : List Token) → kinds (map (moved_token removed added) tokens) ≡ kinds tokens
 kinds-moved removed added [] = refl
 kinds-moved removed added (t ∷ tokens) = ap (λ ks. valueless t.kind ∷ ks) (kinds-moved removed added tokens)
 
-kinds-append : (a b : List Token) → kinds (a ++ b) ≡ kinds a ++ kinds b
+pub kinds-append : (a b : List Token) → kinds (a ++ b) ≡ kinds a ++ kinds b
 kinds-append [] b = refl
 kinds-append (t ∷ a) b = ap (λ ks. valueless t.kind ∷ ks) (kinds-append a b)
 

@@ -10,12 +10,13 @@ ghost use Rattle.ob0_scan.specs.Scanned.{IsScanOf, spanned};
 ghost use Rattle.ob0_scan.specs.Refused.{IsRightRefusal, IsRightRefusalOver};
 ghost use Rattle.ob0_scan.specs.UnderWay.{IsUnderWay};
 ghost use Rattle.ob0_scan.specs.Reused.{IsReplaced, Reuses, kinds, moved, moved_token, tokens_before_change, comments_before_change, back_tokens, back_comments, valueless, name_of, names_in};
+ghost use Rattle.ob0_scan.specs.SameKinds.{HasSameTokens};
 ghost use Rattle.ob0_scan.specs.Rescanning.{token_end, comment_end, last_end, token_begins, comment_begins, IsMovable, ReadsOn, IsMet, IsBetween};
 
 use crate::fault::{Fault, ScanRefusal};
 use crate::lexeme::{Span, Token, TokenKind};
 use crate::scanner::{MAX_TEXT, Scanner, too_long};
-use crate::tokens::{Rescan, RescanInPlace, Tokens};
+use crate::tokens::{Rescan, RescanInPlace, SameTokens, Tokens};
 use std::alloc::{AllocError, Global};
 use thiserror::Error;
 
@@ -383,6 +384,8 @@ pub fn rescan_in_place(
     ensures same_names { IfOk result
         (λ r. r.same_names ≡ true → names_in r.rescan.tokens.text r.rescan.tokens.tokens
         ≡ names_in old.text old.tokens) }
+    ensures same { IfOk result
+        (λ r. HasSameTokens r.same old.tokens r.rescan.tokens.tokens) }
 {
     let change = ReplacedRange {
         from,
@@ -394,9 +397,17 @@ pub fn rescan_in_place(
             let read = between.tokens.len() + between.comments.len();
             let alike = between.is_alike(old.tokens());
             let same_names = between.has_names_of(new_text, &old);
+            let (front, old_back) = (between.front.tokens, between.following.tokens);
+            let following = old.tokens().len() - old_back;
             let tokens = old.with(new_text, between, change)?;
+            let same = SameTokens {
+                front,
+                old_back,
+                back: tokens.tokens().len() - following,
+            };
             Ok(RescanInPlace {
                 rescan: Rescan { tokens, read },
+                same,
                 alike,
                 same_names,
             })

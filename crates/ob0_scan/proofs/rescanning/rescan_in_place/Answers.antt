@@ -1,9 +1,12 @@
-use Rattle.std.proofs.Common.{◌-◌, List, ap, ◌∙◌, take, drop}
+use Rattle.std.proofs.Common.{◌≡◌, ◌-◌, ℕ, List, length, refl, sym, ap, ap₂, ◌∙◌, subst, take, drop}
 use Rattle.ob0_scan.specs.declared.lexeme.Token.{Token}
 use Rattle.ob0_scan.specs.Scanned.{Scanned}
 use Rattle.ob0_scan.specs.Reused.{kinds, names_in}
 use Rattle.ob0_scan.proofs.Alike.{kinds_stay}
 use Rattle.ob0_scan.proofs.Named.{names_stay}
+use Rattle.ob0_scan.proofs.SameKinds.{joined_tokens, same_tokens}
+use Rattle.ob0_scan.specs.SameKinds.{HasSameTokens}
+use Rattle.ob0_scan.specs.declared.tokens.SameTokens.{SameTokens}
 use Rattle.ob0_scan.proofs.rescanning.rescan_in_place.Goals as goal
 
 pub returns-in_ok-tokens-in-Ok-clause-alike : goal.returns-in_ok-tokens-in-Ok-clause-alike
@@ -20,3 +23,16 @@ returns-in_ok-tokens-in-Ok-clause-same_names c =
     λ same. ap (λ (s : Scanned). names_in s.text s.tokens) c.in_ok-tokens-in-Ok.ensures
     ∙ names_stay c.args.old c.args.new_text.now c.args.from c.args.removed c.args.added b c.requires c.in-Ok.ensures.ok
     (c.has_names_of-same_names.ensures same)
+
+pub returns-in_ok-tokens-in-Ok-clause-same : goal.returns-in_ok-tokens-in-Ok-clause-same
+returns-in_ok-tokens-in-Ok-clause-same c =
+    let b = c.in-Ok.between in
+    let old : List Token = c.args.old.tokens in
+    let new : Scanned = c.in_ok-tokens-in-Ok.tokens in
+    let last : ℕ = b.following.tokens in
+    let s : SameTokens = record { front = b.front.tokens; old_back = last; back = length c.tokens-in-Ok-2.result.now - (length c.tokens-in-Ok.result.now - last) } in
+    let is : new.tokens ≡ joined_tokens old b.tokens.items b.front.tokens last c.args.removed c.args.added = ap (λ (s : Scanned). s.tokens) c.in_ok-tokens-in-Ok.ensures in
+    let counts : s.back ≡ length (joined_tokens old b.tokens.items b.front.tokens last c.args.removed c.args.added) - (length old - last) =
+    ap₂ (λ (x y : List Token). length x - (length y - last)) (c.tokens-in-Ok-2.ensures ∙ is) c.tokens-in-Ok.ensures in
+    subst (λ (l : List Token). HasSameTokens s old l) (sym is)
+    (same_tokens old b.tokens.items b.front.tokens last c.args.removed c.args.added s c.in-Ok.ensures.ok.tokens_ordered c.in-Ok.ensures.ok.tokens_inside refl refl counts)

@@ -1,0 +1,56 @@
+-- The tokens before a change, and those after it, are of the kinds that they were.
+use Rattle.std.proofs.Common.{◌≡◌, ℕ, ◌+◌, ◌-◌, ◌≤◌, List, ◌++◌, map, take, drop, length, sym, ap, ◌∙◌, arith, append_assoc, length-append, length-drop}
+use Rattle.std.proofs.lemmas.List.{take-map, drop-map, take_at, drop_at, length-map, length-take-le}
+use Rattle.ob0_scan.specs.declared.lexeme.Token.{Token}
+use Rattle.ob0_scan.specs.declared.tokens.SameTokens.{SameTokens}
+use Rattle.ob0_scan.specs.Reused.{valueless, kinds, moved_token}
+use Rattle.ob0_scan.specs.SameKinds.{HasSameTokens}
+use Rattle.ob0_scan.proofs.Alike.{kinds-append, kinds-moved}
+
+-- the tokens of a changed text: the old ones before the change, others, and the old ones after it, moved
+abbrev pub joined_tokens : (old between : List Token) (front following removed added : ℕ) → List Token
+joined_tokens old between front following removed added = take front old ++ (between ++ map (moved_token removed added) (drop following old))
+
+pub joined_length : (old between : List Token) (front following removed added : ℕ) → front ≤ length old → length (joined_tokens old between front following removed added) ≡ front + (length between + (length old - following))
+joined_length old between front following removed added inside =
+    let moved : List Token = map (moved_token removed added) (drop following old) in
+    let first : length (take front old) ≡ front = length-take-le front old inside in
+    let last : length moved ≡ length old - following = length-map (drop following old) (moved_token removed added) ∙ length-drop following old in
+    length-append (take front old) (between ++ moved) ∙ omega (arith, first, last, length-append between moved)
+
+front_kinds : (old others : List Token) (front : ℕ) → front ≤ length old → take front (kinds (take front old ++ others)) ≡ take front (kinds old)
+front_kinds old others front inside =
+    let kind = λ (t : Token). valueless t.kind in
+    ap (take front) (kinds-append (take front old) others)
+    ∙ take_at (kinds (take front old)) (kinds others) front (length-map (take front old) kind ∙ length-take-le front old inside)
+    ∙ sym (take-map kind front old)
+
+back_kinds : (old first : List Token) (following back removed added : ℕ) → length first ≡ back → drop back (kinds (first ++ map (moved_token removed added) (drop following old))) ≡ drop following (kinds old)
+back_kinds old first following back removed added at =
+    let kind = λ (t : Token). valueless t.kind in
+    let moved : List Token = map (moved_token removed added) (drop following old) in
+    ap (drop back) (kinds-append first moved)
+    ∙ drop_at (kinds first) (kinds moved) back (length-map first kind ∙ at)
+    ∙ kinds-moved removed added (drop following old)
+    ∙ sym (drop-map kind following old)
+
+pub same_tokens : (old between : List Token) (front following removed added : ℕ) (s : SameTokens)
+    → front ≤ following → following ≤ length old → s.front ≡ front → s.old_back ≡ following
+    → s.back ≡ length (joined_tokens old between front following removed added) - (length old - following)
+    → HasSameTokens s old (joined_tokens old between front following removed added)
+same_tokens old between front following removed added s ordered inside is_front is_old_back is_back =
+    let moved : List Token = map (moved_token removed added) (drop following old) in
+    let all : List Token = joined_tokens old between front following removed added in
+    let front_inside : front ≤ length old = omega (arith, ordered, inside) in
+    let count : length all ≡ front + (length between + (length old - following)) = joined_length old between front following removed added front_inside in
+    let first : length (take front old ++ between) ≡ s.back = length-append (take front old) between ∙ omega (arith, is_back, count, inside, length-take-le front old front_inside) in
+    record {
+      front_inside = omega (arith, count, is_front);
+      back_inside = omega (arith, is_back, count);
+      old_front_inside = omega (arith, is_front, front_inside);
+      old_back_inside = omega (arith, is_old_back, inside);
+      front = ap (λ n. take n (kinds all)) is_front ∙ front_kinds old (between ++ moved) front front_inside ∙ ap (λ n. take n (kinds old)) (sym is_front);
+      back = ap (λ (l : List Token). drop s.back (kinds l)) (sym (append_assoc (take front old) between moved))
+          ∙ back_kinds old (take front old ++ between) following s.back removed added first
+          ∙ ap (λ n. drop n (kinds old)) (sym is_old_back);
+    }

@@ -1,0 +1,16 @@
+-- Which tokens of a changed text are of the kinds that they were.
+-- Rule: none; for contracts of `rescan_in_place`.
+use Rattle.std.specs.Prelude.{◌≡◌, ◌≤◌, List, length, take, drop}
+use Rattle.ob0_scan.specs.declared.lexeme.Token.{Token}
+use Rattle.ob0_scan.specs.declared.tokens.SameTokens.{SameTokens}
+use Rattle.ob0_scan.specs.Reused.{kinds}
+
+-- The first tokens of a text are of the kinds of those before, and so are the last: those from `back` on, which were
+-- those from `old_back` on.
+pub record HasSameTokens (s : SameTokens) (old new : List Token) : Type 0 where
+  pub front_inside : s.front ≤ length new
+  pub back_inside : s.back ≤ length new
+  pub old_front_inside : s.front ≤ length old
+  pub old_back_inside : s.old_back ≤ length old
+  pub front : take s.front (kinds new) ≡ take s.front (kinds old)
+  pub back : drop s.back (kinds new) ≡ drop s.old_back (kinds old)
