@@ -3,11 +3,11 @@ use Rattle.std.proofs.Common.{◌≡◌, ℕ, ◌+◌, ◌≤◌, Option, Some, 
 use Rattle.std.proofs.lemmas.List.Concat.{flat_map-append}
 use Rattle.ob0_tree.specs.Lexeme.{Terminal}
 use Rattle.ob0_tree.specs.Tree.{Sort, factor, Tree, spell, nesting, none, one, end, more, compares, relates, sum, adds, product, multiplies, designator, integer, parenthesised, negation, field, index, empty, assigns, calls, branches, while_loop, repeat_loop, no_arguments, some_arguments, then_argument, runs, then_statement, elsif_branch, else_branch, listed, then_name, named_type, array_type, record_type, no_fields, some_fields, then_fields, no_formals, some_formals, value_section, variable_section, then_section, declares_constant, declares_constants, declares_type, declares_types, declares_variable, declares_variables, declares_procedure, declares, begins, has_body, is_module}
-use Rattle.ob0_edits.specs.Inlined.{or_name, inlined, ReplacesFactors, or_named, tokens_with, spelled}
+use Rattle.ob0_edits.specs.Inlined.{or_name, inlined, ReplacesFactors, or_named, inlined_tokens, spelled}
 
 module _ {N M : Type 0} (c : N → Option (Tree M factor)) (f : N → M) (g : ℕ → ℕ) where
   abbrev with_factors : List (Terminal N) → List (Terminal M)
-  with_factors xs = tokens_with (λ n. spelled (c n)) f g xs
+  with_factors xs = inlined_tokens (λ n. spelled (c n)) f g xs
 
   whole : (n : N) (o : Option (Tree M factor)) → spell (or_name (f n) o) ≡ or_named (f n) (spelled o) ++ []
   whole n None = refl

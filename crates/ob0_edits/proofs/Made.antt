@@ -11,7 +11,7 @@ use Rattle.ob0_text.specs.declared.position_types.Range.{Range}
 use Rattle.ob0_text.specs.declared.position_types.Unit as counting
 use Rattle.ob0_text.specs.Units.{width_of}
 use Rattle.ob0_text.specs.Patches.{Cut, cut_at, cuts_of, patched_by_cuts}
-use Rattle.ob0_edits.specs.Changed.{words_of, changed, at_each}
+use Rattle.ob0_edits.specs.Changed.{words_of, changed_words, at_each}
 use Rattle.ob0_edits.specs.Replaced.{AreNames, span_at, cut_of, with_text_at, ReplacesName, parts, edit_at, LeavesWords}
 use Rattle.ob0_edits.specs.Ranges.{range_of}
 use Rattle.ob0_edits.proofs.Swaps.{Chain, AllClear, Swapped, swapped}
@@ -51,7 +51,7 @@ module _ (unit : counting.Unit) (s : Scanned) (scan : IsScan s) (new : List ℕ)
       ap₂ (λ c cs. c ∷ cs) (ap (λ (p : Range × List ℕ). cut_at (width_of unit) (chars s.text) p.0 (chars p.1)) head) (cuts_of_parts xs qs (ap (drop 1) e))
 
   pub leaves_words : (edits : List Edit) → map parts edits ≡ map (edit_at unit (chars s.text) s.tokens new) places → length (with_text_at s places new) ≤ max_text
-      → LeavesWords unit (chars s.text) edits (changed (at_each places ws) 0 (words_of s))
+      → LeavesWords unit (chars s.text) edits (changed_words (at_each places ws) 0 (words_of s))
   leaves_words edits e short =
       let lexed : Lexed (with_text_at s places new) result.lexemes = (lexed_by_next_bytes (with_text_at s places new) result.lexemes).1 (result.whole, result.apart) in
       let after : Scanned = scan_of (with_text_at s places new) result.lexemes in
@@ -60,5 +60,5 @@ module _ (unit : counting.Unit) (s : Scanned) (scan : IsScan s) (new : List ℕ)
         after = after;
         scan = is_scan;
         made = ap (patched_by_cuts (chars s.text)) (cuts_of_parts edits places e) ∙ made.1;
-        words_are = scan_words after is_scan ∙ result.read ∙ ap (changed (at_each places ws) 0) (sym (scan_words s scan));
+        words_are = scan_words after is_scan ∙ result.read ∙ ap (changed_words (at_each places ws) 0) (sym (scan_words s scan));
       }

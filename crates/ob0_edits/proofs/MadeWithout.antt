@@ -12,10 +12,10 @@ use Rattle.ob0_text.specs.declared.position_types.Range.{Range}
 use Rattle.ob0_text.specs.declared.position_types.Unit as counting
 use Rattle.ob0_text.specs.Units.{width_of}
 use Rattle.ob0_text.specs.Patches.{Cut, cut_at, cuts_of, patched_by_cuts}
-use Rattle.ob0_edits.specs.Changed.{words_of, changed, at_each}
+use Rattle.ob0_edits.specs.Changed.{words_of, changed_words, at_each}
 use Rattle.ob0_edits.specs.Replaced.{AreNames, span_at, cut_of, ReplacesName, parts, edit_at, LeavesWords}
 use Rattle.ob0_edits.specs.Ranges.{range_of}
-use Rattle.ob0_edits.specs.Removed.{without, IsDeclaration, span_over, removal, without_text}
+use Rattle.ob0_edits.specs.Removed.{without_words, IsDeclaration, span_over, removal, without_text}
 use Rattle.ob0_edits.proofs.TextCuts.{AreSame, same_cut, patched_by_same}
 use Rattle.ob0_edits.proofs.Removals.{Cleared, cleared}
 use Rattle.ob0_edits.proofs.Made.{scan_of, char_cut, same_cuts, cuts_of_parts}
@@ -59,7 +59,7 @@ module _ (unit : counting.Unit) (s : Scanned) (scan : IsScan s) (new : List ℕ)
       (cuts_of_parts unit s scan new ws replaces good places all_names xs places (ap (drop 1) e))
 
   pub leaves_words_without : (edits : List Edit) → map parts edits ≡ (range_of (width_of unit) (chars s.text) (span_over s.tokens first last), []) ∷ map (edit_at unit (chars s.text) s.tokens new) places
-      → length (without_text s first last places new) ≤ max_text → LeavesWords unit (chars s.text) edits (changed (without first last (at_each places ws)) 0 (words_of s))
+      → length (without_text s first last places new) ≤ max_text → LeavesWords unit (chars s.text) edits (changed_words (without_words first last (at_each places ws)) 0 (words_of s))
   leaves_words_without edits e short =
       let lexed : Lexed (without_text s first last places new) result.lexemes = (lexed_by_next_bytes (without_text s first last places new) result.lexemes).1 (result.whole, result.apart) in
       let after : Scanned = scan_of (without_text s first last places new) result.lexemes in
@@ -68,5 +68,5 @@ module _ (unit : counting.Unit) (s : Scanned) (scan : IsScan s) (new : List ℕ)
         after = after;
         scan = is_scan;
         made = ap (patched_by_cuts (chars s.text)) (cuts_are edits e) ∙ made.1;
-        words_are = scan_words after is_scan ∙ result.read ∙ ap (changed (without first last (at_each places ws)) 0) (sym (scan_words s scan));
+        words_are = scan_words after is_scan ∙ result.read ∙ ap (changed_words (without_words first last (at_each places ws)) 0) (sym (scan_words s scan));
       }

@@ -11,14 +11,14 @@ use Rattle.ob0_tree.specs.Lexeme.{Terminal, Name, Number, kind_lexeme, relabelle
 use Rattle.ob0_tree.specs.Places.{lexeme_of, value_of}
 use Rattle.ob0_edits.specs.Words.{word_lexeme}
 use Rattle.ob0_tree.specs.Tree.{Tree, factor, spell}
-use Rattle.ob0_edits.specs.Inlined.{or_named, token_with, tokens_with, spelled}
+use Rattle.ob0_edits.specs.Inlined.{or_named, token_with, inlined_tokens, spelled}
 use Rattle.ob0_tree.proofs.Mapped.{spell_mapped}
 use Rattle.ob0_edits.proofs.Inlined.{spell_inlined}
-use Rattle.ob0_edits.specs.Changed.{Changes, words_of, changed, at_each, is_among, or_itself}
+use Rattle.ob0_edits.specs.Changed.{Changes, words_of, changed_words, at_each, is_among, or_itself}
 use Rattle.ob0_edits.specs.Replaced as place
 use Rattle.ob0_edits.specs.Replaced.{AreNames}
 use Rattle.ob0_edits.specs.Written.{name_word}
-use Rattle.ob0_edits.specs.OfTrees.{placed, word_at, text_at, number_at, renamed_at, factor_at, RenamedWordsSpell, InlinedWordsSpell}
+use Rattle.ob0_edits.specs.OfTrees.{numbered_tokens, word_at, text_of_word, number_at, renamed_at, factor_at, RenamedWordsSpell, InlinedWordsSpell}
 
 -- what is true of each word with its number is true of all
 module _ (all : List Word) (ch : Changes) (f : Terminal ℕ → List (Terminal (List ℕ))) (each : (j : ℕ) → j < length all → f (lexeme_of j (word_at all j).kind) ≡ map word_lexeme (or_itself (word_at all j) (ch j))) where
@@ -26,7 +26,7 @@ module _ (all : List Word) (ch : Changes) (f : Terminal ℕ → List (Terminal (
   joined_with [] = []
   joined_with (x ∷ xs) = f x ++ joined_with xs
 
-  pub of_each : (k : ℕ) (done ws : List Word) → all ≡ done ++ ws → length done ≡ k → joined_with (placed k ws) ≡ map word_lexeme (changed ch k ws)
+  pub of_each : (k : ℕ) (done ws : List Word) → all ≡ done ++ ws → length done ≡ k → joined_with (numbered_tokens k ws) ≡ map word_lexeme (changed_words ch k ws)
   unfolding joined_with
   of_each k done [] e count = refl
   of_each k done (w ∷ ws) e count =
@@ -36,7 +36,7 @@ module _ (all : List Word) (ch : Changes) (f : Terminal ℕ → List (Terminal (
       ap (λ (v : Word). f (lexeme_of k v.kind)) (sym here) ∙ each k inside ∙ ap (λ v. map word_lexeme (or_itself v (ch k))) here in
       let more : length (done ++ (w ∷ [])) ≡ suc k = length-append done (w ∷ []) ∙ omega (arith, count) in
       ap₂ (λ xs ys. xs ++ ys) this (of_each (suc k) (done ++ (w ∷ [])) ws (e ∙ sym (append_assoc done (w ∷ []) ws)) more)
-      ∙ sym (map-append word_lexeme (or_itself w (ch k)) (changed ch (suc k) ws))
+      ∙ sym (map-append word_lexeme (or_itself w (ch k)) (changed_words ch (suc k) ws))
 
 -- a token that stays
 same_token : (w : Word) (f : ℕ → List ℕ) (g : ℕ → ℕ) (j : ℕ) → f j ≡ w.text → g j ≡ value_of w.kind → relabelled f g (lexeme_of j w.kind) ≡ word_lexeme w
@@ -49,18 +49,18 @@ same_token w f g j e h = by_kind w.kind h
     by_kind (token.Symbol s) h = refl
 
 -- identifiers are at the places
-names_at : (tokens : List Token) (least : ℕ) (places : List ℕ) (k : ℕ) → AreNames tokens least places → is_among k places ≡ true → (place.token_at tokens k).kind ≡ token.Identifier
+names_at : (tokens : List Token) (least : ℕ) (places : List ℕ) (k : ℕ) → AreNames tokens least places → is_among k places ≡ true → (place.token_or_empty tokens k).kind ≡ token.Identifier
 names_at tokens least [] k names e = absurd (cc)
 names_at tokens least (p ∷ ps) k names e = by_test (k == p) refl e (names_at tokens (suc p) ps k names.3)
   where
-    by_test : (b : Bool) → (k == p) ≡ b → (b || is_among k ps) ≡ true → (is_among k ps ≡ true → (place.token_at tokens k).kind ≡ token.Identifier) → (place.token_at tokens k).kind ≡ token.Identifier
-    by_test true h e later = ap (λ q. (place.token_at tokens q).kind) (eqb-true k p h) ∙ names.2
+    by_test : (b : Bool) → (k == p) ≡ b → (b || is_among k ps) ≡ true → (is_among k ps ≡ true → (place.token_or_empty tokens k).kind ≡ token.Identifier) → (place.token_or_empty tokens k).kind ≡ token.Identifier
+    by_test true h e later = ap (λ q. (place.token_or_empty tokens q).kind) (eqb-true k p h) ∙ names.2
     by_test false h e later = later e
 
-word_kind : (s : Scanned) (k : ℕ) → (word_at (words_of s) k).kind ≡ (place.token_at s.tokens k).kind
+word_kind : (s : Scanned) (k : ℕ) → (word_at (words_of s) k).kind ≡ (place.token_or_empty s.tokens k).kind
 word_kind s k = of_list s.tokens k
   where
-    of_list : (ts : List Token) (k : ℕ) → (word_at (map (read_in s.text) ts) k).kind ≡ (place.token_at ts k).kind
+    of_list : (ts : List Token) (k : ℕ) → (word_at (map (read_in s.text) ts) k).kind ≡ (place.token_or_empty ts k).kind
     of_list [] k = refl
     of_list (t ∷ ts) zero = refl
     of_list (t ∷ ts) (suc k) = of_list ts k
@@ -95,10 +95,10 @@ module _ (s : Scanned) (places : List ℕ) (names : AreNames s.tokens 0 places) 
             ≡ map word_lexeme (or_itself (word_at (words_of s) j) (if is_among j places then Some (name_word new ∷ []) else None))
         by_test true e =
             ap (λ k. relabelled (renamed_at (words_of s) places new) (number_at (words_of s)) (lexeme_of j k) ∷ []) (name_here j e)
-            ∙ ap (λ b. Name (if b then new else text_at (words_of s) j) ∷ []) e
+            ∙ ap (λ b. Name (if b then new else text_of_word (words_of s) j) ∷ []) e
             ∙ ap (λ b. map word_lexeme (or_itself (word_at (words_of s) j) (if b then Some (name_word new ∷ []) else None))) (sym e)
         by_test false e =
-            ap (λ x. x ∷ []) (same_token (word_at (words_of s) j) (renamed_at (words_of s) places new) (number_at (words_of s)) j (ap (λ b. if b then new else text_at (words_of s) j) e) refl)
+            ap (λ x. x ∷ []) (same_token (word_at (words_of s) j) (renamed_at (words_of s) places new) (number_at (words_of s)) j (ap (λ b. if b then new else text_of_word (words_of s) j) e) refl)
             ∙ ap (λ b. map word_lexeme (or_itself (word_at (words_of s) j) (if b then Some (name_word new ∷ []) else None))) (sym e)
 
     all_named : (xs : List (Terminal ℕ)) → joined_with (words_of s) (at_each places (name_word new ∷ [])) named each_renamed xs ≡ map (relabelled (renamed_at (words_of s) places new) (number_at (words_of s))) xs
@@ -106,13 +106,13 @@ module _ (s : Scanned) (places : List ℕ) (names : AreNames s.tokens 0 places) 
     all_named [] = refl
     all_named (x ∷ xs) = ap (λ t. relabelled (renamed_at (words_of s) places new) (number_at (words_of s)) x ∷ t) (all_named xs)
 
-    renamed_words : map (relabelled (renamed_at (words_of s) places new) (number_at (words_of s))) (placed 0 (words_of s)) ≡ map word_lexeme (changed (at_each places (name_word new ∷ [])) 0 (words_of s))
-    renamed_words = sym (all_named (placed 0 (words_of s))) ∙ of_each (words_of s) (at_each places (name_word new ∷ [])) named each_renamed 0 [] (words_of s) refl refl
+    renamed_words : map (relabelled (renamed_at (words_of s) places new) (number_at (words_of s))) (numbered_tokens 0 (words_of s)) ≡ map word_lexeme (changed_words (at_each places (name_word new ∷ [])) 0 (words_of s))
+    renamed_words = sym (all_named (numbered_tokens 0 (words_of s))) ∙ of_each (words_of s) (at_each places (name_word new ∷ [])) named each_renamed 0 [] (words_of s) refl refl
 
   -- inlining
   module _ (v : Tree (List ℕ) factor) (vs : List Word) (same : map word_lexeme vs ≡ spell v) where
     put : Terminal ℕ → List (Terminal (List ℕ))
-    put x = token_with (λ n. spelled (factor_at places v n)) (text_at (words_of s)) (number_at (words_of s)) x
+    put x = token_with (λ n. spelled (factor_at places v n)) (text_of_word (words_of s)) (number_at (words_of s)) x
 
     each_put : (j : ℕ) → j < length (words_of s)
         → put (lexeme_of j (word_at (words_of s) j).kind) ≡ map word_lexeme (or_itself (word_at (words_of s) j) (at_each places vs j))
@@ -120,23 +120,23 @@ module _ (s : Scanned) (places : List ℕ) (names : AreNames s.tokens 0 places) 
     each_put j inside = by_test (is_among j places) refl
       where
         by_test : (b : Bool) → is_among j places ≡ b
-            → token_with (λ n. spelled (factor_at places v n)) (text_at (words_of s)) (number_at (words_of s)) (lexeme_of j (word_at (words_of s) j).kind)
+            → token_with (λ n. spelled (factor_at places v n)) (text_of_word (words_of s)) (number_at (words_of s)) (lexeme_of j (word_at (words_of s) j).kind)
             ≡ map word_lexeme (or_itself (word_at (words_of s) j) (if is_among j places then Some vs else None))
         by_test true e =
-            ap (λ k. token_with (λ n. spelled (factor_at places v n)) (text_at (words_of s)) (number_at (words_of s)) (lexeme_of j k)) (name_here j e)
-            ∙ ap (λ b. or_named (text_at (words_of s) j) (spelled (if b then Some v else None))) e ∙ sym same
+            ap (λ k. token_with (λ n. spelled (factor_at places v n)) (text_of_word (words_of s)) (number_at (words_of s)) (lexeme_of j k)) (name_here j e)
+            ∙ ap (λ b. or_named (text_of_word (words_of s) j) (spelled (if b then Some v else None))) e ∙ sym same
             ∙ ap (λ b. map word_lexeme (or_itself (word_at (words_of s) j) (if b then Some vs else None))) (sym e)
         by_test false e =
-            same_with (word_at (words_of s) j) (λ n. spelled (factor_at places v n)) (text_at (words_of s)) (number_at (words_of s)) j (ap (λ b. spelled (if b then Some v else None)) e) refl refl
+            same_with (word_at (words_of s) j) (λ n. spelled (factor_at places v n)) (text_of_word (words_of s)) (number_at (words_of s)) j (ap (λ b. spelled (if b then Some v else None)) e) refl refl
             ∙ ap (λ b. map word_lexeme (or_itself (word_at (words_of s) j) (if b then Some vs else None))) (sym e)
 
-    all_put : (xs : List (Terminal ℕ)) → joined_with (words_of s) (at_each places vs) put each_put xs ≡ tokens_with (λ n. spelled (factor_at places v n)) (text_at (words_of s)) (number_at (words_of s)) xs
+    all_put : (xs : List (Terminal ℕ)) → joined_with (words_of s) (at_each places vs) put each_put xs ≡ inlined_tokens (λ n. spelled (factor_at places v n)) (text_of_word (words_of s)) (number_at (words_of s)) xs
     unfolding joined_with put
     all_put [] = refl
-    all_put (x ∷ xs) = ap (λ t. token_with (λ n. spelled (factor_at places v n)) (text_at (words_of s)) (number_at (words_of s)) x ++ t) (all_put xs)
+    all_put (x ∷ xs) = ap (λ t. token_with (λ n. spelled (factor_at places v n)) (text_of_word (words_of s)) (number_at (words_of s)) x ++ t) (all_put xs)
 
-    inlined_words : tokens_with (λ n. spelled (factor_at places v n)) (text_at (words_of s)) (number_at (words_of s)) (placed 0 (words_of s)) ≡ map word_lexeme (changed (at_each places vs) 0 (words_of s))
-    inlined_words = sym (all_put (placed 0 (words_of s))) ∙ of_each (words_of s) (at_each places vs) put each_put 0 [] (words_of s) refl refl
+    inlined_words : inlined_tokens (λ n. spelled (factor_at places v n)) (text_of_word (words_of s)) (number_at (words_of s)) (numbered_tokens 0 (words_of s)) ≡ map word_lexeme (changed_words (at_each places vs) 0 (words_of s))
+    inlined_words = sym (all_put (numbered_tokens 0 (words_of s))) ∙ of_each (words_of s) (at_each places vs) put each_put 0 [] (words_of s) refl refl
 
 pub renamed_words_spell : RenamedWordsSpell
 renamed_words_spell s sort t places new names e =
@@ -145,5 +145,5 @@ renamed_words_spell s sort t places new names e =
 
 pub inlined_words_spell : InlinedWordsSpell
 inlined_words_spell s sort t places v vs names e factors same =
-    sym (spell_inlined (factor_at places v) (text_at (words_of s)) (number_at (words_of s)) t factors
-    ∙ ap (tokens_with (λ n. spelled (factor_at places v n)) (text_at (words_of s)) (number_at (words_of s))) e ∙ inlined_words s places names v vs same)
+    sym (spell_inlined (factor_at places v) (text_of_word (words_of s)) (number_at (words_of s)) t factors
+    ∙ ap (inlined_tokens (λ n. spelled (factor_at places v n)) (text_of_word (words_of s)) (number_at (words_of s))) e ∙ inlined_words s places names v vs same)

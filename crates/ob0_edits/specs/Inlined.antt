@@ -158,13 +158,13 @@ token_with c f g (Mark k) = Mark k ∷ []
 token_with c f g EndOfText = EndOfText ∷ []
 
 -- tokens with some names replaced by other tokens, and the others renamed
-abbrev pub tokens_with : {N M : Type 0}
+abbrev pub inlined_tokens : {N M : Type 0}
     → (N → Option (List (Terminal M)))
     → (N → M)
     → (ℕ → ℕ)
     → List (Terminal N)
     → List (Terminal M)
-tokens_with c f g xs = flat_map (token_with c f g) xs
+inlined_tokens c f g xs = flat_map (token_with c f g) xs
 
 -- the tokens of the factor for a name
 abbrev pub spelled : {M : Type 0} → Option (Tree M factor) → Option (List (Terminal M))

@@ -19,14 +19,14 @@ use Rattle.ob0_edits.specs.Changed.{words_of}
 use Rattle.ob0_edits.specs.Ranges.{range_of}
 
 -- the token with this index; where there is none, one without text at the text's start
-abbrev pub token_at : List Token → ℕ → Token
-token_at tokens p =
+abbrev pub token_or_empty : List Token → ℕ → Token
+token_or_empty tokens p =
     slice_index_or tokens p
     (record { kind = token.Identifier; span = record { start = 0; end = 0 } })
 
 -- where the token with this index is
 abbrev pub span_at : List Token → ℕ → Span
-span_at tokens p = (token_at tokens p).span
+span_at tokens p = (token_or_empty tokens p).span
 
 -- The places are numbers of identifiers among the tokens, each greater than the one before and none below the least.
 abbrev pub AreNames : List Token → ℕ → List ℕ → Type 0
@@ -34,7 +34,7 @@ AreNames tokens least [] = Unit {0}
 AreNames tokens least (p ∷ ps) =
     (least ≤ p)
     × (p < length tokens)
-    × ((token_at tokens p).kind ≡ token.Identifier)
+    × ((token_or_empty tokens p).kind ≡ token.Identifier)
     × AreNames tokens (suc p) ps
 
 -- a token is taken out, and the new text put there; here places in the text are counted in bytes

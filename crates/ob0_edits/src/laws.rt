@@ -9,11 +9,11 @@ ghost use Rattle.ob0_text.specs.declared.position_types.Unit.{Unit};
 ghost use Rattle.ob0_edits.specs.Words.{word_lexeme};
 ghost use Rattle.ob0_tree.specs.Tree.{Tree, Sort, factor, spell, nesting};
 ghost use Rattle.ob0_edits.specs.Inlined.{inlined};
-ghost use Rattle.ob0_edits.specs.Changed.{words_of, changed, at_each};
+ghost use Rattle.ob0_edits.specs.Changed.{words_of, changed_words, at_each};
 ghost use Rattle.ob0_edits.specs.Replaced.{AreNames, with_text_at, ReplacesName, parts, edit_at, LeavesWords};
 ghost use Rattle.ob0_text.specs.Units.{width_of};
 ghost use Rattle.ob0_edits.specs.Ranges.{range_of};
-ghost use Rattle.ob0_edits.specs.Removed.{without, IsDeclaration, span_over, without_text};
+ghost use Rattle.ob0_edits.specs.Removed.{without_words, IsDeclaration, span_over, without_text};
 ghost use Rattle.ob0_edits.specs.Written.{name_word, IsInt32, number_text, number_words, truth_text, truth_words};
 ghost use Rattle.ob0_edits.specs.Factors.{number_factor, truth_factor};
 ghost use Rattle.ob0_edits.specs.OfTrees.{factor_at, RenamedWordsSpell, InlinedWordsSpell};
@@ -36,7 +36,7 @@ pub fn edits_leave_words()
         → (unit : Unit) (edits : List Edit)
         → map parts edits ≡ map (edit_at unit (chars s.text) s.tokens new) places
         → length (with_text_at s places new) ≤ max_text
-        → LeavesWords unit (chars s.text) edits (changed (at_each places ws) 0 (words_of s)) }
+        → LeavesWords unit (chars s.text) edits (changed_words (at_each places ws) 0 (words_of s)) }
 {}
 
 /// So do edits that also take out the declaration of a constant before these places, which leave no word of it.
@@ -51,7 +51,7 @@ pub fn edits_leave_other_words()
           [],
         ) ∷ map (edit_at unit (chars s.text) s.tokens new) places
         → length (without_text s first last places new) ≤ max_text
-        → LeavesWords unit (chars s.text) edits (changed (without first last (at_each places ws)) 0
+        → LeavesWords unit (chars s.text) edits (changed_words (without_words first last (at_each places ws)) 0
         (words_of s)) }
 {}
 

@@ -4,12 +4,12 @@ ghost use Rattle.std.specs.Prelude.{◌≡◌, ◌⊎◌, ◌+◌, ◌++◌, ◌
 ghost use Rattle.std.specs.Str.{chars};
 ghost use Rattle.ob0_scan.specs.Scanned.{Word, max_text};
 ghost use Rattle.ob0_text.specs.declared.refusals.EditRefusal.TheVariants.{TooLong, Memory};
-ghost use Rattle.ob0_edits.specs.Changed.{words_of, changed, at_each};
+ghost use Rattle.ob0_edits.specs.Changed.{words_of, changed_words, at_each};
 ghost use Rattle.ob0_edits.specs.Replaced.{AreNames, AreInOrder, cut_of, with_text_at, ReplacesName, parts, edit_at, LeavesWords};
 ghost use Rattle.ob0_text.specs.Units.{width_of};
 ghost use Rattle.ob0_edits.specs.Ranges.{range_of};
 ghost use Rattle.ob0_text.specs.Patches.{pieced};
-ghost use Rattle.ob0_edits.specs.Removed.{without, IsDeclaration, span_over, without_text};
+ghost use Rattle.ob0_edits.specs.Removed.{without_words, IsDeclaration, span_over, without_text};
 
 use crate::positions::{ranges, spans_of};
 use ob0_scan::{MAX_TEXT, Span, Tokens};
@@ -33,7 +33,7 @@ pub fn edits_for<T: TextStore>(
         (λ edits. length (with_text_at tokens.now places.now new.now) ≤ max_text) }
     ensures words { (ws : List Word) → ReplacesName new.now ws
         → IfOk result (λ edits. LeavesWords (T.unit_of store.now) (T.content store.now) edits.items
-        (changed (at_each places.now ws) 0 (words_of tokens.now))) }
+        (changed_words (at_each places.now ws) 0 (words_of tokens.now))) }
     ensures too_long { IsErrOf result TooLong
         → max_text < length (with_text_at tokens.now places.now new.now) }
     ensures refusals { IfErr result (λ refusal. (refusal ≡ TooLong) ⊎ (refusal ≡ Memory)) }
@@ -72,7 +72,7 @@ pub fn edits_without<T: TextStore>(
         (λ edits. length (without_text tokens.now first last places.now new.now) ≤ max_text) }
     ensures words { (ws : List Word) → ReplacesName new.now ws
         → IfOk result (λ edits. LeavesWords (T.unit_of store.now) (T.content store.now) edits.items
-        (changed (without first last (at_each places.now ws)) 0 (words_of tokens.now))) }
+        (changed_words (without_words first last (at_each places.now ws)) 0 (words_of tokens.now))) }
     ensures too_long { IsErrOf result TooLong
         → max_text < length (without_text tokens.now first last places.now new.now) }
     ensures refusals { IfErr result (λ refusal. (refusal ≡ TooLong) ⊎ (refusal ≡ Memory)) }

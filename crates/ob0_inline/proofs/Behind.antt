@@ -13,7 +13,7 @@ use Rattle.ob0_tree.specs.Tree.{Sort, Tree, integer, mapped, occurrences, spell}
 use Rattle.ob0_tree.proofs.Leaves.{lexeme_names}
 use Rattle.ob0_edits.specs.Changed.{is_among, words_of}
 use Rattle.ob0_edits.specs.Inlined.{inlined}
-use Rattle.ob0_edits.specs.OfTrees.{placed}
+use Rattle.ob0_edits.specs.OfTrees.{numbered_tokens}
 use Rattle.ob0_scope_rules.specs.Names.{Name, as_names}
 use Rattle.ob0_scope_rules.specs.Parts.{module_block}
 use Rattle.ob0_scope_rules.specs.Resolution.{IsResolution, Resolution, bound_at, ordinal_in, with_ordinal}
@@ -52,8 +52,8 @@ bound_by_table r is =
     ∙ occurrences-mapped (ordinal_in r.ordinals) (leaf.value_at m.source) (tree_of m)
 
 -- the declaration taken out of a module's tokens, where a constant has a value
-pub late_of : (r : Resolution) → IsResolution r → (d : ℕ) (w : Value) → value_of_constant (named_tree_of r.module_read) d ≡ Some w → spell (tree_of r.module_read) ≡ placed 0 (words_of r.module_read.source)
-    → Late d 7 (block_declares (module_block (tree_of r.module_read))) (placed 0 (words_of r.module_read.source)) (spell (gone_module d (tree_of r.module_read))) (occurrences (tree_of r.module_read))
+pub late_of : (r : Resolution) → IsResolution r → (d : ℕ) (w : Value) → value_of_constant (named_tree_of r.module_read) d ≡ Some w → spell (tree_of r.module_read) ≡ numbered_tokens 0 (words_of r.module_read.source)
+    → Late d 7 (block_declares (module_block (tree_of r.module_read))) (numbered_tokens 0 (words_of r.module_read.source)) (spell (gone_module d (tree_of r.module_read))) (occurrences (tree_of r.module_read))
     (map (ordinal_in r.ordinals) (occurrences (tree_of r.module_read)))
 late_of r is d w has_value spelled =
     let m = r.module_read in
@@ -64,18 +64,18 @@ late_of r is d w has_value spelled =
     let plain = plain_is f g t in
     let h = late_module (λ i. None) f g d w (as_many f g) t (ap (λ u. value_of_constant u d) plain ∙ has_value) in
     let named = subst (λ (l : List (Option ℕ)). Late d 7 labels (spell t) (spell (gone_module d t)) (occurrences t) l) (ap (λ u. occurrences (relabelled as_names forget u)) plain ∙ bound_by_table r is) h in
-    late_move d 7 labels (spell t) (placed 0 (words_of m.source)) (spell (gone_module d t)) (spell (gone_module d t)) (occurrences t) (map (ordinal_in r.ordinals) (occurrences t)) (sym spelled) refl named
+    late_move d 7 labels (spell t) (numbered_tokens 0 (words_of m.source)) (spell (gone_module d t)) (spell (gone_module d t)) (occurrences t) (map (ordinal_in r.ordinals) (occurrences t)) (sym spelled) refl named
 
 -- the names of words from a number on have no lesser numbers
-names_above : (i k : ℕ) (ws : List Word) → is_among i (lexeme_names (placed k ws)) ≡ true → k ≤ i
+names_above : (i k : ℕ) (ws : List Word) → is_among i (lexeme_names (numbered_tokens k ws)) ≡ true → k ≤ i
 names_above i k [] e = absurd (true≢false (sym e))
 names_above i k (w ∷ ws) e = by_kind w.kind e (names_above i (suc k) ws)
   where
-    by_test : (b : Bool) → (i == k) ≡ b → (b || is_among i (lexeme_names (placed (suc k) ws))) ≡ true → (is_among i (lexeme_names (placed (suc k) ws)) ≡ true → suc k ≤ i) → k ≤ i
+    by_test : (b : Bool) → (i == k) ≡ b → (b || is_among i (lexeme_names (numbered_tokens (suc k) ws))) ≡ true → (is_among i (lexeme_names (numbered_tokens (suc k) ws)) ≡ true → suc k ≤ i) → k ≤ i
     by_test true q e later = let here = eqb-true i k q in omega (arith, here)
     by_test false q e later = let more = later e in omega (arith, more)
 
-    by_kind : (x : TokenKind) → is_among i (lexeme_names (lexeme_of k x ∷ placed (suc k) ws)) ≡ true → (is_among i (lexeme_names (placed (suc k) ws)) ≡ true → suc k ≤ i) → k ≤ i
+    by_kind : (x : TokenKind) → is_among i (lexeme_names (lexeme_of k x ∷ numbered_tokens (suc k) ws)) ≡ true → (is_among i (lexeme_names (numbered_tokens (suc k) ws)) ≡ true → suc k ≤ i) → k ≤ i
     by_kind kind.Identifier e later = by_test (i == k) refl e later
     by_kind (kind.Reserved r) e later = let more = later e in omega (arith, more)
     by_kind (kind.Integer n) e later = let more = later e in omega (arith, more)
@@ -107,7 +107,7 @@ not_in_front ordinals d zero i (x ∷ front) following names low among e o =
 not_in_front ordinals d (suc j) i (x ∷ front) following names low among e o = not_in_front ordinals d j i front following names low.1 among e o
 
 -- after the last token of a declaration
-names_after : (d k : ℕ) (labels : List ℕ) (left : List (Terminal ℕ)) (ws : List Word) (t : Taken d k labels (placed 0 ws) left) (i : ℕ) → is_among i (lexeme_names t.after) ≡ true → last_token t < i
+names_after : (d k : ℕ) (labels : List ℕ) (left : List (Terminal ℕ)) (ws : List Word) (t : Taken d k labels (numbered_tokens 0 ws) left) (i : ℕ) → is_among i (lexeme_names t.after) ≡ true → last_token t < i
 names_after d k labels left ws t i e =
     let front : List (Terminal ℕ) = t.before ++ (Mark t.border ∷ []) in
     let whole : List (Terminal ℕ) = lexeme.Name t.name ∷ Mark (kind.Symbol symbol.Equal) ∷ (t.right ++ (Mark (kind.Symbol symbol.Semicolon) ∷ [])) in
@@ -119,7 +119,7 @@ names_after d k labels left ws t i e =
 
 -- each occurrence that is bound to the constant follows its declaration
 pub uses_following : (r : Resolution) → (d : ℕ) (labels : List ℕ) (left : List (Terminal ℕ))
-    → (h : Late d 7 labels (placed 0 (words_of r.module_read.source)) left (occurrences (tree_of r.module_read)) (map (ordinal_in r.ordinals) (occurrences (tree_of r.module_read))))
+    → (h : Late d 7 labels (numbered_tokens 0 (words_of r.module_read.source)) left (occurrences (tree_of r.module_read)) (map (ordinal_in r.ordinals) (occurrences (tree_of r.module_read))))
     → (j i : ℕ) → slice_get (occurrences (tree_of r.module_read)) j ≡ Some i → ordinal_in r.ordinals i ≡ Some d → last_token h.taken < i
 uses_following r d labels left h j i e o =
     let joined : map (ordinal_in r.ordinals) h.front ++ map (ordinal_in r.ordinals) h.following ≡ h.front_bound ++ h.following_bound =

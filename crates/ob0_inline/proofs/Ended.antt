@@ -14,9 +14,9 @@ use Rattle.ob0_tree.specs.Parsed.{Parsed, named_tree_of, tree_of}
 use Rattle.ob0_tree.specs.Places.{lexeme_of}
 use Rattle.ob0_tree.specs.Places as leaf
 use Rattle.ob0_tree.specs.Tree.{identifiers, occurrences, spell}
-use Rattle.ob0_edits.specs.Changed.{at_each, changed, words_of}
-use Rattle.ob0_edits.specs.OfTrees.{placed}
-use Rattle.ob0_edits.specs.Removed.{IsDeclaration, without}
+use Rattle.ob0_edits.specs.Changed.{at_each, changed_words, words_of}
+use Rattle.ob0_edits.specs.OfTrees.{numbered_tokens}
+use Rattle.ob0_edits.specs.Removed.{IsDeclaration, without_words}
 use Rattle.ob0_edits.specs.Replaced.{AreNames}
 use Rattle.ob0_edits.specs.Words.{word_lexeme}
 use Rattle.ob0_scope_rules.specs.Names.{Label, Name, as_names, declared, same_label}
@@ -86,7 +86,7 @@ others_no_end (lexeme.Name i) xs n = n
 others_no_end (lexeme.Number i) xs n = n
 others_no_end lexeme.EndOfText xs n = n
 
-first_end : (text : List ℕ) (k j : ℕ) (ts : List Token) (xs ys : List (Terminal ℕ)) → placed k (map (read_in text) ts) ≡ xs ++ (Mark (kind.Symbol symbol.Semicolon) ∷ ys) → NoEnd xs
+first_end : (text : List ℕ) (k j : ℕ) (ts : List Token) (xs ys : List (Terminal ℕ)) → numbered_tokens k (map (read_in text) ts) ≡ xs ++ (Mark (kind.Symbol symbol.Semicolon) ∷ ys) → NoEnd xs
     → position_from (λ t. is_semicolon t.kind) j ts ≡ Some (j + length xs)
 first_end text k j [] [] ys e n = absurd (cc)
 first_end text k j [] (x ∷ xs) ys e n = absurd (cc)
@@ -98,11 +98,11 @@ first_end text k j (t ∷ ts) (x ∷ xs) ys e n =
     ∙ (first_end text (suc k) (j + 1) ts xs ys (heads e).1 (others_no_end x xs n) ∙ ap Some (let z : j + 1 + length xs ≡ j + suc (length xs) = omega arith in z))
 
 -- tokens without those before it
-following_front : (text : List ℕ) (k : ℕ) (ts : List Token) (front rest : List (Terminal ℕ)) → placed k (map (read_in text) ts) ≡ front ++ rest → placed (k + length front) (map (read_in text) (drop (length front) ts)) ≡ rest
-following_front text k ts [] rest e = ap (λ n. placed n (map (read_in text) ts)) (let z : k + 0 ≡ k = omega arith in z) ∙ e
+following_front : (text : List ℕ) (k : ℕ) (ts : List Token) (front rest : List (Terminal ℕ)) → numbered_tokens k (map (read_in text) ts) ≡ front ++ rest → numbered_tokens (k + length front) (map (read_in text) (drop (length front) ts)) ≡ rest
+following_front text k ts [] rest e = ap (λ n. numbered_tokens n (map (read_in text) ts)) (let z : k + 0 ≡ k = omega arith in z) ∙ e
 following_front text k [] (x ∷ front) rest e = absurd (cc)
 following_front text k (t ∷ ts) (x ∷ front) rest e =
-    ap (λ n. placed n (map (read_in text) (drop (length front) ts))) (let z : k + suc (length front) ≡ suc k + length front = omega arith in z)
+    ap (λ n. numbered_tokens n (map (read_in text) (drop (length front) ts))) (let z : k + suc (length front) ≡ suc k + length front = omega arith in z)
     ∙ following_front text (suc k) ts front rest (heads e).1
 
 pub none_some : (n : ℕ) → None ≡ Some n → ⊥
@@ -114,7 +114,7 @@ token_of : (labels : List ℕ) (d place : ℕ) → d ≡ 7 + place → token_dec
 token_of labels d place e =
     ap (λ b. if b then None else slice_get labels (d - 7)) (le-ltb d 7 (omega (arith, e))) ∙ ap (slice_get labels) (let z : d - 7 ≡ place = omega (arith, e) in z)
 
-module _ (m : Parsed) (d : ℕ) (left : List (Terminal ℕ)) (t : Taken d 7 (block_declares (module_block (tree_of m))) (placed 0 (words_of m.source)) left) where
+module _ (m : Parsed) (d : ℕ) (left : List (Terminal ℕ)) (t : Taken d 7 (block_declares (module_block (tree_of m))) (numbered_tokens 0 (words_of m.source)) left) where
   pub begins_there : token_declaring (declaring_only (identifiers role.Declaring (tree_of m))) d ≡ Some (first_token t)
   begins_there =
       let labels = block_declares (module_block (tree_of m)) in
@@ -135,10 +135,10 @@ module _ (m : Parsed) (d : ℕ) (left : List (Terminal ℕ)) (t : Taken d 7 (blo
 -- what is known of a constant whose declaration is taken out
 
 module _ (r : Resolution) (is : IsResolution r) (d : ℕ) (w : Value) (has_value : value_of_constant (named_tree_of r.module_read) d ≡ Some w) where
-  abbrev spelled : spell (tree_of r.module_read) ≡ placed 0 (words_of r.module_read.source)
+  abbrev spelled : spell (tree_of r.module_read) ≡ numbered_tokens 0 (words_of r.module_read.source)
   spelled = spelled_by_words r.module_read is.parsed
 
-  abbrev taken : Taken d 7 (block_declares (module_block (tree_of r.module_read))) (placed 0 (words_of r.module_read.source)) (spell (gone_module d (tree_of r.module_read)))
+  abbrev taken : Taken d 7 (block_declares (module_block (tree_of r.module_read))) (numbered_tokens 0 (words_of r.module_read.source)) (spell (gone_module d (tree_of r.module_read)))
   taken = (late_here r is d w has_value spelled).taken
 
   abbrev pub name_token : ℕ
@@ -188,7 +188,7 @@ module _ (r : Resolution) (is : IsResolution r) (c : NamedConstant) (constant : 
 
   -- the words that are left spell the inlined module
   pub left_spelled : IsAlone r.module_read c.ordinal
-      → map word_lexeme (changed (without c.first c.last (at_each (uses_of r.module_read c.ordinal) (value_words c.value))) 0 (words_of r.module_read.source)) ≡ spell (inlined_all r.module_read c)
+      → map word_lexeme (changed_words (without_words c.first c.last (at_each (uses_of r.module_read c.ordinal) (value_words c.value))) 0 (words_of r.module_read.source)) ≡ spell (inlined_all r.module_read c)
   left_spelled alone =
       let m = r.module_read in
       let d = c.ordinal in
@@ -198,4 +198,4 @@ module _ (r : Resolution) (is : IsResolution r) (c : NamedConstant) (constant : 
       let last = end_token r is d w constant.has_value in
       let inside_it = (declaration_at r is d w constant.has_value).inside in
       let there = words_everywhere r is d w constant.has_value spelled (value_factor c.value) (value_words c.value) (value_spelled c.value) alone (uses_are_names r is d w constant.has_value spelled inside_it) in
-      (λ i. map word_lexeme (changed (without (sym first_is i) (sym last_is i) (at_each (sym (uses_by_table r is d) i) (value_words c.value))) 0 (words_of m.source))) ∙ there
+      (λ i. map word_lexeme (changed_words (without_words (sym first_is i) (sym last_is i) (at_each (sym (uses_by_table r is d) i) (value_words c.value))) 0 (words_of m.source))) ∙ there

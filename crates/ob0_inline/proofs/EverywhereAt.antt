@@ -6,10 +6,10 @@ use Rattle.ob0_scan.specs.Scanned.{Word}
 use Rattle.ob0_tree.specs.Order.{AreIdentifiers, Ascending}
 use Rattle.ob0_tree.specs.Parsed.{named_tree_of, tree_of}
 use Rattle.ob0_tree.specs.Tree.{Tree, factor, occurrences, spell}
-use Rattle.ob0_edits.specs.Changed.{at_each, changed, is_among, words_of}
+use Rattle.ob0_edits.specs.Changed.{at_each, changed_words, is_among, words_of}
 use Rattle.ob0_edits.specs.Inlined.{inlined}
-use Rattle.ob0_edits.specs.OfTrees.{factor_at, number_at, placed, text_at}
-use Rattle.ob0_edits.specs.Removed.{without}
+use Rattle.ob0_edits.specs.OfTrees.{factor_at, number_at, numbered_tokens, text_of_word}
+use Rattle.ob0_edits.specs.Removed.{without_words}
 use Rattle.ob0_edits.specs.Replaced.{AreNames}
 use Rattle.ob0_edits.specs.Words.{word_lexeme}
 use Rattle.ob0_scope_rules.specs.Elsewhere.{names_elsewhere}
@@ -109,17 +109,17 @@ agree r is d j i e =
 
 -- a factor at all uses of the tree without the declaration is the factor in place of them, and the declaration taken out
 pub inlined_is : (r : Resolution) → IsResolution r → (d : ℕ) (v : Tree Name factor)
-    → inlined (factor_at (bound_tokens r.ordinals d r.uses) v) (text_at (words_of r.module_read.source)) (number_at (words_of r.module_read.source)) (gone_module d (tree_of r.module_read))
+    → inlined (factor_at (bound_tokens r.ordinals d r.uses) v) (text_of_word (words_of r.module_read.source)) (number_at (words_of r.module_read.source)) (gone_module d (tree_of r.module_read))
     ≡ inlined_everywhere (named_tree_of r.module_read) d v
 inlined_is r is d v =
     let m = r.module_read in
     let places = bound_tokens r.ordinals d r.uses in
-    gone_module_inlined (factor_at places v) (text_at (words_of m.source)) (number_at (words_of m.source)) d (tree_of m)
+    gone_module_inlined (factor_at places v) (text_of_word (words_of m.source)) (number_at (words_of m.source)) d (tree_of m)
     ∙ ap (module_without d) (inlined_by_number r places (all_bound_to (named_tree_of m) d) v is (agree r is d))
 
-module _ (r : Resolution) (is : IsResolution r) (d : ℕ) (w : Value) (has_value : value_of_constant (named_tree_of r.module_read) d ≡ Some w) (spelled : spell (tree_of r.module_read) ≡ placed 0 (words_of r.module_read.source)) where
+module _ (r : Resolution) (is : IsResolution r) (d : ℕ) (w : Value) (has_value : value_of_constant (named_tree_of r.module_read) d ≡ Some w) (spelled : spell (tree_of r.module_read) ≡ numbered_tokens 0 (words_of r.module_read.source)) where
   -- the declaration of the constant
-  abbrev pub late_here : Late d 7 (block_declares (module_block (tree_of r.module_read))) (placed 0 (words_of r.module_read.source)) (spell (gone_module d (tree_of r.module_read))) (occurrences (tree_of r.module_read))
+  abbrev pub late_here : Late d 7 (block_declares (module_block (tree_of r.module_read))) (numbered_tokens 0 (words_of r.module_read.source)) (spell (gone_module d (tree_of r.module_read))) (occurrences (tree_of r.module_read))
       (map (ordinal_in r.ordinals) (occurrences (tree_of r.module_read)))
   late_here = late_of r is d w has_value spelled
 
@@ -135,7 +135,7 @@ module _ (r : Resolution) (is : IsResolution r) (d : ℕ) (w : Value) (has_value
   -- the words that are left spell the module with the factor in place of all uses, without the declaration
   pub words_everywhere : (v : Tree Name factor) (vs : List Word) → map word_lexeme vs ≡ spell v → All (λ l. l ≢ declared d) (names_elsewhere (numbered (named_tree_of r.module_read)))
       → AreNames r.module_read.source.tokens (suc (last_token late_here.taken)) (bound_tokens r.ordinals d r.uses)
-      → map word_lexeme (changed (without (first_token late_here.taken) (last_token late_here.taken) (at_each (bound_tokens r.ordinals d r.uses) vs)) 0 (words_of r.module_read.source))
+      → map word_lexeme (changed_words (without_words (first_token late_here.taken) (last_token late_here.taken) (at_each (bound_tokens r.ordinals d r.uses) vs)) 0 (words_of r.module_read.source))
       ≡ spell (inlined_everywhere (named_tree_of r.module_read) d v)
   words_everywhere v vs same alone are_names =
       let m = r.module_read in

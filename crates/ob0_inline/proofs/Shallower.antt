@@ -4,7 +4,7 @@ use Rattle.ob0_tree.specs.Parsed.{Parsed, tree_of}
 use Rattle.ob0_tree.specs.Tree.{Tree, block, constant, constants, declares, declares_constants, declares_procedure, end, has_body, is_module, item, items, maybe, module_text, more, nesting, none, one, procedure}
 use Rattle.ob0_edits.specs.Changed.{words_of}
 use Rattle.ob0_edits.specs.Factors.{truth_factor}
-use Rattle.ob0_edits.specs.OfTrees.{number_at, text_at}
+use Rattle.ob0_edits.specs.OfTrees.{number_at, text_of_word}
 use Rattle.ob0_edits.proofs.Factors.{nesting_at, number_shallow}
 use Rattle.ob0_scope_rules.specs.Names.{Name}
 use Rattle.ob0_scope_rules.specs.Parts.{formal_names, formal_sections}
@@ -29,7 +29,7 @@ value_shallow (scalar.Truth b) = truth_shallow b
 
 pub inlined_shallow : (m : Parsed) (places : List ℕ) (value : Scalar) → nesting (inlined_at m places value) ≤ nesting (tree_of m) + 1
 inlined_shallow m places value =
-    let deeper = nesting_at module_text (tree_of m) places (value_factor value) (text_at (words_of m.source)) (number_at (words_of m.source)) in
+    let deeper = nesting_at module_text (tree_of m) places (value_factor value) (text_of_word (words_of m.source)) (number_at (words_of m.source)) in
     let low = value_shallow value in
     omega (arith, deeper, low)
 
@@ -70,7 +70,7 @@ pub everywhere_shallow : (r : Resolution) → IsResolution r → (c : NamedConst
 everywhere_shallow r is c =
     let m = r.module_read in
     let gone : Tree ℕ module_text = gone_module c.ordinal (tree_of m) in
-    let deeper = nesting_at module_text gone (bound_tokens r.ordinals c.ordinal r.uses) (value_factor c.value) (text_at (words_of m.source)) (number_at (words_of m.source)) in
+    let deeper = nesting_at module_text gone (bound_tokens r.ordinals c.ordinal r.uses) (value_factor c.value) (text_of_word (words_of m.source)) (number_at (words_of m.source)) in
     let less = module_low c.ordinal (tree_of m) in
     let low = value_shallow c.value in
     subst (λ (t : Tree Name module_text). nesting t ≤ nesting (tree_of m) + 1) (inlined_is r is c.ordinal (value_factor c.value)) (omega (arith, deeper, less, low))

@@ -14,7 +14,7 @@ use Rattle.ob0_tree.proofs.Leaves.{leaves_are_identifiers, leaves_ascend}
 use Rattle.ob0_tree.proofs.Occurring.{looked_up_only, looked_up-occurrences}
 use Rattle.ob0_edits.specs.Changed.{is_among, words_of}
 use Rattle.ob0_edits.specs.Inlined.{ReplacesFactors, inlined}
-use Rattle.ob0_edits.specs.OfTrees.{factor_at, number_at, text_at}
+use Rattle.ob0_edits.specs.OfTrees.{factor_at, number_at, text_of_word}
 use Rattle.ob0_edits.specs.Replaced.{AreNames}
 use Rattle.ob0_scope_rules.specs.Elsewhere.{names_elsewhere}
 use Rattle.ob0_scope_rules.specs.Inlining.{Uses, inline_in}
@@ -143,7 +143,7 @@ stand_alone r is d v places h a =
     (none_elsewhere r is d v places h (names_elsewhere (tree_of m)) (subst (All (λ l. l ≢ declared d)) elsewhere a))
 
 -- the words of a text and its tokens
-word_text : (text : List ℕ) (ts : List Token) (k : ℕ) → text_at (map (read_in text) ts) k ≡ leaf.text_in text (slice_get ts k)
+word_text : (text : List ℕ) (ts : List Token) (k : ℕ) → text_of_word (map (read_in text) ts) k ≡ leaf.text_in text (slice_get ts k)
 word_text text [] k = refl
 word_text text (t ∷ ts) zero = refl
 word_text text (t ∷ ts) (suc k) = word_text text ts k
@@ -156,7 +156,7 @@ word_number text (t ∷ ts) (suc k) = word_number text ts k
 -- a factor at the tokens of some occurrences is that factor in place of these occurrences
 pub inlined_by_number : (r : Resolution) (places : List ℕ) (uses : Uses) (v : Tree Name factor) → IsResolution r
     → ((j i : ℕ) → slice_get r.uses j ≡ Some i → is_among i places ≡ uses j)
-    → inlined (factor_at places v) (text_at (words_of r.module_read.source)) (number_at (words_of r.module_read.source)) (tree_of r.module_read) ≡ inline_in uses v 0 (named_tree_of r.module_read)
+    → inlined (factor_at places v) (text_of_word (words_of r.module_read.source)) (number_at (words_of r.module_read.source)) (tree_of r.module_read) ≡ inline_in uses v 0 (named_tree_of r.module_read)
 inlined_by_number r places uses v is agree =
     let m = r.module_read in
     let c = factor_at places v in

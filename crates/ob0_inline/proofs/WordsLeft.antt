@@ -15,10 +15,10 @@ use Rattle.ob0_tree.specs.Lexeme.{Terminal, Mark, kind_lexeme}
 use Rattle.ob0_tree.specs.Lexeme as lexeme
 use Rattle.ob0_tree.specs.Places.{lexeme_of, value_of}
 use Rattle.ob0_tree.specs.Tree.{Sort, Tree, factor, spell}
-use Rattle.ob0_edits.specs.Changed.{Changes, at_each, changed, is_among, or_itself, words_of}
-use Rattle.ob0_edits.specs.Inlined.{ReplacesFactors, inlined, or_named, spelled, token_with, tokens_with}
-use Rattle.ob0_edits.specs.OfTrees.{factor_at, number_at, placed, text_at, word_at}
-use Rattle.ob0_edits.specs.Removed.{IsDeclaration, without}
+use Rattle.ob0_edits.specs.Changed.{Changes, at_each, changed_words, is_among, or_itself, words_of}
+use Rattle.ob0_edits.specs.Inlined.{ReplacesFactors, inlined, or_named, spelled, token_with, inlined_tokens}
+use Rattle.ob0_edits.specs.OfTrees.{factor_at, number_at, numbered_tokens, text_of_word, word_at}
+use Rattle.ob0_edits.specs.Removed.{IsDeclaration, without_words}
 use Rattle.ob0_edits.specs.Replaced as place
 use Rattle.ob0_edits.specs.Replaced.{AreNames}
 use Rattle.ob0_edits.specs.Words.{word_lexeme}
@@ -31,12 +31,12 @@ pub record Cut (k : ℕ) (ws : List Word) (front following : List (Terminal ℕ)
   pub first : List Word
   pub rest : List Word
   pub joined : ws ≡ first ++ rest
-  pub front_is : placed k first ≡ front
-  pub following_is : placed (k + length first) rest ≡ following
+  pub front_is : numbered_tokens k first ≡ front
+  pub following_is : numbered_tokens (k + length first) rest ≡ following
   pub count : length first ≡ length front
 
-pub cut_words : (k : ℕ) (ws : List Word) (front following : List (Terminal ℕ)) → placed k ws ≡ front ++ following → Cut k ws front following
-cut_words k ws [] following e = record { first = []; rest = ws; joined = refl; front_is = refl; following_is = ap (λ n. placed n ws) (let z : k + 0 ≡ k = omega arith in z) ∙ e; count = refl }
+pub cut_words : (k : ℕ) (ws : List Word) (front following : List (Terminal ℕ)) → numbered_tokens k ws ≡ front ++ following → Cut k ws front following
+cut_words k ws [] following e = record { first = []; rest = ws; joined = refl; front_is = refl; following_is = ap (λ n. numbered_tokens n ws) (let z : k + 0 ≡ k = omega arith in z) ∙ e; count = refl }
 cut_words k [] (l ∷ front) following e = absurd (cc)
 cut_words k (w ∷ ws) (l ∷ front) following e =
     let h = heads e in
@@ -46,12 +46,12 @@ cut_words k (w ∷ ws) (l ∷ front) following e =
       rest = r.rest;
       joined = ap (λ l. w ∷ l) r.joined;
       front_is = (λ i. h.0 i ∷ r.front_is i);
-      following_is = ap (λ n. placed n r.rest) (let z : k + suc (length r.first) ≡ suc k + length r.first = omega arith in z) ∙ r.following_is;
+      following_is = ap (λ n. numbered_tokens n r.rest) (let z : k + suc (length r.first) ≡ suc k + length r.first = omega arith in z) ∙ r.following_is;
       count = ap suc r.count;
     }
 
 -- the word at a token
-pub lexeme_at : (k : ℕ) (ws : List Word) (xs : List (Terminal ℕ)) (l : Terminal ℕ) (ys : List (Terminal ℕ)) → placed k ws ≡ xs ++ (l ∷ ys) → (length xs < length ws) × (lexeme_of (k + length xs) (word_at ws (length xs)).kind ≡ l)
+pub lexeme_at : (k : ℕ) (ws : List Word) (xs : List (Terminal ℕ)) (l : Terminal ℕ) (ys : List (Terminal ℕ)) → numbered_tokens k ws ≡ xs ++ (l ∷ ys) → (length xs < length ws) × (lexeme_of (k + length xs) (word_at ws (length xs)).kind ≡ l)
 lexeme_at k [] [] l ys e = absurd (cc)
 lexeme_at k [] (x ∷ xs) l ys e = absurd (cc)
 lexeme_at k (w ∷ ws) [] l ys e = (omega arith, ap (λ n. lexeme_of n w.kind) (let z : k + 0 ≡ k = omega arith in z) ∙ (heads e).0)
@@ -71,10 +71,10 @@ mark_kind i (kind.Reserved r) l e = cc
 mark_kind i (kind.Integer v) l e = absurd (cc)
 mark_kind i (kind.Symbol s) l e = cc
 
-word_kind : (s : Scanned) (k : ℕ) → (word_at (words_of s) k).kind ≡ (place.token_at s.tokens k).kind
+word_kind : (s : Scanned) (k : ℕ) → (word_at (words_of s) k).kind ≡ (place.token_or_empty s.tokens k).kind
 word_kind s k = of_list s.tokens k
   where
-    of_list : (ts : List Token) (k : ℕ) → (word_at (map (read_in s.text) ts) k).kind ≡ (place.token_at ts k).kind
+    of_list : (ts : List Token) (k : ℕ) → (word_at (map (read_in s.text) ts) k).kind ≡ (place.token_or_empty ts k).kind
     of_list [] k = refl
     of_list (t ∷ ts) zero = refl
     of_list (t ∷ ts) (suc k) = of_list ts k
@@ -86,7 +86,7 @@ first_token t = length (t.before ++ (Mark t.border ∷ []))
 abbrev pub last_token : {d k : ℕ} {labels : List ℕ} {whole left : List (Terminal ℕ)} → Taken d k labels whole left → ℕ
 last_token t = length (t.before ++ (Mark t.border ∷ [])) + (2 + length t.right)
 
-module _ (s : Scanned) (d k : ℕ) (labels : List ℕ) (left : List (Terminal ℕ)) (t : Taken d k labels (placed 0 (words_of s)) left) where
+module _ (s : Scanned) (d k : ℕ) (labels : List ℕ) (left : List (Terminal ℕ)) (t : Taken d k labels (numbered_tokens 0 (words_of s)) left) where
   abbrev front : List (Terminal ℕ)
   front = t.before ++ (Mark t.border ∷ [])
 
@@ -128,31 +128,31 @@ module _ (s : Scanned) (d k : ℕ) (labels : List ℕ) (left : List (Terminal �
             ∙ (ap (λ n. (word_at (words_of s) n).kind) (sym same) ∙ mark_kind (0 + length (front ++ inner)) (word_at (words_of s) (length (front ++ inner))).kind (kind.Symbol symbol.Semicolon) a.1);
         following = λ j e.
             let there : j ≡ length t.before = omega (arith, e, length-append t.before (Mark t.border ∷ [])) in
-            let kind_is : (place.token_at s.tokens j).kind ≡ t.border =
+            let kind_is : (place.token_or_empty s.tokens j).kind ≡ t.border =
             sym (word_kind s j) ∙ (ap (λ n. (word_at (words_of s) n).kind) there ∙ mark_kind (0 + length t.before) (word_at (words_of s) (length t.before)).kind t.border at_border.1) in
             elim t.opens [ inl o ↦ inl (kind_is ∙ o) | inr o ↦ inr (kind_is ∙ o) ];
       }
 
 -- what changes of words make of a part of them
-changed-append : (ch : Changes) (k : ℕ) (xs ys : List Word) → changed ch k (xs ++ ys) ≡ changed ch k xs ++ changed ch (k + length xs) ys
-changed-append ch k [] ys = ap (λ n. changed ch n ys) (let z : k ≡ k + 0 = omega arith in z)
-changed-append ch k (x ∷ xs) ys =
-    ap (λ l. or_itself x (ch k) ++ l) (changed-append ch (suc k) xs ys ∙ ap (λ n. changed ch (suc k) xs ++ changed ch n ys) (let z : suc k + length xs ≡ k + suc (length xs) = omega arith in z))
-    ∙ sym (append_assoc (or_itself x (ch k)) (changed ch (suc k) xs) (changed ch (k + suc (length xs)) ys))
+changed_words-append : (ch : Changes) (k : ℕ) (xs ys : List Word) → changed_words ch k (xs ++ ys) ≡ changed_words ch k xs ++ changed_words ch (k + length xs) ys
+changed_words-append ch k [] ys = ap (λ n. changed_words ch n ys) (let z : k ≡ k + 0 = omega arith in z)
+changed_words-append ch k (x ∷ xs) ys =
+    ap (λ l. or_itself x (ch k) ++ l) (changed_words-append ch (suc k) xs ys ∙ ap (λ n. changed_words ch (suc k) xs ++ changed_words ch n ys) (let z : suc k + length xs ≡ k + suc (length xs) = omega arith in z))
+    ∙ sym (append_assoc (or_itself x (ch k)) (changed_words ch (suc k) xs) (changed_words ch (k + suc (length xs)) ys))
 
-before_first : (first last : ℕ) (ch : Changes) (k : ℕ) (xs : List Word) → k + length xs ≤ first → changed (without first last ch) k xs ≡ changed ch k xs
+before_first : (first last : ℕ) (ch : Changes) (k : ℕ) (xs : List Word) → k + length xs ≤ first → changed_words (without_words first last ch) k xs ≡ changed_words ch k xs
 before_first first last ch k [] h = refl
 before_first first last ch k (x ∷ xs) h =
     let out : (nat_le first k && nat_le k last) ≡ false = ap (λ b. b && nat_le k last) (lt-leb first k (omega (arith, h))) in
     (λ i. or_itself x (if out i then Some [] else ch k) ++ before_first first last ch (suc k) xs (omega (arith, h)) i)
 
-inside_gone : (first last : ℕ) (ch : Changes) (k : ℕ) (xs : List Word) → first ≤ k → k + length xs ≤ suc last → changed (without first last ch) k xs ≡ []
+inside_gone : (first last : ℕ) (ch : Changes) (k : ℕ) (xs : List Word) → first ≤ k → k + length xs ≤ suc last → changed_words (without_words first last ch) k xs ≡ []
 inside_gone first last ch k [] g h = refl
 inside_gone first last ch k (x ∷ xs) g h =
     let in_it : (nat_le first k && nat_le k last) ≡ true = ap (λ b. b && nat_le k last) (le-leb first k g) ∙ le-leb k last (omega (arith, h)) in
     (λ i. or_itself x (if in_it i then Some [] else ch k) ++ inside_gone first last ch (suc k) xs (omega (arith, g)) (omega (arith, h)) i)
 
-following_last : (first last : ℕ) (ch : Changes) (k : ℕ) (xs : List Word) → last < k → changed (without first last ch) k xs ≡ changed ch k xs
+following_last : (first last : ℕ) (ch : Changes) (k : ℕ) (xs : List Word) → last < k → changed_words (without_words first last ch) k xs ≡ changed_words ch k xs
 following_last first last ch k [] h = refl
 following_last first last ch k (x ∷ xs) h =
     let out : (nat_le first k && nat_le k last) ≡ false = ap (λ b. nat_le first k && b) (lt-leb k last h) ∙ none (nat_le first k) in
@@ -173,35 +173,35 @@ same_with w c f g j none e h = by_kind w.kind h
     by_kind (kind.Integer n) h = ap (λ m. lexeme.Number m ∷ []) h
     by_kind (kind.Symbol s) h = refl
 
-names_at : (tokens : List Token) (least : ℕ) (places : List ℕ) (k : ℕ) → AreNames tokens least places → is_among k places ≡ true → (place.token_at tokens k).kind ≡ kind.Identifier
+names_at : (tokens : List Token) (least : ℕ) (places : List ℕ) (k : ℕ) → AreNames tokens least places → is_among k places ≡ true → (place.token_or_empty tokens k).kind ≡ kind.Identifier
 names_at tokens least [] k names e = absurd (cc)
 names_at tokens least (p ∷ ps) k names e = by_test (k == p) refl e (names_at tokens (suc p) ps k names.3)
   where
-    by_test : (b : Bool) → (k == p) ≡ b → (b || is_among k ps) ≡ true → (is_among k ps ≡ true → (place.token_at tokens k).kind ≡ kind.Identifier) → (place.token_at tokens k).kind ≡ kind.Identifier
-    by_test true h e later = ap (λ q. (place.token_at tokens q).kind) (eqb-true k p h) ∙ names.2
+    by_test : (b : Bool) → (k == p) ≡ b → (b || is_among k ps) ≡ true → (is_among k ps ≡ true → (place.token_or_empty tokens k).kind ≡ kind.Identifier) → (place.token_or_empty tokens k).kind ≡ kind.Identifier
+    by_test true h e later = ap (λ q. (place.token_or_empty tokens q).kind) (eqb-true k p h) ∙ names.2
     by_test false h e later = later e
 
 module _ (s : Scanned) (least : ℕ) (places : List ℕ) (names : AreNames s.tokens least places) (v : Tree (List ℕ) factor) (vs : List Word) (same : map word_lexeme vs ≡ spell v) where
   put : Terminal ℕ → List (Terminal (List ℕ))
-  put x = token_with (λ n. spelled (factor_at places v n)) (text_at (words_of s)) (number_at (words_of s)) x
+  put x = token_with (λ n. spelled (factor_at places v n)) (text_of_word (words_of s)) (number_at (words_of s)) x
 
   each_put : (j : ℕ) → put (lexeme_of j (word_at (words_of s) j).kind) ≡ map word_lexeme (or_itself (word_at (words_of s) j) (at_each places vs j))
   unfolding put
   each_put j = by_test (is_among j places) refl
     where
       by_test : (b : Bool) → is_among j places ≡ b
-          → token_with (λ n. spelled (factor_at places v n)) (text_at (words_of s)) (number_at (words_of s)) (lexeme_of j (word_at (words_of s) j).kind)
+          → token_with (λ n. spelled (factor_at places v n)) (text_of_word (words_of s)) (number_at (words_of s)) (lexeme_of j (word_at (words_of s) j).kind)
           ≡ map word_lexeme (or_itself (word_at (words_of s) j) (if is_among j places then Some vs else None))
       by_test true e =
-          ap (λ k. token_with (λ n. spelled (factor_at places v n)) (text_at (words_of s)) (number_at (words_of s)) (lexeme_of j k)) (word_kind s j ∙ names_at s.tokens least places j names e)
-          ∙ (ap (λ b. or_named (text_at (words_of s) j) (spelled (if b then Some v else None))) e ∙ (sym same
+          ap (λ k. token_with (λ n. spelled (factor_at places v n)) (text_of_word (words_of s)) (number_at (words_of s)) (lexeme_of j k)) (word_kind s j ∙ names_at s.tokens least places j names e)
+          ∙ (ap (λ b. or_named (text_of_word (words_of s) j) (spelled (if b then Some v else None))) e ∙ (sym same
           ∙ ap (λ b. map word_lexeme (or_itself (word_at (words_of s) j) (if b then Some vs else None))) (sym e)))
       by_test false e =
-          same_with (word_at (words_of s) j) (λ n. spelled (factor_at places v n)) (text_at (words_of s)) (number_at (words_of s)) j (ap (λ b. spelled (if b then Some v else None)) e) refl refl
+          same_with (word_at (words_of s) j) (λ n. spelled (factor_at places v n)) (text_of_word (words_of s)) (number_at (words_of s)) j (ap (λ b. spelled (if b then Some v else None)) e) refl refl
           ∙ ap (λ b. map word_lexeme (or_itself (word_at (words_of s) j) (if b then Some vs else None))) (sym e)
 
   -- of the words that are between others
-  part_put : (k : ℕ) (done ws rest : List Word) → words_of s ≡ done ++ (ws ++ rest) → length done ≡ k → flat_map put (placed k ws) ≡ map word_lexeme (changed (at_each places vs) k ws)
+  part_put : (k : ℕ) (done ws rest : List Word) → words_of s ≡ done ++ (ws ++ rest) → length done ≡ k → flat_map put (numbered_tokens k ws) ≡ map word_lexeme (changed_words (at_each places vs) k ws)
   part_put k done [] rest e count = refl
   part_put k done (w ∷ ws) rest e count =
       let here : word_at (words_of s) k ≡ w = (λ i. word_at (e i) (sym count i)) ∙ get_or-append_seam done w (ws ++ rest) _ in
@@ -209,16 +209,16 @@ module _ (s : Scanned) (least : ℕ) (places : List ℕ) (names : AreNames s.tok
       ap (λ (x : Word). put (lexeme_of k x.kind)) (sym here) ∙ (each_put k ∙ ap (λ x. map word_lexeme (or_itself x (at_each places vs k))) here) in
       let more_done : length (done ++ (w ∷ [])) ≡ suc k = length-append done (w ∷ []) ∙ omega (arith, count) in
       ap₂ (λ xs ys. xs ++ ys) this (part_put (suc k) (done ++ (w ∷ [])) ws rest (e ∙ sym (append_assoc done (w ∷ []) (ws ++ rest))) more_done)
-      ∙ sym (map-append word_lexeme (or_itself w (at_each places vs k)) (changed (at_each places vs) (suc k) ws))
+      ∙ sym (map-append word_lexeme (or_itself w (at_each places vs k)) (changed_words (at_each places vs) (suc k) ws))
 
-  tokens_put : (xs : List (Terminal ℕ)) → tokens_with (λ n. spelled (factor_at places v n)) (text_at (words_of s)) (number_at (words_of s)) xs ≡ flat_map put xs
+  tokens_put : (xs : List (Terminal ℕ)) → inlined_tokens (λ n. spelled (factor_at places v n)) (text_of_word (words_of s)) (number_at (words_of s)) xs ≡ flat_map put xs
   unfolding put
   tokens_put xs = refl
 
   -- the words without the declaration, with the factor's words at the places
-  pub words_left : (d k : ℕ) (labels : List ℕ) {sort : Sort} (without_it : Tree ℕ sort) (t : Taken d k labels (placed 0 (words_of s)) (spell without_it)) → ReplacesFactors (factor_at places v) without_it
-      → map word_lexeme (changed (without (first_token t) (last_token t) (at_each places vs)) 0 (words_of s))
-      ≡ spell (inlined (factor_at places v) (text_at (words_of s)) (number_at (words_of s)) without_it)
+  pub words_left : (d k : ℕ) (labels : List ℕ) {sort : Sort} (without_it : Tree ℕ sort) (t : Taken d k labels (numbered_tokens 0 (words_of s)) (spell without_it)) → ReplacesFactors (factor_at places v) without_it
+      → map word_lexeme (changed_words (without_words (first_token t) (last_token t) (at_each places vs)) 0 (words_of s))
+      ≡ spell (inlined (factor_at places v) (text_of_word (words_of s)) (number_at (words_of s)) without_it)
   words_left d k labels without_it t factors =
       let front : List (Terminal ℕ) = t.before ++ (Mark t.border ∷ []) in
       let declaration : List (Terminal ℕ) = lexeme.Name t.name ∷ Mark (kind.Symbol symbol.Equal) ∷ (t.right ++ (Mark (kind.Symbol symbol.Semicolon) ∷ [])) in
@@ -231,21 +231,21 @@ module _ (s : Scanned) (least : ℕ) (places : List ℕ) (names : AreNames s.tok
       let n1 : length a.first ≡ first = a.count in
       let n2 : length b.first ≡ 3 + length t.right = b.count ∙ (let z = length-append t.right (Mark (kind.Symbol symbol.Semicolon) ∷ []) in omega (arith, z)) in
       let next : 0 + length a.first + length b.first ≡ suc last = omega (arith, n1, n2) in
-      let split : changed (without first last ch) 0 (words_of s) ≡ changed ch 0 a.first ++ changed ch (suc last) b.rest =
-      ap (changed (without first last ch) 0) all
-      ∙ (changed-append (without first last ch) 0 a.first (b.first ++ b.rest)
+      let split : changed_words (without_words first last ch) 0 (words_of s) ≡ changed_words ch 0 a.first ++ changed_words ch (suc last) b.rest =
+      ap (changed_words (without_words first last ch) 0) all
+      ∙ (changed_words-append (without_words first last ch) 0 a.first (b.first ++ b.rest)
       ∙ (λ i. before_first first last ch 0 a.first (omega (arith, n1)) i
-      ++ (changed-append (without first last ch) (0 + length a.first) b.first b.rest
-      ∙ ((λ j. inside_gone first last ch (0 + length a.first) b.first (omega (arith, n1)) (omega (arith, next)) j ++ changed (without first last ch) (next j) b.rest)
+      ++ (changed_words-append (without_words first last ch) (0 + length a.first) b.first b.rest
+      ∙ ((λ j. inside_gone first last ch (0 + length a.first) b.first (omega (arith, n1)) (omega (arith, next)) j ++ changed_words (without_words first last ch) (next j) b.rest)
       ∙ following_last first last ch (suc last) b.rest (omega arith))) i)) in
-      let p1 : flat_map put front ≡ map word_lexeme (changed ch 0 a.first) = ap (flat_map put) (sym a.front_is) ∙ part_put 0 [] a.first (b.first ++ b.rest) all refl in
+      let p1 : flat_map put front ≡ map word_lexeme (changed_words ch 0 a.first) = ap (flat_map put) (sym a.front_is) ∙ part_put 0 [] a.first (b.first ++ b.rest) all refl in
       let done : length (a.first ++ b.first) ≡ suc last = length-append a.first b.first ∙ omega (arith, n1, n2) in
       let ends : words_of s ≡ (a.first ++ b.first) ++ (b.rest ++ []) = all ∙ (sym (append_assoc a.first b.first b.rest) ∙ ap (λ l. (a.first ++ b.first) ++ l) (sym (append-nil b.rest))) in
-      let p2 : flat_map put t.after ≡ map word_lexeme (changed ch (suc last) b.rest) =
-      ap (flat_map put) (sym b.following_is ∙ ap (λ n. placed n b.rest) next) ∙ part_put (suc last) (a.first ++ b.first) b.rest [] ends done in
+      let p2 : flat_map put t.after ≡ map word_lexeme (changed_words ch (suc last) b.rest) =
+      ap (flat_map put) (sym b.following_is ∙ ap (λ n. numbered_tokens n b.rest) next) ∙ part_put (suc last) (a.first ++ b.first) b.rest [] ends done in
       ap (map word_lexeme) split
-      ∙ (map-append word_lexeme (changed ch 0 a.first) (changed ch (suc last) b.rest)
+      ∙ (map-append word_lexeme (changed_words ch 0 a.first) (changed_words ch (suc last) b.rest)
       ∙ ((λ i. sym p1 i ++ sym p2 i)
       ∙ (sym (flat_map-append put front t.after)
       ∙ (ap (flat_map put) (sym t.left_is)
-      ∙ (sym (tokens_put (spell without_it)) ∙ sym (spell_inlined (factor_at places v) (text_at (words_of s)) (number_at (words_of s)) without_it factors))))))
+      ∙ (sym (tokens_put (spell without_it)) ∙ sym (spell_inlined (factor_at places v) (text_of_word (words_of s)) (number_at (words_of s)) without_it factors))))))

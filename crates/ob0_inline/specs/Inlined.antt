@@ -12,7 +12,7 @@ use Rattle.ob0_tree.specs.Parsed.{Parsed, tree_of}
 use Rattle.ob0_tree.specs.Tree.{Tree, module_text}
 use Rattle.ob0_edits.specs.Changed.{words_of}
 use Rattle.ob0_edits.specs.Inlined.{ReplacesFactors, inlined}
-use Rattle.ob0_edits.specs.OfTrees.{factor_at, number_at, text_at}
+use Rattle.ob0_edits.specs.OfTrees.{factor_at, number_at, text_of_word}
 use Rattle.ob0_values.specs.declared.scalar.Scalar.{Scalar}
 use Rattle.ob0_inline.specs.Values.{value_factor}
 
@@ -23,7 +23,7 @@ AreAlone m places value = ReplacesFactors (factor_at places (value_factor value)
 -- the module with the value in their place
 abbrev pub inlined_at : Parsed → List ℕ → Scalar → Tree (List ℕ) module_text
 inlined_at m places value =
-    inlined (factor_at places (value_factor value)) (text_at (words_of m.source))
+    inlined (factor_at places (value_factor value)) (text_of_word (words_of m.source))
     (number_at (words_of m.source)) (tree_of m)
 
 -- The edits make of the text another one, which is the text of this module.

@@ -23,7 +23,7 @@ use Rattle.ob0_layout.specs.declared.sites.Solid.{Solid}
 use Rattle.ob0_layout.specs.declared.line_role.LineRole.{LineRole}
 use Rattle.ob0_layout.specs.Layout.{placed, next_line, has_break, indentation, gap_text, laid}
 use Rattle.ob0_layout.specs.Sites.{sites, all_sites, is_changed, changed_sites, edit_text, edit_of}
-use Rattle.ob0_layout.specs.Cuts.{cut_of}
+use Rattle.ob0_layout.specs.Cuts.{gap_cut}
 use Rattle.ob0_layout.proofs.Apart.{IsSolid, solid_first}
 use Rattle.ob0_layout.proofs.LastBytes.{last_byte, last_at, solid_last}
 use Rattle.ob0_layout.proofs.Pieced.{Chain, all_chain, all_made, changed_made, chain_changed}
@@ -124,8 +124,8 @@ gap_utf8 : (indent : Indent) (g : Gap) → IsUtf8 (gap_text indent g)
 gap_utf8 indent g = IsUtf8-from_ascii (gap_text indent g) (gap_ascii indent g)
 
 -- the cuts of the edits are those of the gaps
-same_cuts : (unit : counting.Unit) (text : List ℕ) (u : IsUtf8 text) (indent : Indent) (at : ℕ) (gs : List GapSite) (edits : List Edit) → Chain at (map (cut_of indent) gs) → AllClear text gs
-    → map edit_text edits ≡ map (edit_of indent (width_of unit) (chars text)) gs → AreSame unit text u (map (cut_of indent) gs) (cuts_of (width_of unit) (chars text) edits)
+same_cuts : (unit : counting.Unit) (text : List ℕ) (u : IsUtf8 text) (indent : Indent) (at : ℕ) (gs : List GapSite) (edits : List Edit) → Chain at (map (gap_cut indent) gs) → AllClear text gs
+    → map edit_text edits ≡ map (edit_of indent (width_of unit) (chars text)) gs → AreSame unit text u (map (gap_cut indent) gs) (cuts_of (width_of unit) (chars text) edits)
 unfolding AllClear AreSame
 same_cuts unit text u indent at [] [] chain clear e = tt
 same_cuts unit text u indent at [] (x ∷ edits) chain clear e = absurd (cc)
@@ -134,7 +134,7 @@ same_cuts unit text u indent at (g ∷ gs) (x ∷ edits) chain clear e =
     let first = first_same e in
     let new : string_bytes x.text ≡ gap_text indent g.gap = ap (λ y. y.text) first in
     let made = same_cut unit text u g.start g.end (gap_text indent g.gap) (gap_utf8 indent g.gap) clear.0.start clear.0.end chain.1 clear.0.clear clear.0.clear_end x.range (ap (λ y. y.range.start) first) (ap (λ y. y.range.end) first) in
-    (subst (λ t. IsSameCut unit text u (cut_of indent g) (cut_at (width_of unit) (chars text) x.range (chars t))) (sym new) made, same_cuts unit text u indent g.end gs edits chain.2 clear.1 (rest_same e))
+    (subst (λ t. IsSameCut unit text u (gap_cut indent g) (cut_at (width_of unit) (chars text) x.range (chars t))) (sym new) made, same_cuts unit text u indent g.end gs edits chain.2 clear.1 (rest_same e))
 
 all_clear : (s : Scanned) (scan : IsScan s) (ss : List LineRole) → AllClear s.text (all_sites ss scan.lexemes)
 all_clear s scan ss =
@@ -154,11 +154,11 @@ gaps_patched unit indent s scan ss edits e =
     let made = patched_by_same unit s.text scan.utf8 _ _ (same_cuts unit s.text scan.utf8 indent 0 (changed_sites indent s.text (all_sites ss scan.lexemes)) edits chain clear e) chain in
     made.1 ∙ ap (λ t. Some (chars t)) (changed_made indent s scan ss)
 
-made_utf8 : (indent : Indent) (text : List ℕ) → IsUtf8 text → (at : ℕ) (gs : List GapSite) → IsCharBoundary text at → Chain at (map (cut_of indent) gs) → AllClear text gs → IsUtf8 (pieced text at (map (cut_of indent) gs))
+made_utf8 : (indent : Indent) (text : List ℕ) → IsUtf8 text → (at : ℕ) (gs : List GapSite) → IsCharBoundary text at → Chain at (map (gap_cut indent) gs) → AllClear text gs → IsUtf8 (pieced text at (map (gap_cut indent) gs))
 unfolding pieced AllClear
 made_utf8 indent text u at [] b chain clear = IsUtf8-drop text at u b
 made_utf8 indent text u at (g ∷ gs) b chain clear =
-    let rest = pieced text g.end (map (cut_of indent) gs) in
+    let rest = pieced text g.end (map (gap_cut indent) gs) in
     IsUtf8-append (take (g.start - at) (drop at text)) (gap_text indent g.gap ++ rest) (IsUtf8-between text at g.start u chain.0 b clear.0.start)
     (IsUtf8-append (gap_text indent g.gap) rest (gap_utf8 indent g.gap) (made_utf8 indent text u g.end gs clear.0.end chain.2 clear.1))
 

@@ -21,7 +21,7 @@ use Rattle.ob0_layout.specs.declared.line_role.LineRole.{LineRole}
 use Rattle.ob0_layout.specs.Layout.{PlacedLexeme, placed, next_line, next_role, has_break, comment_role, indentation, gap, gap_text, spaced, laid_after, laid}
 use Rattle.ob0_layout.specs.Sites.{sites, all_sites, is_changed, changed_sites, laid_len, LiesIn}
 use Rattle.ob0_layout.proofs.Ahead.{all_lie}
-use Rattle.ob0_layout.specs.Cuts.{cut_of, made_of}
+use Rattle.ob0_layout.specs.Cuts.{gap_cut, text_with_gaps}
 
 -- cuts one after another
 abbrev pub Chain : ℕ → List Cut → Type 0
@@ -68,13 +68,13 @@ solid_of a = record { kind = a.lexeme.kind; role = a.role }
 
 -- the gaps from a place on are in order
 chain_kind : (indent : Indent) (k : LexemeKind) (t : List ℕ) (ls : List Lexeme) (before : Option Solid) (level : ℕ) (broken : Bool) (ss : List LineRole) (from at : ℕ) → from ≤ at
-    → ((b : Option Solid) (k : ℕ) (br : Bool) (xs : List LineRole) (f : ℕ) → f ≤ at + length t → Chain f (map (cut_of indent) (sites b k br xs f (at + length t) ls)))
-    → Chain from (map (cut_of indent) (sites before level broken ss from at (record { kind = k; text = t } ∷ ls)))
+    → ((b : Option Solid) (k : ℕ) (br : Bool) (xs : List LineRole) (f : ℕ) → f ≤ at + length t → Chain f (map (gap_cut indent) (sites b k br xs f (at + length t) ls)))
+    → Chain from (map (gap_cut indent) (sites before level broken ss from at (record { kind = k; text = t } ∷ ls)))
 chain_kind indent lexeme.Space t ls before level broken ss from at up more = more before level (broken || has_break t) ss from (omega arith)
 chain_kind indent lexeme.Comment t ls before level broken ss from at up more = (omega arith, up, earlier at (at + length t) _ (omega arith) (more _ level false ss (at + length t) (omega arith)))
 chain_kind indent (lexeme.Token k) t ls before level broken ss from at up more = (omega arith, up, earlier at (at + length t) _ (omega arith) (more _ (next_line level ss) false (drop 1 ss) (at + length t) (omega arith)))
 
-pub chain_sites : (indent : Indent) (rest : List Lexeme) (at : ℕ) (before : Option Solid) (level : ℕ) (broken : Bool) (ss : List LineRole) (from : ℕ) → from ≤ at → Chain from (map (cut_of indent) (sites before level broken ss from at rest))
+pub chain_sites : (indent : Indent) (rest : List Lexeme) (at : ℕ) (before : Option Solid) (level : ℕ) (broken : Bool) (ss : List LineRole) (from : ℕ) → from ≤ at → Chain from (map (gap_cut indent) (sites before level broken ss from at rest))
 chain_sites indent [] at before level broken ss from up = (omega arith, up, tt)
 chain_sites indent (l ∷ ls) at before level broken ss from up = chain_kind indent l.kind l.text ls before level broken ss from at up (chain_sites indent ls (at + length l.text))
 
@@ -89,14 +89,14 @@ module _ (indent : Indent) (text : List ℕ) where
   abbrev Laid : ℕ → List Lexeme → Type 0
   Laid at rest =
       (a : PlacedLexeme) (level : ℕ) (broken : Bool) (ss : List LineRole) (from : ℕ) → from ≤ at
-      → pieced text from (map (cut_of indent) (sites (Some (solid_of a)) level broken ss from at rest)) ≡ joined (laid_after indent a (placed level broken ss rest))
+      → pieced text from (map (gap_cut indent) (sites (Some (solid_of a)) level broken ss from at rest)) ≡ joined (laid_after indent a (placed level broken ss rest))
 
   laid_solid : (at : ℕ) (t : List ℕ) (ls : List Lexeme) → drop at text ≡ t ++ joined ls → Laid (at + length t) ls
       → (a b : PlacedLexeme) (level : ℕ) (ss : List LineRole) (from : ℕ) → b.lexeme.text ≡ t
-      → pieced text from (record { from = from; to = at; new = gap indent a b } ∷ map (cut_of indent) (sites (Some (solid_of b)) level false ss (at + length t) (at + length t) ls))
+      → pieced text from (record { from = from; to = at; new = gap indent a b } ∷ map (gap_cut indent) (sites (Some (solid_of b)) level false ss (at + length t) (at + length t) ls))
       ≡ joined (laid_after indent a (b ∷ placed level false ss ls))
   laid_solid at t ls here more a b level ss from is =
-      let cs = map (cut_of indent) (sites (Some (solid_of b)) level false ss (at + length t) (at + length t) ls) in
+      let cs = map (gap_cut indent) (sites (Some (solid_of b)) level false ss (at + length t) (at + length t) ls) in
       pieced_here text from at (gap indent a b) cs
       ∙ ap (λ xs. gap indent a b ++ xs)
       (over_text at t ls cs here (chain_sites indent ls (at + length t) (Some (solid_of b)) level false ss (at + length t) (omega arith))
@@ -121,14 +121,14 @@ module _ (indent : Indent) (text : List ℕ) where
 
   abbrev FirstLaid : ℕ → List Lexeme → Type 0
   FirstLaid at rest =
-      (level : ℕ) (broken : Bool) (ss : List LineRole) (from : ℕ) → from ≤ at → pieced text from (map (cut_of indent) (sites None level broken ss from at rest)) ≡ joined (laid indent (placed level broken ss rest))
+      (level : ℕ) (broken : Bool) (ss : List LineRole) (from : ℕ) → from ≤ at → pieced text from (map (gap_cut indent) (sites None level broken ss from at rest)) ≡ joined (laid indent (placed level broken ss rest))
 
   first_solid : (at : ℕ) (t : List ℕ) (ls : List Lexeme) → drop at text ≡ t ++ joined ls → Laid (at + length t) ls
       → (b : PlacedLexeme) (level : ℕ) (ss : List LineRole) (from : ℕ) → b.lexeme.text ≡ t
-      → pieced text from (record { from = from; to = at; new = [] } ∷ map (cut_of indent) (sites (Some (solid_of b)) level false ss (at + length t) (at + length t) ls))
+      → pieced text from (record { from = from; to = at; new = [] } ∷ map (gap_cut indent) (sites (Some (solid_of b)) level false ss (at + length t) (at + length t) ls))
       ≡ joined (laid indent (b ∷ placed level false ss ls))
   first_solid at t ls here more b level ss from is =
-      let cs = map (cut_of indent) (sites (Some (solid_of b)) level false ss (at + length t) (at + length t) ls) in
+      let cs = map (gap_cut indent) (sites (Some (solid_of b)) level false ss (at + length t) (at + length t) ls) in
       pieced_here text from at [] cs
       ∙ over_text at t ls cs here (chain_sites indent ls (at + length t) (Some (solid_of b)) level false ss (at + length t) (omega arith))
       ∙ ap₂ (λ xs ys. xs ++ ys) (sym is) (more b level false ss (at + length t) (omega arith))
@@ -147,56 +147,56 @@ module _ (indent : Indent) (text : List ℕ) where
       let s' = next_from text at l ls [] s in
       first_kind l.kind at l.text ls (s.rest ∙ append-nil (l.text ++ joined ls)) (laid_from ls (at + length l.text) s') (first_laid ls (at + length l.text) s')
 
-  pub chain_changed : (at : ℕ) (gs : List GapSite) → Chain at (map (cut_of indent) gs) → Chain at (map (cut_of indent) (changed_sites indent text gs))
+  pub chain_changed : (at : ℕ) (gs : List GapSite) → Chain at (map (gap_cut indent) gs) → Chain at (map (gap_cut indent) (changed_sites indent text gs))
   chain_changed at [] chain = tt
-  chain_changed at (g ∷ gs) chain = elim (is_changed indent text g) as (λ b. Chain at (map (cut_of indent) (cond b (g ∷ changed_sites indent text gs) (changed_sites indent text gs)))) [
+  chain_changed at (g ∷ gs) chain = elim (is_changed indent text g) as (λ b. Chain at (map (gap_cut indent) (cond b (g ∷ changed_sites indent text gs) (changed_sites indent text gs)))) [
     | true ↦ (chain.0, chain.1, chain_changed g.end gs chain.2)
-    | false ↦ earlier at g.end (map (cut_of indent) (changed_sites indent text gs)) (omega (arith, chain.0, chain.1)) (chain_changed g.end gs chain.2)
+    | false ↦ earlier at g.end (map (gap_cut indent) (changed_sites indent text gs)) (omega (arith, chain.0, chain.1)) (chain_changed g.end gs chain.2)
   ]
 
   -- gaps that stay may be left out
-  kept_or_changed : (at : ℕ) (gs : List GapSite) → Chain at (map (cut_of indent) gs) → pieced text at (map (cut_of indent) (changed_sites indent text gs)) ≡ pieced text at (map (cut_of indent) gs)
+  kept_or_changed : (at : ℕ) (gs : List GapSite) → Chain at (map (gap_cut indent) gs) → pieced text at (map (gap_cut indent) (changed_sites indent text gs)) ≡ pieced text at (map (gap_cut indent) gs)
   unfolding pieced
   kept_or_changed at [] chain = refl
   kept_or_changed at (g ∷ gs) chain = by_test (bytes_eq (slice_range text g.start g.end) (gap_text indent g.gap)) refl (kept_or_changed g.end gs chain.2)
     where
-      by_test : (b : Bool) → bytes_eq (slice_range text g.start g.end) (gap_text indent g.gap) ≡ b → pieced text g.end (map (cut_of indent) (changed_sites indent text gs)) ≡ pieced text g.end (map (cut_of indent) gs)
-          → pieced text at (map (cut_of indent) (changed_sites indent text (g ∷ gs))) ≡ pieced text at (map (cut_of indent) (g ∷ gs))
+      by_test : (b : Bool) → bytes_eq (slice_range text g.start g.end) (gap_text indent g.gap) ≡ b → pieced text g.end (map (gap_cut indent) (changed_sites indent text gs)) ≡ pieced text g.end (map (gap_cut indent) gs)
+          → pieced text at (map (gap_cut indent) (changed_sites indent text (g ∷ gs))) ≡ pieced text at (map (gap_cut indent) (g ∷ gs))
       by_test true e more =
           let stays : slice_range text g.start g.end ≡ gap_text indent g.gap = (bytes_eq-Decides (slice_range text g.start g.end) (gap_text indent g.gap)).0 e in
-          let rest = pieced text g.end (map (cut_of indent) gs) in
-          ap (λ b. pieced text at (map (cut_of indent) (cond (not b) (g ∷ changed_sites indent text gs) (changed_sites indent text gs)))) e
-          ∙ pieced_later text at g.end (map (cut_of indent) (changed_sites indent text gs)) (omega (arith, chain.0, chain.1)) (chain_changed g.end gs chain.2)
+          let rest = pieced text g.end (map (gap_cut indent) gs) in
+          ap (λ b. pieced text at (map (gap_cut indent) (cond (not b) (g ∷ changed_sites indent text gs) (changed_sites indent text gs)))) e
+          ∙ pieced_later text at g.end (map (gap_cut indent) (changed_sites indent text gs)) (omega (arith, chain.0, chain.1)) (chain_changed g.end gs chain.2)
           ∙ ap (λ xs. take (g.end - at) (drop at text) ++ xs) more
           ∙ ap (λ xs. xs ++ rest) (two_parts text at g.start g.end chain.0 chain.1)
           ∙ append_assoc (take (g.start - at) (drop at text)) (slice_range text g.start g.end) rest
           ∙ ap (λ xs. take (g.start - at) (drop at text) ++ (xs ++ rest)) stays
       by_test false e more =
-          ap (λ b. pieced text at (map (cut_of indent) (cond (not b) (g ∷ changed_sites indent text gs) (changed_sites indent text gs)))) e
+          ap (λ b. pieced text at (map (gap_cut indent) (cond (not b) (g ∷ changed_sites indent text gs) (changed_sites indent text gs)))) e
           ∙ ap (λ xs. take (g.start - at) (drop at text) ++ (gap_text indent g.gap ++ xs)) more
 
-pub made_length : (indent : Indent) (text : List ℕ) (at : ℕ) (gs : List GapSite) → Chain at (map (cut_of indent) gs) → All (LiesIn (length text)) gs → length (pieced text at (map (cut_of indent) gs)) ≡ laid_len indent (length text) at gs
+pub made_length : (indent : Indent) (text : List ℕ) (at : ℕ) (gs : List GapSite) → Chain at (map (gap_cut indent) gs) → All (LiesIn (length text)) gs → length (pieced text at (map (gap_cut indent) gs)) ≡ laid_len indent (length text) at gs
 unfolding pieced
 made_length indent text at [] chain all = length-drop at text
 made_length indent text at (g ∷ gs) chain all =
     let lies : LiesIn (length text) g = All-get_or (LiesIn (length text)) (g ∷ gs) 0 g (omega arith) all in
     let kept : length (take (g.start - at) (drop at text)) ≡ g.start - at = length-take-le (g.start - at) (drop at text) (omega (arith, length-drop at text, lies.ordered, lies.within, chain.0)) in
     let more = made_length indent text g.end gs chain.2 (All-tail (LiesIn (length text)) g gs all) in
-    length-append (take (g.start - at) (drop at text)) (gap_text indent g.gap ++ pieced text g.end (map (cut_of indent) gs))
-    ∙ ap₂ (λ a b. a + b) kept (length-append (gap_text indent g.gap) (pieced text g.end (map (cut_of indent) gs)) ∙ ap (λ n. length (gap_text indent g.gap) + n) more)
+    length-append (take (g.start - at) (drop at text)) (gap_text indent g.gap ++ pieced text g.end (map (gap_cut indent) gs))
+    ∙ ap₂ (λ a b. a + b) kept (length-append (gap_text indent g.gap) (pieced text g.end (map (gap_cut indent) gs)) ∙ ap (λ n. length (gap_text indent g.gap) + n) more)
 
 -- the gaps of a scanned text
 module _ (indent : Indent) (s : Scanned) (scan : IsScan s) (ss : List LineRole) where
   from_start : StandFrom s.text 0 scan.lexemes []
   from_start = record { utf8 = scan.utf8; place = IsCharBoundary-start s.text scan.utf8; each = scan.lexed.each; rest = sym (append-nil (joined scan.lexemes) ∙ scan.lexed.whole) }
 
-  pub all_chain : Chain 0 (map (cut_of indent) (all_sites ss scan.lexemes))
+  pub all_chain : Chain 0 (map (gap_cut indent) (all_sites ss scan.lexemes))
   all_chain = chain_sites indent scan.lexemes 0 None 0 true ss 0 (omega arith)
 
-  pub all_made : made_of indent s.text (all_sites ss scan.lexemes) ≡ joined (laid indent (placed 0 true ss scan.lexemes))
+  pub all_made : text_with_gaps indent s.text (all_sites ss scan.lexemes) ≡ joined (laid indent (placed 0 true ss scan.lexemes))
   all_made = first_laid indent s.text scan.lexemes 0 from_start 0 true ss 0 (omega arith)
 
-  pub changed_made : made_of indent s.text (changed_sites indent s.text (all_sites ss scan.lexemes)) ≡ joined (laid indent (placed 0 true ss scan.lexemes))
+  pub changed_made : text_with_gaps indent s.text (changed_sites indent s.text (all_sites ss scan.lexemes)) ≡ joined (laid indent (placed 0 true ss scan.lexemes))
   changed_made = kept_or_changed indent s.text 0 (all_sites ss scan.lexemes) all_chain ∙ all_made
 
   pub all_length : laid_len indent (length s.text) 0 (all_sites ss scan.lexemes) ≡ length (joined (laid indent (placed 0 true ss scan.lexemes)))

@@ -7,12 +7,12 @@ use Rattle.ob0_layout.specs.declared.sites.GapSite.{GapSite}
 use Rattle.ob0_layout.specs.Layout.{gap_text}
 
 -- a gap is taken out, and what is to be there is put in its place
-abbrev pub cut_of : Indent → GapSite → Cut
-cut_of indent g = record { from = g.start; to = g.end; new = gap_text indent g.gap }
+abbrev pub gap_cut : Indent → GapSite → Cut
+gap_cut indent g = record { from = g.start; to = g.end; new = gap_text indent g.gap }
 
 -- what these gaps make of a text's bytes
-abbrev pub made_of : Indent → List ℕ → List GapSite → List ℕ
-made_of indent text gs = pieced text 0 (map (cut_of indent) gs)
+abbrev pub text_with_gaps : Indent → List ℕ → List GapSite → List ℕ
+text_with_gaps indent text gs = pieced text 0 (map (gap_cut indent) gs)
 
 -- each of these bytes is this one
 abbrev pub all_are : ℕ → List ℕ → Bool

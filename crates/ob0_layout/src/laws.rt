@@ -9,7 +9,7 @@ ghost use Rattle.ob0_scan.specs.Scanned.{Scanned, IsScan};
 ghost use Rattle.ob0_text.specs.declared.edits.Indent.{Indent};
 ghost use Rattle.ob0_tree.specs.Tree.{Tree, module_text};
 ghost use Rattle.ob0_tree.specs.Module.{ModuleOf};
-ghost use Rattle.ob0_layout.specs.Cuts.{made_of};
+ghost use Rattle.ob0_layout.specs.Cuts.{text_with_gaps};
 ghost use Rattle.ob0_layout.specs.declared.gap.Gap.{Gap};
 ghost use Rattle.ob0_layout.specs.Layout.{gap_text, solid, laid_out, layout};
 ghost use Rattle.ob0_layout.specs.Sites.{IsWhite, all_sites, changed_sites, laid_len};
@@ -51,7 +51,7 @@ pub fn gaps_make_the_layout()
         → IsUtf8 (layout indent tree scan.lexemes) }
     ensures made { (indent : Indent) (s : Scanned) (scan : IsScan s)
         (tree : Tree (List ℕ) module_text)
-        → made_of indent s.text
+        → text_with_gaps indent s.text
         (changed_sites indent s.text (all_sites (line_roles 0 tree) scan.lexemes))
         ≡ layout indent tree scan.lexemes }
     ensures length { (indent : Indent) (s : Scanned) (scan : IsScan s)

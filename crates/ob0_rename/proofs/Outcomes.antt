@@ -24,7 +24,7 @@ use Rattle.ob0_scope.specs.declared.capturing.FirstCapture.TheVariants as report
 use Rattle.ob0_analysis.specs.CheckedModules.{IsWellTyped}
 use Rattle.ob0_types_rules.specs.WellTyped.{WellTyped}
 use Rattle.ob0_run_rules.specs.EditLaws.{FreeKeepsModules, SameRuns}
-use Rattle.ob0_edits.specs.Changed.{at_each, changed, words_of}
+use Rattle.ob0_edits.specs.Changed.{at_each, changed_words, words_of}
 use Rattle.ob0_edits.specs.OfTrees.{RenamedWordsSpell}
 use Rattle.ob0_edits.specs.Replaced.{AreNames, LeavesWords, ReplacesName, edit_at, parts, with_text_at}
 use Rattle.ob0_edits.specs.Written.{name_word}
@@ -43,7 +43,7 @@ use Rattle.ob0_rename.proofs.Told.{occurrence_stands}
 pub record Edited (unit : counting.Unit) (text : List ℕ) (new : Name) (s : Scanned) (places : List ℕ) (result : Result (Vec Edit Global) EditRefusal) : Type 0 where
   pub edits : IfOk result (λ edits. map parts edits.items ≡ map (edit_at unit text s.tokens new) places)
   pub short : IfOk result (λ edits. length (with_text_at s places new) ≤ max_text)
-  pub leaves : (ws : List Word) → ReplacesName new ws → IfOk result (λ edits. LeavesWords unit text edits.items (changed (at_each places ws) 0 (words_of s)))
+  pub leaves : (ws : List Word) → ReplacesName new ws → IfOk result (λ edits. LeavesWords unit text edits.items (changed_words (at_each places ws) 0 (words_of s)))
   pub too_long : IsErrOf result refusal.TooLong → max_text < length (with_text_at s places new)
   pub refusals : IfErr result (λ why. (why ≡ refusal.TooLong) ⊎ (why ≡ refusal.Memory))
 
@@ -79,7 +79,7 @@ module _ (unit : counting.Unit) (text : List ℕ) (place : Position) (new : Name
 
   -- edits at places leave a text of a tree that the new name makes there, where that tree is well-typed and runs as the module
   pub written : (r : Resolution) (tree : Tree Name module_text) (places : List ℕ) → IsIdentifier new → ((name : List ℕ) → IsIdentifier name → ReplacesName name (name_word name ∷ []))
-      → ((after : Scanned) → IsScan after → words_of after ≡ changed (at_each places (name_word new ∷ [])) 0 (words_of r.module_read.source) → ModuleOf after tree)
+      → ((after : Scanned) → IsScan after → words_of after ≡ changed_words (at_each places (name_word new ∷ [])) 0 (words_of r.module_read.source) → ModuleOf after tree)
       → WellTyped tree × SameRuns tree (named_tree_of r.module_read)
       → (edits : Vec Edit Global) → Edited unit text new r.module_read.source places (Ok edits) → WritesName (requested r) places tree edits.items
   written r tree places id stand leaves kept edits made =

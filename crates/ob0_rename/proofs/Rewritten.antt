@@ -13,8 +13,8 @@ use Rattle.ob0_tree.specs.Tree.{Tree, mapped, module_text, nesting, spell}
 use Rattle.ob0_scope_rules.specs.DeclaredOnce.{declared_once}
 use Rattle.ob0_scope_rules.specs.Names.{Name}
 use Rattle.ob0_scope_rules.specs.Scopes.{renamed}
-use Rattle.ob0_edits.specs.Changed.{at_each, changed, words_of}
-use Rattle.ob0_edits.specs.OfTrees.{RenamedWordsSpell, number_at, placed, renamed_at, text_at}
+use Rattle.ob0_edits.specs.Changed.{at_each, changed_words, words_of}
+use Rattle.ob0_edits.specs.OfTrees.{RenamedWordsSpell, number_at, numbered_tokens, renamed_at, text_of_word}
 use Rattle.ob0_edits.specs.Replaced.{AreNames}
 use Rattle.ob0_edits.specs.Words.{word_lexeme}
 use Rattle.ob0_edits.specs.Written.{name_word}
@@ -26,10 +26,10 @@ use Rattle.ob0_rename.proofs.Owned.{own_module}
 
 -- words by their numbers, and tokens by theirs
 
-pub text_same : (s : Scanned) (k : ℕ) → text_at (words_of s) k ≡ place.text_at s k
+pub text_same : (s : Scanned) (k : ℕ) → text_of_word (words_of s) k ≡ place.text_at s k
 text_same s k = of_list s.tokens k
   where
-    of_list : (ts : List Token) (k : ℕ) → text_at (map (read_in s.text) ts) k ≡ place.text_in s.text (slice_get ts k)
+    of_list : (ts : List Token) (k : ℕ) → text_of_word (map (read_in s.text) ts) k ≡ place.text_in s.text (slice_get ts k)
     of_list [] k = refl
     of_list (t ∷ ts) zero = refl
     of_list (t ∷ ts) (suc k) = of_list ts k
@@ -42,13 +42,13 @@ number_same s k = of_list s.tokens k
     of_list (t ∷ ts) zero = refl
     of_list (t ∷ ts) (suc k) = of_list ts k
 
-placed_from : (text : List ℕ) (k : ℕ) (ts : List Token) → placed k (map (read_in text) ts) ++ (EndOfText ∷ []) ≡ place.lexemes_from k ts
+placed_from : (text : List ℕ) (k : ℕ) (ts : List Token) → numbered_tokens k (map (read_in text) ts) ++ (EndOfText ∷ []) ≡ place.lexemes_from k ts
 placed_from text k [] = refl
 placed_from text k (t ∷ ts) =
     ap (λ xs. place.lexeme_of k t.kind ∷ xs) (placed_from text (suc k) ts ∙ ap (λ n. place.lexemes_from n ts) (omega arith))
 
-spelled_places : (m : Parsed) → IsParsed m → spell (tree_of m) ≡ placed 0 (words_of m.source)
-spelled_places m is = append_cancel_right (spell (tree_of m)) (placed 0 (words_of m.source)) (EndOfText ∷ []) (is.places ∙ sym (placed_from m.source.text 0 m.source.tokens))
+spelled_places : (m : Parsed) → IsParsed m → spell (tree_of m) ≡ numbered_tokens 0 (words_of m.source)
+spelled_places m is = append_cancel_right (spell (tree_of m)) (numbered_tokens 0 (words_of m.source)) (EndOfText ∷ []) (is.places ∙ sym (placed_from m.source.text 0 m.source.tokens))
 
 lexemes_same : (text : List ℕ) (ts : List Token) → map (token_lexeme text) ts ≡ map word_lexeme (map (read_in text) ts)
 lexemes_same text [] = refl
@@ -74,7 +74,7 @@ renamed_module m d new once there = renamed_there m d new (is_declared_as m d ne
 -- where a text has the words of a module with a new name at some places, it is a text of the tree that has that name there
 pub of_rewritten : (m : Parsed) (t : Tree Name module_text) (places : List ℕ) (new : Name) → IsParsed m → RenamedWordsSpell → AreNames m.source.tokens 0 places
     → mapped (renamed_at (words_of m.source) places new) (number_at (words_of m.source)) (tree_of m) ≡ t
-    → (after : Scanned) → IsScan after → words_of after ≡ changed (at_each places (name_word new ∷ [])) 0 (words_of m.source) → ModuleOf after t
+    → (after : Scanned) → IsScan after → words_of after ≡ changed_words (at_each places (name_word new ∷ [])) 0 (words_of m.source) → ModuleOf after t
 of_rewritten m t places new is spells names there after scan words =
     record {
       spelled =
@@ -90,7 +90,7 @@ of_rewritten m t places new is spells names there after scan words =
 
 pub of_renamed : (m : Parsed) (d : ℕ) (new : Name) → IsParsed m → declared_once (named_tree_of m) ≡ true → RenamedWordsSpell → IsRenamedAt m d (tokens_bound m d true)
     → AreNames m.source.tokens 0 (tokens_to_rename m d new)
-    → (after : Scanned) → IsScan after → words_of after ≡ changed (at_each (tokens_to_rename m d new) (name_word new ∷ [])) 0 (words_of m.source)
+    → (after : Scanned) → IsScan after → words_of after ≡ changed_words (at_each (tokens_to_rename m d new) (name_word new ∷ [])) 0 (words_of m.source)
     → ModuleOf after (renamed (named_tree_of m) d new)
 of_renamed m d new is once spells there names =
     of_rewritten m (renamed (named_tree_of m) d new) (tokens_to_rename m d new) new is spells names (renamed_module m d new once there)

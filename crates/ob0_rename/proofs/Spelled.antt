@@ -21,7 +21,7 @@ use Rattle.ob0_tree.specs.declared.tree.Role.TheVariants as role
 use Rattle.ob0_scope_rules.specs.Names.{Name}
 use Rattle.ob0_scope_rules.specs.Resolution.{declaring_only}
 use Rattle.ob0_edits.specs.Changed.{words_of}
-use Rattle.ob0_edits.specs.OfTrees.{text_at, word_at}
+use Rattle.ob0_edits.specs.OfTrees.{text_of_word, word_at}
 use Rattle.ob0_edits.specs.Replaced as edit
 use Rattle.ob0_rename.specs.Renaming.{is_declared_as}
 use Rattle.ob0_rename.proofs.Owned.{IsDeclaredBy, declared_by, declaring_tokens}
@@ -42,15 +42,15 @@ words_named (l ∷ ls) after are = one l.kind are.0.belongs (words_named ls afte
     one lexeme.Comment belongs later = later
     one (lexeme.Token kind) belongs later = ((λ e. subst (λ k. Belongs (lexeme.Token k) l.text) e belongs), later)
 
-named_word : (ws : List Word) (k : ℕ) → EachNamed ws → k < length ws → (word_at ws k).kind ≡ token.Identifier → IsIdentifier (text_at ws k)
+named_word : (ws : List Word) (k : ℕ) → EachNamed ws → k < length ws → (word_at ws k).kind ≡ token.Identifier → IsIdentifier (text_of_word ws k)
 named_word [] k each low e = absurd (omega (arith, low))
 named_word (w ∷ ws) zero each low e = each.0 e
 named_word (w ∷ ws) (suc k) each low e = named_word ws k each.1 (omega (arith, low)) e
 
-word_kind : (s : Scanned) (k : ℕ) → (word_at (words_of s) k).kind ≡ (edit.token_at s.tokens k).kind
+word_kind : (s : Scanned) (k : ℕ) → (word_at (words_of s) k).kind ≡ (edit.token_or_empty s.tokens k).kind
 word_kind s k = of_list s.tokens k
   where
-    of_list : (ts : List Token) (k : ℕ) → (word_at (map (read_in s.text) ts) k).kind ≡ (edit.token_at ts k).kind
+    of_list : (ts : List Token) (k : ℕ) → (word_at (map (read_in s.text) ts) k).kind ≡ (edit.token_or_empty ts k).kind
     of_list [] k = refl
     of_list (t ∷ ts) zero = refl
     of_list (t ∷ ts) (suc k) = of_list ts k

@@ -19,7 +19,7 @@ use Rattle.ob0_types_rules.specs.WellTyped.{WellTyped}
 use Rattle.ob0_run_rules.specs.EditLaws.{SameRuns}
 use Rattle.ob0_edits.specs.Replaced.{edit_at, parts}
 use Rattle.ob0_types_fields.specs.Renaming.{FieldFree, field_renamed, is_duplicate_field}
-use Rattle.ob0_rename.specs.Renaming.{NamesDeclaration, MeansField, Renaming, field_tokens_to_rename, is_declared_as, meant, module_of, nothing, occurrence_range, other_field_range, other_range, predeclared, text_with, tokens_to_rename, tree_of}
+use Rattle.ob0_rename.specs.Renaming.{NamesDeclaration, MeansField, Renaming, field_tokens_to_rename, is_declared_as, meant, module_of, nothing, occurrence_range, other_field_range, other_range, predeclared, text_with, tokens_to_rename, named_tree}
 
 -- The edits write the new name at these tokens, and nothing else. Made at once they leave a text of this tree, which is
 -- well-typed and has the same runs.
@@ -33,15 +33,15 @@ pub record WritesName (r : Renaming) (tokens : List ℕ) (tree : Tree Name modul
   pub made : patched (width_of r.unit) r.text edits ≡ Some (chars after.text)
   pub of_module : ModuleOf after tree
   pub well_typed : WellTyped tree
-  pub same_runs : SameRuns tree (tree_of r)
+  pub same_runs : SameRuns tree (named_tree r)
 
 -- ---- for a declaration
 
 -- The edits write the new name for the declaration d at the places of its name, and leave the renamed module.
 pub record Renames (r : Renaming) (d : ℕ) (edits : List Edit) : Type 0 where
   pub identifier : IsIdentifier r.new
-  pub free : Free (tree_of r) d r.new
-  pub writes : WritesName r (tokens_to_rename (module_of r) d r.new) (renamed (tree_of r) d r.new)
+  pub free : Free (named_tree r) d r.new
+  pub writes : WritesName r (tokens_to_rename (module_of r) d r.new) (renamed (named_tree r) d r.new)
       edits
 
 -- Why the new name is refused to the declaration d: of several reasons the first in this order.
@@ -51,16 +51,16 @@ IsRefusedTo r d refusal.Predeclared = ⊥
 IsRefusedTo r d refusal.BadName = ¬ IsIdentifier r.new
 IsRefusedTo r d (refusal.Duplicate range) =
     IsIdentifier r.new
-    × (first_captured (tree_of r) d r.new ≡ Some at_declaration)
+    × (first_captured (named_tree r) d r.new ≡ Some at_declaration)
     × (other_range r d ≡ Some range)
 IsRefusedTo r d (refusal.Captures range) =
     IsIdentifier r.new
     × ((k : ℕ)
-    × (first_captured (tree_of r) d r.new ≡ Some (at_occurrence k))
+    × (first_captured (named_tree r) d r.new ≡ Some (at_occurrence k))
     × (occurrence_range r k ≡ Some range))
 IsRefusedTo r d refusal.TooLong =
     IsIdentifier r.new
-    × Free (tree_of r) d r.new
+    × Free (named_tree r) d r.new
     × (max_text < length (text_with r (tokens_to_rename (module_of r) d r.new)))
 IsRefusedTo r d refusal.TooDeep = ⊥
 IsRefusedTo r d refusal.Shadowed = ⊥
@@ -78,9 +78,9 @@ AnswersDeclaration r d (Err why) = (why ≡ refusal.Memory) ⊎ IsRefusedTo r d 
 -- the module with that field renamed.
 pub record RenamesField (r : Renaming) (k : ℕ) (f : Name) (edits : List Edit) : Type 0 where
   pub identifier : IsIdentifier r.new
-  pub free : FieldFree (tree_of r) k f r.new
+  pub free : FieldFree (named_tree r) k f r.new
   pub writes : WritesName r (field_tokens_to_rename r.names k f r.new)
-      (field_renamed (tree_of r) k f r.new) edits
+      (field_renamed (named_tree r) k f r.new) edits
 
 -- Why the new name is refused to the field. Only another field of its record conflicts with it.
 abbrev pub IsRefusedToField : Renaming → ℕ → Name → EditRefusal → Type 0
@@ -89,12 +89,12 @@ IsRefusedToField r k f refusal.Predeclared = ⊥
 IsRefusedToField r k f refusal.BadName = ¬ IsIdentifier r.new
 IsRefusedToField r k f (refusal.Duplicate range) =
     IsIdentifier r.new
-    × (is_duplicate_field (tree_of r) k f r.new ≡ true)
+    × (is_duplicate_field (named_tree r) k f r.new ≡ true)
     × (other_field_range r k ≡ Some range)
 IsRefusedToField r k f (refusal.Captures range) = ⊥
 IsRefusedToField r k f refusal.TooLong =
     IsIdentifier r.new
-    × FieldFree (tree_of r) k f r.new
+    × FieldFree (named_tree r) k f r.new
     × (max_text < length (text_with r (field_tokens_to_rename r.names k f r.new)))
 IsRefusedToField r k f refusal.TooDeep = ⊥
 IsRefusedToField r k f refusal.Shadowed = ⊥

@@ -34,8 +34,8 @@ abbrev pub module_of : Renaming → read.Parsed
 module_of r = r.names.module_read
 
 -- its tree over names
-abbrev pub tree_of : Renaming → Tree Name module_text
-tree_of r = read.named_tree_of (module_of r)
+abbrev pub named_tree : Renaming → Tree Name module_text
+named_tree r = read.named_tree_of (module_of r)
 
 -- ---- what is named at a place
 
@@ -114,7 +114,7 @@ token_range r token = range_of (width_of r.unit) r.text (span_at (module_of r).s
 abbrev pub other_range : Renaming → ℕ → Option Range
 other_range r d =
     option_map (token_range r)
-    (option_and_then (declaring_token (module_of r)) (namesake (tree_of r) d r.new))
+    (option_and_then (declaring_token (module_of r)) (namesake (named_tree r) d r.new))
 
 -- the range of the identifier that declares the field of the record k that has the new name
 abbrev pub other_field_range : Renaming → ℕ → Option Range

@@ -1,7 +1,7 @@
 use Rattle.std.proofs.Common.{◌≡◌, ◌+◌, ◌++◌, ◌≤◌, ◌∙◌, map, length, subst, sym, ap, arith}
 use Rattle.std.proofs.lemmas.Bool.{ltb-false}
 use Rattle.ob0_scan.specs.Scanned.{max_text}
-use Rattle.ob0_edits.specs.Changed.{words_of, changed, at_each}
+use Rattle.ob0_edits.specs.Changed.{words_of, changed_words, at_each}
 use Rattle.ob0_edits.specs.Replaced.{parts, edit_at, with_text_at, LeavesWords}
 use Rattle.ob0_edits.proofs.Lengths.{chain_at}
 use Rattle.ob0_edits.proofs.Made.{leaves_words}
@@ -22,4 +22,4 @@ returns-clause-words g c =
     λ ws replaces.
     let made = leaves_words unit s c.text-text.ensures.scan c.args.new.now ws replaces c.utf8.new c.args.places.now c.requires.names c.add_edits.new.edits.items
     (subst (λ t. map parts c.add_edits.new.edits.items ≡ map (edit_at unit t s.tokens c.args.new.now) c.args.places.now) c.requires.content all) short in
-    subst (λ t. LeavesWords unit t c.add_edits.new.edits.items (changed (at_each c.args.places.now ws) 0 (words_of s))) (sym c.requires.content) made
+    subst (λ t. LeavesWords unit t c.add_edits.new.edits.items (changed_words (at_each c.args.places.now ws) 0 (words_of s))) (sym c.requires.content) made

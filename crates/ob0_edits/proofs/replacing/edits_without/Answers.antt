@@ -3,11 +3,11 @@ use Rattle.std.proofs.lemmas.Bool.{ltb-false, ltb-true}
 use Rattle.ob0_scan.specs.Scanned.{max_text}
 use Rattle.ob0_scan.specs.declared.lexeme.Token.{Token}
 use Rattle.ob0_text.specs.Patches.{pieced}
-use Rattle.ob0_edits.specs.Changed.{words_of, changed, at_each}
+use Rattle.ob0_edits.specs.Changed.{words_of, changed_words, at_each}
 use Rattle.ob0_edits.specs.Replaced.{span_at, cut_of, AreInOrder, parts, edit_at, LeavesWords}
 use Rattle.ob0_text.specs.Units.{width_of}
 use Rattle.ob0_edits.specs.Ranges.{range_of}
-use Rattle.ob0_edits.specs.Removed.{without, span_over, without_text}
+use Rattle.ob0_edits.specs.Removed.{without_words, span_over, without_text}
 use Rattle.ob0_edits.proofs.Lengths.{chain_without, length_without, end_inside}
 use Rattle.ob0_edits.proofs.MadeWithout.{lower, leaves_words_without}
 use Rattle.ob0_edits.proofs.replacing.edits_without.Goals as goal
@@ -70,4 +70,4 @@ returns-clause-words g c =
     λ ws replaces.
     let made = leaves_words_without unit s c.text-text.ensures.scan c.args.new.now ws replaces c.utf8.new c.args.first c.args.last c.requires.declaration c.args.places.now c.requires.names c.add_edits.new.edits.items
     (subst (λ t. map parts c.add_edits.new.edits.items ≡ (range_of (width_of unit) t (span_over s.tokens c.args.first c.args.last), []) ∷ map (edit_at unit t s.tokens c.args.new.now) c.args.places.now) c.requires.content all) short in
-    subst (λ t. LeavesWords unit t c.add_edits.new.edits.items (changed (without c.args.first c.args.last (at_each c.args.places.now ws)) 0 (words_of s))) (sym c.requires.content) made
+    subst (λ t. LeavesWords unit t c.add_edits.new.edits.items (changed_words (without_words c.args.first c.args.last (at_each c.args.places.now ws)) 0 (words_of s))) (sym c.requires.content) made

@@ -4,8 +4,8 @@ use Rattle.ob0_scan.specs.Scanned.{Scanned, Word}
 use Rattle.ob0_text.specs.declared.edits.Edit.{Edit}
 use Rattle.ob0_tree.specs.Parsed.{Parsed, tree_of}
 use Rattle.ob0_tree.specs.Tree.{nesting}
-use Rattle.ob0_edits.specs.Changed.{at_each, changed, words_of}
-use Rattle.ob0_edits.specs.Removed.{IsDeclaration, without}
+use Rattle.ob0_edits.specs.Changed.{at_each, changed_words, words_of}
+use Rattle.ob0_edits.specs.Removed.{IsDeclaration, without_words}
 use Rattle.ob0_edits.specs.Replaced.{AreNames, LeavesWords, ReplacesName}
 use Rattle.ob0_inline.specs.Everywhere.{inlined_all, uses_of}
 use Rattle.ob0_inline.specs.Values.{value_words}
@@ -34,13 +34,13 @@ returns-then-branch-clause-too_deep g c = λ alone _.
     let unit = g.T.TextStore.unit_of c.args.store.now in
     let content = g.T.TextStore.content c.args.store.now in
     let items = c.in_ok-edits.edits.items in
-    let ws : List Word = changed (without k.first k.last (at_each (uses_of m k.ordinal) vs)) 0 (words_of m.source) in
+    let ws : List Word = changed_words (without_words k.first k.last (at_each (uses_of m k.ordinal) vs)) 0 (words_of m.source) in
     let spelled = left_spelled c.args.names.now c.module-read.ensures.resolved k c.requires.is_constant alone in
     let stands = subst (λ n. ReplacesName n vs) (sym (c.deref-2.ensures ∙ c.in_ok-text.ensures.text)) c.value_text.ensures.stands in
     let uses = c.deref.ensures.value ∙ c.in_ok-uses.ensures in
     let leaves : LeavesWords unit content items ws =
-    subst (λ (ps : List ℕ). LeavesWords unit content items (changed (without k.first k.last (at_each ps vs)) 0 (words_of m.source))) uses
-    (subst (λ (s : Scanned). LeavesWords unit content items (changed (without k.first k.last (at_each c.deref.result.now vs)) 0 (words_of s))) c.tokens.ensures (c.in_ok-edits.ensures.words vs stands)) in
+    subst (λ (ps : List ℕ). LeavesWords unit content items (changed_words (without_words k.first k.last (at_each ps vs)) 0 (words_of m.source))) uses
+    (subst (λ (s : Scanned). LeavesWords unit content items (changed_words (without_words k.first k.last (at_each c.deref.result.now vs)) 0 (words_of s))) c.tokens.ensures (c.in_ok-edits.ensures.words vs stands)) in
     let shallow = subst (λ (p : Parsed). nesting (inlined_all m k) ≤ nesting (tree_of p) + 1) (sym c.module-read.ensures.value) (everywhere_shallow c.args.names.now c.module-read.ensures.resolved k) in
     let passed = subst (λ (es : List Edit). LeavesWords unit content es ws) (sym c.deref-3.ensures.value) leaves in
     ltb-true 100 (nesting (inlined_all m k)) (sym (c.in_ok-is_too_deep.ensures.deep ws (inlined_all m k) passed spelled shallow) ∙ c.if-branch.true)
@@ -53,13 +53,13 @@ returns-clause-inlined g c = λ alone.
     let unit = g.T.TextStore.unit_of c.args.store.now in
     let content = g.T.TextStore.content c.args.store.now in
     let items = c.in_ok-edits.edits.items in
-    let ws : List Word = changed (without k.first k.last (at_each (uses_of m k.ordinal) vs)) 0 (words_of m.source) in
+    let ws : List Word = changed_words (without_words k.first k.last (at_each (uses_of m k.ordinal) vs)) 0 (words_of m.source) in
     let spelled = left_spelled c.args.names.now c.module-read.ensures.resolved k c.requires.is_constant alone in
     let stands = subst (λ n. ReplacesName n vs) (sym (c.deref-2.ensures ∙ c.in_ok-text.ensures.text)) c.value_text.ensures.stands in
     let uses = c.deref.ensures.value ∙ c.in_ok-uses.ensures in
     let leaves : LeavesWords unit content items ws =
-    subst (λ (ps : List ℕ). LeavesWords unit content items (changed (without k.first k.last (at_each ps vs)) 0 (words_of m.source))) uses
-    (subst (λ (s : Scanned). LeavesWords unit content items (changed (without k.first k.last (at_each c.deref.result.now vs)) 0 (words_of s))) c.tokens.ensures (c.in_ok-edits.ensures.words vs stands)) in
+    subst (λ (ps : List ℕ). LeavesWords unit content items (changed_words (without_words k.first k.last (at_each ps vs)) 0 (words_of m.source))) uses
+    (subst (λ (s : Scanned). LeavesWords unit content items (changed_words (without_words k.first k.last (at_each c.deref.result.now vs)) 0 (words_of s))) c.tokens.ensures (c.in_ok-edits.ensures.words vs stands)) in
     let shallow = subst (λ (p : Parsed). nesting (inlined_all m k) ≤ nesting (tree_of p) + 1) (sym c.module-read.ensures.value) (everywhere_shallow c.args.names.now c.module-read.ensures.resolved k) in
     let passed = subst (λ (es : List Edit). LeavesWords unit content es ws) (sym c.deref-3.ensures.value) leaves in
     let low = ltb-false 100 (nesting (inlined_all m k)) (sym (c.in_ok-is_too_deep.ensures.deep ws (inlined_all m k) passed spelled shallow) ∙ c.if-branch.false) in
