@@ -7,7 +7,7 @@ use Rattle.ob0_types_rules.specs.Expressions.{Meanings, Object, Standard, a_cons
 use Rattle.ob0_types_rules.specs.Typing.{object_type}
 use Rattle.ob0_types_rules.specs.WellTyped.{Typed}
 use Rattle.ob0_values.specs.Values.{Outcome, Place, Shape, Step, Store, Value, add, add_is_settled, at_path, gives, multiply, multiply_is_settled, negated, number, or_stuck, part, read_place, relate, signed, truth, ◌>>=◌}
-use Rattle.ob0_types_fields.specs.Fields.{FieldNames, type_after, record_of, refield}
+use Rattle.ob0_types_fields.specs.Fields.{FieldNames, type_after, selected_record, refield}
 use Rattle.ob0_types_fields.proofs.NamesMeant.{named}
 use Rattle.ob0_rename_laws.specs.FieldLaws.{KeepsApart}
 use Rattle.ob0_rename_laws.proofs.Apart.{shape_by}
@@ -149,7 +149,7 @@ mutual
   follow-follows l apart things checked store s v end = ([], refl, refl)
   follow-follows l apart things checked store s v (more (field x) rest) =
       follow_on-follows l apart (λ w. follow (active tagged things) (store_by tagged store) w (refield tagged checked (type_after s (field x)) rest)) (λ w. follow (active l things) (store_by l store) w (refield l checked (type_after s (field x)) rest))
-      (λ w. follow-follows l apart things checked store (type_after s (field x)) w rest) v (to_field (record_of s) x)
+      (λ w. follow-follows l apart things checked store (type_after s (field x)) w rest) v (to_field (selected_record s) x)
   follow-follows l apart things checked store s v (more (index e) rest) =
       follows-then (value_by tagged) (value_by l) (map (step_by tagged)) (map (step_by l)) _ _
       (λ i. element_step (value_by tagged v) i >>= follow_on (λ w. follow (active tagged things) (store_by tagged store) w (refield tagged checked (type_after s (index e)) rest)) (value_by tagged v))

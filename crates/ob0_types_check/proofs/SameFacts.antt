@@ -5,7 +5,7 @@ use Rattle.std.proofs.lemmas.Option.{slice_get-map}
 use Rattle.std.proofs.Math.ListN.{get_or-map}
 use Rattle.ob0_scope_rules.specs.Names.{Name, same_name}
 use Rattle.ob0_scope_rules.specs.Resolution.{ordinal_in}
-use Rattle.ob0_types_table.specs.FieldIndex.{first_type}
+use Rattle.ob0_types_table.specs.FieldIndex.{first_field_type}
 use Rattle.ob0_types_table.specs.declared.known.Field.{Field}
 use Rattle.ob0_types_table.specs.declared.known.TypeEntry.{TypeEntry}
 use Rattle.ob0_types_table.specs.declared.known.TypeEntry.TheVariants as made
@@ -22,7 +22,7 @@ elements_same None = refl
 elements_same (Some (made.Array a)) = refl
 elements_same (Some (made.Record r)) = refl
 
-field_alike : (fs : List Field) (x : Name) → first_type fs x ≡ first_field (fields_in fs) x
+field_alike : (fs : List Field) (x : Name) → first_field_type fs x ≡ first_field (fields_in fs) x
 field_alike [] x = refl
 field_alike (f ∷ fs) x = ap (λ o. if same_name x (string_bytes f.name) then Some f.of else o) (field_alike fs x)
 

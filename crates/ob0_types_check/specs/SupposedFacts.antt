@@ -4,7 +4,7 @@ use Rattle.std.specs.Prelude.{◌≡◌, ℕ, ◌-◌, ◌^◌, Bool, List, map,
 use Rattle.ob0_scan.specs.declared.fault.Fault.{Fault}
 use Rattle.ob0_scope_rules.specs.Names.{Name}
 use Rattle.ob0_scope_rules.specs.Resolution.{ordinal_in}
-use Rattle.ob0_types_table.specs.FieldIndex.{first_type}
+use Rattle.ob0_types_table.specs.FieldIndex.{first_field_type}
 use Rattle.ob0_types_table.specs.declared.known.Field.{Field}
 use Rattle.ob0_types_table.specs.declared.known.Formal as formal
 use Rattle.ob0_types_table.specs.declared.known.TypeEntry.{TypeEntry}
@@ -37,7 +37,7 @@ elements_of (Some (made.Record r)) = type.Unknown
 abbrev pub field_of : Option TypeEntry → Name → Option TypeId
 field_of None x = None
 field_of (Some (made.Array a)) x = None
-field_of (Some (made.Record r)) x = first_type r.fields x
+field_of (Some (made.Record r)) x = first_field_type r.fields x
 
 -- what a type of the code is
 abbrev pub form_in : List TypeEntry → TypeId → Form TypeId
