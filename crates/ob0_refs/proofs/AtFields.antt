@@ -10,7 +10,7 @@ use Rattle.ob0_scope_rules.specs.Resolution.{Resolution, span_at}
 use Rattle.ob0_scope_rules.specs.Spans.{is_on}
 use Rattle.ob0_scope.specs.NamesAtPlaces.{name_on}
 use Rattle.ob0_scope.specs.declared.naming.Named as named
-use Rattle.ob0_types.specs.RowsOfFields.{field_row_at, row_of}
+use Rattle.ob0_types.specs.RowsOfFields.{field_row_at, field_row_of}
 use Rattle.ob0_types_rules.proofs.Literals.{some_inverse}
 use Rattle.ob0_types_fields.specs.FieldTypes.{TypedField, typed_field}
 use Rattle.ob0_types_fields.specs.Identifiers.{declaring_field, field_at, field_identifiers, field_on, field_tokens, is_field, tokens_among}
@@ -135,5 +135,5 @@ fields_have_hovers-holds r offset k index span well h =
     let typed : is_some (typed_field r x) ≡ true = found_holds m.source offset x (λ y. is_some (typed_field r y) ≡ true) (field_identifiers r) (fields_typed-holds r well.resolved well.well_typed) at.field in
     shown_else (name_hover_at m offset) (field_hover r offset)
     (some_mapped (row_hover r) (field_row_at r offset)
-    ∙ (ap (λ (f : Option (ℕ × ℕ)). is_some (option_and_then (row_of r) f)) at.field
+    ∙ (ap (λ (f : Option (ℕ × ℕ)). is_some (option_and_then (field_row_of r) f)) at.field
     ∙ (some_mapped (λ (f : TypedField). record { token = at.token; of = f }) (typed_field r x) ∙ typed)))

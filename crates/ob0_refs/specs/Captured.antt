@@ -7,7 +7,7 @@ use Rattle.ob0_tree.specs.Tree.{occurrences}
 use Rattle.ob0_scope_rules.specs.Names.{Name}
 use Rattle.ob0_scope_rules.specs.Occurrences.{Capture, at_declaration, at_occurrence, first_captured}
 use Rattle.ob0_scope_rules.specs.Resolution.{span_at}
-use Rattle.ob0_refs.specs.Places.{declared_at}
+use Rattle.ob0_refs.specs.Places.{declaring_span}
 
 -- where an occurrence is, by its number
 abbrev pub occurrence_span : Parsed → ℕ → Option Span
@@ -20,7 +20,7 @@ or_start (Some span) = span
 
 -- the identifier that declares d, or an occurrence by its number
 abbrev pub capture_span : Parsed → ℕ → Capture → Span
-capture_span m d at_declaration = or_start (declared_at m d)
+capture_span m d at_declaration = or_start (declaring_span m d)
 capture_span m d (at_occurrence k) = or_start (occurrence_span m k)
 
 -- The identifier that declares d, where another declaration of its block has the new name; else the first occurrence that

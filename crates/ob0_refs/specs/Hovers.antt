@@ -12,9 +12,9 @@ truth_text true = codes "TRUE"
 truth_text false = codes "FALSE"
 
 -- a constant's value: its decimal digits, TRUE or FALSE
-abbrev pub value_text : Scalar → List ℕ
-value_text (scalar.Number n) = signed_decimal n
-value_text (scalar.Truth b) = truth_text b
+abbrev pub scalar_text : Scalar → List ℕ
+scalar_text (scalar.Number n) = signed_decimal n
+scalar_text (scalar.Truth b) = truth_text b
 
 -- how many fields a record has
 abbrev pub fields_count : FieldShapes → ℕ
@@ -31,7 +31,7 @@ type_text (record_shape k fs) =
 
 -- CONST c = V
 abbrev pub constant_text : List ℕ → Scalar → List ℕ
-constant_text name value = codes "CONST " ++ (name ++ (codes " = " ++ value_text value))
+constant_text name value = codes "CONST " ++ (name ++ (codes " = " ++ scalar_text value))
 
 -- TYPE t = T
 abbrev pub named_type_text : List ℕ → List ℕ → List ℕ

@@ -9,8 +9,8 @@ use Rattle.ob0_scope_rules.specs.Resolution.{declaring_only, span_at, token_decl
 use Rattle.ob0_scope.specs.NamesAtPlaces.{tokens_bound}
 
 -- where the identifier is that declares what has an ordinal; nowhere for a predeclared name
-abbrev pub declared_at : Parsed → ℕ → Option Span
-declared_at m ordinal =
+abbrev pub declaring_span : Parsed → ℕ → Option Span
+declaring_span m ordinal =
     option_map (span_at m.source)
     (token_declaring (declaring_only (identifiers role.Declaring (tree_of m))) ordinal)
 

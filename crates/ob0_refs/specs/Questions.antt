@@ -10,7 +10,7 @@ use Rattle.ob0_scope.specs.NamesAtPlaces.{name_on}
 use Rattle.ob0_scope.specs.declared.naming.Named as named
 use Rattle.ob0_types_fields.specs.Identifiers.{declaring_field, field_at, field_place, field_tokens}
 use Rattle.ob0_refs.specs.Answered.{at_name}
-use Rattle.ob0_refs.specs.Places.{declared_at, references_to}
+use Rattle.ob0_refs.specs.Places.{declaring_span, references_to}
 use Rattle.ob0_types.specs.RowsOfFields.{FieldRow, field_row_at}
 use Rattle.ob0_refs.specs.Hovers.{field_text, type_text}
 use Rattle.ob0_refs.specs.Shown.{HoverText, name_hover_at}
@@ -45,7 +45,7 @@ field_declared m x = option_map (span_at m.source) (declaring_field m x.1 (text_
 
 -- where the name is declared, or else the field
 abbrev pub declared : Parsed → Option named.Named → Option Identified → Option Span
-declared m (Some n) f = declared_at m n.ordinal
+declared m (Some n) f = declaring_span m n.ordinal
 declared m None f = option_and_then (field_declared m) f
 
 -- where it is declared what is at a place
@@ -53,15 +53,15 @@ abbrev pub definition_at : Resolution → ℕ → Option Span
 definition_at r offset = declared r.module_read (name_on r.module_read offset) (field_at r offset)
 
 -- the tokens other than one
-abbrev pub without : Option ℕ → List ℕ → List ℕ
-without None tokens = tokens
-without (Some token) tokens = filter (λ other. not (other == token)) tokens
+abbrev pub other_tokens : Option ℕ → List ℕ → List ℕ
+other_tokens None tokens = tokens
+other_tokens (Some token) tokens = filter (λ other. not (other == token)) tokens
 
 -- the tokens of a field in text order: with the one that declares it or without
 abbrev pub field_references : Resolution → Identified → Bool → List ℕ
 field_references r x true = field_tokens r x.1 (text_at r.module_read.source x.0)
 field_references r x false =
-    without (declaring_field r.module_read x.1 (text_at r.module_read.source x.0))
+    other_tokens (declaring_field r.module_read x.1 (text_at r.module_read.source x.0))
     (field_tokens r x.1 (text_at r.module_read.source x.0))
 
 -- the identifiers of the field at a place, in text order

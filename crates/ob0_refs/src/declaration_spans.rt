@@ -2,7 +2,7 @@
 
 ghost use Rattle.std.specs.Prelude.{◌≡◌, IfOk, map};
 ghost use Rattle.ob0_scope_rules.specs.Resolution.{span_at};
-ghost use Rattle.ob0_refs.specs.Places.{declared_at, references_to};
+ghost use Rattle.ob0_refs.specs.Places.{declaring_span, references_to};
 
 use ob0_scan::{Span, Tokens};
 use ob0_scope::tokens_bound;
@@ -11,7 +11,7 @@ use std::alloc::{AllocError, Global};
 
 /// Where that is declared which has an ordinal. None for a predeclared name.
 pub fn declared_at(names: &Resolved, ordinal: usize) -> Option<Span>
-    ensures { result ≡ declared_at names.now.module_read ordinal }
+    ensures { result ≡ declaring_span names.now.module_read ordinal }
 {
     let tokens = names.module().tokens();
     match names.declaring_token(ordinal) {

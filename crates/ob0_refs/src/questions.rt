@@ -1,7 +1,7 @@
 //! What is answered of a place: of the name that is there, or else of the field.
 
 ghost use Rattle.std.specs.Prelude.{◌≡◌, IfOk, Some};
-ghost use Rattle.ob0_refs.specs.Questions.{AreReferencesAt, at_field, definition_at, field_declared, field_named_at, field_references, index_of, identified_at, without};
+ghost use Rattle.ob0_refs.specs.Questions.{AreReferencesAt, at_field, definition_at, field_declared, field_named_at, field_references, index_of, identified_at, other_tokens};
 
 use crate::answers::{At, Of};
 use crate::names::at_name;
@@ -143,7 +143,7 @@ fn without(
     token: Option<usize>,
     tokens: Vec<usize>,
 ) -> Result<Vec<usize>, AllocError>
-    ensures { IfOk result (λ others. others.items ≡ without token tokens.items) }
+    ensures { IfOk result (λ others. others.items ≡ other_tokens token tokens.items) }
 {
     match token {
         None => Ok(tokens),
@@ -155,7 +155,7 @@ fn without(
 }
 
 fn others_than(alloc: Global, token: usize, tokens: &[usize]) -> Result<Vec<usize>, AllocError>
-    ensures { IfOk result (λ others. others.items ≡ without (Some token) tokens.now) }
+    ensures { IfOk result (λ others. others.items ≡ other_tokens (Some token) tokens.now) }
 {
     let mut others = Vec::new(alloc);
     for other in tokens {

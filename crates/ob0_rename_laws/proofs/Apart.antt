@@ -13,7 +13,7 @@ use Rattle.ob0_types_rules.specs.Expressions.{Object, a_constant, a_procedure, a
 use Rattle.ob0_types_rules.specs.Typing.{add_type, complement_type, constant_of, depth, field_depth, field_scalars, field_type, multiply_type, object_type, relation_type, scalars, shape_of_field, sign_type, type_of_name, value_type, with_fields, within_limits}
 use Rattle.ob0_types_rules.specs.WellTyped.{Formal, Signature, Typed, agree, same_fields, same_shape, signature_of}
 use Rattle.ob0_values.specs.Values.{FieldShapes, Shape, Value, array_shape, boolean_shape, elements, integer_shape, members, next_field_shape, no_field_shape, number, record_shape, truth}
-use Rattle.ob0_types_fields.specs.Fields.{FieldNames, record_of}
+use Rattle.ob0_types_fields.specs.Fields.{FieldNames, selected_record}
 use Rattle.ob0_types_fields.proofs.NamesMeant.{named}
 use Rattle.ob0_rename_laws.specs.FieldLaws.{KeepsApart}
 use Rattle.std.proofs.lemmas.Bool.{eqb-true}
@@ -85,7 +85,7 @@ shape_of_field-by l apart k no_field_shape x = refl
 shape_of_field-by l apart k (next_field_shape y s rest) x =
     (λ i. if apart k x y i then Some (shape_by l s) else shape_of_field-by l apart k rest x i) ∙ choose-map (shape_by l) (same_name x y) s (shape_of_field rest x)
 
-pub field_type-by : (l : FieldNames) → KeepsApart l → (s : Shape) (x : Name) → field_type (shape_by l s) (l (record_of (Some s)) x) ≡ option_map (shape_by l) (field_type s x)
+pub field_type-by : (l : FieldNames) → KeepsApart l → (s : Shape) (x : Name) → field_type (shape_by l s) (l (selected_record (Some s)) x) ≡ option_map (shape_by l) (field_type s x)
 field_type-by l apart (record_shape k fs) x = shape_of_field-by l apart k fs x
 field_type-by l apart integer_shape x = refl
 field_type-by l apart boolean_shape x = refl

@@ -3,11 +3,11 @@ use Rattle.std.proofs.Common.{◌≡◌, ℤ, Bool, List, [], ◌∷◌, ◌++�
 use Rattle.std.proofs.lemmas.List.{map-append}
 use Rattle.ob0_tree.specs.Tree.{Tree, addend, adds, compares, designator, end, expression, factor, field, index, integer, items, more, multiplier, multiplies, negation, none, one, parenthesised, product, relates, selector, simple, sum, term}
 use Rattle.ob0_scope_rules.specs.Names.{Name}
-use Rattle.ob0_types_rules.specs.Expressions.{Meanings, Object, Standard, a_constant, a_procedure, a_standard, a_type, a_variable, designate, element_step, evaluate, evaluate_addends, evaluate_factor, evaluate_multipliers, evaluate_simple, evaluate_term, follow, place_of, value_of}
+use Rattle.ob0_types_rules.specs.Expressions.{Meanings, Object, Standard, a_constant, a_procedure, a_standard, a_type, a_variable, designate, element_step, evaluate, evaluate_addends, evaluate_factor, evaluate_multipliers, evaluate_simple, evaluate_term, follow, object_place, object_value}
 use Rattle.ob0_types_rules.specs.Typing.{object_type}
 use Rattle.ob0_types_rules.specs.WellTyped.{Typed}
 use Rattle.ob0_values.specs.Values.{Outcome, Place, Shape, Step, Store, Value, add, add_is_settled, at_path, gives, multiply, multiply_is_settled, negated, number, or_stuck, part, read_place, relate, signed, truth, ◌>>=◌}
-use Rattle.ob0_types_fields.specs.Fields.{FieldNames, type_after, record_of, refield}
+use Rattle.ob0_types_fields.specs.Fields.{FieldNames, type_after, selected_record, refield}
 use Rattle.ob0_types_fields.proofs.NamesMeant.{named}
 use Rattle.ob0_rename_laws.specs.FieldLaws.{KeepsApart}
 use Rattle.ob0_rename_laws.proofs.Apart.{shape_by}
@@ -48,15 +48,15 @@ scalar-follows : (l : FieldNames) (c : Scalar) → ValuesFollow l (gives (scalar
 scalar-follows l (whole n) = (number n, refl, refl)
 scalar-follows l (logical b) = (truth b, refl, refl)
 
-pub value_of-follows : {P : Type 0} (l : FieldNames) → KeepsApart l → (store : Store) (o : Option (Thing P))
-    → ValuesFollow l (value_of (store_by tagged store) (option_map (thing_by {Q = P} tagged (λ p. p)) o)) (value_of (store_by l store) (option_map (thing_by {Q = P} l (λ p. p)) o))
-value_of-follows l apart store None = inl refl
-value_of-follows l apart store (Some (type_thing s)) = inl refl
-value_of-follows l apart store (Some (constant_thing c)) = scalar-follows l c
-value_of-follows l apart store (Some (variable_thing p)) =
+pub object_value-follows : {P : Type 0} (l : FieldNames) → KeepsApart l → (store : Store) (o : Option (Thing P))
+    → ValuesFollow l (object_value (store_by tagged store) (option_map (thing_by {Q = P} tagged (λ p. p)) o)) (object_value (store_by l store) (option_map (thing_by {Q = P} l (λ p. p)) o))
+object_value-follows l apart store None = inl refl
+object_value-follows l apart store (Some (type_thing s)) = inl refl
+object_value-follows l apart store (Some (constant_thing c)) = scalar-follows l c
+object_value-follows l apart store (Some (variable_thing p)) =
     or_stuck-follows (value_by tagged) (value_by l) (read_place (store_by tagged store) (place_by tagged p)) (read_place (store_by l store) (place_by l p)) (read_place-finds l apart store p)
-value_of-follows l apart store (Some (procedure_thing p)) = inl refl
-value_of-follows l apart store (Some (standard_thing p)) = inl refl
+object_value-follows l apart store (Some (procedure_thing p)) = inl refl
+object_value-follows l apart store (Some (standard_thing p)) = inl refl
 
 -- paths
 abbrev pub PathsFollow : FieldNames → Outcome (List Step) → Outcome (List Step) → Type 0
@@ -131,10 +131,10 @@ mutual
   pub evaluate_factor-follows : {P : Type 0} (l : FieldNames) → KeepsApart l → (things : Things P) (checked : Typed Name) (store : Store) (a : Tree Name factor)
       → ValuesFollow l (evaluate_factor (active tagged things) (store_by tagged store) (refield tagged checked None a)) (evaluate_factor (active l things) (store_by l store) (refield l checked None a))
   evaluate_factor-follows l apart things checked store (designator x path) =
-      follows-then (value_by tagged) (value_by l) (value_by tagged) (value_by l) (value_of (store_by tagged store) (option_map (thing_by tagged (λ p. p)) (things x))) (value_of (store_by l store) (option_map (thing_by l (λ p. p)) (things x)))
+      follows-then (value_by tagged) (value_by l) (value_by tagged) (value_by l) (object_value (store_by tagged store) (option_map (thing_by tagged (λ p. p)) (things x))) (object_value (store_by l store) (option_map (thing_by l (λ p. p)) (things x)))
       (λ v. follow (active tagged things) (store_by tagged store) v (refield tagged checked (object_type (checked.object_for x)) path) >>= (λ steps. or_stuck (at_path steps v)))
       (λ v. follow (active l things) (store_by l store) v (refield l checked (object_type (checked.object_for x)) path) >>= (λ steps. or_stuck (at_path steps v)))
-      (value_of-follows l apart store (things x))
+      (object_value-follows l apart store (things x))
       (λ v. follows-then (map (step_by tagged)) (map (step_by l)) (value_by tagged) (value_by l)
       (follow (active tagged things) (store_by tagged store) (value_by tagged v) (refield tagged checked (object_type (checked.object_for x)) path)) (follow (active l things) (store_by l store) (value_by l v) (refield l checked (object_type (checked.object_for x)) path))
       (λ steps. or_stuck (at_path steps (value_by tagged v))) (λ steps. or_stuck (at_path steps (value_by l v))) (follow-follows l apart things checked store (object_type (checked.object_for x)) v path)
@@ -149,7 +149,7 @@ mutual
   follow-follows l apart things checked store s v end = ([], refl, refl)
   follow-follows l apart things checked store s v (more (field x) rest) =
       follow_on-follows l apart (λ w. follow (active tagged things) (store_by tagged store) w (refield tagged checked (type_after s (field x)) rest)) (λ w. follow (active l things) (store_by l store) w (refield l checked (type_after s (field x)) rest))
-      (λ w. follow-follows l apart things checked store (type_after s (field x)) w rest) v (to_field (record_of s) x)
+      (λ w. follow-follows l apart things checked store (type_after s (field x)) w rest) v (to_field (selected_record s) x)
   follow-follows l apart things checked store s v (more (index e) rest) =
       follows-then (value_by tagged) (value_by l) (map (step_by tagged)) (map (step_by l)) _ _
       (λ i. element_step (value_by tagged v) i >>= follow_on (λ w. follow (active tagged things) (store_by tagged store) w (refield tagged checked (type_after s (index e)) rest)) (value_by tagged v))
@@ -166,13 +166,13 @@ mutual
 abbrev pub PlacesFollow : FieldNames → Outcome Place → Outcome Place → Type 0
 PlacesFollow l = Follows (place_by tagged) (place_by l)
 
-place_of-follows : {P : Type 0} (l : FieldNames) (o : Option (Thing P)) → PlacesFollow l (place_of (option_map (thing_by {Q = P} tagged (λ p. p)) o)) (place_of (option_map (thing_by {Q = P} l (λ p. p)) o))
-place_of-follows l None = inl refl
-place_of-follows l (Some (type_thing s)) = inl refl
-place_of-follows l (Some (constant_thing c)) = inl refl
-place_of-follows l (Some (variable_thing p)) = (p, refl, refl)
-place_of-follows l (Some (procedure_thing p)) = inl refl
-place_of-follows l (Some (standard_thing p)) = inl refl
+object_place-follows : {P : Type 0} (l : FieldNames) (o : Option (Thing P)) → PlacesFollow l (object_place (option_map (thing_by {Q = P} tagged (λ p. p)) o)) (object_place (option_map (thing_by {Q = P} l (λ p. p)) o))
+object_place-follows l None = inl refl
+object_place-follows l (Some (type_thing s)) = inl refl
+object_place-follows l (Some (constant_thing c)) = inl refl
+object_place-follows l (Some (variable_thing p)) = (p, refl, refl)
+object_place-follows l (Some (procedure_thing p)) = inl refl
+object_place-follows l (Some (standard_thing p)) = inl refl
 
 abbrev spot_further : Spot → List Move → Spot
 spot_further p moves = record { variable = p.variable; moves = p.moves ++ moves }
@@ -184,10 +184,10 @@ pub designate-follows : {P : Type 0} (l : FieldNames) → KeepsApart l → (thin
     → PlacesFollow l (designate (active tagged things) (store_by tagged store) x (refield tagged checked s path)) (designate (active l things) (store_by l store) x (refield l checked s path))
 unfolding designate
 designate-follows l apart things checked store s x path =
-    follows-then (place_by tagged) (place_by l) (place_by tagged) (place_by l) (place_of (option_map (thing_by tagged (λ p. p)) (things x))) (place_of (option_map (thing_by l (λ p. p)) (things x)))
+    follows-then (place_by tagged) (place_by l) (place_by tagged) (place_by l) (object_place (option_map (thing_by tagged (λ p. p)) (things x))) (object_place (option_map (thing_by l (λ p. p)) (things x)))
     (λ p. or_stuck (read_place (store_by tagged store) p) >>= (λ v. follow (active tagged things) (store_by tagged store) v (refield tagged checked s path) >>= (λ steps. gives record { variable = p.variable; path = p.path ++ steps })))
     (λ p. or_stuck (read_place (store_by l store) p) >>= (λ v. follow (active l things) (store_by l store) v (refield l checked s path) >>= (λ steps. gives record { variable = p.variable; path = p.path ++ steps })))
-    (place_of-follows l (things x))
+    (object_place-follows l (things x))
     (λ p. follows-then (value_by tagged) (value_by l) (place_by tagged) (place_by l) (or_stuck (read_place (store_by tagged store) (place_by tagged p))) (or_stuck (read_place (store_by l store) (place_by l p)))
     (λ v. follow (active tagged things) (store_by tagged store) v (refield tagged checked s path) >>= (λ steps. gives record { variable = p.variable; path = map (step_by tagged) p.moves ++ steps }))
     (λ v. follow (active l things) (store_by l store) v (refield l checked s path) >>= (λ steps. gives record { variable = p.variable; path = map (step_by l) p.moves ++ steps }))

@@ -10,7 +10,7 @@ use Rattle.ob0_tree.specs.declared.tree.MultiplyOperator.{MultiplyOperator}
 use Rattle.ob0_tree.specs.declared.tree.MultiplyOperator.TheVariants as multiply_operator
 use Rattle.ob0_tree.specs.Tree.{Tree, addend, adds, compares, designator, end, expression, factor, integer, items, more, multiplier, multiplies, negation, none, one, parenthesised, product, relates, simple, sum, term}
 use Rattle.ob0_scope_rules.specs.Names.{Name}
-use Rattle.ob0_types_rules.specs.Expressions.{Meanings, Object, a_constant, evaluate, evaluate_addends, evaluate_factor, evaluate_multipliers, evaluate_simple, evaluate_term, follow, value_of}
+use Rattle.ob0_types_rules.specs.Expressions.{Meanings, Object, a_constant, evaluate, evaluate_addends, evaluate_factor, evaluate_multipliers, evaluate_simple, evaluate_term, follow, object_value}
 use Rattle.ob0_types_rules.specs.Typing.{constant_of, constant_value, constants_only, given_value, type_of}
 use Rattle.ob0_values.specs.Values.{Outcome, Overflow, Place, Shape, Step, Value, add, add_is_settled, at_path, divided_by, elements, ends, fits, gives, in_range, members, multiply, multiply_is_settled, negated, number, or_stuck, quotient, relate, remainder, signed, truth, ◌>>=◌}
 use Rattle.ob0_rename_laws.proofs.RefieldedExpressions.{Scalar, logical, scalar_value, whole}
@@ -90,10 +90,10 @@ Constants = Name → Option Scalar
 abbrev pub constant_meaning : Constants → Meanings Name Place (Unit {0})
 constant_meaning constants = named (λ x. option_map (λ c. a_constant (scalar_value c)) (constants x))
 
-value_of-scalar : (o : Option Scalar) → Holds IsScalarValue (value_of {P = Unit {0}} [] (option_map (λ c. a_constant (scalar_value c)) o))
-value_of-scalar None = tt
-value_of-scalar (Some (whole n)) = tt
-value_of-scalar (Some (logical b)) = tt
+object_value-scalar : (o : Option Scalar) → Holds IsScalarValue (object_value {P = Unit {0}} [] (option_map (λ c. a_constant (scalar_value c)) o))
+object_value-scalar None = tt
+object_value-scalar (Some (whole n)) = tt
+object_value-scalar (Some (logical b)) = tt
 
 mutual
   unfolding evaluate
@@ -129,7 +129,7 @@ mutual
 
   evaluate_factor-scalar : (cs : Constants) (a : Tree Name factor) → Holds IsScalarValue (evaluate_factor {P = Unit {0}} (constant_meaning cs) [] a)
   evaluate_factor-scalar cs (designator x path) =
-      holds-with IsScalarValue IsScalarValue (value_of {P = Unit {0}} [] (option_map (λ c. a_constant (scalar_value c)) (cs x))) (λ v. follow {P = Unit {0}} (constant_meaning cs) [] v path >>= (λ steps. or_stuck (at_path steps v))) (value_of-scalar (cs x))
+      holds-with IsScalarValue IsScalarValue (object_value {P = Unit {0}} [] (option_map (λ c. a_constant (scalar_value c)) (cs x))) (λ v. follow {P = Unit {0}} (constant_meaning cs) [] v path >>= (λ steps. or_stuck (at_path steps v))) (object_value-scalar (cs x))
       (λ v hv. holds-then IsScalarValue (follow {P = Unit {0}} (constant_meaning cs) [] v path) (λ steps. or_stuck (at_path steps v)) (λ steps. at_path-scalar steps v hv))
   evaluate_factor-scalar cs (integer n) = tt
   evaluate_factor-scalar cs (parenthesised e) = evaluate-scalar cs e

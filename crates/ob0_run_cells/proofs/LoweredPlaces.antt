@@ -2,7 +2,7 @@
 use Rattle.std.proofs.Common.{◌≡◌, ℕ, zero, suc, ◌+◌, ◌*◌, ◌<◌, ◌^◌, Bool, true, false, List, [], ◌∷◌, ◌++◌, ℤ, pos, negsuc, if◌then◌else◌, nat_lt, slice_get, Some, None, Option, option_map, option_and_then, unwrap_or, sym, refl, ap, ◌∙◌, subst, subst₂, arith, append_assoc, append-nil}
 use Rattle.std.proofs.lemmas.Option.{get_or_from_slice_get}
 use Rattle.ob0_tree.specs.Tree.{Tree, compares, designator, end, expression, factor, field, index, items, more, none, parenthesised, product, selector, sum}
-use Rattle.ob0_types_rules.specs.Expressions.{Meanings, Object, a_constant, a_procedure, a_standard, a_type, a_variable, designate, element_step, evaluate, follow, place_of, value_of}
+use Rattle.ob0_types_rules.specs.Expressions.{Meanings, Object, a_constant, a_procedure, a_standard, a_type, a_variable, designate, element_step, evaluate, follow, object_place, object_value}
 use Rattle.ob0_types_rules.specs.Typing.{shape_of_field}
 use Rattle.ob0_types_rules.specs.WellTyped.{Mode, Typed}
 use Rattle.ob0_values.specs.Values.{FieldShapes, Index, Outcome, Place, Shape, Step, Store, Value, Values, array_shape, at_field, at_index, at_path, boolean_shape, count_values, elements, ends, gives, integer_shape, number, or_stuck, part, read_place, record_shape, truth, ◌>>=◌}
@@ -120,11 +120,11 @@ index-led typing store fits few p k n t fit o w e =
 -- a designator in an expression evaluates to what its place holds
 
 pub value-there : {N : Type 0} (active : Meanings N Place (List Mode)) (store : Store) (x : N) (path : Tree N (items selector)) (p : Place) → active.object_for x ≡ Some (a_variable p)
-    → (value_of store (active.object_for x) >>= (λ v. follow active store v path >>= (λ steps. or_stuck (at_path steps v))))
-    ≡ ((place_of (active.object_for x) >>= (λ p. or_stuck (read_place store p) >>= (λ v. follow active store v path >>= (λ steps. gives (further p steps))))) >>= (λ p. or_stuck (read_place store p)))
+    → (object_value store (active.object_for x) >>= (λ v. follow active store v path >>= (λ steps. or_stuck (at_path steps v))))
+    ≡ ((object_place (active.object_for x) >>= (λ p. or_stuck (read_place store p) >>= (λ v. follow active store v path >>= (λ steps. gives (further p steps))))) >>= (λ p. or_stuck (read_place store p)))
 value-there {N} active store x path p e =
-    subst (λ o. (value_of {P = List Mode} store o >>= (λ v. follow active store v path >>= (λ steps. or_stuck (at_path steps v))))
-    ≡ ((place_of o >>= (λ p. or_stuck (read_place store p) >>= (λ v. follow active store v path >>= (λ steps. gives (further p steps))))) >>= (λ p. or_stuck (read_place store p)))) (sym e)
+    subst (λ o. (object_value {P = List Mode} store o >>= (λ v. follow active store v path >>= (λ steps. or_stuck (at_path steps v))))
+    ≡ ((object_place o >>= (λ p. or_stuck (read_place store p) >>= (λ v. follow active store v path >>= (λ steps. gives (further p steps))))) >>= (λ p. or_stuck (read_place store p)))) (sym e)
     (go (read_place store p) refl)
   where
     go : (o : Option Value) → read_place store p ≡ o
@@ -191,14 +191,14 @@ module _ {N : Type 0} (checked : Typed N) (slots : N → Slot) where
   pub variable-leads : (x : N) (s : Shape) (path : Tree N (items selector)) → checked.object_for x ≡ Some (a_variable s) → PlaceLeads checked slots (slot_place (slots x)) s path (place_of_designator x path)
   unfolding designate
   variable-leads x s path e = (
-    (λ z. place_of (z.active.object_for x)),
+    (λ z. object_place (z.active.object_for x)),
     (λ z shown. let (p, ep, fit) = variable-stands z.typing s (z.active.object_for x) (subst (λ o. ObjectFits z.typing o (z.active.object_for x)) e (shown.names_fit.0 x)) in
         let there : slot_address z.levels (slots x) ≡ address z.typing p = shown.variables_in_slots x p ep in
         let (within, held_there) = places_are_slices-holds z.typing z.store p s shown.store_fits fit in
         let few : sizes z.typing < 2 ^ 64 = shown.has_addresses in
         let bound : slot_address z.levels (slots x) < 2 ^ 64 = omega (arith, within, there, few) in (
-          ap (outcome_of same) (slot-found z.levels (cells_in z) (slots x) bound) ∙ (ap gives there ∙ sym (ap (λ o. addresses z.typing (place_of {P = List Mode} o)) ep)),
-          subst (λ o. GivesPlace z.typing s (place_of {P = List Mode} o)) (sym ep) fit,
+          ap (outcome_of same) (slot-found z.levels (cells_in z) (slots x) bound) ∙ (ap gives there ∙ sym (ap (λ o. addresses z.typing (object_place {P = List Mode} o)) ep)),
+          subst (λ o. GivesPlace z.typing s (object_place {P = List Mode} o)) (sym ep) fit,
         )),
     λ z shown. refl,
   )
@@ -263,13 +263,13 @@ module _ {N : Type 0} (checked : Typed N) (slots : N → Slot) where
   unfolding evaluate
   number-constant x n e fits z shown =
       let stands : z.active.object_for x ≡ Some (a_constant (number n)) = constant-stands z.typing (number n) (z.active.object_for x) (subst (λ o. ObjectFits z.typing o (z.active.object_for x)) e (shown.names_fit.0 x)) in
-      (sym (ap (λ o. value_of {P = List Mode} z.store o >>= (λ v. gives [] >>= (λ steps. or_stuck (at_path steps v)))) stands), fits)
+      (sym (ap (λ o. object_value {P = List Mode} z.store o >>= (λ v. gives [] >>= (λ steps. or_stuck (at_path steps v)))) stands), fits)
 
   pub truth-constant : (x : N) (b : Bool) → checked.object_for x ≡ Some (a_constant (truth b)) → TruthMeans checked slots (lowered.constant b) (value_of_factor (designator x end))
   unfolding evaluate
   truth-constant x b e z shown =
       let stands : z.active.object_for x ≡ Some (a_constant (truth b)) = constant-stands z.typing (truth b) (z.active.object_for x) (subst (λ o. ObjectFits z.typing o (z.active.object_for x)) e (shown.names_fit.0 x)) in
-      sym (ap (λ o. value_of {P = List Mode} z.store o >>= (λ v. gives [] >>= (λ steps. or_stuck (at_path steps v)))) stands)
+      sym (ap (λ o. object_value {P = List Mode} z.store o >>= (λ v. gives [] >>= (λ steps. or_stuck (at_path steps v)))) stands)
 
   pub block-designator : (q : lowered.Place) (s : Shape) (x : N) (v : Shape) (path : Tree N (items selector)) → checked.object_for x ≡ Some (a_variable v) → PlaceMeans checked slots q s (place_of_designator x path) → ValueAt checked slots q s (value_of_factor (designator x path))
   unfolding evaluate designate

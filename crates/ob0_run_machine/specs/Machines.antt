@@ -34,9 +34,9 @@ state_of m =
     record { cells = m.cells.items; input = m.input.now; output = items_out m.output.items }
 
 -- a step that takes no memory goes on in the state that it leaves, or ends the run with what was output
-abbrev pub moved : Result (Unit {0}) Ending → Machine → MachineProgress
-moved (Ok done) m = running (state_of m)
-moved (Err e) m = stopped (end_of e) (items_out m.output.items)
+abbrev pub after_step : Result (Unit {0}) Ending → Machine → MachineProgress
+after_step (Ok done) m = running (state_of m)
+after_step (Err e) m = stopped (end_of e) (items_out m.output.items)
 
 -- a step that gives nothing ends the run with what was output; it ends nothing only where an allocation has failed
 abbrev pub StopsRun : Option Halt → Machine → MachineProgress → Type 0

@@ -2,7 +2,7 @@
 
 ghost use Rattle.std.specs.Prelude.{◌≡◌, OnErr, OnOk, length, slice_set, true};
 ghost use Rattle.ob0_run_machine.specs.Execution.{copied, append_output, read_number};
-ghost use Rattle.ob0_run_machine.specs.Machines.{item_of, moved, state_of};
+ghost use Rattle.ob0_run_machine.specs.Machines.{item_of, after_step, state_of};
 ghost use Rattle.ob0_run_machine.specs.Allocations.{has_failed};
 
 use crate::copying::copy_cells;
@@ -65,7 +65,7 @@ impl<'i> Machine<'i> {
 
     /// Takes the next number of the input.
     pub(crate) fn read_number(&mut self, address: usize) -> Result<(), Ending>
-        ensures { moved result self.new
+        ensures { after_step result self.new
             ≡ read_number (state_of self.old) address (state_of self.old).input }
     {
         match self.input {

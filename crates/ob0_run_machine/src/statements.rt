@@ -6,7 +6,7 @@ ghost use Rattle.ob0_run_machine.specs.Evaluation.{truth};
 ghost use Rattle.ob0_run_machine.specs.Execution.{CallEffect, execute};
 ghost use Rattle.ob0_run_machine.specs.Levels.{levels_of};
 ghost use Rattle.ob0_run_machine.specs.Lowered as lowered;
-ghost use Rattle.ob0_run_machine.specs.Machines.{MachineDoes, MachineSteps, entering, executed, executed_all, moved, state_of};
+ghost use Rattle.ob0_run_machine.specs.Machines.{MachineDoes, MachineSteps, entering, executed, executed_all, after_step, state_of};
 ghost use Rattle.ob0_run_machine.specs.View.{applied, branches_in, call_of, number_of, place_of, repeat_of, sequence_of, statement_of, truth_of, variable_of, while_of};
 
 use crate::addresses::Addresses;
@@ -31,7 +31,7 @@ fn store_number(
     machine: &mut Machine<'_>,
 ) -> Result<(), Ending>
     ensures { (enters : CallEffect) (t : ℕ)
-        → moved result machine.new
+        → after_step result machine.new
         ≡ execute enters t (levels_of level.now)
         (lowered.stores_number (place_of place.now) (number_of n.now)) (state_of machine.old) }
 {
@@ -51,7 +51,7 @@ fn store_variable(
     machine: &mut Machine<'_>,
 ) -> Result<(), Ending>
     ensures { (enters : CallEffect) (t : ℕ)
-        → moved result machine.new
+        → after_step result machine.new
         ≡ execute enters t (levels_of level.now)
         (lowered.stores_number (variable_of variable) (number_of n.now)) (state_of machine.old) }
 {
@@ -70,7 +70,7 @@ fn update(
     machine: &mut Machine<'_>,
 ) -> Result<(), Ending>
     ensures { (enters : CallEffect) (t : ℕ)
-        → moved result machine.new
+        → after_step result machine.new
         ≡ execute enters t (levels_of level.now) (lowered.stores_number (variable_of variable)
         (applied link.now (lowered.cell (variable_of variable)))) (state_of machine.old) }
 {
@@ -89,7 +89,7 @@ fn store_truth(
     machine: &mut Machine<'_>,
 ) -> Result<(), Ending>
     ensures { (enters : CallEffect) (turns : ℕ)
-        → moved result machine.new
+        → after_step result machine.new
         ≡ execute enters turns (levels_of level.now)
         (lowered.stores_truth (place_of place.now) (truth_of t.now)) (state_of machine.old) }
 {
@@ -108,7 +108,7 @@ fn copy_block(
     machine: &mut Machine<'_>,
 ) -> Result<(), Ending>
     ensures { (enters : CallEffect) (t : ℕ)
-        → moved result machine.new
+        → after_step result machine.new
         ≡ execute enters t (levels_of level.now)
         (lowered.copies (place_of to.now) (place_of from.now) count) (state_of machine.old) }
 {
@@ -121,7 +121,7 @@ fn copy_block(
 #[tactic(auto, unfolding(crate::specs::Execution::execute))]
 fn read(place: &Place, level: &Level<'_>, machine: &mut Machine<'_>) -> Result<(), Ending>
     ensures { (enters : CallEffect) (t : ℕ)
-        → moved result machine.new
+        → after_step result machine.new
         ≡ execute enters t (levels_of level.now) (lowered.reads (place_of place.now))
         (state_of machine.old) }
 {

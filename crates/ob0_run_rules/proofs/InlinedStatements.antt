@@ -5,7 +5,7 @@ use Rattle.ob0_scope_rules.specs.Inlining.{Uses, inline_in}
 use Rattle.ob0_scope_rules.specs.Names.{Name}
 use Rattle.ob0_values.specs.Values.{Outcome, Place, Store, Stuck, Value, at_path, ends, gives, or_stuck, read_place, ◌>>=◌}
 use Rattle.ob0_types_rules.specs.Arguments.{arguments_listed, further_arguments}
-use Rattle.ob0_types_rules.specs.Expressions.{Meanings, Object, a_constant, a_procedure, a_standard, a_type, a_variable, designate, evaluate, evaluate_factor, follow, place_of, value_of}
+use Rattle.ob0_types_rules.specs.Expressions.{Meanings, Object, a_constant, a_procedure, a_standard, a_type, a_variable, designate, evaluate, evaluate_factor, follow, object_place, object_value}
 use Rattle.ob0_types_rules.specs.Laws.{UsesAre}
 use Rattle.ob0_types_rules.specs.Typing.{designated}
 use Rattle.ob0_types_rules.specs.WellTyped.{Mode, by_place, by_value}
@@ -29,18 +29,18 @@ pub designate-written : (meaning : Meanings Name Place (List Mode)) (uses : Uses
     → IsUse meaning w uses k (occurrences path) → designate meaning store x (inline_in uses v k path) ≡ designate meaning store x path
 unfolding designate
 designate-written meaning uses v w h store k x path u = λ i.
-    place_of (meaning.object_for x) >>= (λ p. or_stuck (read_place store p) >>= (λ z. follow-inlined meaning store uses v w record { has_value = h.in_store store } k z path u i >>= (λ steps. gives record { variable = p.variable; path = p.path ++ steps })))
+    object_place (meaning.object_for x) >>= (λ p. or_stuck (read_place store p) >>= (λ z. follow-inlined meaning store uses v w record { has_value = h.in_store store } k z path u i >>= (λ steps. gives record { variable = p.variable; path = p.path ++ steps })))
 
 -- no place: an expression that isn't a designator, and a constant
 
 abbrev pub place_at : Meanings Name Place (List Mode) → Store → Option (Name × Tree Name (items selector)) → Outcome Place
 place_at meaning store d = or_stuck d >>= (λ d. designate meaning store d.0 d.1)
 
-pub constant-no_place : (o : Option (Object Place (List Mode))) (w : Value) → o ≡ Some (a_constant w) → place_of o ≡ ends Stuck
-constant-no_place o w e = ap place_of e
+pub constant-no_place : (o : Option (Object Place (List Mode))) (w : Value) → o ≡ Some (a_constant w) → object_place o ≡ ends Stuck
+constant-no_place o w e = ap object_place e
 
 -- a name that evaluates to a value in every store is no variable
-pub has_value-no_place : (o : Option (Object Place (List Mode))) (next : Value → Outcome Value) (w : Value) → value_of {P = List Mode} [] o >>= next ≡ gives w → place_of o ≡ ends Stuck
+pub has_value-no_place : (o : Option (Object Place (List Mode))) (next : Value → Outcome Value) (w : Value) → object_value {P = List Mode} [] o >>= next ≡ gives w → object_place o ≡ ends Stuck
 has_value-no_place None next w e = refl
 has_value-no_place (Some (a_type s)) next w e = refl
 has_value-no_place (Some (a_constant s)) next w e = refl

@@ -2,7 +2,7 @@
 use Rattle.std.proofs.Common.{◌≡◌, ℕ, zero, suc, ◌-◌, true, false, ◌≢◌, List, [], ◌∷◌, ◌++◌, length, take, ℤ, slice_get, slice_set, Some, None, Option, option_map, option_and_then, sym, refl, ap, ◌∙◌, subst}
 use Rattle.ob0_tree.specs.Tree.{Tree, addend, adds, assigns, branches, calls, compares, designator, else_branch, else_part, elsif_branch, elsif_part, empty, end, expression, factor, field, further_statement, index, integer, items, maybe, more, multiplier, multiplies, negation, none, one, parenthesised, product, relates, repeat_loop, runs, selector, sequence, simple, statement, sum, term, then_statement, while_loop}
 use Rattle.ob0_types_rules.specs.Arguments.{arguments_listed}
-use Rattle.ob0_types_rules.specs.Expressions.{Meanings, Object, Standard, a_constant, a_procedure, a_standard, a_type, a_variable, designate, element_step, evaluate, evaluate_addends, evaluate_factor, evaluate_multipliers, evaluate_simple, evaluate_term, follow, place_of, reads, value_of, writes, writes_line}
+use Rattle.ob0_types_rules.specs.Expressions.{Meanings, Object, Standard, a_constant, a_procedure, a_standard, a_type, a_variable, designate, element_step, evaluate, evaluate_addends, evaluate_factor, evaluate_multipliers, evaluate_simple, evaluate_term, follow, object_place, reads, object_value, writes, writes_line}
 use Rattle.ob0_types_rules.specs.Typing.{designated}
 use Rattle.ob0_types_rules.specs.WellTyped.{Mode, by_place, by_value}
 use Rattle.ob0_values.specs.Values.{Outcome, Place, Store, TurnBound, Value, add, add_is_settled, at_field, at_path, elements, ends, gives, members, multiply, multiply_is_settled, negated, number, or_stuck, part, read_place, relate, signed, truth, with_at_path, ◌>>=◌}
@@ -144,7 +144,7 @@ same-then {A} Then o q f g e each = subst (λ q. OutcomeIs Then (o >>= f) (q >>=
 read-same : (at : List ℕ) (small large : Store) (p q : Place) → StoreIs at small large → PlaceIs at p q → read_place small p ≡ read_place large q
 read-same at small large p q h is = λ i. option_and_then (at_path (is.same_path i)) (variable-found at small large p.variable q.variable h is.variable_is i)
 
-value-same : {P : Type 0} (at : List ℕ) (small large : Store) (o q : Option (Object Place P)) → StoreIs at small large → MeaningIs at o q → value_of small o ≡ value_of large q
+value-same : {P : Type 0} (at : List ℕ) (small large : Store) (o q : Option (Object Place P)) → StoreIs at small large → MeaningIs at o q → object_value small o ≡ object_value large q
 value-same at small large None None h is = refl
 value-same at small large (Some (a_constant v)) (Some (a_constant w)) h is = ap gives is
 value-same at small large (Some (a_variable p)) (Some (a_variable q)) h is = ap or_stuck (read-same at small large p q h is)
@@ -153,7 +153,7 @@ value-same at small large (Some (a_procedure a)) (Some (a_procedure b)) h is = r
 value-same at small large (Some (a_standard a)) (Some (a_standard b)) h is = refl
 value-same at small large _ _ h is = absurd is
 
-place-is : {P : Type 0} (at : List ℕ) (o q : Option (Object Place P)) → MeaningIs at o q → OutcomeIs (PlaceIs at) (place_of o) (place_of q)
+place-is : {P : Type 0} (at : List ℕ) (o q : Option (Object Place P)) → MeaningIs at o q → OutcomeIs (PlaceIs at) (object_place o) (object_place q)
 place-is at None None is = refl
 place-is at (Some (a_constant v)) (Some (a_constant w)) is = refl
 place-is at (Some (a_variable p)) (Some (a_variable q)) is = is
@@ -164,7 +164,7 @@ place-is at _ _ is = absurd is
 
 -- expressions
 
-module _ {N P : Type 0} (here there : Meanings N Place P) (small large : Store) (values : (x : N) → value_of small (here.object_for x) ≡ value_of large (there.object_for x)) (written : (x : N) → here.written x ≡ there.written x) where
+module _ {N P : Type 0} (here there : Meanings N Place P) (small large : Store) (values : (x : N) → object_value small (here.object_for x) ≡ object_value large (there.object_for x)) (written : (x : N) → here.written x ≡ there.written x) where
   mutual
     unfolding evaluate
 
@@ -219,7 +219,7 @@ evaluate-is at here there small large names h e =
 pub designate-is : {N P : Type 0} (at : List ℕ) (here there : Meanings N Place P) (small large : Store) → NamesAre at here there → StoreIs at small large → (x : N) (path : Tree N (items selector)) → OutcomeIs (PlaceIs at) (designate here small x path) (designate there large x path)
 unfolding designate
 designate-is at here there small large names h x path =
-    outcome-then (PlaceIs at) (PlaceIs at) (place_of (here.object_for x)) (place_of (there.object_for x))
+    outcome-then (PlaceIs at) (PlaceIs at) (object_place (here.object_for x)) (object_place (there.object_for x))
     (λ p. or_stuck (read_place small p) >>= (λ v. follow here small v path >>= (λ steps. gives record { variable = p.variable; path = p.path ++ steps })))
     (λ p. or_stuck (read_place large p) >>= (λ v. follow there large v path >>= (λ steps. gives record { variable = p.variable; path = p.path ++ steps })))
     (place-is at (here.object_for x) (there.object_for x) (names.stand_for x))

@@ -10,7 +10,7 @@ use Rattle.ob0_tree.specs.declared.tree.MultiplyOperator.{MultiplyOperator}
 use Rattle.ob0_tree.specs.declared.tree.MultiplyOperator.TheVariants as multiply_operator
 use Rattle.ob0_tree.specs.Tree.{Tree, addend, adds, compares, designator, end, expression, factor, field, index, integer, items, more, multiplier, multiplies, negation, none, one, parenthesised, product, relates, selector, simple, sum, term}
 use Rattle.ob0_scope_rules.specs.Names.{Name, same_name}
-use Rattle.ob0_types_rules.specs.Expressions.{Meanings, Object, a_constant, a_procedure, a_standard, a_type, a_variable, element_step, evaluate, evaluate_addends, evaluate_factor, evaluate_multipliers, evaluate_simple, evaluate_term, follow, value_of}
+use Rattle.ob0_types_rules.specs.Expressions.{Meanings, Object, a_constant, a_procedure, a_standard, a_type, a_variable, element_step, evaluate, evaluate_addends, evaluate_factor, evaluate_multipliers, evaluate_simple, evaluate_term, follow, object_value}
 use Rattle.ob0_types_rules.specs.Typing.{add_type, complement_type, element_type, field_type, multiply_type, object_type, relation_type, shape_of_field, sign_type, type_at, type_of, type_of_addends, type_of_factor, type_of_multipliers, type_of_simple, type_of_term, value_type}
 use Rattle.ob0_values.specs.Values.{FieldShapes, Index, Members, Outcome, Overflow, Place, Shape, Step, Store, Value, Values, add, add_is_settled, array_shape, at_field, at_index, at_path, boolean_shape, count_values, divided_by, elements, ends, fits, gives, in_range, integer_shape, members, multiply, multiply_is_settled, named_member, negated, next_field_shape, next_member, next_value, no_field_shape, no_member, no_value, nth_value, number, or_stuck, part, quotient, read_place, record_shape, relate, remainder, signed, truth, ◌>>=◌}
 use Rattle.ob0_types_rules.specs.WellTyped.{Mode, Signature, Typed}
@@ -161,9 +161,9 @@ place-fits typing store p s h e =
 
 -- a constant or a variable evaluates to a value of its type
 pub object-fits : (typing : StoreTyping) (store : Store) (checked : Option (Object Shape Signature)) (active : Option (Object Place (List Mode))) (s : Shape)
-    → StoreFits typing store → ObjectFits typing checked active → object_type checked ≡ Some s → OutcomeFits (λ v. HasShape v s) (value_of store active)
+    → StoreFits typing store → ObjectFits typing checked active → object_type checked ≡ Some s → OutcomeFits (λ v. HasShape v s) (object_value store active)
 object-fits typing store (Some (a_constant v)) (Some (a_constant w)) s h o e =
-    subst (λ w. OutcomeFits (λ v. HasShape v s) (value_of {P = List Mode} store (Some (a_constant w)))) o (go v e)
+    subst (λ w. OutcomeFits (λ v. HasShape v s) (object_value {P = List Mode} store (Some (a_constant w)))) o (go v e)
   where
     go : (v : Value) → value_type v ≡ Some s → HasShape v s
     go (number n) e = of_some (λ s. HasShape (number n) s) e tt
@@ -266,7 +266,7 @@ mutual
       → type_of_factor checked a ≡ Some s → OutcomeFits (λ v. HasShape v s) (evaluate_factor active store a)
   evaluate_factor-sound typing checked active store f (designator x path) s h =
       let (t, et, h₁) = some-gives (object_type (checked.object_for x)) (λ t. type_at checked t path) s h in
-      fits-then (λ v. HasShape v t) (λ v. HasShape v s) (value_of store (active.object_for x)) (λ v. follow active store v path >>= (λ steps. or_stuck (at_path steps v)))
+      fits-then (λ v. HasShape v t) (λ v. HasShape v s) (object_value store (active.object_for x)) (λ v. follow active store v path >>= (λ steps. or_stuck (at_path steps v)))
       (object-fits typing store (checked.object_for x) (active.object_for x) t f.store_fits (f.names_fit.0 x) et)
       (λ v hv. fits-then (λ steps. shape_at_path steps t ≡ Some s) (λ v. HasShape v s) (follow active store v path) (λ steps. or_stuck (at_path steps v)) (follow-sound typing checked active store f v t path s hv h₁)
       (λ steps e. let (w, ew, hw) = path-fits steps v t s hv e in or_stuck-fits (λ v. HasShape v s) (at_path steps v) w ew hw))

@@ -3,7 +3,7 @@ use Rattle.std.proofs.Common.{◌≡◌, ℕ, zero, suc, ◌-◌, true, false, �
 use Rattle.ob0_tree.specs.Tree.{Tree, assigns, branches, calls, else_branch, else_part, elsif_branch, elsif_part, empty, end, expression, further_statement, items, maybe, more, none, one, repeat_loop, runs, selector, sequence, statement, then_statement, while_loop}
 use Rattle.ob0_scope_rules.specs.Names.{Name, same_name}
 use Rattle.ob0_types_rules.specs.Arguments.{arguments_listed}
-use Rattle.ob0_types_rules.specs.Expressions.{Meanings, Object, a_constant, a_procedure, a_standard, a_type, a_variable, designate, evaluate, follow, place_of, reads, writes, writes_line}
+use Rattle.ob0_types_rules.specs.Expressions.{Meanings, Object, a_constant, a_procedure, a_standard, a_type, a_variable, designate, evaluate, follow, object_place, reads, writes, writes_line}
 use Rattle.ob0_types_rules.specs.Typing.{designated, shape_of_field, type_of}
 use Rattle.ob0_values.specs.Values.{FieldShapes, Members, Outcome, Place, Shape, Step, Store, TurnBound, Value, Values, array_shape, at_field, at_index, boolean_shape, count_values, elements, ends, gives, integer_shape, members, next_field_shape, next_member, next_value, no_field_shape, no_member, no_value, number, or_stuck, read_place, record_shape, truth, with_at_path, with_named_member, with_nth_value, with_part, write_place, ◌>>=◌}
 use Rattle.ob0_types_rules.specs.WellTyped.{Formal, Mode, Signature, Typed, agree, argument_fits, arguments_fit, by_place, by_value, condition_fits, else_fits, elsifs_fit, sequence_fits, signature_of, statement_fits, statements_fit, variable_type}
@@ -110,11 +110,11 @@ shape_at_path-append (step ∷ a) b s = go (part_shape s step) (λ t. shape_at_p
     go None h = refl
     go (Some t) h = h t
 
-pub place_of-fits : (typing : StoreTyping) (checked : Option (Object Shape Signature)) (active : Option (Object Place (List Mode))) (s : Shape)
-    → ObjectFits typing checked active → checked ≡ Some (a_variable s) → OutcomeFits (λ p. PlaceFits typing p s) (place_of active)
-place_of-fits typing checked active s h e = go active (subst (λ o. ObjectFits typing o active) e h)
+pub object_place-fits : (typing : StoreTyping) (checked : Option (Object Shape Signature)) (active : Option (Object Place (List Mode))) (s : Shape)
+    → ObjectFits typing checked active → checked ≡ Some (a_variable s) → OutcomeFits (λ p. PlaceFits typing p s) (object_place active)
+object_place-fits typing checked active s h e = go active (subst (λ o. ObjectFits typing o active) e h)
   where
-    go : (active : Option (Object Place (List Mode))) → ObjectFits typing (Some (a_variable s)) active → OutcomeFits (λ p. PlaceFits typing p s) (place_of active)
+    go : (active : Option (Object Place (List Mode))) → ObjectFits typing (Some (a_variable s)) active → OutcomeFits (λ p. PlaceFits typing p s) (object_place active)
     go (Some (a_variable p)) h = h
     go None h = absurd h
     go (Some (a_type t)) h = absurd h
@@ -127,8 +127,8 @@ pub designate-sound : {N : Type 0} (typing : StoreTyping) (checked : Typed N) (a
 unfolding designate
 designate-sound typing checked active store f x path s h =
     let (t, et, h₁) = variable-typed checked x path s h in
-    fits-then (λ p. PlaceFits typing p t) (λ p. PlaceFits typing p s) (place_of (active.object_for x)) (λ p. or_stuck (read_place store p) >>= (λ v. follow active store v path >>= (λ steps. gives record { variable = p.variable; path = p.path ++ steps })))
-    (place_of-fits typing (checked.object_for x) (active.object_for x) t (f.names_fit.0 x) et)
+    fits-then (λ p. PlaceFits typing p t) (λ p. PlaceFits typing p s) (object_place (active.object_for x)) (λ p. or_stuck (read_place store p) >>= (λ v. follow active store v path >>= (λ steps. gives record { variable = p.variable; path = p.path ++ steps })))
+    (object_place-fits typing (checked.object_for x) (active.object_for x) t (f.names_fit.0 x) et)
     (λ p hp. let (v, ev, hv) = place-fits typing store p t f.store_fits hp in
     fits-then (λ v. HasShape v t) (λ p. PlaceFits typing p s) (or_stuck (read_place store p)) (λ v. follow active store v path >>= (λ steps. gives record { variable = p.variable; path = p.path ++ steps })) (or_stuck-fits (λ v. HasShape v t) (read_place store p) v ev hv)
     (λ v hv. fits-then (λ steps. shape_at_path steps t ≡ Some s) (λ p. PlaceFits typing p s) (follow active store v path) (λ steps. gives record { variable = p.variable; path = p.path ++ steps }) (follow-sound typing checked active store f v t path s hv h₁)

@@ -16,11 +16,11 @@ use Rattle.ob0_scope.specs.NamesAtPlaces.{name_on, refers}
 use Rattle.ob0_scope.specs.declared.naming.Named.{Named}
 use Rattle.ob0_types_rules.specs.Bindings.{declared_object}
 use Rattle.ob0_types.specs.RowsOfFields.{FieldRow}
-use Rattle.ob0_types_fields.specs.FieldTypes.{constructed, field_in}
-use Rattle.ob0_types_fields.specs.Identifiers.{declared_in, field_at, field_identifiers, field_on, first, record_tokens, tokens_among}
+use Rattle.ob0_types_fields.specs.FieldTypes.{constructed, typed_field_in}
+use Rattle.ob0_types_fields.specs.Identifiers.{declared_in_block, field_at, field_identifiers, field_on, first, record_tokens, tokens_among}
 use Rattle.ob0_refs.specs.Declarations.{object_hover}
 use Rattle.ob0_refs.specs.Hovers.{field_text, predeclared_text, type_text}
-use Rattle.ob0_refs.specs.Questions.{Identified, hover_at_place, declared, definition_at, field_named_at, field_references, named_at, or_else, references_at, name_or_field, identified_at, without}
+use Rattle.ob0_refs.specs.Questions.{Identified, hover_at_place, declared, definition_at, field_named_at, field_references, named_at, or_else, references_at, name_or_field, identified_at, other_tokens}
 use Rattle.ob0_refs.specs.Shown.{HoverText, name_hover_at}
 use Rattle.ob0_refs.specs.declared.answers.Of.TheVariants as reports
 use Rattle.ob0_rpc.specs.Requesting.{At}
@@ -57,7 +57,7 @@ module _ (r q : Resolution) (e : Same r.module_read q.module_read) (fields : fie
       or_else (same_name_shown i)
       (option_map (row_shown (e.source i))
       (option_and_then (λ x. option_map (λ f. record { token = x.0; of = f })
-      (option_and_then (λ s. field_in s (text_at (e.source i) x.0))
+      (option_and_then (λ s. typed_field_in s (text_at (e.source i) x.0))
       (get_or (constructed (record { object_for = λ token. option_and_then (declared_object (named (e.source i) (e.tree i))) (tables token i); written = λ token. text_at (e.source i) token }) None (e.tree i)) x.1 None)))
       (same_field i)))
 
@@ -66,7 +66,7 @@ module _ (r q : Resolution) (e : Same r.module_read q.module_read) (fields : fie
   declared_by : (o : Option Named) (f : Option Identified) → declared r.module_read o f ≡ declared q.module_read o f
   declared_by (Some n) f = λ i. option_map (span_at (e.source i)) (token_declaring (declaring_only (identifiers role.Declaring (e.tree i))) n.ordinal)
   declared_by None f = λ i.
-      option_and_then (λ x. option_map (span_at (e.source i)) (first (tokens_among (e.source i) x.1 (text_at (e.source i) x.0) (declared_in 0 (module_block (e.tree i)))))) f
+      option_and_then (λ x. option_map (span_at (e.source i)) (first (tokens_among (e.source i) x.1 (text_at (e.source i) x.0) (declared_in_block 0 (module_block (e.tree i)))))) f
 
   same_definition : definition_at r offset ≡ definition_at q offset
   same_definition = declared_by (name_on r.module_read offset) (field_at r offset) ∙ (λ i. declared q.module_read (one_name e offset i) (same_field i))
@@ -76,7 +76,7 @@ module _ (r q : Resolution) (e : Same r.module_read q.module_read) (fields : fie
   field_referred : (x : Identified) (include : Bool) → field_references r x include ≡ field_references q x include
   field_referred x true = λ i. tokens_among (e.source i) x.1 (text_at (e.source i) x.0) (fields i)
   field_referred x false = λ i.
-      without (first (tokens_among (e.source i) x.1 (text_at (e.source i) x.0) (declared_in 0 (module_block (e.tree i))))) (tokens_among (e.source i) x.1 (text_at (e.source i) x.0) (fields i))
+      other_tokens (first (tokens_among (e.source i) x.1 (text_at (e.source i) x.0) (declared_in_block 0 (module_block (e.tree i))))) (tokens_among (e.source i) x.1 (text_at (e.source i) x.0) (fields i))
 
   field_named : (include : Bool) (f : Option Identified) → field_named_at r include f ≡ field_named_at q include f
   field_named include None = refl
@@ -96,7 +96,7 @@ module _ (r q : Resolution) (e : Same r.module_read q.module_read) (fields : fie
   same_name_or_field None f = λ i.
       option_map (λ x. record {
         span = span_at (e.source i) x.0;
-        of = reports.Field x.1 (unwrap_or (position_from (λ token. same_name (text_at (e.source i) token) (text_at (e.source i) x.0)) 0 (record_tokens x.1 (declared_in 0 (module_block (e.tree i))))) 0);
+        of = reports.Field x.1 (unwrap_or (position_from (λ token. same_name (text_at (e.source i) token) (text_at (e.source i) x.0)) 0 (record_tokens x.1 (declared_in_block 0 (module_block (e.tree i))))) 0);
       }) f
 
   same_identified : identified_at r offset ≡ identified_at q offset

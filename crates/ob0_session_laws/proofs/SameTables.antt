@@ -16,7 +16,7 @@ use Rattle.ob0_types_check.specs.Operations.{at_token, right, token_before}
 use Rattle.ob0_types_check.specs.SoFar.{PartTypes, Size, SoFar, TypedAfter, define, define_all, facts_at, is_within, made, make, of_elements, of_fields, size_at, too_large, type_with, types_at, with_declared}
 use Rattle.ob0_types_check.specs.StatementFaults.{reported_sequence}
 use Rattle.ob0_types_check.specs.TypeFaults.{length_of, reported_constant, type_named}
-use Rattle.ob0_types_check.specs.WrittenTypeFaults.{Gathered, array_made, array_size, beside, gathered_after, nothing_gathered, ordinal_here, record_made, record_size, record_word, reported_fields, reported_groups, reported_type, with_name, with_names, word_before}
+use Rattle.ob0_types_check.specs.WrittenTypeFaults.{Gathered, array_made, array_size, beside, gathered_after, nothing_gathered, ordinal_here, record_made, record_size, record_word, reported_fields, reported_groups, reported_type, with_name, with_field_names, word_before}
 
 -- ---- the same but for tables that have the same ordinals
 
@@ -112,7 +112,7 @@ name_like t u g h token same like = record {
   following = like.following;
 }
 
-names_like : (t u : TypeId) (g h : Gathered) (tokens : List ℕ) → t ≡ u → GatheredLike g h → GatheredLike (with_names t g tokens) (with_names u h tokens)
+names_like : (t u : TypeId) (g h : Gathered) (tokens : List ℕ) → t ≡ u → GatheredLike g h → GatheredLike (with_field_names t g tokens) (with_field_names u h tokens)
 names_like t u g h [] same like = like
 names_like t u g h (x ∷ xs) same like = names_like t u (with_name t g x) (with_name u h x) xs same (name_like t u g h x same like)
 

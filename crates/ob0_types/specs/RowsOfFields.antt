@@ -13,8 +13,8 @@ pub record FieldRow : Type 0 where
   pub of : TypedField
 
 -- the row of an identifier: its token, and the ordinal of its record
-abbrev pub row_of : Resolution → ℕ × ℕ → Option FieldRow
-row_of r x = option_map (λ f. record { token = x.0; of = f }) (typed_field r x)
+abbrev pub field_row_of : Resolution → ℕ × ℕ → Option FieldRow
+field_row_of r x = option_map (λ f. record { token = x.0; of = f }) (typed_field r x)
 
 -- what a row of the code means
 abbrev pub row_in : code.FieldRow → FieldRow
@@ -23,4 +23,4 @@ row_in row =
 
 -- the field at a place, with its type
 abbrev pub field_row_at : Resolution → ℕ → Option FieldRow
-field_row_at r offset = option_and_then (row_of r) (field_at r offset)
+field_row_at r offset = option_and_then (field_row_of r) (field_at r offset)

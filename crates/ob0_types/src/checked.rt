@@ -250,7 +250,7 @@ impl<'t> WellTyped<'t> {
     ghost use Rattle.ob0_types_rules.specs.ConstantValues.{value_of_constant};
     ghost use Rattle.ob0_types_rules.specs.Bindings.{declared_object};
     ghost use Rattle.ob0_types.specs.DeclaredShapes.{shape_of};
-    ghost use Rattle.ob0_types.specs.RowsOfFields.{row_in, row_of};
+    ghost use Rattle.ob0_types.specs.RowsOfFields.{row_in, field_row_of};
     ghost use Rattle.ob0_types_rules.specs.Typing.{type_declared};
     ghost use Rattle.ob0_values.specs.Scalars.{scalar_value};
 
@@ -285,7 +285,7 @@ impl<'t> WellTyped<'t> {
 
     /// What an identifier of a field is, by its token and the ordinal of its record.
     pub(crate) fn field_row(&self, identifier: (usize, usize)) -> Option<FieldRow<'t>>
-        ensures { option_map row_in result ≡ row_of self.now identifier }
+        ensures { option_map row_in result ≡ field_row_of self.now identifier }
     {
         let known = self.known();
         match typed_field(known, self.resolved(), identifier) {

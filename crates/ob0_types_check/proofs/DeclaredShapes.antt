@@ -8,7 +8,7 @@ use Rattle.ob0_types_table.specs.declared.types.TypeId.TheVariants as type
 use Rattle.ob0_types_rules.specs.Typing.{depth, field_depth, field_scalars, scalars, with_fields, within_limits}
 use Rattle.ob0_values.specs.Values.{FieldShapes, Shape, array_shape, boolean_shape, integer_shape, next_field_shape, no_field_shape, record_shape}
 use Rattle.ob0_types_check.specs.SoFar.{MadeType, PartTypes, Size, FieldSoFar, is_within, of_elements, of_fields, one_scalar, size_at, size_made}
-use Rattle.ob0_types_check.specs.WrittenTypeFaults.{Gathered, array_size, record_size, with_name, with_names}
+use Rattle.ob0_types_check.specs.WrittenTypeFaults.{Gathered, array_size, record_size, with_name, with_field_names}
 use Rattle.ob0_types_check.specs.Agreement.{EachMade, FieldsAgree, MadeAgrees, PartsAgree, TableAgrees, as_array, as_record, shape_in}
 
 -- what has a shape keeps it
@@ -177,11 +177,11 @@ name_put shapes g fs x t s h table is =
     }
 
 pub names_put : (shapes : List Shape) (g : Gathered) (fs : FieldShapes) (xs : List ℕ) (t : TypeId) (s : Shape) → GatheredAgrees shapes g fs → TableAgrees g.following.made shapes → shape_in shapes t ≡ Some s
-    → GatheredAgrees shapes (with_names t g xs) (followed fs (with_fields (map (text_at g.following.source) xs) s no_field_shape))
+    → GatheredAgrees shapes (with_field_names t g xs) (followed fs (with_fields (map (text_at g.following.source) xs) s no_field_shape))
 names_put shapes g fs [] t s h table is = subst (GatheredAgrees shapes g) (sym (followed-nothing fs)) h
 names_put shapes g fs (x ∷ xs) t s h table is =
     let one : FieldShapes = next_field_shape (text_at g.following.source x) s no_field_shape in
-    subst (GatheredAgrees shapes (with_names t (with_name t g x) xs)) (followed-assoc fs one (with_fields (map (text_at g.following.source) xs) s no_field_shape))
+    subst (GatheredAgrees shapes (with_field_names t (with_name t g x) xs)) (followed-assoc fs one (with_fields (map (text_at g.following.source) xs) s no_field_shape))
     (names_put shapes (with_name t g x) (followed fs one) xs t s (name_put shapes g fs x t s h table is) table is)
 
 pub record_sized : (shapes : List Shape) (g : Gathered) (k : ℕ) (fs : FieldShapes) → GatheredAgrees shapes g fs → SizeAgrees (record_size g.size) (record_shape k fs)

@@ -17,7 +17,7 @@ use Rattle.ob0_types_check.specs.Known.{Meaning, Operand, Reported, a_constant, 
 use Rattle.ob0_types_check.specs.Operations.{right}
 use Rattle.ob0_types_check.specs.SoFar.{PartTypes, Size, SoFar, TypedAfter, facts_at, is_within, made, make, of_elements, of_fields, size_at, too_large, type_with}
 use Rattle.ob0_types_check.specs.TypeFaults.{length_of, type_meant}
-use Rattle.ob0_types_check.specs.WrittenTypeFaults.{Gathered, array_made, array_size, gathered_after, nothing_gathered, record_made, record_size, record_word, reported_fields, reported_groups, ordinal_here, reported_type, with_name, with_names, word_before}
+use Rattle.ob0_types_check.specs.WrittenTypeFaults.{Gathered, array_made, array_size, gathered_after, nothing_gathered, record_made, record_size, record_word, reported_fields, reported_groups, ordinal_here, reported_type, with_name, with_field_names, word_before}
 use Rattle.ob0_types_check.specs.Agreement.{PartsAgree, MeansAlike, TableAgrees, shape_in}
 use Rattle.ob0_types_check.specs.WellTypedLaws.{constructor_of}
 use Rattle.ob0_types_check.proofs.MadeOnce.{Apart, apart_made, apart_same, apart_then}
@@ -118,7 +118,7 @@ pub record GroupsGather (n : ℕ) (p : SoFar) (before : List Shape) (k l : ℕ) 
   pub given_is : given ≡ Some own
   pub gathers : Gathers n p before k l first own g
 
-names_following : (t : TypeId) (g : Gathered) (xs : List ℕ) → (with_names t g xs).following ≡ g.following
+names_following : (t : TypeId) (g : Gathered) (xs : List ℕ) → (with_field_names t g xs).following ≡ g.following
 names_following t g [] = refl
 names_following t g (x ∷ xs) = names_following t (with_name t g x) xs
 
@@ -138,7 +138,7 @@ names_gather n w g before k l first xs ys given u source texts h d =
         after = d.after;
         apart = d.apart;
         later = subst (λ z. Later n g.following z before d.after) (sym (names_following u.of start xs)) d.later;
-        agrees = subst (λ zs. GatheredAgrees d.after (with_names u.of start xs) (followed first (with_fields zs d.shape no_field_shape))) ((λ i. map (text_at (text i)) xs) ∙ sym texts) put;
+        agrees = subst (λ zs. GatheredAgrees d.after (with_field_names u.of start xs) (followed first (with_fields zs d.shape no_field_shape))) ((λ i. map (text_at (text i)) xs) ∙ sym texts) put;
       };
     }
 

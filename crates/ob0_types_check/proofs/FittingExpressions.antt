@@ -16,7 +16,7 @@ use Rattle.ob0_values.specs.Values.{Place, Shape, Value, boolean_shape, integer_
 use Rattle.ob0_values.specs.Values.{signed as with_sign}
 use Rattle.ob0_types_check.specs.ExpressionFaults.{reported_addends, reported_expression, reported_factor, reported_multipliers, reported_selectors, reported_simple, reported_term}
 use Rattle.ob0_types_check.specs.Known.{Facts, Operand}
-use Rattle.ob0_types_check.specs.Operations.{add_operands, complement_operand, element_selected, field_selected, multiply_operands, named, relate_operands, sign_operand}
+use Rattle.ob0_types_check.specs.Operations.{add_operands, complement_operand, element_selected, field_selected, multiply_operands, name_operand, relate_operands, sign_operand}
 use Rattle.ob0_types_check.specs.Agreement.{TypesAgree}
 use Rattle.ob0_types_check.proofs.Operands.{IsOf, added-fits, complement-of, complemented-fits, element-fits, field-fits, multiplied-fits, none-of, related-fits, relation-of, signed-fits, some-of}
 use Rattle.ob0_types_check.proofs.Unreported.{goes-on, none-reported, then-assoc, then-itself}
@@ -32,11 +32,11 @@ pub record Fits {T : Type 0} (shape : T → Option Shape) (o : Operand T) (type 
 
 -- a name, which may be for a place where it is a variable's
 pub record NameFits {T N P : Type 0} (facts : Facts T) (shape : T → Option Shape) (label : ℕ → N) (meaning : Meanings N Shape P) (x : ℕ) : Type 0 where
-  pub fits : Fits shape (named facts x).known (object_type (meaning.object_for (label x))) (constant_of (meaning.object_for (label x)))
-  pub placed : (named facts x).known.is_place ≡ true → meaning.object_for (label x) ≡ Some (a_variable fits.of)
+  pub fits : Fits shape (name_operand facts x).known (object_type (meaning.object_for (label x))) (constant_of (meaning.object_for (label x)))
+  pub placed : (name_operand facts x).known.is_place ≡ true → meaning.object_for (label x) ≡ Some (a_variable fits.of)
 
 abbrev pub TokenFits : {T N P : Type 0} → Facts T → (T → Option Shape) → (ℕ → N) → Meanings N Shape P → Role → ℕ → Type 0
-TokenFits facts shape label meaning role.LookedUp x = (named facts x).faults ≡ [] → NameFits facts shape label meaning x
+TokenFits facts shape label meaning role.LookedUp x = (name_operand facts x).faults ≡ [] → NameFits facts shape label meaning x
 TokenFits facts shape label meaning role.FieldName x = meaning.written (label x) ≡ text_at facts.source x
 TokenFits facts shape label meaning role.Declaring x = Unit {0}
 TokenFits facts shape label meaning role.ClosingName x = Unit {0}
@@ -194,15 +194,15 @@ module _ {T N P : Type 0} (facts : Facts T) (shape : T → Option Shape) (types 
   unfolding reported_expression type_of evaluate
   designator-valued x end name = name.fits.valued ∙ sym (name-valued among (label x) (constant_of (meaning.object_for (label x))) refl)
   designator-valued x (more s path) name =
-      parts-have-none facts (named facts x).known s path
+      parts-have-none facts (name_operand facts x).known s path
       ∙ sym (parts-valued among (label x) (constant_of (meaning.object_for (label x))) (tree s) (tree path) refl (λ v e. ap is_some (name.fits.scalar v (name.fits.valued ∙ e))))
 
-  designator-scalar : (x : ℕ) (path : Tree ℕ (items selector)) (name : NameFits facts shape label meaning x) (fs : FitsSelectors (named facts x).known name.fits.of path) → IsOf fs.of (reported_factor facts (designator x path)).known.value
+  designator-scalar : (x : ℕ) (path : Tree ℕ (items selector)) (name : NameFits facts shape label meaning x) (fs : FitsSelectors (name_operand facts x).known name.fits.of path) → IsOf fs.of (reported_factor facts (designator x path)).known.value
   unfolding reported_expression
   designator-scalar x end name fs = λ v e. name.fits.scalar v e ∙ (sym name.fits.known ∙ fs.known)
-  designator-scalar x (more s path) name fs = λ v e. none-of fs.of v (sym (parts-have-none facts (named facts x).known s path) ∙ e)
+  designator-scalar x (more s path) name fs = λ v e. none-of fs.of v (sym (parts-have-none facts (name_operand facts x).known s path) ∙ e)
 
-  designator-whole : (x : ℕ) (path : Tree ℕ (items selector)) (name : NameFits facts shape label meaning x) → FitsSelectors (named facts x).known name.fits.of path → FitsFactor (designator x path)
+  designator-whole : (x : ℕ) (path : Tree ℕ (items selector)) (name : NameFits facts shape label meaning x) → FitsSelectors (name_operand facts x).known name.fits.of path → FitsFactor (designator x path)
   unfolding reported_expression type_of evaluate
   designator-whole x path name fs = record {
     of = fs.of;
@@ -320,9 +320,9 @@ module _ {T N P : Type 0} (facts : Facts T) (shape : T → Option Shape) (types 
 
     pub factor-fits : (f : Tree ℕ factor) → All f → (reported_factor facts f).faults ≡ [] → FitsFactor f
     factor-fits (designator x path) k h =
-        let parts = none-reported (named facts x).faults _ h in
+        let parts = none-reported (name_operand facts x).faults _ h in
         let name : NameFits facts shape label meaning x = k.0 parts.0 in
-        designator-whole x path name (selectors-fit (named facts x).known name.fits.of path name.fits.known k.1 parts.1)
+        designator-whole x path name (selectors-fit (name_operand facts x).known name.fits.of path name.fits.known k.1 parts.1)
     factor-fits (integer n) k h = integer-whole n
     factor-fits (parenthesised e) k h = parentheses-whole e (expression-fits e k (none-reported (reported_expression facts e).faults _ h).0)
     factor-fits (negation f) k h =

@@ -10,7 +10,7 @@ use Rattle.ob0_types_rules.specs.WellTyped.{variable_type}
 use Rattle.ob0_values.specs.Values.{Shape}
 use Rattle.ob0_types_check.specs.ExpressionFaults.{reported_expression, reported_factor, reported_selectors, reported_term}
 use Rattle.ob0_types_check.specs.Known.{Facts, Operand}
-use Rattle.ob0_types_check.specs.Operations.{add_operands, multiply_operands, named, sign_operand}
+use Rattle.ob0_types_check.specs.Operations.{add_operands, multiply_operands, name_operand, sign_operand}
 use Rattle.ob0_types_check.specs.Agreement.{TypesAgree}
 use Rattle.ob0_types_check.specs.ReportLaws.{OperandFits}
 use Rattle.ob0_types_check.proofs.FittingExpressions.{FitsExpression, FitsSelectors, NameFits, TokensFit, addends-apart, expression-fits, multipliers-apart, parts-placed, selectors-fit, split-tokens}
@@ -40,15 +40,15 @@ module _ {T N P : Type 0} (facts : Facts T) (shape : T → Option Shape) (types 
     pub known : shape o.of ≡ Some of
     pub placed : variable_type meaning (designated e) ≡ Some of
 
-  designator-placed : (x : ℕ) (path : Tree ℕ (items selector)) (f : Tree N factor) → NameFits facts shape label meaning x → Agreed path → (reported_selectors facts (named facts x).known path).faults ≡ []
-      → (reported_selectors facts (named facts x).known path).known.is_place ≡ true
-      → IsPlaced (reported_selectors facts (named facts x).known path).known (compares (sum None (product (designator (label x) (here path)) end) end) none)
+  designator-placed : (x : ℕ) (path : Tree ℕ (items selector)) (f : Tree N factor) → NameFits facts shape label meaning x → Agreed path → (reported_selectors facts (name_operand facts x).known path).faults ≡ []
+      → (reported_selectors facts (name_operand facts x).known path).known.is_place ≡ true
+      → IsPlaced (reported_selectors facts (name_operand facts x).known path).known (compares (sum None (product (designator (label x) (here path)) end) end) none)
   designator-placed x path f name k h e =
-      let fs : FitsSelectors facts shape types label meaning (named facts x).known name.fits.of path = selectors-fit facts shape types label meaning (named facts x).known name.fits.of path name.fits.known k h in
+      let fs : FitsSelectors facts shape types label meaning (name_operand facts x).known name.fits.of path = selectors-fit facts shape types label meaning (name_operand facts x).known name.fits.of path name.fits.known k h in
       record {
         of = fs.of;
         known = fs.known;
-        placed = variable-typed x path name.fits.of (Some fs.of) (name.placed (sym (parts-placed facts (named facts x).known path) ∙ e)) fs.typed;
+        placed = variable-typed x path name.fits.of (Some fs.of) (name.placed (sym (parts-placed facts (name_operand facts x).known path) ∙ e)) fs.typed;
       }
 
   no-place : {A : Type 0} (o : Operand T) → o.is_place ≡ false → o.is_place ≡ true → A
@@ -58,7 +58,7 @@ module _ {T N P : Type 0} (facts : Facts T) (shape : T → Option Shape) (types 
       → IsPlaced (reported_factor facts f).known (compares (sum None (product (here f) end) end) none)
   unfolding reported_expression
   placed-factor (designator x path) k h e =
-      let parts = none-reported (named facts x).faults _ h in
+      let parts = none-reported (name_operand facts x).faults _ h in
       designator-placed x path (here (designator x path)) (k.0 parts.0) k.1 parts.1 e
   placed-factor (integer n) k h e = no-place (reported_factor facts (integer n)).known refl e
   placed-factor (parenthesised a) k h e = no-place (reported_factor facts (parenthesised a)).known refl e

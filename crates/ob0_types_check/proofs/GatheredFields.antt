@@ -12,7 +12,7 @@ use Rattle.ob0_types_check.specs.Known.{Reported}
 use Rattle.ob0_types_check.specs.Operations.{ReportsAfter}
 use Rattle.ob0_types_check.specs.SoFar.{Size, no_scalar, size_at}
 use Rattle.ob0_types_check.specs.SupposedFacts.{Gathers, IsGathered, counted, fields_in, size_of, so_far_in}
-use Rattle.ob0_types_check.specs.WrittenTypeFaults.{Gathered, beside, nothing_gathered, reported_fields, reported_groups, with_name, with_names}
+use Rattle.ob0_types_check.specs.WrittenTypeFaults.{Gathered, beside, nothing_gathered, reported_fields, reported_groups, with_name, with_field_names}
 use Rattle.ob0_types_check.proofs.Chains.{Chained, chain_goes_on}
 use Rattle.ob0_types_check.proofs.ReportedTypes.{group_reported, groups_chain}
 
@@ -41,7 +41,7 @@ one_more g s old new token t w h fields size is = record {
 pub record NamesGathered (t : TypeId) (g : Gathered) (s : Supposed) (xs : List ℕ) (done : ℕ) (now : gathering.Gathered) : Type 0 where
   pub out : Gathered
   pub is : IsGathered out s now
-  pub left : with_names t out (drop done xs) ≡ with_names t g xs
+  pub left : with_field_names t out (drop done xs) ≡ with_field_names t g xs
 
 pub names_begin : {t : TypeId} {g : Gathered} {s : Supposed} {xs : List ℕ} {now : gathering.Gathered} → IsGathered g s now → NamesGathered t g s xs 0 now
 names_begin {g = g} h = record { out = g; is = h; left = refl }
@@ -50,11 +50,11 @@ pub names_go_on : {t : TypeId} {g : Gathered} {s : Supposed} {xs : List ℕ} {do
     → ((h : Gathered) → IsGathered h s now → IsGathered (with_name t h x) s next) → NamesGathered t g s xs (done + 1) next
 names_go_on {t = t} {xs = xs} {done = done} x n less here step =
     let split : drop done xs ≡ x ∷ drop (done + 1) xs = drop_more xs done 0 less ∙ ap (λ y. y ∷ drop (done + 1) xs) (sym here) in
-    record { out = with_name t n.out x; is = step n.out n.is; left = sym (ap (with_names t n.out) split) ∙ n.left }
+    record { out = with_name t n.out x; is = step n.out n.is; left = sym (ap (with_field_names t n.out) split) ∙ n.left }
 
-pub names_end : {t : TypeId} {g : Gathered} {s : Supposed} {xs : List ℕ} {done : ℕ} {now : gathering.Gathered} → NamesGathered t g s xs done now → length xs ≤ done → IsGathered (with_names t g xs) s now
+pub names_end : {t : TypeId} {g : Gathered} {s : Supposed} {xs : List ℕ} {done : ℕ} {now : gathering.Gathered} → NamesGathered t g s xs done now → length xs ≤ done → IsGathered (with_field_names t g xs) s now
 names_end {t = t} {s = s} {xs = xs} {done = done} {now = now} n over =
-    subst (λ g. IsGathered g s now) (sym (ap (with_names t n.out) (drop_all done xs over)) ∙ n.left) n.is
+    subst (λ g. IsGathered g s now) (sym (ap (with_field_names t n.out) (drop_all done xs over)) ∙ n.left) n.is
 
 -- the groups so far, with those left, are all
 pub record GroupsGathered (around : ℕ) (start : Gathered) (before : List Fault) (xs : List Fields) (done : ℕ) (now : List Fault) (s : Supposed) (gathered : gathering.Gathered) : Type 0 where

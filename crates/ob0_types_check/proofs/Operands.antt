@@ -16,7 +16,7 @@ use Rattle.ob0_types_rules.specs.Typing.{add_type, complement_type, element_type
 use Rattle.ob0_values.specs.Values.{Overflow, Shape, Value, add, add_is_settled, boolean_shape, divided_by, ends, gives, in_range, integer_shape, multiply, multiply_is_settled, negated, number, quotient, relate, remainder, truth}
 use Rattle.ob0_values.specs.Values as values
 use Rattle.ob0_types_check.specs.Known.{Facts, Form, Operand, Reported, a_record, a_scalar, an_array, unknown_form}
-use Rattle.ob0_types_check.specs.Operations.{add_operands, required, required_both, at_operand, complement_operand, element_in, element_selected, field_in, field_selected, fits, found_field, multiply_operands, relate_operands, sign_operand, truth_of, required_by_add, required_by_equality, required_by_multiply, required_by_relation}
+use Rattle.ob0_types_check.specs.Operations.{add_operands, required, required_both, at_operand, complement_operand, element_in, element_selected, field_in, field_selected, fits, found_field, multiply_operands, relate_operands, sign_operand, comparison_type, required_by_add, required_by_equality, required_by_multiply, required_by_relation}
 use Rattle.ob0_types_check.specs.Agreement.{FormAgrees, TypesAgree}
 use Rattle.ob0_types_check.proofs.Unreported.{first-of, first-reported, none-if, none-reported, not-true, some-none, some-same}
 
@@ -181,7 +181,7 @@ module _ {T : Type 0} (facts : Facts T) (shape : T → Option Shape) (types : Ty
   relation-wanted relation.Greater t s h = (integer_shape, types.integer, refl)
   relation-wanted relation.GreaterEqual t s h = (integer_shape, types.integer, refl)
 
-  truth-known : (t : T) (s : Shape) → shape t ≡ Some s → shape (truth_of facts.types t) ≡ Some boolean_shape
+  truth-known : (t : T) (s : Shape) → shape t ≡ Some s → shape (comparison_type facts.types t) ≡ Some boolean_shape
   truth-known t s h = ap (λ b. shape (if b then facts.types.unknown else facts.types.boolean)) (not-true (facts.types.same t facts.types.unknown) (is-known t s h)) ∙ types.boolean
 
   -- operations
@@ -203,7 +203,7 @@ module _ {T : Type 0} (facts : Facts T) (shape : T → Option Shape) (types : Ty
   related-fits r a b s t hs ht h =
       let (w, hw, typed) = relation-wanted r a.of s hs in
       let (known, left, right) = both-requested (required_by_relation facts.types r a.of) a b s t w hs ht hw (none-reported _ _ h).0 in
-      (ap (λ u. shape (truth_of facts.types u)) known ∙ truth-known (required_by_relation facts.types r a.of) w hw, (λ i. relation_type r (left i) (right i)) ∙ typed)
+      (ap (λ u. shape (comparison_type facts.types u)) known ∙ truth-known (required_by_relation facts.types r a.of) w hw, (λ i. relation_type r (left i) (right i)) ∙ typed)
 
   pub signed-fits : (g : Option Sign) (o : Operand T) (s : Shape) → shape o.of ≡ Some s → (sign_operand facts g o).faults ≡ []
       → (w : Shape) × (shape (sign_operand facts g o).known.of ≡ Some w) × (sign_type g s ≡ Some w) × (IsOf s o.value → IsOf w (sign_operand facts g o).known.value)

@@ -7,7 +7,7 @@ use Rattle.ob0_tree.specs.Tree.{Tree, addend, adds, compares, designator, end, e
 use Rattle.ob0_tree.specs.View.{items_of, selector_of}
 use Rattle.ob0_types_check.specs.Known.{Facts, Operand, Reported}
 use Rattle.ob0_types_check.specs.ExpressionFaults.{reported_addends, reported_expression, reported_factor, reported_multipliers, reported_selector, reported_selectors, reported_simple, reported_term}
-use Rattle.ob0_types_check.specs.Operations.{a_number, add_operands, complement_operand, element_selected, enclosed, field_selected, multiply_operands, named, relate_operands, right, sign_operand, ◌>>=◌}
+use Rattle.ob0_types_check.specs.Operations.{a_number, add_operands, complement_operand, element_selected, enclosed, field_selected, multiply_operands, name_operand, relate_operands, right, sign_operand, ◌>>=◌}
 use Rattle.ob0_types_check.specs.TypeFaults.{evaluated, reported_constant}
 use Rattle.ob0_types_check.proofs.Chains.{IsChain, reported_equal, then_assoc}
 
@@ -41,7 +41,7 @@ module _ {T : Type 0} (facts : Facts T) where
   unfolding reported_expression
   term_reported f rest = refl
 
-  pub designator_reported : (x : ℕ) (path : Tree ℕ (items selector)) → reported_factor facts (designator x path) ≡ (named facts x >>= (λ base. reported_selectors facts base path))
+  pub designator_reported : (x : ℕ) (path : Tree ℕ (items selector)) → reported_factor facts (designator x path) ≡ (name_operand facts x >>= (λ base. reported_selectors facts base path))
   unfolding reported_expression
   designator_reported x path = refl
 

@@ -5,7 +5,7 @@ use Rattle.std.proofs.lemmas.Option.{slice_get-map}
 use Rattle.std.proofs.Math.ListN.{get_or-map}
 use Rattle.ob0_scope_rules.specs.Names.{Name, same_name}
 use Rattle.ob0_scope_rules.specs.Resolution.{ordinal_in}
-use Rattle.ob0_types_table.specs.FieldIndex.{first_type}
+use Rattle.ob0_types_table.specs.FieldIndex.{first_field_type}
 use Rattle.ob0_types_table.specs.declared.known.Field.{Field}
 use Rattle.ob0_types_table.specs.declared.known.TypeEntry.{TypeEntry}
 use Rattle.ob0_types_table.specs.declared.known.TypeEntry.TheVariants as made
@@ -14,33 +14,33 @@ use Rattle.ob0_types_table.specs.declared.types.TypeId.TheVariants as type
 use Rattle.ob0_types_check.specs.declared.reporting.supposed.Meaning.{Meaning}
 use Rattle.ob0_types_check.specs.declared.reporting.supposed.Supposed.{Supposed}
 use Rattle.ob0_types_check.specs.Known.{a_record, an_array}
-use Rattle.ob0_types_check.specs.SoFar.{elements_at, facts_at, field_at, first_field, form_at, same_type}
-use Rattle.ob0_types_check.specs.SupposedFacts.{elements_of, facts_in, field_of, fields_in, form_in, made_of, meaning_of, so_far_in}
+use Rattle.ob0_types_check.specs.SoFar.{elements_at, facts_at, made_field_type, first_field, form_at, same_type}
+use Rattle.ob0_types_check.specs.SupposedFacts.{elements_of, facts_in, field_of, fields_in, form_in, made_type_of, known_meaning, so_far_in}
 
-elements_same : (o : Option TypeEntry) → elements_of o ≡ elements_at (option_map made_of o)
+elements_same : (o : Option TypeEntry) → elements_of o ≡ elements_at (option_map made_type_of o)
 elements_same None = refl
 elements_same (Some (made.Array a)) = refl
 elements_same (Some (made.Record r)) = refl
 
-field_alike : (fs : List Field) (x : Name) → first_type fs x ≡ first_field (fields_in fs) x
+field_alike : (fs : List Field) (x : Name) → first_field_type fs x ≡ first_field (fields_in fs) x
 field_alike [] x = refl
 field_alike (f ∷ fs) x = ap (λ o. if same_name x (string_bytes f.name) then Some f.of else o) (field_alike fs x)
 
-field_same : (o : Option TypeEntry) (x : Name) → field_of o x ≡ field_at (option_map made_of o) x
+field_same : (o : Option TypeEntry) (x : Name) → field_of o x ≡ made_field_type (option_map made_type_of o) x
 field_same None x = refl
 field_same (Some (made.Array a)) x = refl
 field_same (Some (made.Record r)) x = field_alike r.fields x
 
-form_same : (cs : List TypeEntry) (t : TypeId) → form_in cs t ≡ form_at (map made_of cs) t
+form_same : (cs : List TypeEntry) (t : TypeId) → form_in cs t ≡ form_at (map made_type_of cs) t
 form_same cs type.Integer = refl
 form_same cs type.Boolean = refl
-form_same cs (type.Array i) = ap an_array (elements_same (slice_get cs i) ∙ sym (ap elements_at (slice_get-map made_of cs i)))
-form_same cs (type.Record i) = ap a_record ((λ j x. field_same (slice_get cs i) x j) ∙ sym (ap field_at (slice_get-map made_of cs i)))
+form_same cs (type.Array i) = ap an_array (elements_same (slice_get cs i) ∙ sym (ap elements_at (slice_get-map made_type_of cs i)))
+form_same cs (type.Record i) = ap a_record ((λ j x. field_same (slice_get cs i) x j) ∙ sym (ap made_field_type (slice_get-map made_type_of cs i)))
 form_same cs type.Unknown = refl
 
-meant_at : (ms : List (Option Meaning)) (o : Option ℕ) → option_map meaning_of (option_and_then (λ k. slice_index_or ms k None) o) ≡ option_and_then (λ k. slice_index_or (map (option_map meaning_of) ms) k None) o
+meant_at : (ms : List (Option Meaning)) (o : Option ℕ) → option_map known_meaning (option_and_then (λ k. slice_index_or ms k None) o) ≡ option_and_then (λ k. slice_index_or (map (option_map known_meaning) ms) k None) o
 meant_at ms None = refl
-meant_at ms (Some k) = sym (get_or-map (option_map meaning_of) ms k None)
+meant_at ms (Some k) = sym (get_or-map (option_map known_meaning) ms k None)
 
 -- what is supposed gives the same facts
 pub facts_same : (s : Supposed) (only_constants : Bool) → facts_in s only_constants ≡ facts_at (so_far_in s) only_constants
@@ -52,5 +52,5 @@ facts_same s only_constants = λ j. record {
 }
 
 -- the list of what declarations are, with one more, or past its end
-pub declared_within : (ms : List (Option Meaning)) (k : ℕ) (m : Meaning) → map (option_map meaning_of) (set ms k (Some m)) ≡ set (map (option_map meaning_of) ms) k (Some (meaning_of m))
-declared_within ms k m = map-set (option_map meaning_of) ms k (Some m)
+pub declared_within : (ms : List (Option Meaning)) (k : ℕ) (m : Meaning) → map (option_map known_meaning) (set ms k (Some m)) ≡ set (map (option_map known_meaning) ms) k (Some (known_meaning m))
+declared_within ms k m = map-set (option_map known_meaning) ms k (Some m)

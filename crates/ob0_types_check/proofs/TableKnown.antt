@@ -23,7 +23,7 @@ use Rattle.ob0_types_table.specs.declared.types.TypeId.TheVariants as type
 use Rattle.ob0_values.specs.Values.{FieldShapes, Shape, array_shape, boolean_shape, integer_shape, next_field_shape, no_field_shape, record_shape}
 use Rattle.ob0_types_check.specs.Agreement.{DeclarationAgrees, EachMade, FieldsAgree, FormalsAgree, MadeAgrees, MeaningAgrees, as_array, as_record, is_standard, shape_in}
 use Rattle.ob0_types_check.specs.ModuleLaws.{KnowsDeclarations}
-use Rattle.ob0_types_check.specs.SupposedFacts.{fields_in, formal_of, made_of, meaning_of, object_of, so_far_in, table_in, with_standards}
+use Rattle.ob0_types_check.specs.SupposedFacts.{fields_in, formal_of, made_type_of, known_meaning, known_object, so_far_in, table_in, with_standards}
 use Rattle.ob0_types_check.specs.declared.reporting.supposed.Meaning.{Meaning}
 use Rattle.ob0_types_check.specs.declared.reporting.supposed.Meaning.TheVariants as declared
 use Rattle.ob0_types_check.specs.declared.reporting.supposed.Supposed.{Supposed}
@@ -75,7 +75,7 @@ fields_there known (f ∷ fs) (next_field_shape x s gs) h =
     ((λ i. next_field_shape (h.0 i) (type_there known f.of s h.1 i) (rest.0 i)), All-cons (λ f. IsTypeMade (length known) f.of) f fs (made_there known f.of s h.1) rest.1)
 
 -- an entry of the table
-entry_there : (known : List Shape) (m : TypeEntry) (s : Shape) → MadeAgrees (shape_in known) (made_of m) s → (made_shape known m ≡ s) × IsEntry known m
+entry_there : (known : List Shape) (m : TypeEntry) (s : Shape) → MadeAgrees (shape_in known) (made_type_of m) s → (made_shape known m ≡ s) × IsEntry known m
 entry_there known (made.Array a) s h =
     let (u, e, there) = h.parts in
     let same : made_shape known (made.Array a) ≡ s = ap (array_shape a.ordinal a.length) (type_there known a.element u there) ∙ sym e in
@@ -86,7 +86,7 @@ entry_there known (made.Record r) s h =
     let same : made_shape known (made.Record r) ≡ s = ap (record_shape r.ordinal) all.0 ∙ sym e in
     (same, record { parts = all.1; counted = (h.scalars ∙ ap scalars (sym same), h.depth ∙ ap depth (sym same)) })
 
-entries_there : (known : List Shape) (ms : List TypeEntry) (ss : List Shape) → EachMade known (map made_of ms) ss → AreEntriesInOrder known ms × (shapes_from known ms ≡ known ++ ss)
+entries_there : (known : List Shape) (ms : List TypeEntry) (ss : List Shape) → EachMade known (map made_type_of ms) ss → AreEntriesInOrder known ms × (shapes_from known ms ≡ known ++ ss)
 entries_there known [] [] h = (tt, sym (append-nil known))
 entries_there known [] (s ∷ ss) h = absurd h
 entries_there known (m ∷ ms) [] h = absurd h
@@ -112,14 +112,14 @@ procedure_there (Some (meant.a_variable s)) signature own e = absurd (cc)
 procedure_there (Some (meant.a_procedure g)) signature own e = ap (λ z. Some (meant.a_procedure z)) (sym (some-same g signature e))
 procedure_there (Some (meant.a_standard p)) signature own e = absurd (cc)
 
-object_there : (shapes : List Shape) (m : Meaning) (o : Option (meant.Object Shape Signature)) → MeaningAgrees (shape_in shapes) (meaning_of m) o → is_standard o ≡ false → object_in shapes (object_of m) ≡ o
+object_there : (shapes : List Shape) (m : Meaning) (o : Option (meant.Object Shape Signature)) → MeaningAgrees (shape_in shapes) (known_meaning m) o → is_standard o ≡ false → object_in shapes (known_object m) ≡ o
 object_there shapes (declared.Named t) o (s, there, is) own = ap (λ z. Some (meant.a_type z)) (type_there shapes t s there) ∙ sym is
 object_there shapes (declared.Constant (Some v)) o (w, there, is, scalar) own = ap (λ z. Some (meant.a_constant z)) (some-same _ w there) ∙ sym is
 object_there shapes (declared.Constant None) o (w, there, is, scalar) own = absurd (cc)
 object_there shapes (declared.Variable t) o (s, there, is) own = ap (λ z. Some (meant.a_variable z)) (type_there shapes t s there) ∙ sym is
 object_there shapes (declared.Procedure fs) o (signature, there, formals) own = ap (λ z. Some (meant.a_procedure z)) (formals_there shapes fs.items signature formals) ∙ procedure_there o signature own there
 
-declared_there : (shapes : List Shape) (m : Option Meaning) (o : Option (meant.Object Shape Signature)) → DeclarationAgrees (shape_in shapes) (option_map meaning_of m) o → is_standard o ≡ false → option_and_then (object_in shapes) (option_map object_of m) ≡ o
+declared_there : (shapes : List Shape) (m : Option Meaning) (o : Option (meant.Object Shape Signature)) → DeclarationAgrees (shape_in shapes) (option_map known_meaning m) o → is_standard o ≡ false → option_and_then (object_in shapes) (option_map known_object m) ≡ o
 declared_there shapes None o h own = sym h
 declared_there shapes (Some m) o h own = object_there shapes m o h own
 
@@ -128,7 +128,7 @@ apart j k other xs x = get_or-set_other xs j k x None other
 
 module _ (s : Supposed) (m : Tree Name module_text) (h : KnowsDeclarations (so_far_in s) m) where
   abbrev objects : List (Option object.Object)
-  objects = map (option_map object_of) s.meanings.items
+  objects = map (option_map known_object) s.meanings.items
 
   -- the standard procedures, one after another
   abbrev first_set : List (Option object.Object)
@@ -146,9 +146,9 @@ module _ (s : Supposed) (m : Tree Name module_text) (h : KnowsDeclarations (so_f
   -- an ordinal of no standard procedure
   plain_there : (k : ℕ) → is_standard (declared_object m k) ≡ false → option_and_then (object_in h.shapes) (slice_index_or objects k None) ≡ declared_object m k
   plain_there k own =
-      ap (option_and_then (object_in h.shapes)) (get_or-map (option_map object_of) s.meanings.items k None)
+      ap (option_and_then (object_in h.shapes)) (get_or-map (option_map known_object) s.meanings.items k None)
       ∙ declared_there h.shapes (slice_index_or s.meanings.items k None) (declared_object m k)
-      (subst (λ z. DeclarationAgrees (shape_in h.shapes) z (declared_object m k)) (get_or-map (option_map meaning_of) s.meanings.items k None) (h.declared k)) own
+      (subst (λ z. DeclarationAgrees (shape_in h.shapes) z (declared_object m k)) (get_or-map (option_map known_meaning) s.meanings.items k None) (h.declared k)) own
 
   kept : (k : ℕ) → (k ≡ 4 → ⊥) → (k ≡ 5 → ⊥) → (k ≡ 6 → ⊥) → slice_index_or (with_standards objects) k None ≡ slice_index_or objects k None
   kept k a b c = apart 6 k c _ _ ∙ (apart 5 k b _ _ ∙ apart 4 k a objects _)
@@ -157,7 +157,7 @@ module _ (s : Supposed) (m : Tree Name module_text) (h : KnowsDeclarations (so_f
   other_there k a b c own = ap (option_and_then (object_in h.shapes)) (kept k a b c) ∙ plain_there k own
 
   long : 7 ≤ length objects
-  long = omega (arith, h.room, length-map {B = Option object.Object} s.meanings.items (option_map object_of), length-map s.meanings.items (option_map meaning_of))
+  long = omega (arith, h.room, length-map {B = Option object.Object} s.meanings.items (option_map known_object), length-map s.meanings.items (option_map known_meaning))
 
   each_there : (k : ℕ) → option_and_then (object_in h.shapes) (slice_index_or (with_standards objects) k None) ≡ declared_object m k
   each_there zero = other_there 0 (λ e. absurd (cc)) (λ e. absurd (cc)) (λ e. absurd (cc)) (ap is_standard (h.predeclared 0 (omega arith)))

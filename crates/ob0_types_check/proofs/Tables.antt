@@ -8,7 +8,7 @@ use Rattle.ob0_types_rules.specs.Typing.{shape_of_field}
 use Rattle.ob0_values.specs.Values.{FieldShapes, Shape, array_shape, next_field_shape, no_field_shape, record_shape}
 use Rattle.ob0_types_check.proofs.DeclaredShapes.{longer_more, made_kept}
 use Rattle.ob0_types_check.specs.Known.{a_record, an_array}
-use Rattle.ob0_types_check.specs.SoFar.{MadeType, PartTypes, FieldSoFar, elements_at, elements_in, field_at, field_in, first_field, form_at, of_elements, of_fields, same_type}
+use Rattle.ob0_types_check.specs.SoFar.{MadeType, PartTypes, FieldSoFar, elements_at, elements_in, made_field_type, field_type_in, first_field, form_at, of_elements, of_fields, same_type}
 use Rattle.ob0_types_check.specs.Agreement.{EachMade, FieldsAgree, FormAgrees, MadeAgrees, PartsAgree, TableAgrees, as_array, as_record, shape_in}
 use Rattle.ob0_types_check.specs.ReportLaws.{TypesOfTables}
 use Rattle.ob0_types_check.proofs.Unreported.{some-none, some-same}
@@ -44,7 +44,7 @@ field-there shape (f ∷ fields) (next_field_shape y s fs) h x =
     ap (λ z. option_map shape (if same_name x z then Some f.of else first_field fields x)) h.0
     ∙ (elim (same_name x y) as (λ b. option_map shape (if b then Some f.of else first_field fields x) ≡ option_map Some (if b then Some s else shape_of_field fs x)) [ true ↦ ap Some h.1 | false ↦ field-there shape fields fs h.2 x ])
 
-record-formed : (shape : TypeId → Option Shape) (k : ℕ) (p : PartTypes) (r s : Shape) → PartsAgree shape k p r → as_record r ≡ Some s → FormAgrees shape (a_record (field_in p)) s
+record-formed : (shape : TypeId → Option Shape) (k : ℕ) (p : PartTypes) (r s : Shape) → PartsAgree shape k p r → as_record r ≡ Some s → FormAgrees shape (a_record (field_type_in p)) s
 record-formed shape k (of_elements n t) r s (u, e, known) h = absurd (some-none s (sym h ∙ ap as_record e))
 record-formed shape k (of_fields fields) r s (fs, e, each) h = (k, fs, some-same s (record_shape k fs) (sym h ∙ ap as_record e), field-there shape fields fs each)
 
@@ -59,7 +59,7 @@ formed-there made shapes each (type.Array i) s h =
 formed-there made shapes each (type.Record i) s h =
     option_and_then_some as_record (slice_get shapes i) s h
     (λ r at is. let f = found made shapes i r each at in
-    subst (λ o. FormAgrees (shape_in shapes) (a_record (field_at o)) s) (sym f.there) (record-formed (shape_in shapes) f.entry.ordinal f.entry.parts r s f.agrees.parts is))
+    subst (λ o. FormAgrees (shape_in shapes) (a_record (made_field_type o)) s) (sym f.there) (record-formed (shape_in shapes) f.entry.ordinal f.entry.parts r s f.agrees.parts is))
 
 same-there : (shapes : List Shape) (s t : TypeId) → same_type s t ≡ true → shape_in shapes s ≡ shape_in shapes t
 same-there shapes type.Integer type.Integer h = refl

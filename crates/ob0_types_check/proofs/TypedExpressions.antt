@@ -9,7 +9,7 @@ use Rattle.ob0_types_rules.specs.Typing.{add_type, complement_type, element_type
 use Rattle.ob0_values.specs.Values.{Shape, Value}
 use Rattle.ob0_types_check.specs.ExpressionFaults.{reported_addends, reported_expression, reported_factor, reported_multipliers, reported_selectors, reported_simple, reported_term}
 use Rattle.ob0_types_check.specs.Known.{Facts, Operand}
-use Rattle.ob0_types_check.specs.Operations.{add_operands, element_selected, field_selected, multiply_operands, named, sign_operand}
+use Rattle.ob0_types_check.specs.Operations.{add_operands, element_selected, field_selected, multiply_operands, name_operand, sign_operand}
 use Rattle.ob0_types_check.specs.Agreement.{TypesAgree}
 use Rattle.ob0_types_check.proofs.FittingExpressions.{Fits, FitsExpression, FitsFactor, FitsSimple, FitsTerm, NameFits, TokensFit, expression-fits, factor-fits, simple-fits, split-tokens, term-fits}
 use Rattle.ob0_types_check.proofs.Operands.{added-fits, element-fits, field-fits, multiplied-fits, signed-fits}
@@ -21,7 +21,7 @@ known-as s f e = f.known ∙ (sym f.typed ∙ e)
 
 -- a name that has a type: no fault is reported of it
 abbrev pub NameTyped : {T N P : Type 0} → Facts T → (ℕ → N) → Meanings N Shape P → Role → ℕ → Type 0
-NameTyped facts label meaning role.LookedUp x = (s : Shape) → object_type (meaning.object_for (label x)) ≡ Some s → (named facts x).faults ≡ []
+NameTyped facts label meaning role.LookedUp x = (s : Shape) → object_type (meaning.object_for (label x)) ≡ Some s → (name_operand facts x).faults ≡ []
 NameTyped facts label meaning role.FieldName x = Unit {0}
 NameTyped facts label meaning role.Declaring x = Unit {0}
 NameTyped facts label meaning role.ClosingName x = Unit {0}
@@ -124,7 +124,7 @@ module _ {T N P : Type 0} (facts : Facts T) (shape : T → Option Shape) (types 
         let (u, hu, last) = and-then (λ s. type_at meaning s (tree path)) (object_type (meaning.object_for (label x))) s h in
         let left = n.0 u hu in
         let name : NameFits facts shape label meaning x = k.0 left in
-        none-of-both (named facts x).faults _ left (selectors-right (named facts x).known u path (known-as u name.fits hu) (k.1, n.1) s last)
+        none-of-both (name_operand facts x).faults _ left (selectors-right (name_operand facts x).known u path (known-as u name.fits hu) (k.1, n.1) s last)
     factor-right (integer n) k s h = refl
     factor-right (parenthesised e) k s h = none-of-both (reported_expression facts e).faults [] (expression-right e k s h) refl
     factor-right (negation f) k s h =

@@ -17,7 +17,7 @@ use Rattle.ob0_values.specs.Values.{Shape, array_shape, boolean_shape, integer_s
 use Rattle.ob0_types_check.specs.ExpressionFaults.{reported_expression}
 use Rattle.ob0_types_check.specs.Known.{Facts, Meaning, Operand, a_constant, a_procedure, a_type, a_variable}
 use Rattle.ob0_types_check.specs.Known as known
-use Rattle.ob0_types_check.specs.Operations.{a_name, at_operand, at_token, named, named_value, required, right}
+use Rattle.ob0_types_check.specs.Operations.{a_name, at_operand, at_token, name_operand, named_value, required, right}
 use Rattle.ob0_types_check.specs.SoFar.{MadeType, facts_at, types_at}
 use Rattle.ob0_types_check.specs.StatementFaults.{call_by_meaning, passed, reported_argument, reported_arguments, reported_required, reported_assignment, reported_call, reported_condition, reported_else, reported_elsifs, reported_sequence, reported_statement, reported_statements, reported_target}
 use Rattle.ob0_types_check.specs.Agreement.{FormalsAgree, MeansAlike, TokensAgree, TypesAgree, as_array, as_record, shape_in}
@@ -100,7 +100,7 @@ module _ {T N : Type 0} (facts : Facts T) (shape : T → Option Shape) (types : 
       let factor : type_of_factor meaning (here (designator x path)) ≡ Some s = goes-on (λ s. type_at meaning s (here path)) (object_type (meaning.object_for (label x))) v (Some s) (ap object_type holds) typed in
       record {
         typed = ap (λ o. option_and_then (λ x. option_and_then (λ y. Some y) (Some x)) (option_and_then (λ x. Some x) o)) factor;
-        placed = parts-placed facts (named facts x).known path ∙ named-place x (facts.object_for x) (meaning.object_for (label x)) v k.0 holds;
+        placed = parts-placed facts (name_operand facts x).known path ∙ named-place x (facts.object_for x) (meaning.object_for (label x)) v k.0 holds;
       }
 
   passed-right : (b : Bool) (of : T) (g : Formal) (e : Tree ℕ expression) → g.mode ≡ mode_of b → shape of ≡ Some g.shape → Named e → argument_fits meaning g (here e) ≡ true

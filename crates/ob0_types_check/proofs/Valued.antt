@@ -6,7 +6,7 @@ use Rattle.ob0_tree.specs.declared.tree.Relation.{Relation}
 use Rattle.ob0_tree.specs.declared.tree.Sign.{Sign}
 use Rattle.ob0_tree.specs.Tree.{Tree, addend, adds, compares, designator, end, factor, field, index, item, items, more, multiplier, multiplies, negation, one, product, relates, selector, simple, sum, term}
 use Rattle.ob0_types_table.specs.Operators.{product_value, sum_value}
-use Rattle.ob0_types_rules.specs.Expressions.{Meanings, a_constant, element_step, evaluate, evaluate_addends, evaluate_factor, evaluate_multipliers, evaluate_simple, evaluate_term, follow, value_of}
+use Rattle.ob0_types_rules.specs.Expressions.{Meanings, a_constant, element_step, evaluate, evaluate_addends, evaluate_factor, evaluate_multipliers, evaluate_simple, evaluate_term, follow, object_value}
 use Rattle.ob0_types_rules.specs.Selected.{both}
 use Rattle.ob0_types_rules.specs.Typing.{given_value, value_type}
 use Rattle.ob0_values.specs.Values.{Outcome, Place, Value, add, add_is_settled, at_path, elements, ends, gives, members, multiply, multiply_is_settled, negated, number, or_stuck, part, relate, signed, truth, ◌>>=◌}
@@ -59,13 +59,13 @@ module _ {N : Type 0} (among : Meanings N Place (Unit {0})) where
       ∙ ap (option_and_then (λ y. given_value (evaluate_multipliers among [] y fs))) (given_settled (multiply_is_settled o x) x (evaluate_factor among [] f) (multiply o x))
 
   -- a name alone has the value its constant
-  whole-value : (v : Option Value) → given_value (value_of {P = Unit {0}} [] (option_map a_constant v) >>= (λ w. gives [] >>= (λ steps. or_stuck (at_path steps w)))) ≡ v
+  whole-value : (v : Option Value) → given_value (object_value {P = Unit {0}} [] (option_map a_constant v) >>= (λ w. gives [] >>= (λ steps. or_stuck (at_path steps w)))) ≡ v
   whole-value None = refl
   whole-value (Some v) = refl
 
   pub name-valued : (x : N) (c : Option Value) → among.object_for x ≡ option_map a_constant c → given_value (evaluate_factor among [] (designator x end)) ≡ c
   unfolding evaluate
-  name-valued x c e = ap (λ o. given_value (value_of [] o >>= (λ w. gives [] >>= (λ steps. or_stuck (at_path steps w))))) e ∙ whole-value c
+  name-valued x c e = ap (λ o. given_value (object_value [] o >>= (λ w. gives [] >>= (λ steps. or_stuck (at_path steps w))))) e ∙ whole-value c
 
   -- a constant has no parts
   index-none : (v : Value) (o : Outcome Value) (ts : Tree N (items selector)) → is_some (value_type v) ≡ true
@@ -86,7 +86,7 @@ module _ {N : Type 0} (among : Meanings N Place (Unit {0})) where
   part-value v (index e) ts h = index-none v (evaluate among [] e) ts h
 
   parts-value : (c : Option Value) → ((v : Value) → c ≡ Some v → is_some (value_type v) ≡ true) → (s : Tree N (item selector)) (ts : Tree N (items selector))
-      → given_value (value_of {P = Unit {0}} [] (option_map a_constant c) >>= (λ v. follow among [] v (more s ts) >>= (λ steps. or_stuck (at_path steps v)))) ≡ None
+      → given_value (object_value {P = Unit {0}} [] (option_map a_constant c) >>= (λ v. follow among [] v (more s ts) >>= (λ steps. or_stuck (at_path steps v)))) ≡ None
   parts-value None scalar s ts = refl
   parts-value (Some v) scalar s ts = part-value v s ts (scalar v refl)
 
@@ -94,4 +94,4 @@ module _ {N : Type 0} (among : Meanings N Place (Unit {0})) where
       → ((v : Value) → c ≡ Some v → is_some (value_type v) ≡ true) → given_value (evaluate_factor among [] (designator x (more s ts))) ≡ None
   unfolding evaluate
   parts-valued x c s ts e scalar =
-      ap (λ o. given_value (value_of [] o >>= (λ v. follow among [] v (more s ts) >>= (λ steps. or_stuck (at_path steps v))))) e ∙ parts-value c scalar s ts
+      ap (λ o. given_value (object_value [] o >>= (λ v. follow among [] v (more s ts) >>= (λ steps. or_stuck (at_path steps v))))) e ∙ parts-value c scalar s ts

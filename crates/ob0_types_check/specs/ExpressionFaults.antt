@@ -4,7 +4,7 @@
 use Rattle.std.specs.Prelude.{ℕ}
 use Rattle.ob0_tree.specs.Tree.{Tree, addend, adds, compares, designator, end, expression, factor, field, index, integer, item, items, more, multiplier, multiplies, negation, none, one, parenthesised, product, relates, selector, simple, sum, term}
 use Rattle.ob0_types_check.specs.Known.{Facts, Operand, Reported}
-use Rattle.ob0_types_check.specs.Operations.{a_number, add_operands, complement_operand, element_selected, enclosed, field_selected, multiply_operands, named, relate_operands, right, sign_operand, ◌>>=◌}
+use Rattle.ob0_types_check.specs.Operations.{a_number, add_operands, complement_operand, element_selected, enclosed, field_selected, multiply_operands, name_operand, relate_operands, right, sign_operand, ◌>>=◌}
 
 unfoldable mutual
   pub reported_expression : {T : Type 0} → Facts T → Tree ℕ expression → Reported (Operand T)
@@ -50,7 +50,7 @@ unfoldable mutual
 
   pub reported_factor : {T : Type 0} → Facts T → Tree ℕ factor → Reported (Operand T)
   reported_factor facts (designator x path) = do
-    base ← named facts x
+    base ← name_operand facts x
     reported_selectors facts base path
   reported_factor facts (integer n) = right (a_number facts n)
   reported_factor facts (parenthesised e) = do

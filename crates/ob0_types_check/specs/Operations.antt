@@ -120,12 +120,12 @@ required_by_relation types relation.Greater left = types.integer
 required_by_relation types relation.GreaterEqual left = types.integer
 
 -- a comparison is BOOLEAN where its operands are known
-abbrev pub truth_of : {T : Type 0} → Types T → T → T
-truth_of types t = if types.same t types.unknown then types.unknown else types.boolean
+abbrev pub comparison_type : {T : Type 0} → Types T → T → T
+comparison_type types t = if types.same t types.unknown then types.unknown else types.boolean
 
 -- an operation on two operands, of this type and value, and one whose sign precedes its operand
-abbrev pub joined : {T : Type 0} → T → Option Value → Operand T → Operand T → Operand T
-joined of value a b =
+abbrev pub joint_operand : {T : Type 0} → T → Option Value → Operand T → Operand T → Operand T
+joint_operand of value a b =
     record { of = of; value = value; is_place = false; first = a.first; last = b.last }
 
 -- an operand with its sign
@@ -142,7 +142,7 @@ abbrev pub add_operands : {T : Type 0}
     → Reported (Operand T)
 add_operands facts o a b = do
   t ← required_both facts (required_by_add facts.types o) a b
-  right (joined t (option_and_then (sum_value o b.value) a.value) a b)
+  right (joint_operand t (option_and_then (sum_value o b.value) a.value) a b)
 
 -- the faults of `*`, DIV, MOD and `&`, and what they give
 abbrev pub multiply_operands : {T : Type 0}
@@ -153,7 +153,7 @@ abbrev pub multiply_operands : {T : Type 0}
     → Reported (Operand T)
 multiply_operands facts o a b = do
   t ← required_both facts (required_by_multiply facts.types o) a b
-  right (joined t (option_and_then (product_value o b.value) a.value) a b)
+  right (joint_operand t (option_and_then (product_value o b.value) a.value) a b)
 
 -- the faults of a relation, and what it gives
 abbrev pub relate_operands : {T : Type 0}
@@ -164,7 +164,7 @@ abbrev pub relate_operands : {T : Type 0}
     → Reported (Operand T)
 relate_operands facts r a b = do
   t ← required_both facts (required_by_relation facts.types r a.of) a b
-  right (joined (truth_of facts.types t) (both (λ x y. given_value (relate r x y)) a.value b.value)
+  right (joint_operand (comparison_type facts.types t) (both (λ x y. given_value (relate r x y)) a.value b.value)
       a b)
 
 -- a sign requires INTEGER, `~` for BOOLEAN
@@ -237,8 +237,8 @@ named_value facts token (Some (a_procedure fs)) =
     { known = a_name facts.types.unknown token; faults = at_token facts code.WrongKind token }
 
 -- a name where a value is required
-abbrev pub named : {T : Type 0} → Facts T → ℕ → Reported (Operand T)
-named facts token = named_value facts token (facts.object_for token)
+abbrev pub name_operand : {T : Type 0} → Facts T → ℕ → Reported (Operand T)
+name_operand facts token = named_value facts token (facts.object_for token)
 
 -- the part of a designator up to this token, of this type; a constant has no parts
 abbrev pub part_of : {T : Type 0} → Operand T → T → ℕ → Operand T

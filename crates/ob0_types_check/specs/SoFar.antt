@@ -66,21 +66,21 @@ first_field [] x = None
 first_field (f ∷ fields) x = if same_name x f.name then Some f.of else first_field fields x
 
 -- the type of a record's field
-abbrev pub field_in : PartTypes → Name → Option TypeId
-field_in (of_elements n t) x = None
-field_in (of_fields fields) x = first_field fields x
+abbrev pub field_type_in : PartTypes → Name → Option TypeId
+field_type_in (of_elements n t) x = None
+field_type_in (of_fields fields) x = first_field fields x
 
 -- the type of a record's field, if there is a record
-abbrev pub field_at : Option MadeType → Name → Option TypeId
-field_at None x = None
-field_at (Some m) x = field_in m.parts x
+abbrev pub made_field_type : Option MadeType → Name → Option TypeId
+made_field_type None x = None
+made_field_type (Some m) x = field_type_in m.parts x
 
 -- what a type is: a scalar, an array, a record, or unknown
 abbrev pub form_at : List MadeType → TypeId → Form TypeId
 form_at made type.Integer = a_scalar
 form_at made type.Boolean = a_scalar
 form_at made (type.Array i) = an_array (elements_at (slice_get made i))
-form_at made (type.Record i) = a_record (field_at (slice_get made i))
+form_at made (type.Record i) = a_record (made_field_type (slice_get made i))
 form_at made type.Unknown = unknown_form
 
 -- the types that are known so far

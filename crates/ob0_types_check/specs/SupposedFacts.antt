@@ -4,7 +4,7 @@ use Rattle.std.specs.Prelude.{◌≡◌, ℕ, ◌-◌, ◌^◌, Bool, List, map,
 use Rattle.ob0_scan.specs.declared.fault.Fault.{Fault}
 use Rattle.ob0_scope_rules.specs.Names.{Name}
 use Rattle.ob0_scope_rules.specs.Resolution.{ordinal_in}
-use Rattle.ob0_types_table.specs.FieldIndex.{first_type}
+use Rattle.ob0_types_table.specs.FieldIndex.{first_field_type}
 use Rattle.ob0_types_table.specs.declared.known.Field.{Field}
 use Rattle.ob0_types_table.specs.declared.known.Formal as formal
 use Rattle.ob0_types_table.specs.declared.known.TypeEntry.{TypeEntry}
@@ -37,7 +37,7 @@ elements_of (Some (made.Record r)) = type.Unknown
 abbrev pub field_of : Option TypeEntry → Name → Option TypeId
 field_of None x = None
 field_of (Some (made.Array a)) x = None
-field_of (Some (made.Record r)) x = first_type r.fields x
+field_of (Some (made.Record r)) x = first_field_type r.fields x
 
 -- what a type of the code is
 abbrev pub form_in : List TypeEntry → TypeId → Form TypeId
@@ -48,8 +48,8 @@ form_in composites (type.Record i) = a_record (field_of (slice_get composites i)
 form_in composites type.Unknown = unknown_form
 
 -- the types that the code knows
-abbrev pub types_in : List TypeEntry → Types TypeId
-types_in composites =
+abbrev pub known_types : List TypeEntry → Types TypeId
+known_types composites =
     record {
       integer = type.Integer;
       boolean = type.Boolean;
@@ -63,15 +63,15 @@ abbrev pub formal_of : formal.Formal → KnownFormal TypeId
 formal_of f = record { by_place = f.by_place; of = f.of }
 
 -- what a declaration of the code is
-abbrev pub meaning_of : meaning.Meaning → Meaning TypeId
-meaning_of (declared.Named t) = a_type t
-meaning_of (declared.Constant v) = a_constant (option_map scalar_value v)
-meaning_of (declared.Variable t) = a_variable t
-meaning_of (declared.Procedure fs) = a_procedure (map formal_of fs.items)
+abbrev pub known_meaning : meaning.Meaning → Meaning TypeId
+known_meaning (declared.Named t) = a_type t
+known_meaning (declared.Constant v) = a_constant (option_map scalar_value v)
+known_meaning (declared.Variable t) = a_variable t
+known_meaning (declared.Procedure fs) = a_procedure (map formal_of fs.items)
 
 -- what the name at a token means
-abbrev pub declared_at : Supposed → ℕ → Option meaning.Meaning
-declared_at s token =
+abbrev pub meaning_at : Supposed → ℕ → Option meaning.Meaning
+meaning_at s token =
     option_and_then (λ k. slice_index_or s.meanings.items k None)
     (ordinal_in s.resolved.now.ordinals token)
 
@@ -79,8 +79,8 @@ declared_at s token =
 abbrev pub facts_in : Supposed → Bool → Facts TypeId
 facts_in s only_constants = record {
   source = s.resolved.now.module_read.source;
-  types = types_in s.composites.items;
-  object_for = λ token. option_map meaning_of (declared_at s token);
+  types = known_types s.composites.items;
+  object_for = λ token. option_map known_meaning (meaning_at s token);
   only_constants = only_constants;
 }
 
@@ -104,14 +104,14 @@ abbrev pub fields_in : List Field → List FieldSoFar
 fields_in fields = map (λ f. record { name = string_bytes f.name; of = f.of }) fields
 
 -- What is supposed, as what is known so far: an array or record of the code.
-abbrev pub made_of : TypeEntry → MadeType
-made_of (made.Array a) =
+abbrev pub made_type_of : TypeEntry → MadeType
+made_type_of (made.Array a) =
     record {
       ordinal = a.ordinal;
       parts = of_elements a.length a.element;
       size = record { scalars = a.scalars; depth = a.depth };
     }
-made_of (made.Record r) =
+made_type_of (made.Record r) =
     record {
       ordinal = r.ordinal;
       parts = of_fields (fields_in r.fields);
@@ -123,8 +123,8 @@ abbrev pub so_far_in : Supposed → SoFar
 so_far_in s = record {
   source = s.resolved.now.module_read.source;
   ordinals = s.resolved.now.ordinals;
-  declared = map (option_map meaning_of) s.meanings.items;
-  made = map made_of s.composites.items;
+  declared = map (option_map known_meaning) s.meanings.items;
+  made = map made_type_of s.composites.items;
 }
 
 -- a heading of the code
@@ -149,12 +149,12 @@ pub record Gathers
   pub now : IsGathered t.known s gathered
 
 -- what a declaration of the code is, in the table; where its constant has a fault, it has no value
-abbrev pub object_of : meaning.Meaning → object.Object
-object_of (declared.Named t) = kind.Named t
-object_of (declared.Constant (Some v)) = kind.Constant v
-object_of (declared.Constant None) = kind.FaultyConstant
-object_of (declared.Variable t) = kind.Variable t
-object_of (declared.Procedure fs) = kind.Procedure fs
+abbrev pub known_object : meaning.Meaning → object.Object
+known_object (declared.Named t) = kind.Named t
+known_object (declared.Constant (Some v)) = kind.Constant v
+known_object (declared.Constant None) = kind.FaultyConstant
+known_object (declared.Variable t) = kind.Variable t
+known_object (declared.Procedure fs) = kind.Procedure fs
 
 -- the standard procedures at their ordinals
 abbrev pub with_standards : List (Option object.Object) → List (Option object.Object)
@@ -169,5 +169,5 @@ abbrev pub table_in : Supposed → Tables
 table_in s =
     record {
       shapes = s.composites.items;
-      objects = with_standards (map (option_map object_of) s.meanings.items);
+      objects = with_standards (map (option_map known_object) s.meanings.items);
     }

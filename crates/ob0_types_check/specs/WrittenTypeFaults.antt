@@ -55,14 +55,14 @@ with_name t g token =
     }
 
 -- the names of one group
-abbrev pub with_names : TypeId → Gathered → List ℕ → Gathered
-with_names t g [] = g
-with_names t g (x ∷ xs) = with_names t (with_name t g x) xs
+abbrev pub with_field_names : TypeId → Gathered → List ℕ → Gathered
+with_field_names t g [] = g
+with_field_names t g (x ∷ xs) = with_field_names t (with_name t g x) xs
 
 -- fields of one type, after its text
 abbrev pub gathered_after : Gathered → List ℕ → TypedAfter → Gathered
 gathered_after g xs t =
-    with_names t.of (record { fields = g.fields; size = g.size; following = t.following }) xs
+    with_field_names t.of (record { fields = g.fields; size = g.size; following = t.following }) xs
 
 -- a record has at least one scalar
 abbrev pub record_size : Size → Size

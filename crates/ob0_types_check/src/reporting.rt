@@ -18,7 +18,7 @@ ghost use Rattle.ob0_types_table.specs.Tables.{AreEntriesInOrder};
 ghost use Rattle.ob0_types_check.specs.ModuleLaws.{HasDeclarations};
 ghost use Rattle.ob0_types_check.specs.DeclarationFaults.{reported_module};
 ghost use Rattle.ob0_types_check.specs.SoFar.{at_first};
-ghost use Rattle.ob0_types_check.specs.SupposedFacts.{meaning_of, so_far_in, table_in};
+ghost use Rattle.ob0_types_check.specs.SupposedFacts.{known_meaning, so_far_in, table_in};
 
 use crate::laws::declarations_known;
 use crate::reporting::objects::{define_standards, objects_of};
@@ -129,8 +129,8 @@ fn add_unknown(
     meanings: &mut Vec<Option<Meaning>>,
     declarations: &[usize],
 ) -> Result<(), AllocError>
-    ensures { OnOk result (map (option_map meaning_of) meanings.new.items
-        ≡ map (option_map meaning_of) meanings.old.items ++ map (λ token. None) declarations.now) }
+    ensures { OnOk result (map (option_map known_meaning) meanings.new.items
+        ≡ map (option_map known_meaning) meanings.old.items ++ map (λ token. None) declarations.now) }
 {
     for _declaration in declarations {
         meanings.push(None)?;

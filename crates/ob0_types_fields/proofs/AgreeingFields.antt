@@ -13,7 +13,7 @@ use Rattle.ob0_types_rules.proofs.Conditions.{agree-true, both_true, call-typed,
 use Rattle.ob0_types_rules.proofs.Literals.{some_inverse}
 use Rattle.ob0_types_rules.proofs.TypedElsewhere.{then_some}
 use Rattle.ob0_values.specs.Values.{FieldShapes, Shape, Value, array_shape, boolean_shape, elements, integer_shape, members, next_field_shape, no_field_shape, number, record_shape, truth}
-use Rattle.ob0_types_fields.specs.Fields.{FieldNames, record_of, refield, refield_group, refield_groups, refield_type}
+use Rattle.ob0_types_fields.specs.Fields.{FieldNames, selected_record, refield, refield_group, refield_groups, refield_type}
 use Rattle.ob0_types_fields.specs.Renaming.{RecordFields, records_in_group, records_in_groups, records_in_type}
 use Rattle.ob0_types_fields.proofs.NamesMeant.{named}
 
@@ -55,7 +55,7 @@ field-agrees p q k (next_field_shape y t rest) x s agrees h =
       | false ↦ λ e h. field-agrees p q k rest x s agrees.2 h
     ]) refl h
 
-field_type-agrees : (p q : FieldNames) (s : Shape) (x : Name) (u : Shape) → ShapeAgrees p q s → field_type s x ≡ Some u → (p (record_of (Some s)) x ≡ q (record_of (Some s)) x) × ShapeAgrees p q u
+field_type-agrees : (p q : FieldNames) (s : Shape) (x : Name) (u : Shape) → ShapeAgrees p q s → field_type s x ≡ Some u → (p (selected_record (Some s)) x ≡ q (selected_record (Some s)) x) × ShapeAgrees p q u
 field_type-agrees p q (record_shape k fs) x u agrees h = field-agrees p q k fs x u agrees h
 field_type-agrees p q integer_shape x u agrees h = absurd (cc)
 field_type-agrees p q boolean_shape x u agrees h = absurd (cc)

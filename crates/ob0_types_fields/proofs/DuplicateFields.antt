@@ -11,7 +11,7 @@ use Rattle.ob0_scope_rules.specs.Names.{Name, same_name}
 use Rattle.ob0_scope_rules.specs.Parts.{formal_sections, further_names, module_block, names_listed, section_type, section_types, section_variables}
 use Rattle.ob0_types_rules.specs.Declarations.{after_formals, after_types, after_variables, procedure_constructors}
 use Rattle.ob0_types_rules.specs.Typing.{constructors, group_constructors}
-use Rattle.ob0_types_fields.specs.Identifiers.{DuplicateByToken, declared_fields, declared_in, declared_in_procedure, declared_in_procedures, first, is_field, tokens_among}
+use Rattle.ob0_types_fields.specs.Identifiers.{DuplicateByToken, declared_fields, declared_in_block, declared_in_procedure, declared_in_procedures, first, is_field, tokens_among}
 use Rattle.ob0_types_fields.specs.Owned.{marked_group, marked_groups, marked_sections, marked_type, marked_types, marked_variables}
 use Rattle.ob0_types_fields.specs.Renaming.{RecordFields, names_another_field, records_in_block, records_in_group, records_in_groups, records_in_procedure, records_in_procedures, records_in_sections, records_in_type, records_in_types, records_in_variables}
 use Rattle.ob0_types_fields.proofs.OwnedTypes.{counted_formals_section, counted_group, counted_procedure, counted_section, counted_type, counted_type_section, counted_variable_section, sections_mapped, types_mapped, variables_mapped}
@@ -137,7 +137,7 @@ module _ (text : ℕ → Name) (value : ℕ → ℕ) where
     formals-hit k fs = sections-hit k (formal_sections fs) ∙ ap (λ t. list_any in_record (records_in_sections k t)) (sym (sections_mapped text value fs))
 
     mutual
-      block-hit : (k : ℕ) (b : Tree ℕ block) → list_any hit (declared_in k b) ≡ list_any in_record (records_in_block k (mapped text value b))
+      block-hit : (k : ℕ) (b : Tree ℕ block) → list_any hit (declared_in_block k b) ≡ list_any in_record (records_in_block k (mapped text value b))
       block-hit k (has_body (declares cs ts vs ps) statements) =
           let b : Tree ℕ block = has_body (declares cs ts vs ps) statements in
           let b' = mapped text value b in
@@ -167,7 +167,7 @@ module _ (text : ℕ → Name) (value : ℕ → ℕ) where
           let p' = mapped text value p in
           let n : ℕ = after_formals k p in
           let counted : after_formals k p' ≡ n = ap (λ c. k + c) (counted_formals_section text value fs) in
-          both (marked_sections k (formal_sections fs)) (declared_in n b) (records_in_sections k (formal_sections (mapped text value fs))) (records_in_block (after_formals k p') (mapped text value b)) (formals-hit k fs)
+          both (marked_sections k (formal_sections fs)) (declared_in_block n b) (records_in_sections k (formal_sections (mapped text value fs))) (records_in_block (after_formals k p') (mapped text value b)) (formals-hit k fs)
           (block-hit n b ∙ ap (λ c. list_any in_record (records_in_block c (mapped text value b))) (sym counted))
 
 -- another field of the name is a field of it, where that is another name

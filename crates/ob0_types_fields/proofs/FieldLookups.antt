@@ -4,7 +4,7 @@ use Rattle.ob0_scope_rules.specs.Names.{Name, same_name}
 use Rattle.ob0_types_rules.specs.Typing.{shape_of_field}
 use Rattle.ob0_types_table.specs.declared.known.FieldOf.{FieldOf}
 use Rattle.ob0_types_table.specs.FieldPlaces.{place_of_field}
-use Rattle.ob0_types_fields.specs.Owned.{mark, owner}
+use Rattle.ob0_types_fields.specs.Owned.{marked_field, owner}
 use Rattle.ob0_values.specs.Values.{FieldShapes, Shape, next_field_shape, no_field_shape, record_shape}
 
 -- the record with the ordinal k, where a field has a place in it
@@ -25,5 +25,5 @@ owner_at k (next_field_shape y s rest) x = by_test (same_name x y) (owner_at k r
     by_test false later = one_further k (place_of_field rest x) ∙ later
 
 -- what is noted of a name, by the type that it has in a record
-pub marked_by_type : (k : ℕ) (fs : FieldShapes) (x : Name) (name : ℕ) (t : Option Shape) → t ≡ shape_of_field fs x → mark name (owner (Some (record_shape k fs)) x) ≡ mark name (option_map (λ _. k) t)
-marked_by_type k fs x name t e = ap (mark name) (owner_at k fs x ∙ ap (option_map (λ _. k)) (sym e))
+pub marked_by_type : (k : ℕ) (fs : FieldShapes) (x : Name) (name : ℕ) (t : Option Shape) → t ≡ shape_of_field fs x → marked_field name (owner (Some (record_shape k fs)) x) ≡ marked_field name (option_map (λ _. k) t)
+marked_by_type k fs x name t e = ap (marked_field name) (owner_at k fs x ∙ ap (option_map (λ _. k)) (sym e))

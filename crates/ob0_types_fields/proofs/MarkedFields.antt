@@ -8,7 +8,7 @@ use Rattle.ob0_types_rules.specs.Declarations.{after_formals, after_types, after
 use Rattle.ob0_types_rules.specs.Expressions.{Meanings}
 use Rattle.ob0_types_rules.specs.Typing.{constructors, element_type, field_type, group_constructors, object_type}
 use Rattle.ob0_values.specs.Values.{Shape, integer_shape}
-use Rattle.ob0_types_fields.specs.Owned.{fields_among, mark, marked, marked_block, marked_group, marked_groups, marked_module, marked_path, marked_procedures, marked_sections, marked_type, marked_types, marked_variables, owned, owned_block, owned_formals, owned_group, owned_groups, owned_module, owned_procedure, owned_procedures, owned_section, owned_sections, owned_type, owned_type_section, owned_types, owned_variable_section, owned_variables, owner, passed, unowned, unowned_among}
+use Rattle.ob0_types_fields.specs.Owned.{fields_among, marked_field, marked_tree, marked_block, marked_group, marked_groups, marked_module, marked_path, marked_procedures, marked_sections, marked_type, marked_types, marked_variables, owned, owned_block, owned_formals, owned_group, owned_groups, owned_module, owned_procedure, owned_procedures, owned_section, owned_sections, owned_type, owned_type_section, owned_types, owned_variable_section, owned_variables, owner, after_selector, unowned, unowned_among}
 
 among-append : (xs ys : List (ℕ × Option ℕ)) → fields_among (xs ++ ys) ≡ fields_among xs ++ fields_among ys
 among-append [] ys = refl
@@ -22,100 +22,100 @@ none-among : (xs : List (Role × ℕ)) → fields_among (unowned_among xs) ≡ [
 none-among [] = refl
 none-among (x ∷ xs) = none-among xs
 
-among-one : (x : ℕ) (o : Option ℕ) (xs : List (ℕ × Option ℕ)) → fields_among ((x, o) ∷ xs) ≡ mark x o ++ fields_among xs
+among-one : (x : ℕ) (o : Option ℕ) (xs : List (ℕ × Option ℕ)) → fields_among ((x, o) ∷ xs) ≡ marked_field x o ++ fields_among xs
 among-one x None xs = refl
 among-one x (Some k) xs = refl
 
-passed-none : {P : Type 0} {i : Item} (m : Meanings ℕ Shape P) (t : Tree ℕ (item i)) → passed m None t ≡ None
-passed-none m (relates a b) = refl
-passed-none m (adds a b) = refl
-passed-none m (multiplies a b) = refl
-passed-none m (field a) = refl
-passed-none m (index a) = refl
-passed-none m no_arguments = refl
-passed-none m (some_arguments a b) = refl
-passed-none m (then_argument a) = refl
-passed-none m (then_statement a) = refl
-passed-none m (elsif_branch a b) = refl
-passed-none m (else_branch a) = refl
-passed-none m (then_name a) = refl
-passed-none m (then_fields a) = refl
-passed-none m no_formals = refl
-passed-none m (some_formals a b) = refl
-passed-none m (then_section a) = refl
-passed-none m (declares_constant a b) = refl
-passed-none m (declares_constants a) = refl
-passed-none m (declares_type a b) = refl
-passed-none m (declares_types a) = refl
-passed-none m (declares_variable a b) = refl
-passed-none m (declares_variables a) = refl
-passed-none m (declares_procedure a b c d) = refl
-passed-none m (begins a) = refl
+after_selector-none : {P : Type 0} {i : Item} (m : Meanings ℕ Shape P) (t : Tree ℕ (item i)) → after_selector m None t ≡ None
+after_selector-none m (relates a b) = refl
+after_selector-none m (adds a b) = refl
+after_selector-none m (multiplies a b) = refl
+after_selector-none m (field a) = refl
+after_selector-none m (index a) = refl
+after_selector-none m no_arguments = refl
+after_selector-none m (some_arguments a b) = refl
+after_selector-none m (then_argument a) = refl
+after_selector-none m (then_statement a) = refl
+after_selector-none m (elsif_branch a b) = refl
+after_selector-none m (else_branch a) = refl
+after_selector-none m (then_name a) = refl
+after_selector-none m (then_fields a) = refl
+after_selector-none m no_formals = refl
+after_selector-none m (some_formals a b) = refl
+after_selector-none m (then_section a) = refl
+after_selector-none m (declares_constant a b) = refl
+after_selector-none m (declares_constants a) = refl
+after_selector-none m (declares_type a b) = refl
+after_selector-none m (declares_types a) = refl
+after_selector-none m (declares_variable a b) = refl
+after_selector-none m (declares_variables a) = refl
+after_selector-none m (declares_procedure a b c d) = refl
+after_selector-none m (begins a) = refl
 
 mutual
-  marked-fields : {P : Type 0} {sort : Sort} (m : Meanings ℕ Shape P) (t : Tree ℕ sort) → fields_among (owned m None t) ≡ marked m t
-  marked-fields m none = refl
-  marked-fields m (one a) = marked-fields m a
-  marked-fields m end = refl
-  marked-fields m (more a b) = among-both (owned m None a) (owned m (passed m None a) b) (marked-fields m a) ((λ i. fields_among (owned m (passed-none m a i) b)) ∙ marked-fields m b)
-  marked-fields m (compares a b) = among-both (owned m None a) (owned m None b) (marked-fields m a) (marked-fields m b)
-  marked-fields m (relates a b) = marked-fields m b
-  marked-fields m (sum a b c) = among-both (owned m None b) (owned m None c) (marked-fields m b) (marked-fields m c)
-  marked-fields m (adds a b) = marked-fields m b
-  marked-fields m (product a b) = among-both (owned m None a) (owned m None b) (marked-fields m a) (marked-fields m b)
-  marked-fields m (multiplies a b) = marked-fields m b
-  marked-fields m (designator a b) = path-fields m (object_type (m.object_for a)) b
-  marked-fields m (integer a) = refl
-  marked-fields m (parenthesised a) = marked-fields m a
-  marked-fields m (negation a) = marked-fields m a
-  marked-fields m (field a) = refl
-  marked-fields m (index a) = marked-fields m a
-  marked-fields m empty = refl
-  marked-fields m (assigns a b c) = among-both (owned m (object_type (m.object_for a)) b) (owned m None c) (path-fields m (object_type (m.object_for a)) b) (marked-fields m c)
-  marked-fields m (calls a b) = marked-fields m b
-  marked-fields m (branches a b c d) = among-both (owned m None a) (owned m None b ++ (owned m None c ++ (owned m None d))) (marked-fields m a) (among-both (owned m None b) (owned m None c ++ (owned m None d)) (marked-fields m b) (among-both (owned m None c) (owned m None d) (marked-fields m c) (marked-fields m d)))
-  marked-fields m (while_loop a b) = among-both (owned m None a) (owned m None b) (marked-fields m a) (marked-fields m b)
-  marked-fields m (repeat_loop a b) = among-both (owned m None a) (owned m None b) (marked-fields m a) (marked-fields m b)
-  marked-fields m no_arguments = refl
-  marked-fields m (some_arguments a b) = among-both (owned m None a) (owned m None b) (marked-fields m a) (marked-fields m b)
-  marked-fields m (then_argument a) = marked-fields m a
-  marked-fields m (runs a b) = among-both (owned m None a) (owned m None b) (marked-fields m a) (marked-fields m b)
-  marked-fields m (then_statement a) = marked-fields m a
-  marked-fields m (elsif_branch a b) = among-both (owned m None a) (owned m None b) (marked-fields m a) (marked-fields m b)
-  marked-fields m (else_branch a) = marked-fields m a
-  marked-fields m (listed a b) = none-among (identifiers role.Declaring (listed a b))
-  marked-fields m (then_name a) = none-among (identifiers role.Declaring (then_name a))
-  marked-fields m (named_type a) = none-among (identifiers role.Declaring (named_type a))
-  marked-fields m (array_type a b) = none-among (identifiers role.Declaring (array_type a b))
-  marked-fields m (record_type a b) = none-among (identifiers role.Declaring (record_type a b))
-  marked-fields m no_fields = none-among (identifiers role.Declaring no_fields)
-  marked-fields m (some_fields a b) = none-among (identifiers role.Declaring (some_fields a b))
-  marked-fields m (then_fields a) = none-among (identifiers role.Declaring (then_fields a))
-  marked-fields m no_formals = none-among (identifiers role.Declaring no_formals)
-  marked-fields m (some_formals a b) = none-among (identifiers role.Declaring (some_formals a b))
-  marked-fields m (value_section a b) = none-among (identifiers role.Declaring (value_section a b))
-  marked-fields m (variable_section a b) = none-among (identifiers role.Declaring (variable_section a b))
-  marked-fields m (then_section a) = none-among (identifiers role.Declaring (then_section a))
-  marked-fields m (declares_constant a b) = none-among (identifiers role.Declaring (declares_constant a b))
-  marked-fields m (declares_constants a) = none-among (identifiers role.Declaring (declares_constants a))
-  marked-fields m (declares_type a b) = none-among (identifiers role.Declaring (declares_type a b))
-  marked-fields m (declares_types a) = none-among (identifiers role.Declaring (declares_types a))
-  marked-fields m (declares_variable a b) = none-among (identifiers role.Declaring (declares_variable a b))
-  marked-fields m (declares_variables a) = none-among (identifiers role.Declaring (declares_variables a))
-  marked-fields m (declares_procedure a b c d) = none-among (identifiers role.Declaring (declares_procedure a b c d))
-  marked-fields m (declares a b c d) = none-among (identifiers role.Declaring (declares a b c d))
-  marked-fields m (begins a) = marked-fields m a
-  marked-fields m (has_body a b) = none-among (identifiers role.Declaring (has_body a b))
-  marked-fields m (is_module a b c) = none-among (identifiers role.Declaring (is_module a b c))
+  marked_tree-fields : {P : Type 0} {sort : Sort} (m : Meanings ℕ Shape P) (t : Tree ℕ sort) → fields_among (owned m None t) ≡ marked_tree m t
+  marked_tree-fields m none = refl
+  marked_tree-fields m (one a) = marked_tree-fields m a
+  marked_tree-fields m end = refl
+  marked_tree-fields m (more a b) = among-both (owned m None a) (owned m (after_selector m None a) b) (marked_tree-fields m a) ((λ i. fields_among (owned m (after_selector-none m a i) b)) ∙ marked_tree-fields m b)
+  marked_tree-fields m (compares a b) = among-both (owned m None a) (owned m None b) (marked_tree-fields m a) (marked_tree-fields m b)
+  marked_tree-fields m (relates a b) = marked_tree-fields m b
+  marked_tree-fields m (sum a b c) = among-both (owned m None b) (owned m None c) (marked_tree-fields m b) (marked_tree-fields m c)
+  marked_tree-fields m (adds a b) = marked_tree-fields m b
+  marked_tree-fields m (product a b) = among-both (owned m None a) (owned m None b) (marked_tree-fields m a) (marked_tree-fields m b)
+  marked_tree-fields m (multiplies a b) = marked_tree-fields m b
+  marked_tree-fields m (designator a b) = path-fields m (object_type (m.object_for a)) b
+  marked_tree-fields m (integer a) = refl
+  marked_tree-fields m (parenthesised a) = marked_tree-fields m a
+  marked_tree-fields m (negation a) = marked_tree-fields m a
+  marked_tree-fields m (field a) = refl
+  marked_tree-fields m (index a) = marked_tree-fields m a
+  marked_tree-fields m empty = refl
+  marked_tree-fields m (assigns a b c) = among-both (owned m (object_type (m.object_for a)) b) (owned m None c) (path-fields m (object_type (m.object_for a)) b) (marked_tree-fields m c)
+  marked_tree-fields m (calls a b) = marked_tree-fields m b
+  marked_tree-fields m (branches a b c d) = among-both (owned m None a) (owned m None b ++ (owned m None c ++ (owned m None d))) (marked_tree-fields m a) (among-both (owned m None b) (owned m None c ++ (owned m None d)) (marked_tree-fields m b) (among-both (owned m None c) (owned m None d) (marked_tree-fields m c) (marked_tree-fields m d)))
+  marked_tree-fields m (while_loop a b) = among-both (owned m None a) (owned m None b) (marked_tree-fields m a) (marked_tree-fields m b)
+  marked_tree-fields m (repeat_loop a b) = among-both (owned m None a) (owned m None b) (marked_tree-fields m a) (marked_tree-fields m b)
+  marked_tree-fields m no_arguments = refl
+  marked_tree-fields m (some_arguments a b) = among-both (owned m None a) (owned m None b) (marked_tree-fields m a) (marked_tree-fields m b)
+  marked_tree-fields m (then_argument a) = marked_tree-fields m a
+  marked_tree-fields m (runs a b) = among-both (owned m None a) (owned m None b) (marked_tree-fields m a) (marked_tree-fields m b)
+  marked_tree-fields m (then_statement a) = marked_tree-fields m a
+  marked_tree-fields m (elsif_branch a b) = among-both (owned m None a) (owned m None b) (marked_tree-fields m a) (marked_tree-fields m b)
+  marked_tree-fields m (else_branch a) = marked_tree-fields m a
+  marked_tree-fields m (listed a b) = none-among (identifiers role.Declaring (listed a b))
+  marked_tree-fields m (then_name a) = none-among (identifiers role.Declaring (then_name a))
+  marked_tree-fields m (named_type a) = none-among (identifiers role.Declaring (named_type a))
+  marked_tree-fields m (array_type a b) = none-among (identifiers role.Declaring (array_type a b))
+  marked_tree-fields m (record_type a b) = none-among (identifiers role.Declaring (record_type a b))
+  marked_tree-fields m no_fields = none-among (identifiers role.Declaring no_fields)
+  marked_tree-fields m (some_fields a b) = none-among (identifiers role.Declaring (some_fields a b))
+  marked_tree-fields m (then_fields a) = none-among (identifiers role.Declaring (then_fields a))
+  marked_tree-fields m no_formals = none-among (identifiers role.Declaring no_formals)
+  marked_tree-fields m (some_formals a b) = none-among (identifiers role.Declaring (some_formals a b))
+  marked_tree-fields m (value_section a b) = none-among (identifiers role.Declaring (value_section a b))
+  marked_tree-fields m (variable_section a b) = none-among (identifiers role.Declaring (variable_section a b))
+  marked_tree-fields m (then_section a) = none-among (identifiers role.Declaring (then_section a))
+  marked_tree-fields m (declares_constant a b) = none-among (identifiers role.Declaring (declares_constant a b))
+  marked_tree-fields m (declares_constants a) = none-among (identifiers role.Declaring (declares_constants a))
+  marked_tree-fields m (declares_type a b) = none-among (identifiers role.Declaring (declares_type a b))
+  marked_tree-fields m (declares_types a) = none-among (identifiers role.Declaring (declares_types a))
+  marked_tree-fields m (declares_variable a b) = none-among (identifiers role.Declaring (declares_variable a b))
+  marked_tree-fields m (declares_variables a) = none-among (identifiers role.Declaring (declares_variables a))
+  marked_tree-fields m (declares_procedure a b c d) = none-among (identifiers role.Declaring (declares_procedure a b c d))
+  marked_tree-fields m (declares a b c d) = none-among (identifiers role.Declaring (declares a b c d))
+  marked_tree-fields m (begins a) = marked_tree-fields m a
+  marked_tree-fields m (has_body a b) = none-among (identifiers role.Declaring (has_body a b))
+  marked_tree-fields m (is_module a b c) = none-among (identifiers role.Declaring (is_module a b c))
 
   path-fields : {P : Type 0} (m : Meanings ℕ Shape P) (s : Option Shape) (path : Tree ℕ (items selector)) → fields_among (owned m s path) ≡ marked_path m s path
   path-fields m s end = refl
   path-fields m s (more (field x) rest) =
       let t : Option Shape = option_and_then (λ t. field_type t (m.written x)) s in
-      among-one x (owner s (m.written x)) (owned m t rest) ∙ ap (λ z. mark x (owner s (m.written x)) ++ z) (path-fields m t rest)
+      among-one x (owner s (m.written x)) (owned m t rest) ∙ ap (λ z. marked_field x (owner s (m.written x)) ++ z) (path-fields m t rest)
   path-fields m s (more (index e) rest) =
       let t : Option Shape = option_and_then (λ t. element_type t integer_shape) s in
-      among-both (owned m None e) (owned m t rest) (marked-fields m e) (path-fields m t rest)
+      among-both (owned m None e) (owned m t rest) (marked_tree-fields m e) (path-fields m t rest)
 
 names-fields : (r : ℕ) (xs : List ℕ) → fields_among (map (λ x. (x, Some r)) xs) ≡ map (λ x. (x, r)) xs
 names-fields r [] = refl
@@ -181,7 +181,7 @@ mutual
       among-both (unowned cs ++ (owned_type_section k ts ++ (V ++ Q))) (owned m None st)
       (after-plain cs (owned_type_section k ts ++ (V ++ Q)) (among-both (owned_type_section k ts) (V ++ Q) (type_section-fields k ts)
       (among-both V Q (variable_section-fields (after_types k b) vs) (procedures-fields m (after_variables k b) ps))))
-      (marked-fields m st)
+      (marked_tree-fields m st)
 
   procedures-fields : {P : Type 0} (m : Meanings ℕ Shape P) (k : ℕ) (ps : Tree ℕ (items procedure)) → fields_among (owned_procedures m k ps) ≡ marked_procedures m k ps
   procedures-fields m k end = refl

@@ -8,9 +8,9 @@ use Rattle.ob0_types_rules.specs.Expressions.{Meanings}
 use Rattle.ob0_types_rules.specs.Typing.{field_type, object_type}
 use Rattle.ob0_types_rules.specs.WellTyped.{Typed}
 use Rattle.ob0_values.specs.Values.{Shape}
-use Rattle.ob0_types_fields.specs.Fields.{type_after, record_of, refield}
+use Rattle.ob0_types_fields.specs.Fields.{type_after, selected_record, refield}
 use Rattle.ob0_types_fields.specs.Owners.{of_records}
-use Rattle.ob0_types_fields.specs.Owned.{HasOwners, owned, owner, passed, unowned, unowned_among}
+use Rattle.ob0_types_fields.specs.Owned.{HasOwners, owned, owner, after_selector, unowned, unowned_among}
 
 pub owners_split : (at : ℕ → Option ℕ) (xs ys : List (ℕ × Option ℕ)) → HasOwners at (xs ++ ys) → HasOwners at xs × HasOwners at ys
 owners_split at [] ys h = (tt, h)
@@ -146,7 +146,7 @@ alike_split : {P : Type 0} (meaning : Typed Name) (m : Meanings ℕ Shape P) (xs
 alike_split meaning m [] ys h = (tt, h)
 alike_split meaning m (x ∷ xs) ys h = let rest = alike_split meaning m xs ys h.1 in ((h.0, rest.0), rest.1)
 
-following-mapped : {P : Type 0} {i : Item} (m : Meanings ℕ Shape P) (value : ℕ → ℕ) (s : Option Shape) (t : Tree ℕ (item i)) → type_after s (mapped m.written value t) ≡ passed m s t
+following-mapped : {P : Type 0} {i : Item} (m : Meanings ℕ Shape P) (value : ℕ → ℕ) (s : Option Shape) (t : Tree ℕ (item i)) → type_after s (mapped m.written value t) ≡ after_selector m s t
 following-mapped m value s (relates a b) = refl
 following-mapped m value s (adds a b) = refl
 following-mapped m value s (multiplies a b) = refl
@@ -177,7 +177,7 @@ abbrev pub recorded : {P : Type 0} {s : Sort} → Meanings ℕ Shape P → Optio
 recorded m s none = []
 recorded m s (one a) = recorded m None a
 recorded m s end = []
-recorded m s (more a b) = recorded m s a ++ recorded m (passed m s a) b
+recorded m s (more a b) = recorded m s a ++ recorded m (after_selector m s a) b
 recorded m s (compares a b) = recorded m None a ++ (recorded m None b)
 recorded m s (relates a b) = recorded m None b
 recorded m s (sum a b c) = recorded m None b ++ (recorded m None c)
@@ -188,7 +188,7 @@ recorded m s (designator a b) = (a, None) ∷ (recorded m (object_type (m.object
 recorded m s (integer a) = []
 recorded m s (parenthesised a) = recorded m None a
 recorded m s (negation a) = recorded m None a
-recorded m s (field a) = (a, record_of s) ∷ []
+recorded m s (field a) = (a, selected_record s) ∷ []
 recorded m s (index a) = recorded m None a
 recorded m s empty = []
 recorded m s (assigns a b c) = (a, None) ∷ (recorded m (object_type (m.object_for a)) b ++ (recorded m None c))
@@ -213,10 +213,10 @@ recorded-mapped l at meaning m value s none h e = refl
 recorded-mapped l at meaning m value s (one a) h e = λ i. one (recorded-mapped l at meaning m value None a h e i)
 recorded-mapped l at meaning m value s end h e = refl
 recorded-mapped l at meaning m value s (more a b) h e =
-    let p = owners_split at (recorded m s a) (recorded m (passed m s a) b) h in
+    let p = owners_split at (recorded m s a) (recorded m (after_selector m s a) b) h in
     let q = alike_split meaning m (occurrences a) (occurrences b) e in
     λ i. more (recorded-mapped l at meaning m value s a p.0 q.0 i)
-    ((ap (λ z. refield (of_records l) meaning z (mapped m.written value b)) (following-mapped m value s a) ∙ recorded-mapped l at meaning m value (passed m s a) b p.1 q.1) i)
+    ((ap (λ z. refield (of_records l) meaning z (mapped m.written value b)) (following-mapped m value s a) ∙ recorded-mapped l at meaning m value (after_selector m s a) b p.1 q.1) i)
 recorded-mapped l at meaning m value s (compares a b) h e =
     let p0 = owners_split at (recorded m None a) (recorded m None b) h in
     let q0 = alike_split meaning m (occurrences a) (occurrences b) e in
@@ -310,31 +310,31 @@ types_split : {P Q : Type 0} (m : Meanings ℕ Shape P) (n : Meanings ℕ Shape 
 types_split m n [] ys h = (tt, h)
 types_split m n (x ∷ xs) ys h = let rest = types_split m n xs ys h.1 in ((h.0, rest.0), rest.1)
 
-passed-same : {P Q : Type 0} {i : Item} (m : Meanings ℕ Shape P) (n : Meanings ℕ Shape Q) (same : (x : ℕ) → m.written x ≡ n.written x) (s : Option Shape) (t : Tree ℕ (item i)) → passed m s t ≡ passed n s t
-passed-same m n same s (relates a b) = refl
-passed-same m n same s (adds a b) = refl
-passed-same m n same s (multiplies a b) = refl
-passed-same m n same s (field a) = λ i. option_and_then (λ t. field_type t (same a i)) s
-passed-same m n same s (index a) = refl
-passed-same m n same s no_arguments = refl
-passed-same m n same s (some_arguments a b) = refl
-passed-same m n same s (then_argument a) = refl
-passed-same m n same s (then_statement a) = refl
-passed-same m n same s (elsif_branch a b) = refl
-passed-same m n same s (else_branch a) = refl
-passed-same m n same s (then_name a) = refl
-passed-same m n same s (then_fields a) = refl
-passed-same m n same s no_formals = refl
-passed-same m n same s (some_formals a b) = refl
-passed-same m n same s (then_section a) = refl
-passed-same m n same s (declares_constant a b) = refl
-passed-same m n same s (declares_constants a) = refl
-passed-same m n same s (declares_type a b) = refl
-passed-same m n same s (declares_types a) = refl
-passed-same m n same s (declares_variable a b) = refl
-passed-same m n same s (declares_variables a) = refl
-passed-same m n same s (declares_procedure a b c d) = refl
-passed-same m n same s (begins a) = refl
+after_selector-same : {P Q : Type 0} {i : Item} (m : Meanings ℕ Shape P) (n : Meanings ℕ Shape Q) (same : (x : ℕ) → m.written x ≡ n.written x) (s : Option Shape) (t : Tree ℕ (item i)) → after_selector m s t ≡ after_selector n s t
+after_selector-same m n same s (relates a b) = refl
+after_selector-same m n same s (adds a b) = refl
+after_selector-same m n same s (multiplies a b) = refl
+after_selector-same m n same s (field a) = λ i. option_and_then (λ t. field_type t (same a i)) s
+after_selector-same m n same s (index a) = refl
+after_selector-same m n same s no_arguments = refl
+after_selector-same m n same s (some_arguments a b) = refl
+after_selector-same m n same s (then_argument a) = refl
+after_selector-same m n same s (then_statement a) = refl
+after_selector-same m n same s (elsif_branch a b) = refl
+after_selector-same m n same s (else_branch a) = refl
+after_selector-same m n same s (then_name a) = refl
+after_selector-same m n same s (then_fields a) = refl
+after_selector-same m n same s no_formals = refl
+after_selector-same m n same s (some_formals a b) = refl
+after_selector-same m n same s (then_section a) = refl
+after_selector-same m n same s (declares_constant a b) = refl
+after_selector-same m n same s (declares_constants a) = refl
+after_selector-same m n same s (declares_type a b) = refl
+after_selector-same m n same s (declares_types a) = refl
+after_selector-same m n same s (declares_variable a b) = refl
+after_selector-same m n same s (declares_variables a) = refl
+after_selector-same m n same s (declares_procedure a b c d) = refl
+after_selector-same m n same s (begins a) = refl
 
 pub owned-alike : {P Q : Type 0} {sort : Sort} (m : Meanings ℕ Shape P) (n : Meanings ℕ Shape Q) (same : (x : ℕ) → m.written x ≡ n.written x) (s : Option Shape) (t : Tree ℕ sort) → SameTypes m n (occurrences t) → owned m s t ≡ owned n s t
 owned-alike m n same s none e = refl
@@ -342,7 +342,7 @@ owned-alike m n same s (one a) e = λ i. owned-alike m n same None a e i
 owned-alike m n same s end e = refl
 owned-alike m n same s (more a b) e =
     let q = types_split m n (occurrences a) (occurrences b) e in
-    λ i. owned-alike m n same s a q.0 i ++ (((λ i. owned m (passed-same m n same s a i) b) ∙ owned-alike m n same (passed n s a) b q.1) i)
+    λ i. owned-alike m n same s a q.0 i ++ (((λ i. owned m (after_selector-same m n same s a i) b) ∙ owned-alike m n same (after_selector n s a) b q.1) i)
 owned-alike m n same s (compares a b) e =
     let q0 = types_split m n (occurrences a) (occurrences b) e in
     λ i. owned-alike m n same None a q0.0 i ++ (owned-alike m n same None b q0.1 i)
@@ -421,7 +421,7 @@ recorded-alike m n same s (one a) e = λ i. recorded-alike m n same None a e i
 recorded-alike m n same s end e = refl
 recorded-alike m n same s (more a b) e =
     let q = types_split m n (occurrences a) (occurrences b) e in
-    λ i. recorded-alike m n same s a q.0 i ++ (((λ i. recorded m (passed-same m n same s a i) b) ∙ recorded-alike m n same (passed n s a) b q.1) i)
+    λ i. recorded-alike m n same s a q.0 i ++ (((λ i. recorded m (after_selector-same m n same s a i) b) ∙ recorded-alike m n same (after_selector n s a) b q.1) i)
 recorded-alike m n same s (compares a b) e =
     let q0 = types_split m n (occurrences a) (occurrences b) e in
     λ i. recorded-alike m n same None a q0.0 i ++ (recorded-alike m n same None b q0.1 i)

@@ -14,7 +14,7 @@ use Rattle.ob0_types_rules.specs.Declarations.{after_formals, after_types, after
 use Rattle.ob0_types_rules.specs.Expressions.{Meanings}
 use Rattle.ob0_types_rules.specs.Typing.{constructors, group_constructors, object_type}
 use Rattle.ob0_values.specs.Values.{Shape}
-use Rattle.ob0_types_fields.specs.Owned.{HasOwners, OwnersOfFields, fields_among, owned, owned_block, owned_formals, owned_group, owned_groups, owned_module, owned_procedure, owned_procedures, owned_section, owned_sections, owned_tokens, owned_type, owned_type_section, owned_types, owned_variable_section, owned_variables, passed, unowned, unowned_among, with_fields_at}
+use Rattle.ob0_types_fields.specs.Owned.{HasOwners, OwnersOfFields, fields_among, owned, owned_block, owned_formals, owned_group, owned_groups, owned_module, owned_procedure, owned_procedures, owned_section, owned_sections, owned_tokens, owned_type, owned_type_section, owned_types, owned_variable_section, owned_variables, after_selector, unowned, unowned_among, with_fields_at}
 use Rattle.ob0_types_fields.proofs.OwnedModules.{owners_by_declaration-holds}
 
 abbrev pub tokens : List (ℕ × Option ℕ) → List ℕ
@@ -34,7 +34,7 @@ owned-tokens : {P : Type 0} {sort : Sort} (m : Meanings ℕ Shape P) (s : Option
 owned-tokens m s none = refl
 owned-tokens m s (one a) = owned-tokens m None a
 owned-tokens m s end = refl
-owned-tokens m s (more a b) = both-tokens (owned m s a) (owned m (passed m s a) b) (identifiers role.Declaring a) (identifiers role.Declaring b) (owned-tokens m s a) (owned-tokens m (passed m s a) b)
+owned-tokens m s (more a b) = both-tokens (owned m s a) (owned m (after_selector m s a) b) (identifiers role.Declaring a) (identifiers role.Declaring b) (owned-tokens m s a) (owned-tokens m (after_selector m s a) b)
 owned-tokens m s (compares a b) = both-tokens (owned m None a) (owned m None b) (identifiers role.Declaring a) (identifiers role.Declaring b) (owned-tokens m None a) (owned-tokens m None b)
 owned-tokens m s (relates a b) = owned-tokens m None b
 owned-tokens m s (sum a b c) = both-tokens (owned m None b) (owned m None c) (identifiers role.Declaring b) (identifiers role.Declaring c) (owned-tokens m None b) (owned-tokens m None c)

@@ -11,7 +11,7 @@ use Rattle.ob0_types_rules.specs.WellTyped.{Formal, Mode, Signature, TypeEnviron
 use Rattle.ob0_types_rules.proofs.Conditions.{agree-true, both_true, call-typed, variable-typed}
 use Rattle.ob0_types_rules.proofs.TypedElsewhere.{then_some}
 use Rattle.ob0_values.specs.Values.{FieldShapes, Shape, array_shape, boolean_shape, integer_shape, next_field_shape, no_field_shape, record_shape}
-use Rattle.ob0_types_fields.specs.Fields.{record_of}
+use Rattle.ob0_types_fields.specs.Fields.{selected_record}
 use Rattle.ob0_types_fields.specs.Owned.{owned, owner}
 use Rattle.ob0_types_fields.proofs.AgreeingFields.{designated-typed}
 use Rattle.ob0_types_fields.proofs.NamesMeant.{named, stands_in}
@@ -25,7 +25,7 @@ place-found (next_field_shape y s rest) x u h =
       | false ↦ λ h. let found = place-found rest x u h in (suc found.0, ap (option_map suc) found.1)
     ]) h
 
-selected-owner : (t : Shape) (x : Name) (u : Shape) → field_type t x ≡ Some u → owner (Some t) x ≡ record_of (Some t)
+selected-owner : (t : Shape) (x : Name) (u : Shape) → field_type t x ≡ Some u → owner (Some t) x ≡ selected_record (Some t)
 selected-owner (record_shape k fs) x u h =
     let found = place-found fs x u h in
     ap (λ (o : Option ℕ). option_map (λ (f : FieldOf). f.ordinal) (option_map (λ i. record { ordinal = k; index = i }) o)) found.1

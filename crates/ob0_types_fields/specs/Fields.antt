@@ -16,12 +16,12 @@ abbrev pub FieldNames : Type 0
 FieldNames = Option ℕ → Name → Name
 
 -- the record of which a selector after this type selects a field
-abbrev pub record_of : Option Shape → Option ℕ
-record_of None = None
-record_of (Some integer_shape) = None
-record_of (Some boolean_shape) = None
-record_of (Some (array_shape k n s)) = None
-record_of (Some (record_shape k fs)) = Some k
+abbrev pub selected_record : Option Shape → Option ℕ
+selected_record None = None
+selected_record (Some integer_shape) = None
+selected_record (Some boolean_shape) = None
+selected_record (Some (array_shape k n s)) = None
+selected_record (Some (record_shape k fs)) = Some k
 
 -- the type after one more selector
 abbrev pub type_after : {i : Item} → Option Shape → Tree Name (item i) → Option Shape
@@ -34,7 +34,7 @@ type_after s _ = s
 abbrev pub refield : {s : Sort} → FieldNames → Typed Name → Option Shape → Tree Name s → Tree Name s
 refield l meaning s (more t ts) =
     more (refield l meaning s t) (refield l meaning (type_after s t) ts)
-refield l meaning s (field x) = field (l (record_of s) x)
+refield l meaning s (field x) = field (l (selected_record s) x)
 refield l meaning s (index e) = index (refield l meaning None e)
 refield l meaning s (designator x path) =
     designator x (refield l meaning (object_type (meaning.object_for x)) path)

@@ -60,8 +60,8 @@ field_at r offset = field_on r.module_read.source offset (field_identifiers r)
 
 abbrev mutual
   -- the fields that the declarations of a block declare, each with its record; k is the ordinal of the first ARRAY or RECORD
-  pub declared_in : ℕ → Tree ℕ block → List (ℕ × ℕ)
-  declared_in k (has_body (declares cs ts vs ps) statements) =
+  pub declared_in_block : ℕ → Tree ℕ block → List (ℕ × ℕ)
+  declared_in_block k (has_body (declares cs ts vs ps) statements) =
       marked_types k (section_types ts)
       ++ (marked_variables (after_types k (has_body (declares cs ts vs ps) statements))
       (section_variables vs)
@@ -75,11 +75,11 @@ abbrev mutual
   pub declared_in_procedure : ℕ → Tree ℕ (item procedure) → List (ℕ × ℕ)
   declared_in_procedure k (declares_procedure x fs b closing) =
       marked_sections k (formal_sections fs)
-      ++ declared_in (after_formals k (declares_procedure x fs b closing)) b
+      ++ declared_in_block (after_formals k (declares_procedure x fs b closing)) b
 
 -- all fields that a module declares
 abbrev pub declared_fields : Parsed → List (ℕ × ℕ)
-declared_fields m = declared_in 0 (module_block (tree_of m))
+declared_fields m = declared_in_block 0 (module_block (tree_of m))
 
 -- the first of a list
 abbrev pub first : List ℕ → Option ℕ

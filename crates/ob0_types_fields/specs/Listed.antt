@@ -13,15 +13,15 @@ pub record Listed : Type 0 where
   pub all : List (ℕ × ℕ)
 
 -- where no field is declared, none is looked for
-abbrev pub beside : List (ℕ × ℕ) → List (ℕ × ℕ) → List (ℕ × ℕ)
-beside declared all = if length declared == 0 then [] else all
+abbrev pub if_declared : List (ℕ × ℕ) → List (ℕ × ℕ) → List (ℕ × ℕ)
+if_declared declared all = if length declared == 0 then [] else all
 
 -- as the walks find them, where a table has what each declaration is
 abbrev pub listed_by : Tables → Resolution → Listed
 listed_by t r = record {
   declared = declared_fields r.module_read;
   all =
-      beside (declared_fields r.module_read)
+      if_declared (declared_fields r.module_read)
       (marked_module (token_objects (declared_in t) r) (tree_of r.module_read));
 }
 

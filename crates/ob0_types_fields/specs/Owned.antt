@@ -27,14 +27,14 @@ abbrev pub unowned : {s : Sort} → Tree ℕ s → List (ℕ × Option ℕ)
 unowned t = unowned_among (identifiers role.Declaring t)
 
 -- the type after one more selector
-abbrev pub passed : {P : Type 0} {i : Item}
+abbrev pub after_selector : {P : Type 0} {i : Item}
     → Meanings ℕ Shape P
     → Option Shape
     → Tree ℕ (item i)
     → Option Shape
-passed m s (field x) = option_and_then (λ t. field_type t (m.written x)) s
-passed m s (index e) = option_and_then (λ t. element_type t integer_shape) s
-passed m s _ = s
+after_selector m s (field x) = option_and_then (λ t. field_type t (m.written x)) s
+after_selector m s (index e) = option_and_then (λ t. element_type t integer_shape) s
+after_selector m s _ = s
 
 -- the ordinal of the record whose field a name selects
 abbrev pub owner : Option Shape → Name → Option ℕ
@@ -50,7 +50,7 @@ abbrev pub owned : {P : Type 0} {s : Sort}
 owned m s none = []
 owned m s (one a) = owned m None a
 owned m s end = []
-owned m s (more a b) = owned m s a ++ owned m (passed m s a) b
+owned m s (more a b) = owned m s a ++ owned m (after_selector m s a) b
 owned m s (compares a b) = owned m None a ++ (owned m None b)
 owned m s (relates a b) = owned m None b
 owned m s (sum a b c) = owned m None b ++ (owned m None c)
@@ -229,44 +229,44 @@ OwnersOfFields =
 -- ---- the fields alone, as a walk finds them
 
 -- an identifier with the record whose field it is
-abbrev pub mark : ℕ → Option ℕ → List (ℕ × ℕ)
-mark x None = []
-mark x (Some k) = (x, k) ∷ []
+abbrev pub marked_field : ℕ → Option ℕ → List (ℕ × ℕ)
+marked_field x None = []
+marked_field x (Some k) = (x, k) ∷ []
 
 -- the fields that statements select
 abbrev mutual
-  pub marked : {P : Type 0} {s : Sort} → Meanings ℕ Shape P → Tree ℕ s → List (ℕ × ℕ)
-  marked m none = []
-  marked m (one a) = marked m a
-  marked m end = []
-  marked m (more a b) = marked m a ++ (marked m b)
-  marked m (compares a b) = marked m a ++ (marked m b)
-  marked m (relates a b) = marked m b
-  marked m (sum a b c) = marked m b ++ (marked m c)
-  marked m (adds a b) = marked m b
-  marked m (product a b) = marked m a ++ (marked m b)
-  marked m (multiplies a b) = marked m b
-  marked m (designator a b) = marked_path m (object_type (m.object_for a)) b
-  marked m (integer a) = []
-  marked m (parenthesised a) = marked m a
-  marked m (negation a) = marked m a
-  marked m (field a) = []
-  marked m (index a) = marked m a
-  marked m empty = []
-  marked m (assigns a b c) = marked_path m (object_type (m.object_for a)) b ++ (marked m c)
-  marked m (calls a b) = marked m b
-  marked m (branches a b c d) = marked m a ++ (marked m b ++ (marked m c ++ (marked m d)))
-  marked m (while_loop a b) = marked m a ++ (marked m b)
-  marked m (repeat_loop a b) = marked m a ++ (marked m b)
-  marked m no_arguments = []
-  marked m (some_arguments a b) = marked m a ++ (marked m b)
-  marked m (then_argument a) = marked m a
-  marked m (runs a b) = marked m a ++ (marked m b)
-  marked m (then_statement a) = marked m a
-  marked m (elsif_branch a b) = marked m a ++ (marked m b)
-  marked m (else_branch a) = marked m a
-  marked m (begins a) = marked m a
-  marked m t = []
+  pub marked_tree : {P : Type 0} {s : Sort} → Meanings ℕ Shape P → Tree ℕ s → List (ℕ × ℕ)
+  marked_tree m none = []
+  marked_tree m (one a) = marked_tree m a
+  marked_tree m end = []
+  marked_tree m (more a b) = marked_tree m a ++ (marked_tree m b)
+  marked_tree m (compares a b) = marked_tree m a ++ (marked_tree m b)
+  marked_tree m (relates a b) = marked_tree m b
+  marked_tree m (sum a b c) = marked_tree m b ++ (marked_tree m c)
+  marked_tree m (adds a b) = marked_tree m b
+  marked_tree m (product a b) = marked_tree m a ++ (marked_tree m b)
+  marked_tree m (multiplies a b) = marked_tree m b
+  marked_tree m (designator a b) = marked_path m (object_type (m.object_for a)) b
+  marked_tree m (integer a) = []
+  marked_tree m (parenthesised a) = marked_tree m a
+  marked_tree m (negation a) = marked_tree m a
+  marked_tree m (field a) = []
+  marked_tree m (index a) = marked_tree m a
+  marked_tree m empty = []
+  marked_tree m (assigns a b c) = marked_path m (object_type (m.object_for a)) b ++ (marked_tree m c)
+  marked_tree m (calls a b) = marked_tree m b
+  marked_tree m (branches a b c d) = marked_tree m a ++ (marked_tree m b ++ (marked_tree m c ++ (marked_tree m d)))
+  marked_tree m (while_loop a b) = marked_tree m a ++ (marked_tree m b)
+  marked_tree m (repeat_loop a b) = marked_tree m a ++ (marked_tree m b)
+  marked_tree m no_arguments = []
+  marked_tree m (some_arguments a b) = marked_tree m a ++ (marked_tree m b)
+  marked_tree m (then_argument a) = marked_tree m a
+  marked_tree m (runs a b) = marked_tree m a ++ (marked_tree m b)
+  marked_tree m (then_statement a) = marked_tree m a
+  marked_tree m (elsif_branch a b) = marked_tree m a ++ (marked_tree m b)
+  marked_tree m (else_branch a) = marked_tree m a
+  marked_tree m (begins a) = marked_tree m a
+  marked_tree m t = []
 
   -- those of a designator's selectors, of a value of a type and its parts in turn
   pub marked_path : {P : Type 0}
@@ -276,10 +276,10 @@ abbrev mutual
       → List (ℕ × ℕ)
   marked_path m s end = []
   marked_path m s (more (field x) rest) =
-      mark x (owner s (m.written x))
+      marked_field x (owner s (m.written x))
       ++ marked_path m (option_and_then (λ t. field_type t (m.written x)) s) rest
   marked_path m s (more (index e) rest) =
-      marked m e ++ marked_path m (option_and_then (λ t. element_type t integer_shape) s) rest
+      marked_tree m e ++ marked_path m (option_and_then (λ t. element_type t integer_shape) s) rest
 
 -- the fields that a type's text declares; k is the ordinal of its first ARRAY or RECORD, and r that of the group's record
 abbrev mutual
@@ -323,7 +323,7 @@ abbrev mutual
       ++ (marked_variables (after_types k (has_body (declares cs ts vs ps) statements))
       (section_variables vs)
       ++ marked_procedures m (after_variables k (has_body (declares cs ts vs ps) statements)) ps))
-      ++ marked m statements
+      ++ marked_tree m statements
 
   pub marked_procedures : {P : Type 0}
       → Meanings ℕ Shape P

@@ -35,8 +35,8 @@ found_type (is_found found) = found
 found_type (is_after n) = None
 
 -- what the walk over the declarations knows: what names mean, and what types are
-abbrev pub names_in : ConstructorWalk → Meanings ℕ Shape Signature
-names_in w = token_objects (declared_in w.known.now) w.resolved.now
+abbrev pub meanings_in : ConstructorWalk → Meanings ℕ Shape Signature
+meanings_in w = token_objects (declared_in w.known.now) w.resolved.now
 
 -- a type of the code, if any
 abbrev pub type_in : ConstructorWalk → Option TypeId → Option Shape

@@ -10,15 +10,15 @@ use Rattle.ob0_types_table.specs.Tables.{made_shape}
 use Rattle.ob0_types_rules.specs.WellTyped.{Signature}
 use Rattle.ob0_values.specs.Values.{Shape}
 use Rattle.ob0_types_fields.specs.declared.owning.Owning.{Owning}
-use Rattle.ob0_types_fields.specs.Owned.{mark, marked, owner, token_objects}
+use Rattle.ob0_types_fields.specs.Owned.{marked_field, marked_tree, owner, token_objects}
 
 -- what identifiers at tokens mean, by the table of declarations
 abbrev pub meaning_in : Owning → Meanings ℕ Shape Signature
 meaning_in w = token_objects (declared_in w.known.now) w.resolved.now
 
 -- the type that a record of the table is
-abbrev pub shape_in : Owning → RecordShape → Shape
-shape_in w r = made_shape (shapes_of w.known.now) (made.Record r)
+abbrev pub record_shape_in : Owning → RecordShape → Shape
+record_shape_in w r = made_shape (shapes_of w.known.now) (made.Record r)
 
 -- the fields that one selector selects
 abbrev pub marked_at : {P : Type 0}
@@ -26,5 +26,5 @@ abbrev pub marked_at : {P : Type 0}
     → Option Shape
     → Tree ℕ (item selector)
     → List (ℕ × ℕ)
-marked_at m s (field x) = mark x (owner s (m.written x))
-marked_at m s (index e) = marked m e
+marked_at m s (field x) = marked_field x (owner s (m.written x))
+marked_at m s (index e) = marked_tree m e

@@ -3,7 +3,7 @@
 ghost use Rattle.std.specs.Prelude.{◌≡◌, ◌++◌, ◌+◌, IfOk, length};
 ghost use Rattle.ob0_tree.specs.View.{block_of, procedure_of};
 ghost use Rattle.ob0_types_rules.specs.Declarations.{block_constructors, procedure_constructors};
-ghost use Rattle.ob0_types_fields.specs.Identifiers.{declared_in, declared_in_procedure};
+ghost use Rattle.ob0_types_fields.specs.Identifiers.{declared_in_block, declared_in_procedure};
 
 use crate::declared::{formals, types, variables};
 use ob0_tree::{Block, Procedure};
@@ -17,7 +17,7 @@ pub(crate) fn block(
     b: &Block,
 ) -> Result<(), AllocError>
     ensures found { IfOk result (λ _. found.new.items
-        ≡ found.old.items ++ declared_in (length made.old.items) (block_of b.now)) }
+        ≡ found.old.items ++ declared_in_block (length made.old.items) (block_of b.now)) }
     ensures made { IfOk result
         (λ _. length made.new.items ≡ length made.old.items + block_constructors (block_of b.now)) }
 {

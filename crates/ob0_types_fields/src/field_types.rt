@@ -7,7 +7,7 @@ ghost use Rattle.ob0_types_table.specs.KnownTables.{declared_in, shapes_of};
 ghost use Rattle.ob0_types_table.specs.Tables.{type_shape};
 ghost use Rattle.ob0_values.specs.Values.{Shape, integer_shape};
 ghost use Rattle.ob0_types_fields.specs.FieldTypes.{constructed, constructed_by, typed_field_by};
-ghost use Rattle.ob0_types_fields.specs.Search.{after_all, after_one, found_type, names_in, search_in, sought_in, type_in, typed_field_in};
+ghost use Rattle.ob0_types_fields.specs.Search.{after_all, after_one, found_type, meanings_in, search_in, sought_in, type_in, typed_field_in};
 
 use ob0_scope_rules::Resolved;
 use ob0_tree::{
@@ -95,7 +95,7 @@ struct ConstructorWalk<'a, 't> {
 impl<'a, 't> ConstructorWalk<'a, 't> {
     /// The type of what the name at a token declares.
     fn declared(&self, token: usize) -> Option<TypeId>
-        ensures { type_in self.now result ≡ type_declared ((names_in self.now).object_for token) }
+        ensures { type_in self.now result ≡ type_declared ((meanings_in self.now).object_for token) }
     {
         let ordinal = self.resolved.ordinal_at(token)?;
         self.known.declared_type(ordinal)
@@ -112,7 +112,7 @@ impl<'a, 't> ConstructorWalk<'a, 't> {
     /// The type of the field with a name.
     fn field(&self, of: Option<TypeId>, name: usize) -> Option<TypeId>
         ensures { type_in self.now result
-            ≡ option_and_then (λ r. field_type r ((names_in self.now).written name))
+            ≡ option_and_then (λ r. field_type r ((meanings_in self.now).written name))
             (type_in self.now of) }
     {
         self.known.field(of?, text_at(self.resolved.tokens(), name))
@@ -123,7 +123,7 @@ impl<'a, 't> ConstructorWalk<'a, 't> {
     fn written_type(&self, search: Search, of: Option<TypeId>, t: &WrittenType) -> Search
         ensures { sought_in self.now result
             ≡ after_all (sought_in self.now search)
-            (constructed (names_in self.now) (type_in self.now of) (type_of t.now)) }
+            (constructed (meanings_in self.now) (type_in self.now of) (type_of t.now)) }
     {
         match t {
             WrittenType::Named(_) => search,
@@ -138,7 +138,7 @@ impl<'a, 't> ConstructorWalk<'a, 't> {
     fn record(&self, search: Search, of: Option<TypeId>, r: &RecordType) -> Search
         ensures { sought_in self.now result
             ≡ after_all (sought_in self.now search)
-            (constructed (names_in self.now) (type_in self.now of) (record_in r.now)) }
+            (constructed (meanings_in self.now) (type_in self.now of) (record_in r.now)) }
     {
         let mut search = search.pass(of);
         for group in &r.groups {
@@ -151,7 +151,7 @@ impl<'a, 't> ConstructorWalk<'a, 't> {
     fn fields(&self, search: Search, of: Option<TypeId>, f: &Fields) -> Search
         ensures { sought_in self.now result
             ≡ after_all (sought_in self.now search)
-            (constructed (names_in self.now) (type_in self.now of) (fields_of f.now)) }
+            (constructed (meanings_in self.now) (type_in self.now of) (fields_of f.now)) }
     {
         match f {
             Fields::Empty => search,
@@ -165,7 +165,7 @@ impl<'a, 't> ConstructorWalk<'a, 't> {
     fn types(&self, search: Search, declared: &Option<Vec<TypeDeclaration>>) -> Search
         ensures { sought_in self.now result
             ≡ after_all (sought_in self.now search)
-            (constructed (names_in self.now) None (types_of declared.now)) }
+            (constructed (meanings_in self.now) None (types_of declared.now)) }
     {
         let Some(declared) = declared else {
             return search;
@@ -180,7 +180,7 @@ impl<'a, 't> ConstructorWalk<'a, 't> {
     fn variables(&self, search: Search, declared: &Option<Vec<Variables>>) -> Search
         ensures { sought_in self.now result
             ≡ after_all (sought_in self.now search)
-            (constructed (names_in self.now) None (variables_of declared.now)) }
+            (constructed (meanings_in self.now) None (variables_of declared.now)) }
     {
         let Some(declared) = declared else {
             return search;
@@ -195,7 +195,7 @@ impl<'a, 't> ConstructorWalk<'a, 't> {
     fn formals(&self, search: Search, sections: &Option<Vec<Section>>) -> Search
         ensures { sought_in self.now result
             ≡ after_all (sought_in self.now search)
-            (constructed (names_in self.now) None (formals_of sections.now)) }
+            (constructed (meanings_in self.now) None (formals_of sections.now)) }
     {
         let Some(sections) = sections else {
             return search;
@@ -210,7 +210,7 @@ impl<'a, 't> ConstructorWalk<'a, 't> {
     fn section(&self, search: Search, s: &Section) -> Search
         ensures { sought_in self.now result
             ≡ after_all (sought_in self.now search)
-            (constructed (names_in self.now) None (section_of s.now)) }
+            (constructed (meanings_in self.now) None (section_of s.now)) }
     {
         self.written_type(search, self.declared(s.names.first), &s.written)
     }
@@ -220,7 +220,7 @@ impl<'a, 't> ConstructorWalk<'a, 't> {
     fn block(&self, search: Search, b: &Block) -> Search
         ensures { sought_in self.now result
             ≡ after_all (sought_in self.now search)
-            (constructed (names_in self.now) None (block_of b.now)) }
+            (constructed (meanings_in self.now) None (block_of b.now)) }
     {
         let mut search = self.types(search, &b.types);
         search = self.variables(search, &b.variables);
@@ -234,7 +234,7 @@ impl<'a, 't> ConstructorWalk<'a, 't> {
     fn procedure(&self, search: Search, p: &Procedure) -> Search
         ensures { sought_in self.now result
             ≡ after_all (sought_in self.now search)
-            (constructed (names_in self.now) None (procedure_of p.now)) }
+            (constructed (meanings_in self.now) None (procedure_of p.now)) }
     {
         self.block(self.formals(search, &p.formals), &p.block)
     }

@@ -7,7 +7,7 @@ ghost use Rattle.ob0_tree.specs.Places.{text_at};
 ghost use Rattle.ob0_scope_rules.specs.Names.{same_name};
 ghost use Rattle.ob0_types_table.specs.KnownTables.{declared_in};
 ghost use Rattle.ob0_types_fields.specs.Identifiers.{AreInTextOrder, declared_fields, field_on, first, record_tokens, tokens_among};
-ghost use Rattle.ob0_types_fields.specs.Listed.{beside, listed_by};
+ghost use Rattle.ob0_types_fields.specs.Listed.{if_declared, listed_by};
 ghost use Rattle.ob0_types_fields.specs.Owned.{marked_module, token_objects};
 
 use crate::declaring::block;
@@ -119,7 +119,7 @@ fn fields_beside<'a, 't>(
     declared: &[(usize, usize)],
 ) -> Result<FieldTokens, AllocError>
     ensures { IfOk result (λ found. found.items
-        ≡ beside declared.now (marked_module (token_objects (declared_in known.now) resolved.now)
+        ≡ if_declared declared.now (marked_module (token_objects (declared_in known.now) resolved.now)
         (tree_of resolved.now.module_read))) }
 {
     if declared.is_empty() {

@@ -9,8 +9,8 @@ ghost use Rattle.ob0_types_table.specs.KnownTables.{declared_in, shapes_of};
 ghost use Rattle.ob0_types_table.specs.Tables.{type_shape};
 ghost use Rattle.ob0_types_rules.specs.Typing.{element_type, field_type, object_type};
 ghost use Rattle.ob0_values.specs.Values.{integer_shape};
-ghost use Rattle.ob0_types_fields.specs.Owned.{mark, marked, marked_block, marked_procedure, owner, passed};
-ghost use Rattle.ob0_types_fields.specs.Walk.{marked_at, meaning_in, shape_in};
+ghost use Rattle.ob0_types_fields.specs.Owned.{marked_field, marked_tree, marked_block, marked_procedure, owner, after_selector};
+ghost use Rattle.ob0_types_fields.specs.Walk.{marked_at, meaning_in, record_shape_in};
 
 use crate::declared::{formals, types, variables};
 use ob0_scope_rules::Resolved;
@@ -57,7 +57,7 @@ impl<'a, 't> Owning<'a, 't> {
     ) -> Result<Option<TypeId>, AllocError>
         ensures found { IfOk result (λ _. found.new.items
             ≡ found.old.items
-            ++ mark name (owner (option_map (type_shape (shapes_of self.now.known.now)) base)
+            ++ marked_field name (owner (option_map (type_shape (shapes_of self.now.known.now)) base)
             ((meaning_in self.now).written name))) }
         ensures following { IfOk result (λ t.
             option_map (type_shape (shapes_of self.now.known.now)) t
@@ -85,11 +85,11 @@ impl<'a, 't> Owning<'a, 't> {
     ) -> Result<Option<TypeId>, AllocError>
         ensures found { IfOk result (λ _. found.new.items
             ≡ found.old.items
-            ++ mark name (owner (Some (shape_in self.now shape.now))
+            ++ marked_field name (owner (Some (record_shape_in self.now shape.now))
             ((meaning_in self.now).written name))) }
         ensures following { IfOk result (λ t.
             option_map (type_shape (shapes_of self.now.known.now)) t
-            ≡ field_type (shape_in self.now shape.now) ((meaning_in self.now).written name)) }
+            ≡ field_type (record_shape_in self.now shape.now) ((meaning_in self.now).written name)) }
     {
         match shape.fields.find(text_at(self.resolved.tokens(), name)) {
             None => Ok(None),
@@ -116,7 +116,7 @@ impl<'a, 't> Owning<'a, 't> {
     #[cycle(expressions)]
     fn expression(&self, found: &mut FieldTokens, e: &Expression) -> Result<(), AllocError>
         ensures { IfOk result (λ _. found.new.items
-            ≡ found.old.items ++ marked (meaning_in self.now) (expression_of e.now)) }
+            ≡ found.old.items ++ marked_tree (meaning_in self.now) (expression_of e.now)) }
     {
         match e {
             Expression::Factor(f) => self.factor(found, f),
@@ -127,7 +127,7 @@ impl<'a, 't> Owning<'a, 't> {
     #[cycle(expressions)]
     fn compound(&self, found: &mut FieldTokens, c: &Compound) -> Result<(), AllocError>
         ensures { IfOk result (λ _. found.new.items
-            ≡ found.old.items ++ marked (meaning_in self.now) (compound_of c.now)) }
+            ≡ found.old.items ++ marked_tree (meaning_in self.now) (compound_of c.now)) }
     {
         self.simple(found, &c.left)?;
         if let Some(compared) = &c.compared {
@@ -139,7 +139,7 @@ impl<'a, 't> Owning<'a, 't> {
     #[cycle(expressions)]
     fn simple(&self, found: &mut FieldTokens, s: &Simple) -> Result<(), AllocError>
         ensures { IfOk result (λ _. found.new.items
-            ≡ found.old.items ++ marked (meaning_in self.now) (simple_of s.now)) }
+            ≡ found.old.items ++ marked_tree (meaning_in self.now) (simple_of s.now)) }
     {
         self.term(found, &s.first)?;
         for addend in &s.more {
@@ -151,7 +151,7 @@ impl<'a, 't> Owning<'a, 't> {
     #[cycle(expressions)]
     fn term(&self, found: &mut FieldTokens, t: &Term) -> Result<(), AllocError>
         ensures { IfOk result (λ _. found.new.items
-            ≡ found.old.items ++ marked (meaning_in self.now) (term_of t.now)) }
+            ≡ found.old.items ++ marked_tree (meaning_in self.now) (term_of t.now)) }
     {
         self.factor(found, &t.first)?;
         for multiplier in &t.more {
@@ -163,7 +163,7 @@ impl<'a, 't> Owning<'a, 't> {
     #[cycle(expressions)]
     fn factor(&self, found: &mut FieldTokens, f: &Factor) -> Result<(), AllocError>
         ensures { IfOk result (λ _. found.new.items
-            ≡ found.old.items ++ marked (meaning_in self.now) (factor_of f.now)) }
+            ≡ found.old.items ++ marked_tree (meaning_in self.now) (factor_of f.now)) }
     {
         match f {
             Factor::Designator(d) => self.designator(found, d),
@@ -176,7 +176,7 @@ impl<'a, 't> Owning<'a, 't> {
     #[cycle(expressions)]
     fn designator(&self, found: &mut FieldTokens, d: &Designator) -> Result<(), AllocError>
         ensures { IfOk result (λ _. found.new.items
-            ≡ found.old.items ++ marked (meaning_in self.now) (designator_of d.now)) }
+            ≡ found.old.items ++ marked_tree (meaning_in self.now) (designator_of d.now)) }
     {
         if d.selectors.is_empty() {
             return Ok(());
@@ -202,7 +202,7 @@ impl<'a, 't> Owning<'a, 't> {
             (option_map (type_shape (shapes_of self.now.known.now)) base) (selector_of s.now)) }
         ensures following { IfOk result (λ t.
             option_map (type_shape (shapes_of self.now.known.now)) t
-            ≡ passed (meaning_in self.now)
+            ≡ after_selector (meaning_in self.now)
             (option_map (type_shape (shapes_of self.now.known.now)) base) (selector_of s.now)) }
     {
         match s {
@@ -216,7 +216,7 @@ impl<'a, 't> Owning<'a, 't> {
 
     fn assignment(&self, found: &mut FieldTokens, a: &Assignment) -> Result<(), AllocError>
         ensures { IfOk result (λ _. found.new.items
-            ≡ found.old.items ++ marked (meaning_in self.now) (assignment_of a.now)) }
+            ≡ found.old.items ++ marked_tree (meaning_in self.now) (assignment_of a.now)) }
     {
         self.designator(found, &a.target)?;
         self.expression(found, &a.value)
@@ -224,7 +224,7 @@ impl<'a, 't> Owning<'a, 't> {
 
     fn call(&self, found: &mut FieldTokens, c: &Call) -> Result<(), AllocError>
         ensures { IfOk result (λ _. found.new.items
-            ≡ found.old.items ++ marked (meaning_in self.now) (call_of c.now)) }
+            ≡ found.old.items ++ marked_tree (meaning_in self.now) (call_of c.now)) }
     {
         if let Some(given) = &c.arguments {
             self.arguments(found, given)?;
@@ -234,7 +234,7 @@ impl<'a, 't> Owning<'a, 't> {
 
     fn arguments(&self, found: &mut FieldTokens, given: &Vec<Expression>) -> Result<(), AllocError>
         ensures { IfOk result (λ _. found.new.items
-            ≡ found.old.items ++ marked (meaning_in self.now) (arguments_in given.now)) }
+            ≡ found.old.items ++ marked_tree (meaning_in self.now) (arguments_in given.now)) }
     {
         for e in given {
             self.expression(found, e)?;
@@ -249,7 +249,7 @@ impl<'a, 't> Owning<'a, 't> {
         statements: &Vec<Statement>,
     ) -> Result<(), AllocError>
         ensures { IfOk result (λ _. found.new.items
-            ≡ found.old.items ++ marked (meaning_in self.now) (sequence_in statements.now)) }
+            ≡ found.old.items ++ marked_tree (meaning_in self.now) (sequence_in statements.now)) }
     {
         for s in statements {
             self.statement(found, s)?;
@@ -260,7 +260,7 @@ impl<'a, 't> Owning<'a, 't> {
     #[cycle(statements)]
     fn statement(&self, found: &mut FieldTokens, s: &Statement) -> Result<(), AllocError>
         ensures { IfOk result (λ _. found.new.items
-            ≡ found.old.items ++ marked (meaning_in self.now) (statement_of s.now)) }
+            ≡ found.old.items ++ marked_tree (meaning_in self.now) (statement_of s.now)) }
     {
         match s {
             Statement::Empty => Ok(()),
@@ -283,7 +283,7 @@ impl<'a, 't> Owning<'a, 't> {
     #[cycle(statements)]
     fn branches(&self, found: &mut FieldTokens, i: &If) -> Result<(), AllocError>
         ensures { IfOk result
-            (λ _. found.new.items ≡ found.old.items ++ marked (meaning_in self.now) (if_of i.now)) }
+            (λ _. found.new.items ≡ found.old.items ++ marked_tree (meaning_in self.now) (if_of i.now)) }
     {
         self.expression(found, &i.condition)?;
         self.sequence(found, &i.then)?;
@@ -297,7 +297,7 @@ impl<'a, 't> Owning<'a, 't> {
     #[cycle(statements)]
     fn elsifs(&self, found: &mut FieldTokens, parts: &Vec<Elsif>) -> Result<(), AllocError>
         ensures { IfOk result (λ _. found.new.items
-            ≡ found.old.items ++ marked (meaning_in self.now) (elsifs_in parts.now)) }
+            ≡ found.old.items ++ marked_tree (meaning_in self.now) (elsifs_in parts.now)) }
     {
         for e in parts {
             self.expression(found, &e.condition)?;
@@ -312,7 +312,7 @@ impl<'a, 't> Owning<'a, 't> {
         statements: &Option<Vec<Statement>>,
     ) -> Result<(), AllocError>
         ensures { IfOk result (λ _. found.new.items
-            ≡ found.old.items ++ marked (meaning_in self.now) (body_of statements.now)) }
+            ≡ found.old.items ++ marked_tree (meaning_in self.now) (body_of statements.now)) }
     {
         match statements {
             Some(statements) => self.sequence(found, statements),

@@ -1,7 +1,7 @@
 -- A constant expression has the value in a run the value of it to the checker.
 use Rattle.std.proofs.Common.{◌≡◌, Bool, true, false, List, [], ◌∷◌, Some, None, Option, option_map, option_and_then, refl, ap, ◌∙◌, subst}
 use Rattle.ob0_tree.specs.Tree.{Tree, addend, adds, compares, designator, end, expression, factor, field, index, integer, items, more, multiplier, multiplies, negation, none, one, parenthesised, product, relates, selector, simple, sum, term}
-use Rattle.ob0_types_rules.specs.Expressions.{Meanings, Object, a_constant, a_procedure, a_standard, a_type, a_variable, element_step, evaluate, evaluate_addends, evaluate_factor, evaluate_multipliers, evaluate_simple, evaluate_term, follow, value_of}
+use Rattle.ob0_types_rules.specs.Expressions.{Meanings, Object, a_constant, a_procedure, a_standard, a_type, a_variable, element_step, evaluate, evaluate_addends, evaluate_factor, evaluate_multipliers, evaluate_simple, evaluate_term, follow, object_value}
 use Rattle.ob0_types_rules.specs.Laws.{ConstantsEvaluate}
 use Rattle.ob0_types_rules.specs.Typing.{constant_of, constant_value, constants_only, given_value, type_of}
 use Rattle.ob0_values.specs.Values.{Outcome, Place, Step, Store, Value, add, add_is_settled, at_field, at_path, ends, gives, multiply, multiply_is_settled, negated, or_stuck, part, relate, signed, ◌>>=◌}
@@ -18,15 +18,15 @@ abbrev pub HasConstants : {N V P Q : Type 0} → Meanings N V P → Meanings N P
 HasConstants {N} checked active =
     ((x : N) → checked.written x ≡ active.written x) × ((x : N) (w : Value) → constant_of (checked.object_for x) ≡ Some w → constant_of (active.object_for x) ≡ Some w)
 
-pub constant-value_of : {P : Type 0} (store : Store) (o : Option (Object Place P)) (w : Value) → constant_of o ≡ Some w → value_of store o ≡ gives w
-constant-value_of store None w h = absurd (cc)
-constant-value_of store (Some (a_type s)) w h = absurd (cc)
-constant-value_of store (Some (a_constant v)) w h = ap gives (search)
-constant-value_of store (Some (a_variable p)) w h = absurd (cc)
-constant-value_of store (Some (a_procedure p)) w h = absurd (cc)
-constant-value_of store (Some (a_standard p)) w h = absurd (cc)
+pub constant-object_value : {P : Type 0} (store : Store) (o : Option (Object Place P)) (w : Value) → constant_of o ≡ Some w → object_value store o ≡ gives w
+constant-object_value store None w h = absurd (cc)
+constant-object_value store (Some (a_type s)) w h = absurd (cc)
+constant-object_value store (Some (a_constant v)) w h = ap gives (search)
+constant-object_value store (Some (a_variable p)) w h = absurd (cc)
+constant-object_value store (Some (a_procedure p)) w h = absurd (cc)
+constant-object_value store (Some (a_standard p)) w h = absurd (cc)
 
-pub only_constant : (o : Option Value) (v : Value) → value_of {P = Unit {0}} [] (option_map a_constant o) ≡ gives v → o ≡ Some v
+pub only_constant : (o : Option Value) (v : Value) → object_value {P = Unit {0}} [] (option_map a_constant o) ≡ gives v → o ≡ Some v
 only_constant None v h = absurd (cc)
 only_constant (Some w) v h = ap Some (search)
 
@@ -85,9 +85,9 @@ mutual
   pub evaluate_factor-held : {N V P Q : Type 0} (checked : Meanings N V P) (active : Meanings N Place Q) (store : Store) → HasConstants checked active → (a : Tree N factor) (v : Value)
       → evaluate_factor {P = Unit {0}} (constants_only checked) [] a ≡ gives v → evaluate_factor active store a ≡ gives v
   evaluate_factor-held checked active store has (designator x path) v h =
-      let (w, ew, h₁) = then-gives (value_of {P = Unit {0}} [] ((constants_only checked).object_for x)) (λ w. follow {P = Unit {0}} (constants_only checked) [] w path >>= (λ steps. or_stuck (at_path steps w))) v h in
+      let (w, ew, h₁) = then-gives (object_value {P = Unit {0}} [] ((constants_only checked).object_for x)) (λ w. follow {P = Unit {0}} (constants_only checked) [] w path >>= (λ steps. or_stuck (at_path steps w))) v h in
       let (steps, es, h₂) = then-gives (follow {P = Unit {0}} (constants_only checked) [] w path) (λ steps. or_stuck (at_path steps w)) v h₁ in
-      then-goes (value_of store (active.object_for x)) (λ w. follow active store w path >>= (λ steps. or_stuck (at_path steps w))) w v (constant-value_of store (active.object_for x) w (has.1 x w (only_constant (constant_of (checked.object_for x)) w ew)))
+      then-goes (object_value store (active.object_for x)) (λ w. follow active store w path >>= (λ steps. or_stuck (at_path steps w))) w v (constant-object_value store (active.object_for x) w (has.1 x w (only_constant (constant_of (checked.object_for x)) w ew)))
       (then-goes (follow active store w path) (λ steps. or_stuck (at_path steps w)) steps v (follow-held checked active store has w path steps es) h₂)
   evaluate_factor-held checked active store has (integer n) v h = h
   evaluate_factor-held checked active store has (parenthesised e) v h = evaluate-held checked active store has e v h

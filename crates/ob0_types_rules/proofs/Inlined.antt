@@ -4,7 +4,7 @@ use Rattle.ob0_tree.specs.Tree.{Tree, addend, adds, compares, designator, end, e
 use Rattle.ob0_scope_rules.specs.Inlining.{Uses, inline_in}
 use Rattle.ob0_scope_rules.specs.Names.{Name}
 use Rattle.ob0_values.specs.Values.{Place, Store, Value, add, add_is_settled, at_field, at_path, gives, multiply, multiply_is_settled, negated, or_stuck, part, relate, signed, ◌>>=◌}
-use Rattle.ob0_types_rules.specs.Expressions.{Meanings, a_constant, element_step, evaluate, evaluate_addends, evaluate_factor, evaluate_multipliers, evaluate_simple, evaluate_term, follow, value_of}
+use Rattle.ob0_types_rules.specs.Expressions.{Meanings, a_constant, element_step, evaluate, evaluate_addends, evaluate_factor, evaluate_multipliers, evaluate_simple, evaluate_term, follow, object_value}
 use Rattle.ob0_types_rules.specs.Laws.{InliningKeepsEvaluation, UsesAre}
 
 pub uses-split : (uses : Uses) (P : Name → Type 0) (k : ℕ) (xs ys : List Name) → UsesAre uses P k (xs ++ ys) → UsesAre uses P k xs × UsesAre uses P (k + length xs) ys
@@ -55,9 +55,9 @@ mutual
   pub evaluate_factor-inlined : {P : Type 0} (meaning : Meanings Name Place P) (store : Store) (uses : Uses) (v : Tree Name factor) (w : Value) → Writing meaning store v w → (k : ℕ) (a : Tree Name factor) → UsesAre uses (Stands meaning w) k (occurrences a) → evaluate_factor meaning store (inline_in uses v k a) ≡ evaluate_factor meaning store a
   evaluate_factor-inlined {P} meaning store uses v w h k (designator x end) u =
       (elim (uses k) as (λ b. uses k ≡ b → evaluate_factor meaning store (if b then v else designator x end) ≡ evaluate_factor meaning store (designator x end))
-      [ true ↦ λ e. h.has_value ∙ sym (ap (λ o. value_of {P = P} store o >>= (λ v. gives [] >>= (λ steps. or_stuck (at_path steps v)))) (u.0 e)) | false ↦ λ e. refl ]) refl
+      [ true ↦ λ e. h.has_value ∙ sym (ap (λ o. object_value {P = P} store o >>= (λ v. gives [] >>= (λ steps. or_stuck (at_path steps v)))) (u.0 e)) | false ↦ λ e. refl ]) refl
   evaluate_factor-inlined meaning store uses v w h k (designator x (more step rest)) u = λ i.
-      value_of store (meaning.object_for x) >>= (λ z. follow-inlined meaning store uses v w h (suc k) z (more step rest) u.1 i >>= (λ steps. or_stuck (at_path steps z)))
+      object_value store (meaning.object_for x) >>= (λ z. follow-inlined meaning store uses v w h (suc k) z (more step rest) u.1 i >>= (λ steps. or_stuck (at_path steps z)))
   evaluate_factor-inlined meaning store uses v w h k (integer n) u = refl
   evaluate_factor-inlined meaning store uses v w h k (parenthesised e) u = evaluate-inlined meaning store uses v w h k e u
   evaluate_factor-inlined meaning store uses v w h k (negation f) u = λ i. evaluate_factor-inlined meaning store uses v w h k f u i >>= negated

@@ -4,7 +4,7 @@ use Rattle.ob0_tree.specs.Tree.{Tree, adds, compares, end, factor, integer, more
 use Rattle.ob0_scope_rules.specs.Names.{Name}
 use Rattle.ob0_values.specs.Values.{Overflow, Place, Shape, Store, Value, at_path, elements, ends, fits, gives, integer_shape, members, number, or_stuck, truth, ◌>>=◌}
 use Rattle.ob0_types_rules.specs.EditLaws.{IsScalar}
-use Rattle.ob0_types_rules.specs.Expressions.{Meanings, a_constant, evaluate, evaluate_factor, value_of}
+use Rattle.ob0_types_rules.specs.Expressions.{Meanings, a_constant, evaluate, evaluate_factor, object_value}
 use Rattle.ob0_types_rules.specs.Typing.{object_type, type_of, type_of_factor, value_type}
 use Rattle.ob0_types_rules.specs.Written.{written_number, written_value}
 use Rattle.ob0_tree.specs.declared.tree.Sign.TheVariants as sign
@@ -37,10 +37,10 @@ literal-has_value meaning store v (number (negsuc n)) e h seen =
     ]) refl)
 literal-has_value {P} meaning store v (truth true) e h seen =
     subst (λ v. evaluate_factor meaning store v ≡ gives (truth true)) (some_inverse e)
-    (ap (λ o. value_of {P = P} store o >>= (λ v. gives [] >>= (λ steps. or_stuck (at_path steps v)))) seen)
+    (ap (λ o. object_value {P = P} store o >>= (λ v. gives [] >>= (λ steps. or_stuck (at_path steps v)))) seen)
 literal-has_value {P} meaning store v (truth false) e h seen =
     subst (λ v. evaluate_factor meaning store v ≡ gives (truth false)) (some_inverse e)
-    (ap (λ o. value_of {P = P} store o >>= (λ v. gives [] >>= (λ steps. or_stuck (at_path steps v)))) seen)
+    (ap (λ o. object_value {P = P} store o >>= (λ v. gives [] >>= (λ steps. or_stuck (at_path steps v)))) seen)
 literal-has_value meaning store v (elements vs) e h seen = absurd h
 literal-has_value meaning store v (members k ms) e h seen = absurd h
 

@@ -3,7 +3,7 @@ use Rattle.std.proofs.Common.{◌≡◌, true, false, ◌∷◌, ◌++◌, map, 
 use Rattle.ob0_tree.specs.Tree.{Tree, addend, adds, arguments, compares, designator, end, expression, factor, field, further_argument, index, integer, items, maybe, more, multiplier, multiplies, negation, no_arguments, none, one, parenthesised, product, relates, selector, simple, some_arguments, sum, term, then_argument}
 use Rattle.ob0_scope_rules.specs.Mapping.{with_names}
 use Rattle.ob0_types_rules.specs.Arguments.{arguments_listed, further_arguments}
-use Rattle.ob0_types_rules.specs.Expressions.{Meanings, designate, element_step, evaluate, evaluate_addends, evaluate_factor, evaluate_multipliers, evaluate_simple, evaluate_term, follow, place_of, value_of}
+use Rattle.ob0_types_rules.specs.Expressions.{Meanings, designate, element_step, evaluate, evaluate_addends, evaluate_factor, evaluate_multipliers, evaluate_simple, evaluate_term, follow, object_place, object_value}
 use Rattle.ob0_types_rules.specs.Typing.{designated}
 use Rattle.ob0_values.specs.Values.{Place, Store, Value, add, add_is_settled, at_field, at_path, gives, multiply, multiply_is_settled, negated, or_stuck, part, read_place, relate, signed, ◌>>=◌}
 
@@ -41,7 +41,7 @@ mutual
 
   pub evaluate_factor-map : {N M P : Type 0} (f h : N → M) (meaning : Meanings M Place P) (store : Store) (a : Tree N factor) → evaluate_factor meaning store (with_names f h a) ≡ evaluate_factor (through f h meaning) store a
   evaluate_factor-map f h meaning store (designator x path) = λ i.
-      value_of store (meaning.object_for (f x)) >>= (λ v. follow-map f h meaning store v path i >>= (λ steps. or_stuck (at_path steps v)))
+      object_value store (meaning.object_for (f x)) >>= (λ v. follow-map f h meaning store v path i >>= (λ steps. or_stuck (at_path steps v)))
   evaluate_factor-map f h meaning store (integer n) = refl
   evaluate_factor-map f h meaning store (parenthesised e) = evaluate-map f h meaning store e
   evaluate_factor-map f h meaning store (negation a) = λ i. evaluate_factor-map f h meaning store a i >>= negated
@@ -56,7 +56,7 @@ mutual
 pub designate-map : {N M P : Type 0} (f h : N → M) (meaning : Meanings M Place P) (store : Store) (x : N) (path : Tree N (items selector)) → designate meaning store (f x) (with_names f h path) ≡ designate (through f h meaning) store x path
 unfolding designate
 designate-map f h meaning store x path = λ i.
-    place_of (meaning.object_for (f x)) >>= (λ p. or_stuck (read_place store p) >>= (λ v. follow-map f h meaning store v path i >>= (λ steps. gives record { variable = p.variable; path = p.path ++ steps })))
+    object_place (meaning.object_for (f x)) >>= (λ p. or_stuck (read_place store p) >>= (λ v. follow-map f h meaning store v path i >>= (λ steps. gives record { variable = p.variable; path = p.path ++ steps })))
 
 abbrev pub map_designator : {N M : Type 0} → (N → M) → (N → M) → N × Tree N (items selector) → M × Tree M (items selector)
 map_designator f h d = (f d.0, with_names f h d.1)

@@ -30,15 +30,15 @@ element_step (elements vs) (number (negsuc i)) = ends Index
 element_step _ _ = ends Stuck
 
 -- the place that a name means, before its selectors
-abbrev pub place_of : {P : Type 0} → Option (Object Place P) → Outcome Place
-place_of (Some (a_variable p)) = gives p
-place_of _ = ends Stuck
+abbrev pub object_place : {P : Type 0} → Option (Object Place P) → Outcome Place
+object_place (Some (a_variable p)) = gives p
+object_place _ = ends Stuck
 
 -- the value of a constant, or of what is at the place of a variable
-abbrev pub value_of : {P : Type 0} → Store → Option (Object Place P) → Outcome Value
-value_of store (Some (a_constant v)) = gives v
-value_of store (Some (a_variable p)) = or_stuck (read_place store p)
-value_of store _ = ends Stuck
+abbrev pub object_value : {P : Type 0} → Store → Option (Object Place P) → Outcome Value
+object_value store (Some (a_constant v)) = gives v
+object_value store (Some (a_variable p)) = or_stuck (read_place store p)
+object_value store _ = ends Stuck
 
 -- expressions are evaluated from left to right
 unfoldable mutual
@@ -87,7 +87,7 @@ unfoldable mutual
 
   pub evaluate_factor : {N P : Type 0} → Meanings N Place P → Store → Tree N factor → Outcome Value
   evaluate_factor meaning store (designator x path) = do
-    v ← value_of store (meaning.object_for x)
+    v ← object_value store (meaning.object_for x)
     steps ← follow meaning store v path
     or_stuck (at_path steps v)
   evaluate_factor meaning store (integer n) = gives (number (pos n))
@@ -122,7 +122,7 @@ unfoldable pub designate : {N P : Type 0}
     → Outcome Place
 unfolding evaluate
 designate meaning store x path = do
-  p ← place_of (meaning.object_for x)
+  p ← object_place (meaning.object_for x)
   v ← or_stuck (read_place store p)
   steps ← follow meaning store v path
   gives record { variable = p.variable; path = p.path ++ steps }

@@ -13,7 +13,7 @@ use Rattle.ob0_scope_rules.proofs.NameEquality.{same_name-comm}
 use Rattle.ob0_types_table.specs.declared.field_table.FirstOfName.{FirstOfName}
 use Rattle.ob0_types_table.specs.declared.known.Field.{Field}
 use Rattle.ob0_types_table.specs.declared.types.TypeId.{TypeId}
-use Rattle.ob0_types_table.specs.FieldIndex.{IsIndexFrom, first_from, first_type}
+use Rattle.ob0_types_table.specs.FieldIndex.{IsIndexFrom, first_from, first_field_type}
 use Rattle.ob0_types_table.specs.FieldPlaces.{place_of_field}
 use Rattle.ob0_types_table.specs.Tables.{fields_shape, type_shape}
 use Rattle.ob0_types_rules.specs.Typing.{shape_of_field}
@@ -31,10 +31,10 @@ first_from-shape shapes k (f ∷ fs) x =
     ∙ ap (cond (same_name x (string_bytes f.name)) (Some (type_shape shapes f.of))) (first_from-shape shapes (suc k) fs x)
 
 -- the first field of a name has its type
-pub first_from-type : (k : ℕ) (fs : List Field) (x : Name) → option_map (λ (e : FirstOfName). e.of) (first_from k fs x) ≡ first_type fs x
+pub first_from-type : (k : ℕ) (fs : List Field) (x : Name) → option_map (λ (e : FirstOfName). e.of) (first_from k fs x) ≡ first_field_type fs x
 first_from-type k [] x = refl
 first_from-type k (f ∷ fs) x =
-    elim (same_name x (string_bytes f.name)) as (λ b. option_map (λ (e : FirstOfName). e.of) (cond b (Some (record { place = k; of = f.of })) (first_from (suc k) fs x)) ≡ cond b (Some f.of) (first_type fs x)) [ true ↦ refl | false ↦ first_from-type (suc k) fs x ]
+    elim (same_name x (string_bytes f.name)) as (λ b. option_map (λ (e : FirstOfName). e.of) (cond b (Some (record { place = k; of = f.of })) (first_from (suc k) fs x)) ≡ cond b (Some f.of) (first_field_type fs x)) [ true ↦ refl | false ↦ first_from-type (suc k) fs x ]
 
 following : (k : ℕ) (o : Option ℕ) → option_map (λ i. suc k + i) o ≡ option_map (λ i. k + i) (option_map suc o)
 following k None = refl

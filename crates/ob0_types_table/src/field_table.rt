@@ -2,7 +2,7 @@
 
 ghost use Rattle.std.specs.Prelude.{◌≡◌, List, IfOk, option_map};
 ghost use Rattle.ob0_values.specs.Values as shape;
-ghost use Rattle.ob0_types_table.specs.FieldIndex.{IsIndex, first_type};
+ghost use Rattle.ob0_types_table.specs.FieldIndex.{IsIndex, first_field_type};
 ghost use Rattle.ob0_types_table.specs.FieldPlaces.{place_of_field};
 ghost use Rattle.ob0_types_table.specs.Tables.{fields_shape, type_shape};
 ghost use Rattle.ob0_types_rules.specs.Typing.{shape_of_field};
@@ -79,7 +79,7 @@ impl FieldTable {
 
     /// The type of the first field of this name.
     pub fn find(&self, name: &str) -> Option<TypeId>
-        ensures first { result ≡ first_type self.now name.now }
+        ensures first { result ≡ first_field_type self.now name.now }
         ensures shape { (shapes : List shape.Shape)
             → option_map (type_shape shapes) result
             ≡ shape_of_field (fields_shape shapes self.now) name.now }

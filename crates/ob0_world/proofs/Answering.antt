@@ -41,7 +41,7 @@ use Rattle.ob0_world_editor.proofs.Hearing.{understood_as}
 use Rattle.ob0_world_rules.specs.Edited.{Replacement, replacement_of, replacements}
 use Rattle.ob0_world_rules.specs.Asks.{Ask, rename, inline_here, inline_all, format, indent_read}
 use Rattle.ob0_world_rules.specs.Answers.{place_at, AnswersFor, IsAnswer, IsEmptyIfCorrect}
-use Rattle.ob0_world_rules.specs.Ends.{SentAsk, numbered, ToServer, notifies, requests, ToEditor, publishes, answers, after_message}
+use Rattle.ob0_world_rules.specs.Ends.{SentAsk, request_numbered, ToServer, notifies, requests, ToEditor, publishes, answers, after_message}
 use Rattle.ob0_world_rules.specs.Serving.{Publishes, cleared, Replies}
 use Rattle.ob0_world_rules.proofs.UriLaws.{get_put, uri_itself}
 use Rattle.ob0_world.specs.Queues.{IsRunning, made_of_document, made_first}
@@ -202,7 +202,7 @@ edits_read_back [] = refl
 edits_read_back (e ∷ edits) = ap (option_map (λ es. replacement_of e ∷ es)) (edits_read_back edits)
 
 -- an answer to ask k, where that asks this
-answered : (requested : List SentAsk) (k : ℕ) (uri : List ℕ) (ask : Ask) (answer : Data) → IsAsk requested k uri ask → option_map (λ (a : SentAsk). answers k (edits_for a.ask answer)) (numbered requested k) ≡ Some (answers k (edits_for ask answer))
+answered : (requested : List SentAsk) (k : ℕ) (uri : List ℕ) (ask : Ask) (answer : Data) → IsAsk requested k uri ask → option_map (λ (a : SentAsk). answers k (edits_for a.ask answer)) (request_numbered requested k) ≡ Some (answers k (edits_for ask answer))
 answered requested k uri ask answer of = ap (option_map (λ (a : SentAsk). answers k (edits_for a.ask answer))) of.is ∙ ap (λ x. Some (answers k (edits_for x answer))) of.asks_this
 
 -- the answer to an ask

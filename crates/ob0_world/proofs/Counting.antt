@@ -9,7 +9,7 @@ use Rattle.ob0_text.specs.OpenDocuments.{TextChange}
 use Rattle.ob0_text.specs.declared.position_types.Unit.{Unit}
 use Rattle.ob0_world_rules.specs.Edited.{Replacement, edited, after_changes}
 use Rattle.ob0_world_rules.specs.Asks.{Ask}
-use Rattle.ob0_world_rules.specs.Ends.{Open, SentAsk, Editor, numbered, open_at, ToServer, ToEditor, publishes, answers, Ends, new_editor}
+use Rattle.ob0_world_rules.specs.Ends.{Open, SentAsk, Editor, request_numbered, open_at, ToServer, ToEditor, publishes, answers, Ends, new_editor}
 use Rattle.ob0_world_rules.specs.Editing.{opens_document, rewritten, rewrites, changes_text, changes_document, closes_document, asks_about, kept_answer, without_answer, discards, if_same, applies_text, applies_edits, applies_requested, applies_answer}
 use Rattle.ob0_world_rules.specs.Events.{Event, open_document, change_document, close_document, ask_about, serve, take_message, apply, discard, Seen, after_move, comes_of, takes}
 use Rattle.ob0_world_rules.specs.Happens.{ServerTakes, Happens}
@@ -103,7 +103,7 @@ module _ (n : ℕ) (w : Ends) (within : Within n w.editor) where
 
   apply_within : (k : ℕ) (o : Option (List Replacement)) → Within (n + 1) (comes_of w k (applies_answer w.editor k o)).after.editor
   apply_within k None = more n w.editor within
-  apply_within k (Some edits) = of_requested (numbered w.editor.requested k)
+  apply_within k (Some edits) = of_requested (request_numbered w.editor.requested k)
     where
       e : Editor
       e = without_answer w.editor k

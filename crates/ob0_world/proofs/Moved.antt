@@ -16,7 +16,7 @@ use Rattle.ob0_world_editor.proofs.Hearing.{says_heard}
 use Rattle.ob0_world_editor.proofs.Moving.{none_goes}
 use Rattle.ob0_world_rules.specs.Edited.{Replacement, edited, after_changes}
 use Rattle.ob0_world_rules.specs.Asks.{Ask}
-use Rattle.ob0_world_rules.specs.Ends.{Open, SentAsk, Editor, numbered, open_at, ToServer, answers, Ends}
+use Rattle.ob0_world_rules.specs.Ends.{Open, SentAsk, Editor, request_numbered, open_at, ToServer, answers, Ends}
 use Rattle.ob0_world_rules.specs.Editing.{Move, idle, sends, opens_document, changes_text, changes_document, closes_document, asks_about, keeps, ApplyOutcome, not_held, drops_answer, makes, kept_answer, without_answer, discards, if_same, applies_text, applies_edits, applies_requested, applies_answer}
 use Rattle.ob0_world_rules.specs.Events.{Is, after_move, comes_of, applies, drops, nothing}
 use Rattle.ob0_world.specs.declared.events.Seen as seen
@@ -122,7 +122,7 @@ KeepsAsks e (makes f a m) = f.requested ≡ e.requested
 
 pub apply_keeps_asks : (e : Editor) (k : ℕ) (o : Option (List Replacement)) → KeepsAsks e (applies_answer e k o)
 apply_keeps_asks e k None = tt
-apply_keeps_asks e k (Some edits) = of_requested (numbered e.requested k)
+apply_keeps_asks e k (Some edits) = of_requested (request_numbered e.requested k)
   where
     f : Editor
     f = without_answer e k

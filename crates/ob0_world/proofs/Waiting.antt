@@ -13,7 +13,7 @@ use Rattle.serde_json.specs.Read.{read}
 use Rattle.ob0_world_editor.specs.Heard.{heard, SaysToServer, request_number}
 use Rattle.ob0_world_editor.specs.Understood.{understood, value_understood, answer_understood, answer_to, publication_understood}
 use Rattle.ob0_world_editor.proofs.Hearing.{says_heard}
-use Rattle.ob0_world_rules.specs.Ends.{SentAsk, numbered, ToServer, notifies, requests, ToEditor}
+use Rattle.ob0_world_rules.specs.Ends.{SentAsk, request_numbered, ToServer, notifies, requests, ToEditor}
 use Rattle.ob0_world_rules.proofs.SameDocument.{numbered_push}
 use Rattle.ob0_world.specs.Queues.{Contents, bytes, all_heard, all_understood, IsHeard, IsUnderstood}
 
@@ -24,10 +24,10 @@ module _ (requested more : List SentAsk) where
   says_still (notifies note) content is = is
   says_still (requests k uri ask) content (is, of) = (is, record { sent = of.sent; is = numbered_push requested more k of.sent of.is; about = of.about; asks_this = of.asks_this })
 
-  still_answers : {X : Type 0} (f : SentAsk → X) (k : ℕ) (x : X) → option_map f (numbered requested k) ≡ Some x → option_map f (numbered (requested ++ more) k) ≡ Some x
-  still_answers f k x h = go (numbered requested k) refl h
+  still_answers : {X : Type 0} (f : SentAsk → X) (k : ℕ) (x : X) → option_map f (request_numbered requested k) ≡ Some x → option_map f (request_numbered (requested ++ more) k) ≡ Some x
+  still_answers f k x h = go (request_numbered requested k) refl h
     where
-      go : (o : Option SentAsk) → numbered requested k ≡ o → option_map f o ≡ Some x → option_map f (numbered (requested ++ more) k) ≡ Some x
+      go : (o : Option SentAsk) → request_numbered requested k ≡ o → option_map f o ≡ Some x → option_map f (request_numbered (requested ++ more) k) ≡ Some x
       go None is h = absurd (none-some x h)
       go (Some a) is h = ap (option_map f) (numbered_push requested more k a is) ∙ h
 

@@ -10,7 +10,7 @@ use Rattle.ob0_world_editor.specs.declared.editor.HeldAnswer as answer
 use Rattle.ob0_world_editor.specs.declared.applied.Applying as applying
 use Rattle.ob0_world_rules.specs.Edited.{Replacement}
 use Rattle.ob0_world_rules.specs.Asks.{Ask}
-use Rattle.ob0_world_rules.specs.Ends.{Open, SentAsk, Answer, Editor, numbered, open_at}
+use Rattle.ob0_world_rules.specs.Ends.{Open, SentAsk, Answer, Editor, request_numbered, open_at}
 use Rattle.ob0_world_rules.specs.Editing.{asks_about, kept_answer, all_but, without_answer, applies_answer}
 use Rattle.ob0_world_editor.specs.Code.{requested_of, answer_of}
 use Rattle.ob0_world_rules.specs.Edited.{replacements}
@@ -19,9 +19,9 @@ use Rattle.ob0_world_editor.specs.Moves.{AreFew, Moves, IsPlaceOf, ComesOf}
 
 -- ---- asks
 
-pub numbered_at : (xs : List requested.SentAsk) (n i : ℕ) (a : requested.SentAsk) → n ≡ suc i → i < length xs → a ≡ get_or xs i a → Some (requested_of a) ≡ numbered (map requested_of xs) n
+pub numbered_at : (xs : List requested.SentAsk) (n i : ℕ) (a : requested.SentAsk) → n ≡ suc i → i < length xs → a ≡ get_or xs i a → Some (requested_of a) ≡ request_numbered (map requested_of xs) n
 numbered_at xs n i a is within at =
-    subst (λ m. Some (requested_of a) ≡ numbered (map requested_of xs) m) (sym is)
+    subst (λ m. Some (requested_of a) ≡ request_numbered (map requested_of xs) m) (sym is)
     (sym (slice_get-map requested_of xs i ∙ ap (option_map requested_of) (slice_get_read xs (length xs) i a refl within at)))
 
 past_end : {A : Type 0} (xs : List A) (i : ℕ) → length xs ≤ i → slice_get xs i ≡ None
@@ -29,9 +29,9 @@ past_end [] i h = refl
 past_end (x ∷ xs) zero h = absurd (omega arith)
 past_end (x ∷ xs) (suc i) h = past_end xs i (omega arith)
 
-pub numbered_past : (xs : List requested.SentAsk) (n i : ℕ) → n ≡ suc i → length xs ≤ i → None ≡ numbered (map requested_of xs) n
+pub numbered_past : (xs : List requested.SentAsk) (n i : ℕ) → n ≡ suc i → length xs ≤ i → None ≡ request_numbered (map requested_of xs) n
 numbered_past xs n i is past =
-    subst (λ m. None ≡ numbered (map requested_of xs) m) (sym is) (sym (slice_get-map requested_of xs i ∙ ap (option_map requested_of) (past_end xs i past)))
+    subst (λ m. None ≡ request_numbered (map requested_of xs) m) (sym is) (sym (slice_get-map requested_of xs i ∙ ap (option_map requested_of) (past_end xs i past)))
 
 -- ---- the place of an answer
 

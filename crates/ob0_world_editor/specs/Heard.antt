@@ -11,7 +11,7 @@ use Rattle.ob0_rpc.specs.Requesting.{request_by_method}
 use Rattle.ob0_rpc.specs.Messages.{ReadsContent, MessageMeaning, not_json, not_a_message, response, request, notice, meaning_of}
 use Rattle.ob0_rpc.specs.Notifications.{Notification, exits, opens, changes, closes, unreadable, other, note_of}
 use Rattle.ob0_world_rules.specs.Asks.{Ask, rename, inline_here, inline_all, format, indent_read}
-use Rattle.ob0_world_rules.specs.Ends.{SentAsk, numbered, ToServer, notifies, requests}
+use Rattle.ob0_world_rules.specs.Ends.{SentAsk, request_numbered, ToServer, notifies, requests}
 use Rattle.ob0_world_editor.specs.Shapes.{method_of, empty_at}
 
 -- ---- as a function: the message in a content, where an ask is known by its number
@@ -39,7 +39,7 @@ notification_read other = None
 
 -- the request of this number, as the editor sent it
 abbrev pub request_read : List SentAsk → ℕ → Option ToServer
-request_read requested k = option_map (λ a. requests k a.uri a.ask) (numbered requested k)
+request_read requested k = option_map (λ a. requests k a.uri a.ask) (request_numbered requested k)
 
 -- what a message says to the server
 abbrev pub message_read : List SentAsk → MessageMeaning → Option ToServer
@@ -101,7 +101,7 @@ pub record IsRequest (k : ℕ) (uri : List ℕ) (ask : Ask) (content : List ℕ)
 -- ask k is this one
 pub record IsAsk (requested : List SentAsk) (k : ℕ) (uri : List ℕ) (ask : Ask) : Type 0 where
   pub sent : SentAsk
-  pub is : numbered requested k ≡ Some sent
+  pub is : request_numbered requested k ≡ Some sent
   pub about : sent.uri ≡ uri
   pub asks_this : sent.ask ≡ ask
 

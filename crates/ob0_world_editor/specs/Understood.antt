@@ -9,7 +9,7 @@ use Rattle.ob0_text.specs.declared.position_types.Range.{Range}
 use Rattle.ob0_rpc.specs.Members.{text_member, range_member}
 use Rattle.ob0_world_rules.specs.Edited.{Replacement}
 use Rattle.ob0_world_rules.specs.Asks.{Ask, rename, inline_here, inline_all, format}
-use Rattle.ob0_world_rules.specs.Ends.{SentAsk, numbered, ToEditor, publishes, answers}
+use Rattle.ob0_world_rules.specs.Ends.{SentAsk, request_numbered, ToEditor, publishes, answers}
 use Rattle.ob0_world_editor.specs.Heard.{request_number}
 
 -- ---- publications
@@ -90,7 +90,7 @@ edits_for ask answer =
 -- the answer to the request of this number, with its edits
 abbrev pub answer_to : List SentAsk → Data → ℕ → Option ToEditor
 answer_to requested answer k =
-    option_map (λ a. answers k (edits_for a.ask answer)) (numbered requested k)
+    option_map (λ a. answers k (edits_for a.ask answer)) (request_numbered requested k)
 
 -- an answer to a request that the editor sent
 abbrev pub answer_understood : List SentAsk → Data → Option ToEditor

@@ -2,7 +2,7 @@
 ghost use Rattle.std.specs.Prelude.{◌≡◌, IfOk, OnOk, OnErr, map, option_map, is_some, ◌<◌, ◌^◌};
 ghost use Rattle.std.specs.Str.{chars};
 ghost use Rattle.ob0_text.specs.OpenDocuments.{reported_change};
-ghost use Rattle.ob0_world_rules.specs.Ends.{new_editor, numbered, open_at};
+ghost use Rattle.ob0_world_rules.specs.Ends.{new_editor, request_numbered, open_at};
 ghost use Rattle.ob0_world_rules.specs.Editing.{opens_document, changes_document, closes_document, asks_about, has_edits, keeps, kept_answer, without_answer, applies_requested, applies_answer};
 ghost use Rattle.ob0_world_editor.specs.Code.{ask_of, message_of};
 ghost use Rattle.ob0_world_rules.specs.Edited.{replacements};
@@ -245,7 +245,7 @@ impl Editor {
     fn rewritten(&self, k: u64, edits: &[Edit]) -> Result<Option<Rewritten>, AllocError>
         requires { AreFew self.now }
         ensures { IfOk result (λ rewritten. IsRewritten self.now
-            (applies_requested self.now (replacements edits.now) (numbered self.now.requested k))
+            (applies_requested self.now (replacements edits.now) (request_numbered self.now.requested k))
             rewritten) }
     {
         let Some(requested) = numbered_ask(self.requested.as_slice(), k) else {

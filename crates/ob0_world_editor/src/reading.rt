@@ -8,7 +8,7 @@ ghost use Rattle.ob0_world_editor.specs.Code.{message_of, ask_of, requested_of};
 ghost use Rattle.ob0_world_rules.specs.Edited.{replacement_of, replacements};
 ghost use Rattle.ob0_world_editor.specs.Heard.{request_number};
 ghost use Rattle.ob0_world_editor.specs.Understood.{understood, value_understood, publication_understood, answer_understood, has_none, edit_in, edits_in, workspace_items, is_titled, titled_action, action_items, items_for as items_of_answer, edits_for};
-ghost use Rattle.ob0_world_rules.specs.Ends.{numbered};
+ghost use Rattle.ob0_world_rules.specs.Ends.{request_numbered};
 
 use crate::asks::Ask;
 use crate::editor::SentAsk;
@@ -143,7 +143,7 @@ fn answer_number(answer: &Value) -> Option<u64>
 /// Ask `number`; the first has number 1.
 pub fn numbered_ask(requested: &[SentAsk], number: u64) -> Option<&SentAsk>
     ensures { option_map (λ a. requested_of a.now) result
-        ≡ numbered (map requested_of requested.now) number }
+        ≡ request_numbered (map requested_of requested.now) number }
 {
     if number == 0 {
         return None;

@@ -15,12 +15,12 @@ use Rattle.ob0_world_rules.specs.Language.{WellTypedText, SameRun}
 use Rattle.ob0_world_rules.specs.Edited.{Replacement, edited, whole_text, after_changes}
 use Rattle.ob0_world_rules.specs.Asks.{Ask}
 use Rattle.ob0_world_rules.specs.Answers.{IsAnswer}
-use Rattle.ob0_world_rules.specs.Ends.{Open, SentAsk, Answer, Editor, numbered, open_at, ToServer, notifies, requests, ToEditor, publishes, answers, Applied, Made, Ends, start, after_message, will_have, as_open}
+use Rattle.ob0_world_rules.specs.Ends.{Open, SentAsk, Answer, Editor, request_numbered, open_at, ToServer, notifies, requests, ToEditor, publishes, answers, Applied, Made, Ends, start, after_message, will_have, as_open}
 use Rattle.ob0_world_rules.specs.Editing.{opens_document, changes_text, changes_document, closes_document, asks_about, keeps, kept_answer, all_but, without_answer, discards, if_same, applies_text, applies_edits, applies_requested, applies_answer, Move, idle, sends, ApplyOutcome, not_held, drops_answer, makes}
 use Rattle.ob0_world_rules.specs.Serving.{Publishes, cleared, RepliesToNotification, Replies}
 use Rattle.ob0_world_rules.specs.Events.{Event, open_document, change_document, close_document, ask_about, serve, take_message, apply, discard, Seen, after_move, takes, comes_of}
 use Rattle.ob0_world_rules.specs.Happens.{ServerTakes, Happens, Course}
-use Rattle.ob0_world_rules.specs.Headline.{KeepsTheRun, IsRight, IsMadeFor, latest, AreUpToDate, Holds}
+use Rattle.ob0_world_rules.specs.Headline.{KeepsTheRun, IsRight, IsMadeFor, last_publication, AreUpToDate, Holds}
 use Rattle.ob0_world_rules.specs.Laws.{EditsPreserveRun}
 use Rattle.ob0_world_rules.proofs.UriLaws.{get_put, get_removed, same_uri, uri_itself}
 use Rattle.ob0_world_rules.proofs.Latest.{latest_push}
@@ -144,7 +144,7 @@ module _ (unit : Unit) where
       let same : Same e a d = same_from e a d is in
       text_kept w e k a.uri d edits (edited e.unit d.text edits) (ap (λ u. edited u d.text edits) (sym kept.counts)) same.at kept (keep d same)
 
-  requested_kept : (w : Ends) (e : Editor) (k : ℕ) (edits : List Replacement) (o : Option SentAsk) → numbered e.requested k ≡ o → Kept unit (record w { editor = e }) → Known e k (λ d. EditsPreserveRun unit d.text edits)
+  requested_kept : (w : Ends) (e : Editor) (k : ℕ) (edits : List Replacement) (o : Option SentAsk) → request_numbered e.requested k ≡ o → Kept unit (record w { editor = e }) → Known e k (λ d. EditsPreserveRun unit d.text edits)
       → Kept unit (comes_of w k (applies_requested e edits o)).after
   requested_kept w e k edits None is kept known = kept
   requested_kept w e k edits (Some a) is kept known =
@@ -156,17 +156,17 @@ module _ (unit : Unit) where
   apply_kept w k (Some edits) is kept =
       let e : Editor = without_answer w.editor k in
       let known : Known w.editor k (λ d. EditsPreserveRun unit d.text edits) = held_known unit w.editor k w.editor.answers edits is kept.answers_held in
-      requested_kept w e k edits (numbered w.editor.requested k) refl (without_kept w k kept)
+      requested_kept w e k edits (request_numbered w.editor.requested k) refl (without_kept w k kept)
       (still_known w.editor e k (λ d. EditsPreserveRun unit d.text edits) (later_answers w.editor e.answers) known)
 
   -- ---- the server's events
 
   -- the last publication for each held document was made for what is held
   abbrev AreLatest : OpenDocuments → List Made → Type 0
-  AreLatest held made = (uri : List ℕ) (version : ℤ) (text : List ℕ) → document_at held uri ≡ Some (InStep version text) → IsMadeFor version text (latest uri made)
+  AreLatest held made = (uri : List ℕ) (version : ℤ) (text : List ℕ) → document_at held uri ≡ Some (InStep version text) → IsMadeFor version text (last_publication uri made)
 
   abbrev Others : OpenDocuments → List ℕ → List Made → Type 0
-  Others held uri made = (q : List ℕ) (version : ℤ) (text : List ℕ) → bytes_eq uri q ≡ false → document_at held q ≡ Some (InStep version text) → IsMadeFor version text (latest q made)
+  Others held uri made = (q : List ℕ) (version : ℤ) (text : List ℕ) → bytes_eq uri q ≡ false → document_at held q ≡ Some (InStep version text) → IsMadeFor version text (last_publication q made)
 
   both_answers : {b : Bool} → b ≡ true → b ≡ false → ⊥
   both_answers t f = cc
@@ -178,10 +178,10 @@ module _ (unit : Unit) where
 
   -- the document that is held under a uri, and it alone, was published again
   others_and_this : (held : OpenDocuments) (uri : List ℕ) (made : List Made) → Others held uri made
-      → ((q : List ℕ) (version : ℤ) (text : List ℕ) → uri ≡ q → document_at held q ≡ Some (InStep version text) → IsMadeFor version text (latest q made)) → AreLatest held made
+      → ((q : List ℕ) (version : ℤ) (text : List ℕ) → uri ≡ q → document_at held q ≡ Some (InStep version text) → IsMadeFor version text (last_publication q made)) → AreLatest held made
   others_and_this held uri made others this q version text at = go (bytes_eq uri q) refl
     where
-      go : (b : Bool) → bytes_eq uri q ≡ b → IsMadeFor version text (latest q made)
+      go : (b : Bool) → bytes_eq uri q ≡ b → IsMadeFor version text (last_publication q made)
       go true is = this q version text (same_uri uri q is) at
       go false is = others q version text is at
 
@@ -189,7 +189,7 @@ module _ (unit : Unit) where
   publish_latest held uri m made named at others q version text found_at =
       subst (IsMadeFor version text) (sym (latest_push q made m)) (go (bytes_eq m.uri q) refl)
     where
-      go : (b : Bool) → bytes_eq m.uri q ≡ b → IsMadeFor version text (cond b (Some m) (latest q made))
+      go : (b : Bool) → bytes_eq m.uri q ≡ b → IsMadeFor version text (cond b (Some m) (last_publication q made))
       go true is =
           let same : uri ≡ q = sym named ∙ same_uri m.uri q is in
           let one : InStep m.version m.text ≡ InStep version text = same_Some _ _ (sym at ∙ ap (document_at held) same ∙ found_at) in
@@ -232,7 +232,7 @@ module _ (unit : Unit) where
   put_others : (held : OpenDocuments) (uri : List ℕ) (d : Document) (made : List Made) → AreLatest held made → Others (record { unit = held.unit; by_uri = map_of.insert held.by_uri uri d }) uri made
   put_others held uri d made now q version text differ at = go (bytes_eq q uri) refl (sym (get_put held.by_uri uri d q) ∙ at)
     where
-      go : (b : Bool) → bytes_eq q uri ≡ b → cond b (Some d) (document_at held q) ≡ Some (InStep version text) → IsMadeFor version text (latest q made)
+      go : (b : Bool) → bytes_eq q uri ≡ b → cond b (Some d) (document_at held q) ≡ Some (InStep version text) → IsMadeFor version text (last_publication q made)
       go true is h = absurd (apart q uri differ is)
       go false is h = now q version text h
 
@@ -263,7 +263,7 @@ module _ (unit : Unit) where
   remove_latest : (held : OpenDocuments) (uri : List ℕ) (made : List Made) → AreLatest held made → AreLatest (after_event held (Closed uri)) made
   remove_latest held uri made now q version text at = go (bytes_eq q uri) (sym (get_removed held.by_uri uri q) ∙ at)
     where
-      go : (b : Bool) → cond b None (document_at held q) ≡ Some (InStep version text) → IsMadeFor version text (latest q made)
+      go : (b : Bool) → cond b None (document_at held q) ≡ Some (InStep version text) → IsMadeFor version text (last_publication q made)
       go true h = absurd (none-some (InStep version text) h)
       go false h = now q version text h
 

@@ -7,14 +7,14 @@ use Rattle.std.proofs.lemmas.List.{map-append}
 use Rattle.std.proofs.lemmas.List.Sums.{fold_push}
 use Rattle.ob0_text.specs.declared.position_types.Unit.{Unit}
 use Rattle.ob0_text.specs.OpenDocuments.{OpenDocuments, TextChange, Opened, Changed, Lost, Closed, after_event, document_at}
-use Rattle.ob0_world_rules.specs.Ends.{Open, EditorDocuments, SentAsk, Editor, numbered, open_at, ToServer, notifies, requests, ToEditor, publishes, answers, Made, Ends, start, after_message, as_open, Mirrors}
+use Rattle.ob0_world_rules.specs.Ends.{Open, EditorDocuments, SentAsk, Editor, request_numbered, open_at, ToServer, notifies, requests, ToEditor, publishes, answers, Made, Ends, start, after_message, as_open, Mirrors}
 use Rattle.ob0_world_rules.specs.Edited.{Replacement, edited, after_changes}
 use Rattle.ob0_world_rules.specs.Asks.{Ask}
 use Rattle.ob0_world_rules.specs.Editing.{Move, idle, sends, opens_document, rewritten, changes_text, changes_document, closes_document, asks_about, kept_answer, without_answer, ApplyOutcome, not_held, drops_answer, makes, discards, if_same, applies_text, applies_edits, applies_requested, applies_answer}
 use Rattle.ob0_world_rules.specs.Serving.{Publishes, Replies}
 use Rattle.ob0_world_rules.specs.Events.{Event, open_document, change_document, close_document, ask_about, serve, take_message, apply, discard, Seen, EventStep, Is, after_move, takes, comes_of}
 use Rattle.ob0_world_rules.specs.Happens.{ServerTakes, Happens, Course}
-use Rattle.ob0_world_rules.specs.MadeInOrder.{Announced, announced_at, announced_by, announced_in_move, announced_in_outcome, announced_at_event, AreAnnounced, versions_announced, named_in, name_of, AreMadeOf, AreMadeInOrder}
+use Rattle.ob0_world_rules.specs.MadeInOrder.{Announced, announced_at, announced_by, announced_in_move, announced_in_outcome, announced_at_event, AreAnnounced, versions_announced, named_in, versioned_uri, AreMadeOf, AreMadeInOrder}
 use Rattle.ob0_world_rules.proofs.UriLaws.{get_put, uri_itself}
 use Rattle.ob0_world_rules.proofs.Interleavings.{in_every_interleaving}
 use Rattle.ob0_world_rules.proofs.MadeFor.{course_push}
@@ -50,7 +50,7 @@ announcing_push (x ∷ events) w announced between e seen new (s, mid, later, fi
 -- ---- a message names the document that it reports
 
 abbrev Names : Editor → ToServer → Type 0
-Names e m = map name_of (announced_by e m) ≡ versions_announced m
+Names e m = map versioned_uri (announced_by e m) ≡ versions_announced m
 
 abbrev MoveNames : Move → Type 0
 MoveNames idle = ⊤
@@ -61,9 +61,9 @@ OutcomeNames not_held = ⊤
 OutcomeNames (drops_answer e) = ⊤
 OutcomeNames (makes e applied m) = Names e m
 
-put_named : (docs : EditorDocuments) (uri : List ℕ) (d : Open) → map name_of (announced_at uri (map_of.get (map_of.insert docs uri d) uri)) ≡ (uri, pos d.version) ∷ []
+put_named : (docs : EditorDocuments) (uri : List ℕ) (d : Open) → map versioned_uri (announced_at uri (map_of.get (map_of.insert docs uri d) uri)) ≡ (uri, pos d.version) ∷ []
 put_named docs uri d =
-    ap (λ o. map name_of (announced_at uri o)) (get_put docs uri d uri ∙ ap (λ b. cond b (Some d) (map_of.get docs uri)) (uri_itself uri))
+    ap (λ o. map versioned_uri (announced_at uri o)) (get_put docs uri d uri ∙ ap (λ b. cond b (Some d) (map_of.get docs uri)) (uri_itself uri))
 
 opens_names : (e : Editor) (uri text : List ℕ) (o : Option Open) → MoveNames (opens_document e uri text o)
 opens_names e uri text (Some d) = tt
@@ -99,7 +99,7 @@ requested_names e edits (Some requested) = edits_names e edits requested.uri (if
 
 applies_names : (e : Editor) (k : ℕ) (o : Option (List Replacement)) → OutcomeNames (applies_answer e k o)
 applies_names e k None = tt
-applies_names e k (Some edits) = requested_names (without_answer e k) edits (numbered e.requested k)
+applies_names e k (Some edits) = requested_names (without_answer e k) edits (request_numbered e.requested k)
 
 discards_names : (e : Editor) (k : ℕ) (o : Option (List Replacement)) → OutcomeNames (discards e k o)
 discards_names e k None = tt
@@ -122,9 +122,9 @@ Awaits held (requests number uri ask) now = now ≡ []
 abbrev Pending : OpenDocuments → List ToServer → List Announced → Type 0
 Pending held [] waiting = waiting ≡ []
 Pending held (m ∷ queue) waiting =
-    (now : List Announced) × (later : List Announced) × (waiting ≡ now ++ later) × (Awaits held m now × (map name_of now ≡ versions_announced m)) × Pending (after_message held m) queue later
+    (now : List Announced) × (later : List Announced) × (waiting ≡ now ++ later) × (Awaits held m now × (map versioned_uri now ≡ versions_announced m)) × Pending (after_message held m) queue later
 
-pending_push : (held : OpenDocuments) (queue : List ToServer) (m : ToServer) (waiting now : List Announced) → Pending held queue waiting → Awaits (fold after_message held queue) m now × (map name_of now ≡ versions_announced m) → Pending held (queue ++ m ∷ []) (waiting ++ now)
+pending_push : (held : OpenDocuments) (queue : List ToServer) (m : ToServer) (waiting now : List Announced) → Pending held queue waiting → Awaits (fold after_message held queue) m now × (map versioned_uri now ≡ versions_announced m) → Pending held (queue ++ m ∷ []) (waiting ++ now)
 pending_push held [] m waiting now is awaits = (now, [], ap (λ ts. ts ++ now) is ∙ sym (append-nil now), awaits, refl)
 pending_push held (x ∷ queue) m waiting now (first, later, is, so, rest) awaits =
     (first, later ++ now, ap (λ ts. ts ++ now) is ∙ append_assoc first later now, so, pending_push (after_message held x) queue m later now rest awaits)
@@ -143,10 +143,10 @@ pending_sent held queue e m waiting pending names mirror =
     pending_push held queue m waiting (announced_by e m) pending
     (sent_awaits (fold after_message held queue) e m (λ uri. sym (ap (λ h. document_at h uri) (fold_push after_message held queue m)) ∙ mirror uri), names)
 
-pending_named : (held : OpenDocuments) (queue : List ToServer) (waiting : List Announced) → Pending held queue waiting → map name_of waiting ≡ named_in queue
-pending_named held [] waiting is = ap (map name_of) is
+pending_named : (held : OpenDocuments) (queue : List ToServer) (waiting : List Announced) → Pending held queue waiting → map versioned_uri waiting ≡ named_in queue
+pending_named held [] waiting is = ap (map versioned_uri) is
 pending_named held (m ∷ queue) waiting (now, later, is, so, rest) =
-    ap (map name_of) is ∙ map-append name_of now later ∙ ap (λ ns. ns ++ map name_of later) so.1 ∙ ap (λ ns. versions_announced m ++ ns) (pending_named (after_message held m) queue later rest)
+    ap (map versioned_uri) is ∙ map-append versioned_uri now later ∙ ap (λ ns. ns ++ map versioned_uri later) so.1 ∙ ap (λ ns. versions_announced m ++ ns) (pending_named (after_message held m) queue later rest)
 
 -- ---- what is made as a message is taken
 

@@ -26,7 +26,7 @@ use Rattle.ob0_scope.specs.Renames.{namesake}
 use Rattle.ob0_scope.specs.NamesAtPlaces.{refers}
 use Rattle.ob0_edits.specs.Ranges.{range_of}
 use Rattle.ob0_types_fields.specs.Renaming.{is_duplicate_field}
-use Rattle.ob0_types_fields.specs.Identifiers.{declared_in, field_identifiers, field_on, first, tokens_among}
+use Rattle.ob0_types_fields.specs.Identifiers.{declared_in_block, field_identifiers, field_on, first, tokens_among}
 use Rattle.ob0_session_offers.specs.Analysed.{IsModuleIn}
 use Rattle.ob0_session_offers.specs.Texts.{utf8}
 use Rattle.ob0_rename.specs.Renaming.{Meant, Renaming, declaration, field_of, field_tokens_to_rename, meant, meant_by, nothing, occurrence_range, other_field_range, other_range, predeclared, text_with, tokens_to_rename}
@@ -237,7 +237,7 @@ module _ (unit : Unit) (text : List ℕ) (place : Position) (new : Name) (names 
 
   same_other_field : (k : ℕ) → other_field_range r k ≡ other_field_range q k
   same_other_field k = λ i.
-      option_map (λ token. range_of (width_of unit) text (span_at (e.source i) token)) (first (tokens_among (e.source i) k new (declared_in 0 (module_block (e.tree i)))))
+      option_map (λ token. range_of (width_of unit) text (span_at (e.source i) token)) (first (tokens_among (e.source i) k new (declared_in_block 0 (module_block (e.tree i)))))
 
   same_captured : (d : ℕ) → first_captured (named_tree_of names.module_read) d new ≡ first_captured (named_tree_of others.module_read) d new
   same_captured d = ap (λ t. first_captured t d new) one_tree

@@ -6,7 +6,7 @@ use Rattle.std.specs.Str.{bytes_eq}
 use Rattle.std.specs.FinMap as map_of
 use Rattle.std.proofs.lemmas.Bool.{eqb-true, and_parts}
 use Rattle.std.proofs.lemmas.Option.{cond_some, same_Some, none-some}
-use Rattle.ob0_world_rules.specs.Ends.{Open, EditorDocuments, SentAsk, Answer, Editor, numbered, open_at}
+use Rattle.ob0_world_rules.specs.Ends.{Open, EditorDocuments, SentAsk, Answer, Editor, request_numbered, open_at}
 use Rattle.ob0_world_rules.specs.Editing.{if_same}
 use Rattle.ob0_world_rules.proofs.UriLaws.{get_put, get_removed, same_uri}
 
@@ -37,14 +37,14 @@ same_from e a d h = go (open_at e a.uri) refl h
 
 -- an editor, and what it is later on
 pub record Later (e e' : Editor) : Type 0 where
-  pub requested : (k : ℕ) (a : SentAsk) → numbered e.requested k ≡ Some a → numbered e'.requested k ≡ Some a
+  pub requested : (k : ℕ) (a : SentAsk) → request_numbered e.requested k ≡ Some a → request_numbered e'.requested k ≡ Some a
   pub past : (a : SentAsk) → Past e a → Past e' a
   pub same : (a : SentAsk) (d : Open) → Past e a → Same e' a d → Same e a d
 
 -- what holds of the document of ask k, where it is still the same
 pub record Known (e : Editor) (k : ℕ) (P : Open → Type 0) : Type 0 where
   pub requested : SentAsk
-  pub is : numbered e.requested k ≡ Some requested
+  pub is : request_numbered e.requested k ≡ Some requested
   pub past : Past e requested
   pub still : (d : Open) → Same e requested d → P d
 
@@ -76,7 +76,7 @@ pub slice_get_last : {A : Type 0} (xs : List A) (x : A) → slice_get (xs ++ x �
 slice_get_last [] x = refl
 slice_get_last (y ∷ xs) x = slice_get_last xs x
 
-pub numbered_push : (requested more : List SentAsk) (k : ℕ) (a : SentAsk) → numbered requested k ≡ Some a → numbered (requested ++ more) k ≡ Some a
+pub numbered_push : (requested more : List SentAsk) (k : ℕ) (a : SentAsk) → request_numbered requested k ≡ Some a → request_numbered (requested ++ more) k ≡ Some a
 numbered_push requested more zero a h = h
 numbered_push requested more (suc k) a h = slice_get_push requested more k a h
 

@@ -5,7 +5,7 @@ use Rattle.std.specs.FinMap as map_of
 use Rattle.ob0_text.specs.OpenDocuments.{TextChange, Opened, Changed, Closed}
 use Rattle.ob0_world_rules.specs.Edited.{Replacement, edited, whole_text, after_changes}
 use Rattle.ob0_world_rules.specs.Asks.{Ask}
-use Rattle.ob0_world_rules.specs.Ends.{Open, SentAsk, Answer, Editor, numbered, open_at, ToServer, notifies, requests, Applied}
+use Rattle.ob0_world_rules.specs.Ends.{Open, SentAsk, Answer, Editor, request_numbered, open_at, ToServer, notifies, requests, Applied}
 
 -- nothing, or the editor becomes this one and sends this message
 pub data Move : Type 0 where
@@ -127,5 +127,5 @@ applies_requested e edits None = drops_answer e
 -- dropped
 abbrev pub applies_answer : Editor → ℕ → Option (List Replacement) → ApplyOutcome
 applies_answer e k (Some edits) =
-    applies_requested (without_answer e k) edits (numbered e.requested k)
+    applies_requested (without_answer e k) edits (request_numbered e.requested k)
 applies_answer e k None = not_held

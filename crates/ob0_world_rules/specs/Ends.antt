@@ -50,9 +50,9 @@ new_editor unit =
     record { unit = unit; documents = map_of.empty; openings = 0; requested = []; answers = [] }
 
 -- the request of this number, counted from 1
-abbrev pub numbered : List SentAsk → ℕ → Option SentAsk
-numbered requested zero = None
-numbered requested (suc k) = slice_get requested k
+abbrev pub request_numbered : List SentAsk → ℕ → Option SentAsk
+request_numbered requested zero = None
+request_numbered requested (suc k) = slice_get requested k
 
 -- the open document of this uri
 abbrev pub open_at : Editor → List ℕ → Option Open

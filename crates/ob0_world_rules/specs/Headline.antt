@@ -47,9 +47,9 @@ later_of (Some later) this = Some later
 later_of None this = this
 
 -- the last publication for a uri
-abbrev pub latest : List ℕ → List Made → Option Made
-latest uri [] = None
-latest uri (m ∷ ms) = later_of (latest uri ms) (if bytes_eq m.uri uri then Some m else None)
+abbrev pub last_publication : List ℕ → List Made → Option Made
+last_publication uri [] = None
+last_publication uri (m ∷ ms) = later_of (last_publication uri ms) (if bytes_eq m.uri uri then Some m else None)
 
 -- there is one, and it was made for this version and this text
 abbrev pub IsMadeFor : ℤ → List ℕ → Option Made → Type 0
@@ -61,7 +61,7 @@ abbrev pub AreUpToDate : Editor → List Made → Type 0
 AreUpToDate e made =
     (uri : List ℕ) (d : Open)
     → open_at e uri ≡ Some d
-    → IsMadeFor (pos d.version) d.text (latest uri made)
+    → IsMadeFor (pos d.version) d.text (last_publication uri made)
 
 -- ---- the headline
 

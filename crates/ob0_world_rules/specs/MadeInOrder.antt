@@ -94,8 +94,8 @@ named_in [] = []
 named_in (message ∷ queue) = versions_announced message ++ named_in queue
 
 -- the uri and the version of a document
-abbrev pub name_of : Announced → List ℕ × ℤ
-name_of t = (t.uri, pos t.document.version)
+abbrev pub versioned_uri : Announced → List ℕ × ℤ
+versioned_uri t = (t.uri, pos t.document.version)
 
 -- The documents that the editor announced are those that the publications were made for, one for each and in this
 -- order, and after them those of the messages that still wait for the server, one for each that announces a document.
@@ -106,7 +106,7 @@ pub record AreMadeInOrder (unit : Unit) (events : List Event) (made : List Made)
   pub made_of : AreMadeOf made announced
   pub still_wait : (end : Ends)
       → Course (start unit) events end
-      → map name_of waiting ≡ named_in end.to_server
+      → map versioned_uri waiting ≡ named_in end.to_server
 
 -- ---- the law
 

@@ -6,10 +6,10 @@ ghost use Rattle.ob0_types_table.specs.declared.types.TypeId.TheVariants as type
 ghost use Rattle.ob0_tree.specs.View.{compound_of, expression_of, factor_of, selector_of, simple_of, term_of};
 ghost use Rattle.ob0_types_rules.specs.Selected.{selectors_in};
 ghost use Rattle.ob0_types_check.specs.ExpressionFaults.{reported_expression, reported_factor, reported_selector, reported_selectors, reported_simple, reported_term};
-ghost use Rattle.ob0_types_check.specs.Operations.{ReportsAfter, a_constant_name, a_number, add_operands, required, required_both, at_operand, after_sign, complement_operand, element_in, element_selected, enclosed, field_in, field_selected, fits, joined, multiply_operands, named, part_of, relate_operands, sign_operand, truth_of, required_by_add, required_by_equality, required_by_multiply, required_by_relation, value_type};
+ghost use Rattle.ob0_types_check.specs.Operations.{ReportsAfter, a_constant_name, a_number, add_operands, required, required_both, at_operand, after_sign, complement_operand, element_in, element_selected, enclosed, field_in, field_selected, fits, joint_operand, multiply_operands, name_operand, part_of, relate_operands, sign_operand, comparison_type, required_by_add, required_by_equality, required_by_multiply, required_by_relation, value_type};
 ghost use Rattle.ob0_types_check.specs.TypeFaults.{evaluated, reported_constant};
 ghost use Rattle.ob0_types_check.specs.SoFar.{same_type};
-ghost use Rattle.ob0_types_check.specs.SupposedFacts.{facts_in, form_in, operand_of, types_in};
+ghost use Rattle.ob0_types_check.specs.SupposedFacts.{facts_in, form_in, operand_of, known_types};
 
 use crate::reporting::supposed::{Meaning, Supposed};
 use ob0_scan::{Code, Fault};
@@ -35,7 +35,7 @@ pub(crate) struct Operand {
 }
 
 fn required_by_add(operator: AddOperator) -> TypeId
-    ensures { result ≡ required_by_add (types_in []) operator }
+    ensures { result ≡ required_by_add (known_types []) operator }
 {
     match operator {
         AddOperator::Add => TypeId::Integer,
@@ -45,7 +45,7 @@ fn required_by_add(operator: AddOperator) -> TypeId
 }
 
 fn required_by_multiply(operator: MultiplyOperator) -> TypeId
-    ensures { result ≡ required_by_multiply (types_in []) operator }
+    ensures { result ≡ required_by_multiply (known_types []) operator }
 {
     match operator {
         MultiplyOperator::And => TypeId::Boolean,
@@ -57,7 +57,7 @@ fn required_by_multiply(operator: MultiplyOperator) -> TypeId
 
 /// `=` and `#` take two numbers or two truths, and require nothing of the right side where the left one is unknown.
 fn required_by_relation(relation: Relation, left: TypeId) -> TypeId
-    ensures { result ≡ required_by_relation (types_in []) relation left }
+    ensures { result ≡ required_by_relation (known_types []) relation left }
 {
     match relation {
         Relation::Equal => required_by_equality(left),
@@ -70,7 +70,7 @@ fn required_by_relation(relation: Relation, left: TypeId) -> TypeId
 }
 
 fn required_by_equality(left: TypeId) -> TypeId
-    ensures { result ≡ required_by_equality (types_in []) left }
+    ensures { result ≡ required_by_equality (known_types []) left }
 {
     match left {
         TypeId::Integer => TypeId::Integer,
@@ -83,7 +83,7 @@ fn required_by_equality(left: TypeId) -> TypeId
 
 /// A comparison is a truth where its operands are known.
 fn truth_of(operands: TypeId) -> TypeId
-    ensures { result ≡ truth_of (types_in []) operands }
+    ensures { result ≡ comparison_type (known_types []) operands }
 {
     match operands {
         TypeId::Integer => TypeId::Boolean,
@@ -102,7 +102,7 @@ pub(crate) fn same_type(a: TypeId, b: TypeId) -> bool
 
 /// An unknown type is required nothing, and requires nothing.
 fn fits(of: TypeId, wanted: TypeId) -> bool
-    ensures { result ≡ fits (types_in []) of wanted }
+    ensures { result ≡ fits (known_types []) of wanted }
 {
     same_type(of, wanted) || same_type(of, TypeId::Unknown) || same_type(wanted, TypeId::Unknown)
 }
@@ -136,7 +136,7 @@ impl Operand {
     /// The operation on this and what is to the right.
     fn with(self, right: Operand, of: TypeId, value: Option<Scalar>) -> Operand
         ensures { operand_of result
-            ≡ joined of (option_map scalar_value value) (operand_of self) (operand_of right) }
+            ≡ joint_operand of (option_map scalar_value value) (operand_of self) (operand_of right) }
     {
         Operand {
             of,
@@ -430,7 +430,7 @@ impl<'t> Supposed<'t> {
         only_constants: bool,
     ) -> Result<Operand, AllocError>
         ensures { IfOk result (λ o. ReportsAfter faults.old.items faults.new.items (operand_of o)
-            (named (facts_in self.now only_constants) token)) }
+            (name_operand (facts_in self.now only_constants) token)) }
     {
         let unknown = Operand {
             of: TypeId::Unknown,
@@ -635,7 +635,7 @@ impl<'t> Supposed<'t> {
 /// A constant's name.
 fn constant(value: Option<Scalar>, token: usize) -> Operand
     ensures { operand_of result
-        ≡ a_constant_name (types_in []) (option_map scalar_value value) token }
+        ≡ a_constant_name (known_types []) (option_map scalar_value value) token }
 {
     Operand {
         of: constant_type(value),
@@ -647,7 +647,7 @@ fn constant(value: Option<Scalar>, token: usize) -> Operand
 }
 
 fn constant_type(value: Option<Scalar>) -> TypeId
-    ensures { result ≡ value_type (types_in []) (option_map scalar_value value) }
+    ensures { result ≡ value_type (known_types []) (option_map scalar_value value) }
 {
     match value {
         None => TypeId::Unknown,

@@ -6,7 +6,7 @@ ghost use Rattle.ob0_tree.specs.Places.{text_at};
 ghost use Rattle.ob0_types_check.specs.Known.{a_procedure};
 ghost use Rattle.ob0_types_check.specs.Operations.{ReportsAfter, fault_between, token_after};
 ghost use Rattle.ob0_types_check.specs.SoFar.{define, is_within, make, predeclared_meanings, size_at, type_with, with_declared};
-ghost use Rattle.ob0_types_check.specs.SupposedFacts.{counted, declared_at, elements_of, field_of, made_of, meaning_of, size_of, so_far_in};
+ghost use Rattle.ob0_types_check.specs.SupposedFacts.{counted, meaning_at, elements_of, field_of, made_type_of, known_meaning, size_of, so_far_in};
 ghost use Rattle.ob0_types_check.specs.WrittenTypeFaults.{array_size, beside, ordinal_here, record_size};
 
 use ob0_scan::{Code, Fault, Span};
@@ -29,7 +29,7 @@ pub(crate) enum Meaning {
 
 /// The predeclared names, in the order of their ordinals.
 pub(crate) fn predeclared(alloc: Global) -> Result<Vec<Option<Meaning>>, AllocError>
-    ensures { IfOk result (λ ms. map (option_map meaning_of) ms.items ≡ predeclared_meanings) }
+    ensures { IfOk result (λ ms. map (option_map known_meaning) ms.items ≡ predeclared_meanings) }
 {
     let mut meanings = Vec::new(alloc);
     meanings.push(Some(Meaning::Named(TypeId::Integer)))?;
@@ -45,7 +45,7 @@ pub(crate) fn predeclared(alloc: Global) -> Result<Vec<Option<Meaning>>, AllocEr
 /// A procedure with one parameter, a number.
 fn one_parameter(alloc: Global, by_place: bool) -> Result<Meaning, AllocError>
     ensures { IfOk result
-        (λ m. meaning_of m ≡ a_procedure (record { by_place = by_place; of = type.Integer } ∷ [])) }
+        (λ m. known_meaning m ≡ a_procedure (record { by_place = by_place; of = type.Integer } ∷ [])) }
 {
     let mut formals = Vec::new(alloc);
     formals.push(Formal {
@@ -183,7 +183,7 @@ impl<'t> Supposed<'t> {
 
     /// What a name means. None where nothing binds it.
     pub(crate) fn meaning(&self, token: usize) -> Option<&Meaning>
-        ensures { option_map (λ m. m.now) result ≡ declared_at self.now token }
+        ensures { option_map (λ m. m.now) result ≡ meaning_at self.now token }
     {
         match self.resolved.ordinal_at(token) {
             None => None,
@@ -207,7 +207,7 @@ impl<'t> Supposed<'t> {
 
     /// Says what the declaration at a token is.
     pub(crate) fn define(&mut self, token: usize, meaning: Meaning)
-        ensures { so_far_in self.new ≡ define (so_far_in self.old) (meaning_of meaning) token }
+        ensures { so_far_in self.new ≡ define (so_far_in self.old) (known_meaning meaning) token }
     {
         match self.resolved.ordinal_at(token) {
             None => {}
@@ -217,7 +217,7 @@ impl<'t> Supposed<'t> {
 
     fn declare(&mut self, ordinal: usize, meaning: Meaning)
         ensures { so_far_in self.new
-            ≡ with_declared (so_far_in self.old) (meaning_of meaning) (Some ordinal) }
+            ≡ with_declared (so_far_in self.old) (known_meaning meaning) (Some ordinal) }
     {
         if ordinal < self.meanings.len() {
             self.meanings[ordinal] = Some(meaning);
@@ -288,8 +288,8 @@ impl<'t> Supposed<'t> {
     ) -> Result<TypeId, AllocError>
         ensures { IfOk result (λ t. ReportsAfter faults.old.items faults.new.items
             (record { of = t; following = so_far_in self.new })
-            (make (so_far_in self.old) token (made_of entry).ordinal
-            (made_of entry).parts (made_of entry).size)) }
+            (make (so_far_in self.old) token (made_type_of entry).ordinal
+            (made_type_of entry).parts (made_type_of entry).size)) }
     {
         if !size_of_entry(&entry).is_within() {
             self.report_at(faults, Code::TypeTooLarge, token)?;
@@ -303,7 +303,7 @@ impl<'t> Supposed<'t> {
 
 /// The size of an array or a record.
 fn size_of_entry(entry: &TypeEntry) -> Size
-    ensures { size_of result ≡ (made_of entry.now).size }
+    ensures { size_of result ≡ (made_type_of entry.now).size }
 {
     match entry {
         TypeEntry::Array(array) => Size {
@@ -319,7 +319,7 @@ fn size_of_entry(entry: &TypeEntry) -> Size
 
 /// The type of an array or record that is put at this place.
 fn type_with(entry: &TypeEntry, place: usize) -> TypeId
-    ensures { result ≡ type_with (made_of entry.now).parts place }
+    ensures { result ≡ type_with (made_type_of entry.now).parts place }
 {
     match entry {
         TypeEntry::Array(_) => TypeId::Array(place),

@@ -11,7 +11,7 @@ ghost use Rattle.ob0_types_check.specs.Operations.{ReportsAfter};
 ghost use Rattle.ob0_types_check.specs.SoFar.{no_scalar};
 ghost use Rattle.ob0_types_check.specs.SupposedFacts.{Gathers, IsGathered, facts_in, fields_in, operand_of, size_of, so_far_in};
 ghost use Rattle.ob0_types_check.specs.TypeFaults.{length_of, type_meant, type_named};
-ghost use Rattle.ob0_types_check.specs.WrittenTypeFaults.{array_made, nothing_gathered, record_made, record_word, reported_fields, reported_groups, reported_type, with_name, with_names};
+ghost use Rattle.ob0_types_check.specs.WrittenTypeFaults.{array_made, nothing_gathered, record_made, record_word, reported_fields, reported_groups, reported_type, with_name, with_field_names};
 ghost use Rattle.ob0_types_check.specs.WrittenTypeFaults as spec;
 
 use crate::reporting::Reporter;
@@ -328,7 +328,7 @@ impl<'t> Supposed<'t> {
     ) -> Result<(), AllocError>
         ensures { OnOk result ((g : spec.Gathered)
             → IsGathered g self.now gathered.old
-            → IsGathered (with_names of g (names.now.first ∷ names.now.more.items)) self.now
+            → IsGathered (with_field_names of g (names.now.first ∷ names.now.more.items)) self.now
             gathered.new) }
     {
         self.gather(alloc, names.first, of, gathered)?;

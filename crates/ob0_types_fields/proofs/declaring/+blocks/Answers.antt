@@ -4,7 +4,7 @@ use Rattle.ob0_tree.specs.declared.tree.Block.{out-Block}
 use Rattle.ob0_tree.specs.View.{block_of, items_of, procedure_of, types_of, variables_of}
 use Rattle.ob0_scope_rules.specs.Parts.{section_types, section_variables}
 use Rattle.ob0_types_rules.specs.Declarations.{block_constructors, procedures_constructors, types_constructors, variables_constructors}
-use Rattle.ob0_types_fields.specs.Identifiers.{declared_in, declared_in_procedures}
+use Rattle.ob0_types_fields.specs.Identifiers.{declared_in_block, declared_in_procedures}
 use Rattle.ob0_types_fields.specs.Owned.{marked_types, marked_variables}
 use Rattle.ob0_types_fields.proofs.DeclaringWalks.{declaring_end}
 use Rattle.ob0_types_fields.proofs.MarkWalks.{joined}
@@ -27,7 +27,7 @@ block-returns-clause-found t c =
     let f = ends.0 ∙ (λ i. c.variables.new.found.items ++ declared_in_procedures (second i) (items_of procedure_of (c.deref-p-items.ensures.value i))) in
     f ∙ (joined c.types.new.found.items (marked_variables jv vs) (declared_in_procedures jp ps) e
     ∙ (joined start (marked_types k ts) (marked_variables jv vs ++ declared_in_procedures jp ps) c.in_ok-types.ensures.found
-    ∙ ap (λ t. start ++ declared_in k t) (sym (block_parts c.args.b.now))))
+    ∙ ap (λ t. start ++ declared_in_block k t) (sym (block_parts c.args.b.now))))
 
 pub block-returns-clause-made : goal.block-returns-clause-made
 block-returns-clause-made t c =

@@ -4,7 +4,7 @@ use Rattle.ob0_tree.specs.declared.tree.Block.{out-Block}
 use Rattle.ob0_tree.specs.declared.tree.Procedure.{out-Procedure, roll-out-Procedure}
 use Rattle.ob0_tree.specs.View.{block_of, formals_of, items_of, procedure_of, types_of, variables_of}
 use Rattle.ob0_types_fields.specs.FieldTypes.{constructed}
-use Rattle.ob0_types_fields.specs.Search.{after_all, names_in, sought_in}
+use Rattle.ob0_types_fields.specs.Search.{after_all, meanings_in, sought_in}
 use Rattle.ob0_types_fields.proofs.ConstructorWalks.{after_both, items_end, items_go_on}
 use Rattle.ob0_types_fields.proofs.field_types.ConstructorWalk.+blocks.Goals as goal
 
@@ -15,7 +15,7 @@ block-loop-p-preserved t c =
 pub block-returns : goal.block-returns
 block-returns t c =
     let b = out-Block c.args.b.now in
-    let m = names_in c.args.self.now in
+    let m = meanings_in c.args.self.now in
     let start = sought_in c.args.self.now c.args.search in
     let ts = constructed m None (types_of b.types) in
     let vs = constructed m None (variables_of b.variables) in
@@ -30,7 +30,7 @@ block-returns t c =
 pub procedure-returns : goal.procedure-returns
 procedure-returns t c =
     let p = out-Procedure c.args.p.now in
-    let m = names_in c.args.self.now in
+    let m = meanings_in c.args.self.now in
     let start = sought_in c.args.self.now c.args.search in
     let fs = constructed m None (formals_of p.formals) in
     let b = constructed m None (block_of p.block) in

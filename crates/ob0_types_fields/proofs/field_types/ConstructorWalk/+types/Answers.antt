@@ -2,7 +2,7 @@ use Rattle.std.proofs.Common.{sym, ap, ◌∙◌}
 use Rattle.ob0_tree.proofs.Viewed.{record_made}
 use Rattle.ob0_tree.specs.View.{further_fields_of_group, items_of, type_of}
 use Rattle.ob0_types_fields.specs.FieldTypes.{constructed}
-use Rattle.ob0_types_fields.specs.Search.{after_all, names_in, sought_in, type_in}
+use Rattle.ob0_types_fields.specs.Search.{after_all, meanings_in, sought_in, type_in}
 use Rattle.ob0_types_table.specs.KnownTables.{shapes_of}
 use Rattle.ob0_types_fields.proofs.ConstructorWalks.{items_end, items_go_on, record_walked}
 use Rattle.ob0_types_fields.proofs.field_types.ConstructorWalk.+types.Goals as goal
@@ -11,7 +11,7 @@ pub written_type-returns-in-Record : goal.written_type-returns-in-Record
 written_type-returns-in-Record t c =
     let w = c.args.self.now in
     c.record.ensures
-    ∙ ap (λ z. after_all (sought_in w c.args.search) (constructed (names_in w) (type_in w c.args.of) z)) (sym (record_made c.in-Record.r) ∙ sym (ap type_of c.in-Record.is))
+    ∙ ap (λ z. after_all (sought_in w c.args.search) (constructed (meanings_in w) (type_in w c.args.of) z)) (sym (record_made c.in-Record.r) ∙ sym (ap type_of c.in-Record.is))
 
 pub record-loop-group-preserved : goal.record-loop-group-preserved
 record-loop-group-preserved t c =
@@ -20,7 +20,7 @@ record-loop-group-preserved t c =
 pub record-returns : goal.record-returns
 record-returns t c =
     let w = c.args.self.now in
-    let m = names_in w in
+    let m = meanings_in w in
     let of = type_in w c.args.of in
     let gs = c.args.r.now.groups.items in
     items_end c.loop-group.invariant c.loop-group-test.false

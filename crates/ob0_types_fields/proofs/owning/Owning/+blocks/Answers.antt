@@ -4,7 +4,7 @@ use Rattle.ob0_tree.specs.declared.tree.Block.{out-Block}
 use Rattle.ob0_tree.specs.View.{block_of, body_of, items_of, procedure_of, types_of, variables_of}
 use Rattle.ob0_scope_rules.specs.Parts.{section_types, section_variables}
 use Rattle.ob0_types_rules.specs.Declarations.{block_constructors, procedures_constructors, types_constructors, variables_constructors}
-use Rattle.ob0_types_fields.specs.Owned.{marked, marked_block, marked_procedures, marked_types, marked_variables}
+use Rattle.ob0_types_fields.specs.Owned.{marked_tree, marked_block, marked_procedures, marked_types, marked_variables}
 use Rattle.ob0_types_fields.specs.Walk.{meaning_in}
 use Rattle.ob0_types_fields.proofs.DeclaredWalks.{procedures_end}
 use Rattle.ob0_types_fields.proofs.MarkWalks.{joined}
@@ -32,7 +32,7 @@ block-returns-clause-found t c =
     let f = ends.0 ∙ (λ i. c.variables.new.found.items ++ marked_procedures m (second i) (items_of procedure_of (c.deref-p-items.ensures.value i))) in
     let all = f ∙ (joined c.types.new.found.items (marked_variables jv vs) (marked_procedures m jp ps) e ∙ joined start (marked_types k ts) (marked_variables jv vs ++ marked_procedures m jp ps) c.in_ok-types.ensures.found) in
     subst (λ z. IfOk c.body.result (λ _. c.body.new.found.items ≡ z))
-    (joined start (marked_types k ts ++ (marked_variables jv vs ++ marked_procedures m jp ps)) (marked m (body_of b.body)) all ∙ ap (λ t. start ++ marked_block m k t) (sym (block_parts c.args.b.now))) c.body.ensures
+    (joined start (marked_types k ts ++ (marked_variables jv vs ++ marked_procedures m jp ps)) (marked_tree m (body_of b.body)) all ∙ ap (λ t. start ++ marked_block m k t) (sym (block_parts c.args.b.now))) c.body.ensures
 
 pub block-returns-clause-made : goal.block-returns-clause-made
 block-returns-clause-made t c =

@@ -3,8 +3,8 @@ use Rattle.ob0_types_rules.specs.Typing.{field_type}
 use Rattle.ob0_types_table.specs.KnownTables.{shapes_of}
 use Rattle.ob0_types_table.specs.Parts.{parts_shape}
 use Rattle.ob0_types_table.specs.Tables.{type_shape}
-use Rattle.ob0_types_fields.specs.Owned.{mark, owner}
-use Rattle.ob0_types_fields.specs.Walk.{meaning_in, shape_in}
+use Rattle.ob0_types_fields.specs.Owned.{marked_field, owner}
+use Rattle.ob0_types_fields.specs.Walk.{meaning_in, record_shape_in}
 use Rattle.ob0_values.specs.Values.{Shape}
 use Rattle.ob0_types_fields.proofs.owning.Owning.select.Goals as goal
 
@@ -12,15 +12,15 @@ pub returns-in-Record-clause-found : goal.returns-in-Record-clause-found
 returns-in-Record-clause-found c =
     let w = c.args.self.now in
     let shapes = shapes_of w.known.now in
-    let base : Some (shape_in w c.in-Record.shape.now) ≡ option_map (type_shape shapes) c.args.base =
+    let base : Some (record_shape_in w c.in-Record.shape.now) ≡ option_map (type_shape shapes) c.args.base =
     ap Some (ap (parts_shape shapes) (sym c.in-Record.is) ∙ c.parts.ensures.shape) ∙ ap (option_map (type_shape shapes)) (sym c.in-Some.is) in
-    subst (λ (s : Option Shape). IfOk c.select_in.result (λ _. c.select_in.new.found.items ≡ c.args.found.now.items ++ mark c.args.name (owner s ((meaning_in w).written c.args.name)))) base c.select_in.ensures.found
+    subst (λ (s : Option Shape). IfOk c.select_in.result (λ _. c.select_in.new.found.items ≡ c.args.found.now.items ++ marked_field c.args.name (owner s ((meaning_in w).written c.args.name)))) base c.select_in.ensures.found
 
 pub returns-in-Record-clause-following : goal.returns-in-Record-clause-following
 returns-in-Record-clause-following c =
     let w = c.args.self.now in
     let shapes = shapes_of w.known.now in
     let x = (meaning_in w).written c.args.name in
-    let base : Some (shape_in w c.in-Record.shape.now) ≡ option_map (type_shape shapes) c.args.base =
+    let base : Some (record_shape_in w c.in-Record.shape.now) ≡ option_map (type_shape shapes) c.args.base =
     ap Some (ap (parts_shape shapes) (sym c.in-Record.is) ∙ c.parts.ensures.shape) ∙ ap (option_map (type_shape shapes)) (sym c.in-Some.is) in
     subst (λ (s : Option Shape). IfOk c.select_in.result (λ t. option_map (type_shape shapes) t ≡ option_and_then (λ z. field_type z x) s)) base c.select_in.ensures.following

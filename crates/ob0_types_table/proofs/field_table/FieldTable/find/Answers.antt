@@ -1,5 +1,5 @@
 use Rattle.std.proofs.Common.{option_map, ap, ◌∙◌}
-use Rattle.ob0_types_table.specs.FieldIndex.{first_type}
+use Rattle.ob0_types_table.specs.FieldIndex.{first_field_type}
 use Rattle.ob0_types_table.specs.declared.field_table.FirstOfName.{FirstOfName}
 use Rattle.ob0_types_table.specs.Tables.{fields_shape, type_shape}
 use Rattle.ob0_types_rules.specs.Typing.{shape_of_field}
@@ -10,7 +10,7 @@ pub returns-in-None : goal.returns-in-None
 returns-in-None c = record {
   first = ap (option_map (λ (f : FirstOfName). f.of)) (c.in-None.ensures.value ∙ c.self.invariant.found c.args.name.now)
       ∙ first_from-type 0 c.self.inside.fields.items c.args.name.now
-      ∙ ap (λ fs. first_type fs c.args.name.now) c.self.view_is;
+      ∙ ap (λ fs. first_field_type fs c.args.name.now) c.self.view_is;
   shape = λ shapes.
       ap (λ o. option_map (type_shape shapes) (option_map (λ (f : FirstOfName). f.of) o)) (c.in-None.ensures.value ∙ c.self.invariant.found c.args.name.now)
       ∙ first_from-shape shapes 0 c.self.inside.fields.items c.args.name.now
@@ -21,7 +21,7 @@ pub returns-in-Some : goal.returns-in-Some
 returns-in-Some c = record {
   first = ap (option_map (λ (f : FirstOfName). f.of)) (c.in-Some.ensures.value ∙ c.self.invariant.found c.args.name.now)
       ∙ first_from-type 0 c.self.inside.fields.items c.args.name.now
-      ∙ ap (λ fs. first_type fs c.args.name.now) c.self.view_is;
+      ∙ ap (λ fs. first_field_type fs c.args.name.now) c.self.view_is;
   shape = λ shapes.
       ap (λ o. option_map (type_shape shapes) (option_map (λ (f : FirstOfName). f.of) o)) (c.in-Some.ensures.value ∙ c.self.invariant.found c.args.name.now)
       ∙ first_from-shape shapes 0 c.self.inside.fields.items c.args.name.now

@@ -1,6 +1,6 @@
 use Rattle.std.proofs.Common.{get_or, refl, subst}
 use Rattle.ob0_types_check.specs.SupposedFacts.{IsGathered}
-use Rattle.ob0_types_check.specs.WrittenTypeFaults.{with_name, with_names}
+use Rattle.ob0_types_check.specs.WrittenTypeFaults.{with_name, with_field_names}
 use Rattle.ob0_types_check.proofs.GatheredFields.{names_begin, names_end, names_go_on}
 use Rattle.ob0_types_check.proofs.reporting.supposed.Supposed.gather_all.Goals as goal
 
@@ -13,5 +13,5 @@ loop-name-preserved c = λ g h. names_go_on (get_or c.deref-name-items.result.no
 pub returns : goal.returns
 returns c = λ g h.
     let first = c.args.names.now.first in
-    subst (λ xs. IsGathered (with_names c.args.of (with_name c.args.of g first) xs) c.args.self.now c.loop-name.gathered) c.deref-name-items.ensures.value
+    subst (λ xs. IsGathered (with_field_names c.args.of (with_name c.args.of g first) xs) c.args.self.now c.loop-name.gathered) c.deref-name-items.ensures.value
     (names_end (c.loop-name.invariant (with_name c.args.of g first) (c.in_ok-gather.ensures g h)) c.loop-name-test.false)
