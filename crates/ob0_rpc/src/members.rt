@@ -3,7 +3,7 @@ ghost use Rattle.std.specs.Prelude.{◌≡◌, option_map, string_bytes};
 ghost use Rattle.std.specs.Str.{chars};
 ghost use Rattle.serde_json.specs.Find.{as_str, get};
 ghost use Rattle.serde_json.specs.View.{view};
-ghost use Rattle.ob0_rpc.specs.Members.{is_absent as absent, text_member as text_of_member, truth_member as truth_of_member, count_member as count_of_member, document_uri as uri_reported, document_version as version_reported, document_text as text_reported, json_position as position_reported, position_member as position_of_member, json_range as range_reported, range_member as range_of_member};
+ghost use Rattle.ob0_rpc.specs.Members.{is_absent as absent, text_member, truth_member, count_member, document_uri, document_version, document_text, json_position, position_member, json_range, range_member};
 
 use ob0_text::{Position, Range};
 use serde_json::Value;
@@ -20,49 +20,49 @@ pub fn is_absent(member: Option<&Value>) -> bool
 
 /// The text of a member; None where it is absent, or isn't a text.
 pub fn text_in<'v>(value: &'v Value, name: &str) -> Option<&'v str>
-    ensures { option_map (λ s. s.now) result ≡ text_of_member name.now (view value.now) }
+    ensures { option_map (λ s. s.now) result ≡ text_member name.now (view value.now) }
 {
     value.get(name)?.as_str()
 }
 
 /// The truth value of a member; None where it is absent, or isn't a truth value.
 pub fn truth_in(value: &Value, name: &str) -> Option<bool>
-    ensures { result ≡ truth_of_member name.now (view value.now) }
+    ensures { result ≡ truth_member name.now (view value.now) }
 {
     value.get(name)?.as_bool()
 }
 
 /// A whole number from 0 to 2^64-1.
 pub fn count_in(value: &Value, name: &str) -> Option<u64>
-    ensures { result ≡ count_of_member name.now (view value.now) }
+    ensures { result ≡ count_member name.now (view value.now) }
 {
     value.get(name)?.as_u64()
 }
 
 /// The document that params name.
 pub fn uri_of(params: &Value) -> Option<&str>
-    ensures { option_map (λ s. s.now) result ≡ uri_reported (view params.now) }
+    ensures { option_map (λ s. s.now) result ≡ document_uri (view params.now) }
 {
     params.get("textDocument")?.get("uri")?.as_str()
 }
 
 /// The version of the document that params name, a whole number of 64 bits with a sign.
 pub fn version_of(params: &Value) -> Option<i64>
-    ensures { result ≡ version_reported (view params.now) }
+    ensures { result ≡ document_version (view params.now) }
 {
     params.get("textDocument")?.get("version")?.as_i64()
 }
 
 /// The text of the document that params name, taken out of them.
 pub fn into_document_text(params: Value) -> Option<String>
-    ensures { option_map (λ s. chars (string_bytes s)) result ≡ text_reported (view params) }
+    ensures { option_map (λ s. chars (string_bytes s)) result ≡ document_text (view params) }
 {
     into_text_in(into_member(params, "textDocument")?, "text")
 }
 
 /// The text of a member, taken out of a value.
 pub fn into_text_in(value: Value, name: &str) -> Option<String>
-    ensures { option_map string_bytes result ≡ text_of_member name.now (view value) }
+    ensures { option_map string_bytes result ≡ text_member name.now (view value) }
 {
     into_text(into_member(value, name)?)
 }
@@ -96,7 +96,7 @@ fn into_text(value: Value) -> Option<String>
 
 /// A position: a line and a character, both whole numbers from 0 to 2^64-1.
 pub fn position_of(value: &Value) -> Option<Position>
-    ensures { result ≡ position_reported (view value.now) }
+    ensures { result ≡ json_position (view value.now) }
 {
     let line = count_in(value, "line")?;
     let character = count_in(value, "character")?;
@@ -105,14 +105,14 @@ pub fn position_of(value: &Value) -> Option<Position>
 
 /// The position of a member.
 pub fn position_in(value: &Value, name: &str) -> Option<Position>
-    ensures { result ≡ position_of_member name.now (view value.now) }
+    ensures { result ≡ position_member name.now (view value.now) }
 {
     position_of(value.get(name)?)
 }
 
 /// A range: its start and its end, in whatever order they are.
 pub fn range_of(value: &Value) -> Option<Range>
-    ensures { result ≡ range_reported (view value.now) }
+    ensures { result ≡ json_range (view value.now) }
 {
     let start = position_in(value, "start")?;
     let end = position_in(value, "end")?;
@@ -121,7 +121,7 @@ pub fn range_of(value: &Value) -> Option<Range>
 
 /// The range of a member.
 pub fn range_in(value: &Value, name: &str) -> Option<Range>
-    ensures { result ≡ range_of_member name.now (view value.now) }
+    ensures { result ≡ range_member name.now (view value.now) }
 {
     range_of(value.get(name)?)
 }

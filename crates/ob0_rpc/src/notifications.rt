@@ -1,7 +1,7 @@
 //! What notifications say.
 ghost use Rattle.std.specs.Prelude.{◌≡◌, IfOk};
 ghost use Rattle.serde_json.specs.View.{view};
-ghost use Rattle.ob0_rpc.specs.Members.{document_uri as uri_in, document_version as version_in, document_text as text_in};
+ghost use Rattle.ob0_rpc.specs.Members.{document_uri, document_version, document_text};
 ghost use Rattle.ob0_rpc.specs.Notifications.{open_of, change_of, close_of, changes_of as changes_in};
 ghost use Rattle.ob0_rpc.specs.Seen.{ReportsAs, seen_note};
 
@@ -55,7 +55,8 @@ pub fn notice(alloc: Global, method: &str, params: Value) -> Result<ClientNotifi
 
 fn read_open(alloc: Global, params: Value) -> Result<ClientNotification, AllocError>
     ensures { IfOk result (λ note. seen_note note
-        ≡ open_of (uri_in (view params)) (version_in (view params)) (text_in (view params))) }
+        ≡ open_of (document_uri (view params)) (document_version (view params))
+        (document_text (view params))) }
 {
     let Some(uri) = uri_of(&params) else {
         return Ok(ClientNotification::Unreadable { uri: None });
@@ -69,7 +70,8 @@ fn read_open(alloc: Global, params: Value) -> Result<ClientNotification, AllocEr
 
 fn read_change(alloc: Global, params: Value) -> Result<ClientNotification, AllocError>
     ensures { IfOk result (λ note. seen_note note
-        ≡ change_of (uri_in (view params)) (version_in (view params)) (changes_in (view params))) }
+        ≡ change_of (document_uri (view params)) (document_version (view params))
+        (changes_in (view params))) }
 {
     let Some(uri) = uri_of(&params) else {
         return Ok(ClientNotification::Unreadable { uri: None });
@@ -86,7 +88,7 @@ fn read_change(alloc: Global, params: Value) -> Result<ClientNotification, Alloc
 }
 
 fn read_close(alloc: Global, params: &Value) -> Result<ClientNotification, AllocError>
-    ensures { IfOk result (λ note. seen_note note ≡ close_of (uri_in (view params.now))) }
+    ensures { IfOk result (λ note. seen_note note ≡ close_of (document_uri (view params.now))) }
 {
     match uri_of(params) {
         Some(uri) => Ok(ClientNotification::Close {

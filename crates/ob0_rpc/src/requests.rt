@@ -4,7 +4,7 @@ ghost use Rattle.serde_json.specs.Find.{get};
 ghost use Rattle.serde_json.specs.View.{view, items_view};
 ghost use Rattle.ob0_rpc.specs.Requesting as asks;
 ghost use Rattle.ob0_rpc.specs.Requesting.{at_of, request_by_method, references_of, rename_of, code_action_of, formatting_of, language_call_of, only_by, only_of, texts_of as texts_in, indent_of as indent_in, or_bad, initialize_of};
-ghost use Rattle.ob0_rpc.specs.Members.{truth_member as truth_reported};
+ghost use Rattle.ob0_rpc.specs.Members.{truth_member};
 ghost use Rattle.ob0_rpc.specs.Seen.{Requests, at_seen, kinds_seen};
 
 use crate::clients::{Client, client_of};
@@ -197,7 +197,7 @@ fn place_of(alloc: Global, params: &Value) -> Result<Option<DocumentPosition>, A
 
 fn includes_declaration(params: &Value) -> Option<bool>
     ensures { result
-        ≡ option_and_then (truth_reported (codes "includeDeclaration"))
+        ≡ option_and_then (truth_member (codes "includeDeclaration"))
         (get (codes "context") (view params.now)) }
 {
     truth_in(params.get("context")?, "includeDeclaration")

@@ -3,7 +3,7 @@ ghost use Rattle.std.specs.Prelude.{◌≡◌, IfOk, codes, option_map, option_a
 ghost use Rattle.serde_json.specs.Data.{Items};
 ghost use Rattle.serde_json.specs.Find.{get, as_str, as_number, as_i64, as_array};
 ghost use Rattle.serde_json.specs.View.{view, items_view};
-ghost use Rattle.ob0_rpc.specs.Members.{text_member as text_of_member};
+ghost use Rattle.ob0_rpc.specs.Members.{text_member};
 ghost use Rattle.ob0_world_editor.specs.Code.{message_of, ask_of, requested_of};
 ghost use Rattle.ob0_world_rules.specs.Edited.{replacement_of, replacements};
 ghost use Rattle.ob0_world_editor.specs.Heard.{request_number};
@@ -221,7 +221,7 @@ fn titled<'v>(actions: &'v [Value], title: &str) -> Option<&'v Value>
 }
 
 fn has_title(action: &Value, title: &str) -> bool
-    ensures { result ≡ is_titled title.now (text_of_member (codes "title") (view action.now)) }
+    ensures { result ≡ is_titled title.now (text_member (codes "title") (view action.now)) }
 {
     match text_in(action, "title") {
         Some(found) => found == title,
