@@ -3,8 +3,11 @@
 use Rattle.std.specs.Prelude.{ℕ, List, [], Option, None, length, replicate, slice_set}
 use Rattle.ob0_tree.specs.declared.tree.Role.{Role}
 use Rattle.ob0_tree.specs.Tree.{Sort, Tree, block, constant, constants, formals, further_section, item, items, maybe, module_text, procedure, section, type_name, type_names, variable, variables}
+use Rattle.ob0_scope_rules.specs.Entries.{kept}
 use Rattle.ob0_scope_rules.specs.Names.{as_names}
 use Rattle.ob0_scope_rules.specs.Scopes.{predeclared_scope}
+use Rattle.ob0_scope.specs.Marking as marking
+use Rattle.ob0_scope.specs.Marks.{with_marks}
 use Rattle.ob0_scope.specs.Visiting as visit
 use Rattle.ob0_scope.specs.Written.{Writing}
 
@@ -12,9 +15,9 @@ use Rattle.ob0_scope.specs.Written.{Writing}
 abbrev pub Visit : Type 0
 Visit = visit.Visit (List (Option ℕ))
 
--- at its token
+-- at its token, as an entry has it
 abbrev pub put : ℕ → Option ℕ → List (Option ℕ) → List (Option ℕ)
-put i ordinal table = slice_set table i ordinal
+put i ordinal table = slice_set table i (kept ordinal)
 
 -- `marked` of `Visiting`, with a table by token
 abbrev pub marked : ℕ → Option ℕ → Visit → Visit
@@ -134,3 +137,20 @@ started writing =
       uses = [];
       marks = replicate (length writing.source.tokens) None;
     }
+
+-- what is known on the way, with a table that has the marks instead of their list
+abbrev pub tabled : List (Option ℕ) → marking.Visit → Visit
+tabled table v =
+    record {
+      writing = v.writing;
+      scope = v.scope;
+      declarations = v.declarations;
+      uses = v.uses;
+      marks = with_marks table v.marks;
+    }
+
+-- what is known after a module, with the table of its marks
+abbrev pub module_numbered : Tree ℕ module_text → Writing → Visit
+module_numbered m writing =
+    tabled (replicate (length writing.source.tokens) None)
+    (marking.visit_module m (marking.started writing))

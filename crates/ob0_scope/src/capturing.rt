@@ -14,7 +14,7 @@ ghost use Rattle.ob0_scope.specs.Searching.{found_in_block, found_in_procedure, 
 use crate::checks::{add_block, add_formals};
 use crate::renamed::renumber;
 use ob0_scan::Tokens;
-use ob0_scope_rules::{PREDECLARED, Resolved, ordinal_at};
+use ob0_scope_rules::{OrdinalEntry, PREDECLARED, Resolved, ordinal_at};
 use ob0_tree::{Block, Procedure, text_at};
 use std::alloc::{AllocError, Global};
 use std::marker::Model;
@@ -87,7 +87,7 @@ fn first_capture(
 }
 
 /// The number of the first occurrence to which a table gives another ordinal.
-fn first_changed(names: &Resolved, ordinals: &[Option<usize>]) -> Option<usize>
+fn first_changed(names: &Resolved, ordinals: &[OrdinalEntry]) -> Option<usize>
     ensures { result
         ≡ position_from (λ token. not
         (is_bound_alike (ordinal_in ordinals.now token) (ordinal_in names.now.ordinals token))) 0
@@ -134,7 +134,7 @@ fn namesake(
 #[derive(Drop)]
 struct Sought<'t> {
     tokens: &'t Tokens,
-    ordinals: &'t [Option<usize>],
+    ordinals: &'t [OrdinalEntry],
     declaration: usize,
     new: &'t str,
 }

@@ -10,7 +10,7 @@ ghost use Rattle.ob0_scope.specs.Marks.{with_marks};
 use crate::numbering::number;
 use crate::renamed::ordinals_of;
 use crate::writing::Writing;
-use ob0_scope_rules::Resolved;
+use ob0_scope_rules::{OrdinalEntry, Resolved};
 use std::alloc::{AllocError, Global};
 
 /// For each occurrence of a module, in text order, the ordinal of the declaration to which `name` would be bound in its
@@ -28,7 +28,7 @@ fn ordinals_in_place(
     alloc: Global,
     names: &Resolved,
     name: &str,
-) -> Result<Vec<Option<usize>>, AllocError>
+) -> Result<Vec<OrdinalEntry>, AllocError>
     ensures { IfOk result (λ ordinals. map (ordinal_in ordinals.items) names.now.uses
         ≡ ordinals_seen (named_tree_of names.now.module_read) name.now) }
 {
@@ -45,15 +45,15 @@ fn ordinals_in_place(
 }
 
 /// A table that has 0 at each occurrence, and nothing at the other tokens.
-fn occurring(alloc: Global, names: &Resolved) -> Result<Vec<Option<usize>>, AllocError>
+fn occurring(alloc: Global, names: &Resolved) -> Result<Vec<OrdinalEntry>, AllocError>
     ensures { IfOk result (λ t. t.items
         ≡ with_marks (replicate (length names.now.module_read.source.tokens) None)
         (map first_at names.now.uses)) }
 {
-    let mut table = vec![in alloc; None; names.tokens().tokens().len()]?;
+    let mut table = vec![in alloc; OrdinalEntry::new(None); names.tokens().tokens().len()]?;
     for token in names.occurrences() {
         if *token < table.len() {
-            table[*token] = Some(0);
+            table[*token] = OrdinalEntry::new(Some(0));
         }
     }
     Ok(table)

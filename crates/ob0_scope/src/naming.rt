@@ -10,7 +10,7 @@ ghost use Rattle.ob0_scope_rules.specs.Scopes.{same_ordinal};
 ghost use Rattle.ob0_scope.specs.NamesAtPlaces.{IsRenamedAt, name_on, tokens_bound};
 
 use ob0_scan::{Token, TokenKind};
-use ob0_scope_rules::Resolved;
+use ob0_scope_rules::{OrdinalEntry, Resolved};
 use std::alloc::{AllocError, Global};
 
 /// An identifier that is bound to a declaration: its token, and the declaration's ordinal.
@@ -79,7 +79,7 @@ fn first_token(declaring: Option<usize>) -> usize
 /// The tokens from one on that a table binds to a declaration, but for one that is left out.
 fn tokens_from(
     alloc: Global,
-    ordinals: &[Option<usize>],
+    ordinals: &[OrdinalEntry],
     first: usize,
     declaration: usize,
     omitted: Option<usize>,
@@ -89,7 +89,7 @@ fn tokens_from(
 {
     let mut found = Vec::new(alloc);
     for token in first..ordinals.len() {
-        if is_same(ordinals[token], declaration) && !is_same(omitted, token) {
+        if is_same(ordinals[token].ordinal(), declaration) && !is_same(omitted, token) {
             found.push(token)?;
         }
     }

@@ -9,12 +9,12 @@ ghost use Rattle.ob0_scope_rules.specs.Parts.{names_listed};
 ghost use Rattle.ob0_scope_rules.specs.Resolution.{ordinal_in};
 ghost use Rattle.ob0_scope_rules.specs.Scopes.{ordinal_of, predeclared_scope};
 ghost use Rattle.ob0_scope.specs.Written.{is_renamed, name_at};
-ghost use Rattle.ob0_scope.specs.Tabling.{marked, numbered_at, numbered_all, visible, visible_from, left_to, found, visit_constant, visit_constant_section, visit_type, visit_type_section, visit_variable, visit_variable_section, visit_section, visit_formals, visit_procedure, visit_block, visit_module, started};
+ghost use Rattle.ob0_scope.specs.Tabling.{marked, numbered_at, numbered_all, visible, visible_from, left_to, found, visit_constant, visit_constant_section, visit_type, visit_type_section, visit_variable, visit_variable_section, visit_section, visit_formals, visit_procedure, visit_block, visit_module, started, module_numbered};
 
 use crate::visible::Visible;
 use crate::writing::{Writing, is_renamed};
 use ob0_scan::Tokens;
-use ob0_scope_rules::{PREDECLARED, ordinal_at};
+use ob0_scope_rules::{OrdinalEntry, PREDECLARED, ordinal_at};
 use ob0_tree::{
     Block, Constant, Module, Names, Procedure, Section, TypeDeclaration, Variables, text_at,
 };
@@ -25,12 +25,12 @@ use std::marker::Model;
 #[derive(Drop)]
 pub(crate) struct Numbering<'t> {
     tokens: &'t Tokens,
-    ordinals: &'t [Option<usize>],
+    ordinals: &'t [OrdinalEntry],
     declaration: Option<usize>,
     visible: Visible<'t>,
     declarations: Vec<usize>,
     occurrences: Vec<usize>,
-    table: Vec<Option<usize>>,
+    table: Vec<OrdinalEntry>,
 }
 
 impl<'t> Model for Numbering<'t> {
@@ -77,14 +77,14 @@ fn predeclared<'t>(alloc: Global, new: &'t str) -> Result<Visible<'t>, AllocErro
 }
 
 /// Goes through a module of which the identifiers are written so.
-pub(crate) fn number<'t>(
+fn visit_module<'t>(
     alloc: Global,
     read: &'t Module<'t>,
     writing: Writing<'t>,
 ) -> Result<Numbering<'t>, AllocError>
     ensures { IfOk result (λ n. n ≡ visit_module (tree_of read.now) (started writing.entry)) }
 {
-    let table = vec![in alloc; None; writing.tokens.tokens().len()]?;
+    let table = vec![in alloc; OrdinalEntry::new(None); writing.tokens.tokens().len()]?;
     let mut numbering = Numbering {
         tokens: writing.tokens,
         ordinals: writing.ordinals,
@@ -100,9 +100,23 @@ pub(crate) fn number<'t>(
     Ok(numbering)
 }
 
+/// Numbers a module of which the identifiers are written so. The table has each ordinal: a text has no more declarations
+/// than bytes.
+pub(crate) fn number<'t>(
+    alloc: Global,
+    read: &'t Module<'t>,
+    writing: Writing<'t>,
+) -> Result<Numbering<'t>, AllocError>
+    ensures { IfOk result (λ n. n ≡ module_numbered (tree_of read.now) writing.entry) }
+{
+    // For the proof: what the contracts of these calls say.
+    let _scanned = read.tokens().text();
+    visit_module(alloc, read, writing)
+}
+
 impl<'t> Numbering<'t> {
     /// The declaring tokens, the tokens of the occurrences, and the table.
-    pub(crate) fn into_parts(self) -> (Vec<usize>, Vec<usize>, Vec<Option<usize>>)
+    pub(crate) fn into_parts(self) -> (Vec<usize>, Vec<usize>, Vec<OrdinalEntry>)
         ensures declarations { result.0.items ≡ self.entry.declarations }
         ensures uses { result.1.items ≡ self.entry.uses }
         ensures table { result.2.items ≡ self.entry.marks }
@@ -137,7 +151,7 @@ impl<'t> Numbering<'t> {
         ensures { self.new ≡ marked token ordinal self.old }
     {
         if token < self.table.len() {
-            self.table[token] = ordinal;
+            self.table[token] = OrdinalEntry::new(ordinal);
         }
     }
 

@@ -9,7 +9,7 @@ ghost use Rattle.ob0_scope_rules.specs.Resolution.{IsResolution, ordinal_in};
 
 use crate::numbering::number;
 use crate::writing::Writing;
-use ob0_scope_rules::{Resolved, ordinal_at};
+use ob0_scope_rules::{OrdinalEntry, Resolved, ordinal_at};
 use std::alloc::{AllocError, Global};
 
 /// For each occurrence of the module, in text order, the ordinal of the declaration to which it would be bound if the
@@ -35,7 +35,7 @@ pub(crate) fn renumber(
     names: &Resolved,
     declaration: usize,
     new: &str,
-) -> Result<Vec<Option<usize>>, AllocError>
+) -> Result<Vec<OrdinalEntry>, AllocError>
     ensures renumbered { IfOk result
         (λ ordinals. IsRenumbering names.now declaration new.now ordinals.items) }
     ensures resolved { IsResolution names.now }
@@ -54,7 +54,7 @@ pub(crate) fn renumber(
 /// The ordinals that a table has at these tokens.
 pub(crate) fn ordinals_of(
     alloc: Global,
-    ordinals: &[Option<usize>],
+    ordinals: &[OrdinalEntry],
     tokens: &[usize],
 ) -> Result<Vec<Option<usize>>, AllocError>
     ensures { IfOk result (λ found. found.items ≡ map (ordinal_in ordinals.now) tokens.now) }

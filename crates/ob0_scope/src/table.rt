@@ -4,14 +4,14 @@ ghost use Rattle.std.specs.Prelude.{◌≡◌, ◌++◌, OnOk};
 ghost use Rattle.ob0_scope_rules.specs.Resolution.{undeclared_at};
 
 use ob0_scan::{Code, Fault, Tokens};
-use ob0_scope_rules::{ordinal_at, token_span};
+use ob0_scope_rules::{OrdinalEntry, ordinal_at, token_span};
 use std::alloc::AllocError;
 
 /// Reports each occurrence that a table binds to nothing.
 pub(crate) fn undeclared(
     faults: &mut Vec<Fault>,
     tokens: &Tokens,
-    ordinals: &[Option<usize>],
+    ordinals: &[OrdinalEntry],
     occurrences: &[usize],
 ) -> Result<(), AllocError>
     ensures { OnOk result (faults.new.items

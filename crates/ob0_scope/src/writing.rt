@@ -4,13 +4,14 @@ ghost use Rattle.std.specs.Prelude.{◌≡◌};
 ghost use Rattle.ob0_scope.specs.Written.{as_in, is_renamed};
 
 use ob0_scan::Tokens;
+use ob0_scope_rules::OrdinalEntry;
 use std::marker::Model;
 
 /// A text, and a name that is in place of each identifier of one declaration, if there is one.
 #[derive(Drop)]
 pub(crate) struct Writing<'t> {
     pub(crate) tokens: &'t Tokens,
-    pub(crate) ordinals: &'t [Option<usize>],
+    pub(crate) ordinals: &'t [OrdinalEntry],
     pub(crate) declaration: Option<usize>,
     pub(crate) new: &'t str,
 }

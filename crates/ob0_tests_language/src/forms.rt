@@ -1,7 +1,9 @@
-//! The forms that the parser gives to expressions, which no contract tells apart, and the sizes of nodes.
+//! The forms that the parser gives to expressions, which no contract tells apart, and the sizes of nodes and of what a
+//! token is bound to.
 
 use ob0_parse::parse;
 use ob0_scan::scan;
+use ob0_scope_rules::OrdinalEntry;
 use ob0_tree::{Expression, Fields, Statement};
 use std::alloc::Global;
 use std::mem::size_of;
@@ -11,6 +13,8 @@ const _: () = prove!(size_of::<Expression>() == 48);
 const _: () = prove!(size_of::<Statement>() == 48);
 
 const _: () = prove!(size_of::<Fields>() == 16);
+
+const _: () = prove!(size_of::<OrdinalEntry>() == 4);
 
 const ONE_FACTOR: &str =
     "MODULE M; VAR x: INTEGER; BEGIN x := x; x := 1; x := (x); x := a[i].b; x := ~b; x := (x + 1); x := f.g[1] END M.";

@@ -1,10 +1,9 @@
 use Rattle.std.proofs.Common.{Some, refl, ap, ◌∙◌}
 use Rattle.ob0_tree.specs.Parsed.{tree_of}
 use Rattle.ob0_scope.specs.Marking as listing
-use Rattle.ob0_scope.specs.Tabling.{Visit, started, visit_module}
+use Rattle.ob0_scope.specs.Tabling.{Visit, module_numbered}
 use Rattle.ob0_scope.specs.Written.{Writing}
 use Rattle.ob0_scope.proofs.SeenInPlaces.{seen_in_places}
-use Rattle.ob0_scope.proofs.Tabled.{module_tabled}
 use Rattle.ob0_scope.proofs.in_sight.ordinals_in_place.Goals as goal
 
 pub returns : goal.returns
@@ -15,7 +14,6 @@ returns c =
     let sought = c.in_ok-sought.sought.items in
     let written : Writing = record { source = m.source; ordinals = sought; declaration = Some 0; new = c.args.name.now } in
     let gone = c.in_ok-numbering.ensures
-    ∙ ((λ i. visit_module (tree_of (c.module.ensures.value i)) (started (record { source = c.tokens.ensures i; ordinals = c.as_slice.ensures.value i; declaration = Some 0; new = c.args.name.now })))
-    ∙ module_tabled (tree_of m) written) in
+    ∙ (λ i. module_numbered (tree_of (c.module.ensures.value i)) (record { source = c.tokens.ensures i; ordinals = c.as_slice.ensures.value i; declaration = Some 0; new = c.args.name.now })) in
     seen_in_places r c.args.name.now (listing.visit_module (tree_of m) (listing.started written)) sought parts.result.2.items c.module.ensures.resolved c.in_ok-sought.ensures refl
     (parts.ensures.table ∙ ap (λ (v : Visit). v.marks) gone)

@@ -2,10 +2,9 @@ use Rattle.std.proofs.Common.{◌++◌, refl, ap, ◌∙◌}
 use Rattle.ob0_scope.specs.Marking as listing
 use Rattle.ob0_scope_rules.specs.Resolution.{undeclared_at}
 use Rattle.ob0_tree.specs.Parsed.{tree_of}
-use Rattle.ob0_scope.specs.Tabling.{Visit, started, visit_module}
+use Rattle.ob0_scope.specs.Tabling.{Visit, module_numbered}
 use Rattle.ob0_scope.specs.Written.{as_in}
 use Rattle.ob0_scope.proofs.Made.{resolution_made}
-use Rattle.ob0_scope.proofs.Tabled.{module_tabled}
 use Rattle.ob0_scope.proofs.resolving.bindings_of.Goals as goal
 
 pub returns : goal.returns
@@ -16,7 +15,7 @@ returns c =
     let once = c.in_ok-faults.faults.items in
     let written = as_in m.source in
     let gone = c.in_ok-numbering.ensures
-    ∙ (ap (λ w. visit_module (tree_of m) (started w)) (c.as_in.ensures ∙ ap as_in c.tokens-tokens.ensures.source) ∙ module_tabled (tree_of m) written) in
+    ∙ ap (module_numbered (tree_of m)) (c.as_in.ensures ∙ ap as_in c.tokens-tokens.ensures.source) in
     let all = c.in_ok-undeclared.ensures ∙ (λ i. once ++ undeclared_at (c.tokens-tokens.ensures.source i) (c.deref.ensures.value i) (c.deref-2.ensures.value i)) in
     resolution_made m (listing.visit_module (tree_of m) (listing.started written)) parts.result.2.items parts.result.0.items parts.result.1.items once faults
     c.tokens-tokens.ensures.parsed refl (parts.ensures.table ∙ ap (λ (v : Visit). v.marks) gone) (parts.ensures.declarations ∙ ap (λ (v : Visit). v.declarations) gone)
