@@ -1,5 +1,5 @@
 -- The fields of a record as they are gathered, name by name and group by group.
-use Rattle.std.proofs.Common.{◌≡◌, ℕ, ◌+◌, ◌-◌, ◌^◌, ◌<◌, ◌≤◌, min, max, List, [], ◌∷◌, ◌++◌, length, get_or, drop, refl, sym, ap, ◌∙◌, subst, arith, string_bytes, suc, length-append}
+use Rattle.std.proofs.Common.{◌≡◌, ℕ, ◌+◌, ◌-◌, ◌^◌, ◌<◌, ◌≤◌, min, max, List, [], ◌∷◌, ◌++◌, length, get_or, drop, refl, sym, ap, ◌∙◌, subst, arith, string_bytes}
 use Rattle.std.proofs.lemmas.List.{drop_all, drop_more, map-append}
 use Rattle.ob0_scan.specs.declared.fault.Fault.{Fault}
 use Rattle.ob0_types_table.specs.declared.known.Field.{Field}
@@ -16,10 +16,6 @@ use Rattle.ob0_types_check.specs.SupposedFacts.{Gathers, IsGathered, counted, fi
 use Rattle.ob0_types_check.specs.WrittenTypeFaults.{Gathered, beside, nothing_gathered, reported_fields, reported_groups, with_name, with_names}
 use Rattle.ob0_types_check.proofs.Chains.{Chained, chain_goes_on}
 use Rattle.ob0_types_check.proofs.ReportedTypes.{group_reported, groups_chain}
-
--- inside of one more
-pub inside : (xs : List ℕ) (x : ℕ) (ys : List ℕ) → ys ≡ xs ++ x ∷ [] → length ys ≡ suc (length xs)
-inside xs x ys e = omega (arith, ap length e, length-append xs (x ∷ []))
 
 -- a field is put after those before it
 pub field_added : (fs gs : List Field) (f : Field) → gs ≡ fs ++ f ∷ [] → fields_in gs ≡ fields_in fs ++ record { name = string_bytes f.name; of = f.of } ∷ []
