@@ -1,5 +1,5 @@
 -- The fields of a record as they are gathered, name by name and group by group.
-use Rattle.std.proofs.Common.{◌≡◌, ℕ, ◌+◌, ◌-◌, ◌^◌, ◌<◌, ◌≤◌, min, max, List, [], ◌∷◌, ◌++◌, length, get_or, drop, refl, sym, ap, ◌∙◌, subst, arith, suc, length-append}
+use Rattle.std.proofs.Common.{◌≡◌, ℕ, ◌+◌, ◌-◌, ◌^◌, ◌<◌, ◌≤◌, min, max, List, [], ◌∷◌, ◌++◌, length, get_or, drop, refl, sym, ap, ◌∙◌, subst, arith}
 use Rattle.std.proofs.lemmas.List.{drop_all, drop_more}
 use Rattle.ob0_scan.specs.declared.fault.Fault.{Fault}
 use Rattle.ob0_types_table.specs.declared.types.TypeId.{TypeId}
@@ -15,10 +15,6 @@ use Rattle.ob0_types_check.specs.SupposedFacts.{Gathers, IsGathered, counted, fi
 use Rattle.ob0_types_check.specs.WrittenTypeFaults.{Gathered, beside, nothing_gathered, reported_fields, reported_groups, with_name, with_field_names}
 use Rattle.ob0_types_check.proofs.Chains.{Chained, chain_goes_on}
 use Rattle.ob0_types_check.proofs.ReportedTypes.{group_reported, groups_chain}
-
--- inside of one more
-pub inside : (xs : List ℕ) (x : ℕ) (ys : List ℕ) → ys ≡ xs ++ x ∷ [] → length ys ≡ suc (length xs)
-inside xs x ys e = omega (arith, ap length e, length-append xs (x ∷ []))
 
 -- sizes beside one another, counted to the end of `usize`
 beside_counted : (z w : Size) → counted (beside (counted z) w) ≡ counted (beside z w)

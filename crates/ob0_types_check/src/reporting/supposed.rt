@@ -1,6 +1,6 @@
 //! What is supposed of types and declarations while faults are reported; each may be unknown, as a whole or in parts.
 
-ghost use Rattle.std.specs.Prelude.{◌≡◌, ◌∷◌, [], ◌++◌, ◌+◌, map, max, length, IfOk, OnOk, option_map, slice_get, slice_index_or, None, Some};
+ghost use Rattle.std.specs.Prelude.{◌≡◌, ◌≤◌, ◌∷◌, [], ◌++◌, ◌+◌, ◌^◌, map, max, length, IfOk, MatchResult, OnOk, option_map, slice_get, slice_index_or, None, Some};
 ghost use Rattle.ob0_types_table.specs.declared.types.TypeId.TheVariants as type;
 ghost use Rattle.ob0_tree.specs.Places.{text_at};
 ghost use Rattle.ob0_types_check.specs.Known.{a_procedure};
@@ -112,6 +112,16 @@ impl Size {
             return false;
         }
         self.depth <= MOST_DEPTH
+    }
+}
+
+/// A sum. An error exactly where it has no number of 64 bits, which no text is long enough for.
+pub(crate) fn sum(a: usize, b: usize) -> Result<usize, AllocError>
+    ensures { MatchResult result (λ n. n ≡ a + b) (λ _. 2 ^ 64 ≤ a + b) }
+{
+    match a.checked_add(b) {
+        None => Err(AllocError),
+        Some(sum) => Ok(sum),
     }
 }
 
@@ -272,11 +282,12 @@ impl<'t> Supposed<'t> {
         }
     }
 
-    /// The ordinal of a word ARRAY or RECORD that is inside of others.
-    pub(crate) fn ordinal_here(&self, around: &Vec<usize>) -> usize
-        ensures { result ≡ ordinal_here (length around.now.items) (so_far_in self.now) }
+    /// The ordinal of a word ARRAY or RECORD that is inside of `around` others.
+    pub(crate) fn ordinal_here(&self, around: usize) -> Result<usize, AllocError>
+        ensures { MatchResult result (λ n. n ≡ ordinal_here around (so_far_in self.now))
+            (λ _. 2 ^ 64 ≤ ordinal_here around (so_far_in self.now)) }
     {
-        self.composites.len() + around.len()
+        sum(self.composites.len(), around)
     }
 
     /// Makes an array or record, whose word is this token. One that is too large is reported, and unknown.

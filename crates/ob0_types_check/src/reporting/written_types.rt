@@ -1,6 +1,6 @@
 //! Reports the faults of types as they are written, and finds what is known of them.
 
-ghost use Rattle.std.specs.Prelude.{◌≡◌, ◌∷◌, ◌++◌, [], length, false, IfOk, OnOk, Some};
+ghost use Rattle.std.specs.Prelude.{◌≡◌, ◌∷◌, ◌++◌, [], false, IfOk, OnOk, Some};
 ghost use Rattle.ob0_types_table.specs.declared.types.TypeId.TheVariants as type;
 ghost use Rattle.ob0_tree.specs.Tree.{array_type, some_fields};
 ghost use Rattle.ob0_tree.specs.View.{expression_of, fields_of, further_fields_of_group, items_of, names_of, record_in, type_of};
@@ -16,7 +16,7 @@ ghost use Rattle.ob0_types_check.specs.WrittenTypeFaults as spec;
 
 use crate::reporting::Reporter;
 use crate::reporting::expressions::{Operand, same_type};
-use crate::reporting::supposed::{Meaning, NOTHING, Size, Supposed};
+use crate::reporting::supposed::{Meaning, NOTHING, Size, Supposed, sum};
 use ob0_scan::{Code, Fault};
 use ob0_tree::{ArrayType, FieldGroup, Fields, Names, RecordType, WrittenType};
 use ob0_types_table::{
@@ -143,23 +143,17 @@ impl<'t> Reporter<'t> {
             (record { of = of; following = so_far_in self.new.supposed })
             (reported_type 0 (so_far_in self.old.supposed) (type_of t.now))) }
     {
-        let mut around = Vec::new(self.alloc);
-        self.type_inside(t, &mut around)
+        self.type_inside(t, 0)
     }
 
-    /// The same for a type that is inside of others: `around` has a token for each word ARRAY and RECORD around it.
+    /// The same for a type that is inside of `around` words ARRAY and RECORD.
     #[cycle(types)]
-    fn type_inside(
-        &mut self,
-        t: &WrittenType,
-        around: &mut Vec<usize>,
-    ) -> Result<TypeId, AllocError>
-        ensures reports { IfOk result
+    fn type_inside(&mut self, t: &WrittenType, around: usize) -> Result<TypeId, AllocError>
+        ensures { IfOk result
             (λ of. ReportsAfter self.old.faults.items self.new.faults.items
             (record { of = of; following = so_far_in self.new.supposed })
-            (reported_type (length around.old.items) (so_far_in self.old.supposed)
+            (reported_type around (so_far_in self.old.supposed)
             (type_of t.now))) }
-        ensures around { IfOk result (λ of. around.new.items ≡ around.old.items) }
     {
         match t {
             WrittenType::Named(name) => self.supposed.type_named(&mut self.faults, *name),
@@ -169,21 +163,18 @@ impl<'t> Reporter<'t> {
     }
 
     #[cycle(types)]
-    fn array(&mut self, a: &ArrayType, around: &mut Vec<usize>) -> Result<TypeId, AllocError>
-        ensures reports { IfOk result
+    fn array(&mut self, a: &ArrayType, around: usize) -> Result<TypeId, AllocError>
+        ensures { IfOk result
             (λ of. ReportsAfter self.old.faults.items self.new.faults.items
             (record { of = of; following = so_far_in self.new.supposed }) (reported_type
-            (length around.old.items) (so_far_in self.old.supposed)
+            around (so_far_in self.old.supposed)
             (array_type (expression_of a.now.size) (type_of a.now.element.value)))) }
-        ensures around { IfOk result (λ of. around.new.items ≡ around.old.items) }
     {
-        let ordinal = self.supposed.ordinal_here(around);
+        let ordinal = self.supposed.ordinal_here(around)?;
         let size = self.supposed.expression(&mut self.faults, &a.size, true)?;
         let length = self.supposed.length(&mut self.faults, size)?;
-        let outside = around.len();
-        around.push(size.first)?;
-        let element = self.type_inside(&a.element, around)?;
-        around.truncate(outside);
+        let inside = sum(around, 1)?;
+        let element = self.type_inside(&a.element, inside)?;
         self.make_array(ordinal, size, length, element)
     }
 
@@ -220,32 +211,28 @@ impl<'t> Reporter<'t> {
     }
 
     #[cycle(types)]
-    fn record(&mut self, r: &RecordType, around: &mut Vec<usize>) -> Result<TypeId, AllocError>
-        ensures reports { IfOk result
+    fn record(&mut self, r: &RecordType, around: usize) -> Result<TypeId, AllocError>
+        ensures { IfOk result
             (λ of. ReportsAfter self.old.faults.items self.new.faults.items
             (record { of = of; following = so_far_in self.new.supposed })
-            (reported_type (length around.old.items) (so_far_in self.old.supposed)
+            (reported_type around (so_far_in self.old.supposed)
             (record_in r.now))) }
-        ensures around { IfOk result (λ of. around.new.items ≡ around.old.items) }
     {
-        let ordinal = self.supposed.ordinal_here(around);
+        let ordinal = self.supposed.ordinal_here(around)?;
         let word = record_word(&r.groups);
-        let outside = around.len();
-        around.push(word)?;
-        let gathered = self.groups(r.groups.as_slice(), around)?;
-        around.truncate(outside);
+        let inside = sum(around, 1)?;
+        let gathered = self.groups(r.groups.as_slice(), inside)?;
         self.make_record(word, ordinal, gathered)
     }
 
     /// The fields of all groups of a record.
     #[cycle(types)]
-    fn groups(&mut self, groups: &[Fields], around: &mut Vec<usize>) -> Result<Gathered, AllocError>
-        ensures reports { IfOk result (λ gathered.
+    fn groups(&mut self, groups: &[Fields], around: usize) -> Result<Gathered, AllocError>
+        ensures { IfOk result (λ gathered.
             Gathers self.old.faults.items self.new.faults.items self.new.supposed gathered
-            (reported_groups (length around.old.items) (nothing_gathered
+            (reported_groups around (nothing_gathered
             (so_far_in self.old.supposed))
             (items_of further_fields_of_group groups.now))) }
-        ensures around { IfOk result (λ gathered. around.new.items ≡ around.old.items) }
     {
         let mut gathered = Gathered::new(self.alloc);
         for group in groups {
@@ -284,13 +271,12 @@ impl<'t> Reporter<'t> {
         &mut self,
         group: &Fields,
         gathered: &mut Gathered,
-        around: &mut Vec<usize>,
+        around: usize,
     ) -> Result<(), AllocError>
-        ensures reports { OnOk result ((g : spec.Gathered)
+        ensures { OnOk result ((g : spec.Gathered)
             → IsGathered g self.old.supposed gathered.old
             → Gathers self.old.faults.items self.new.faults.items self.new.supposed gathered.new
-            (reported_fields (length around.old.items) g (fields_of group.now))) }
-        ensures around { OnOk result (around.new.items ≡ around.old.items) }
+            (reported_fields around g (fields_of group.now))) }
     {
         match group {
             Fields::Empty => Ok(()),
@@ -303,14 +289,13 @@ impl<'t> Reporter<'t> {
         &mut self,
         list: &FieldGroup,
         gathered: &mut Gathered,
-        around: &mut Vec<usize>,
+        around: usize,
     ) -> Result<(), AllocError>
-        ensures reports { OnOk result ((g : spec.Gathered)
+        ensures { OnOk result ((g : spec.Gathered)
             → IsGathered g self.old.supposed gathered.old
             → Gathers self.old.faults.items self.new.faults.items self.new.supposed gathered.new
-            (reported_fields (length around.old.items) g
+            (reported_fields around g
             (some_fields (names_of list.now.names) (type_of list.now.written)))) }
-        ensures around { OnOk result (around.new.items ≡ around.old.items) }
     {
         let of = self.type_inside(&list.written, around)?;
         self.supposed

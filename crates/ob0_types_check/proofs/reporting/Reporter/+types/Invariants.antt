@@ -1,4 +1,3 @@
-use Rattle.std.proofs.Common.{◌≡◌, length}
 use Rattle.ob0_types_check.specs.SupposedFacts.{so_far_in}
 use Rattle.ob0_types_check.specs.WrittenTypeFaults.{nothing_gathered}
 use Rattle.ob0_types_check.proofs.GatheredFields.{GroupsGathered}
@@ -6,4 +5,4 @@ use Rattle.ob0_types_check.proofs.reporting.Reporter.+types.Given as goal
 
 abbrev pub invariant-groups-loop-group : goal.invariant-groups-loop-group
 invariant-groups-loop-group l =
-    GroupsGathered (length l.initial.around.items) (nothing_gathered (so_far_in l.initial.self.supposed)) l.initial.self.faults.items l.groups l.group-index l.self.faults.items l.self.supposed l.gathered × (l.around.items ≡ l.initial.around.items)
+    GroupsGathered l.initial.around (nothing_gathered (so_far_in l.initial.self.supposed)) l.initial.self.faults.items l.groups l.group-index l.self.faults.items l.self.supposed l.gathered
