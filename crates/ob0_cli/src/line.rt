@@ -1,6 +1,6 @@
 //! The command line.
 
-ghost use Rattle.std.specs.Prelude.{◌≡◌, ◌≤◌, Some, false, IfOk, IfErr, codes, map};
+ghost use Rattle.std.specs.Prelude.{◌≡◌, ◌≤◌, Some, false, IfOk, IfErr, map};
 ghost use Rattle.clap.specs.Words.{app_of, first_of, found_of, new_app, rows_of, rule_of, subcommand_rows_of};
 ghost use Rattle.ob0_cli.specs.Given.{Gives, HasNeeded, HasBounded, HasPlace, HasText, HoldsValues, IsNumber, IsReadFrom, NeedsAt, RefusesWords, most_of};
 ghost use Rattle.ob0_cli.specs.Lines.{client_rule, ob0_alone, ob0_app, calls_rule, check as check_lines, number_rule, rename as rename_lines, run as run_lines, serve as serve_lines, serve_alone as serve_lines_alone, stdio_rule, turns_rule, word_rule};

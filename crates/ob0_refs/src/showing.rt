@@ -1,13 +1,13 @@
 //! The hover texts of names, by what their declarations are.
 
-ghost use Rattle.std.specs.Prelude.{◌≡◌, ◌++◌, ◌+◌, ◌-◌, ◌∷◌, [], IfOk, OnOk, Some, drop, map, option_and_then, option_map, string_bytes};
+ghost use Rattle.std.specs.Prelude.{◌≡◌, ◌+◌, ◌-◌, [], IfOk, Some, drop, map, option_map, string_bytes};
 ghost use Rattle.ob0_tree.specs.Parsed.{tree_of};
 ghost use Rattle.ob0_tree.specs.Places.{text_at};
 ghost use Rattle.ob0_tree.specs.Tree.{identifiers};
 ghost use Rattle.ob0_tree.specs.declared.tree.Role.TheVariants as role;
 ghost use Rattle.ob0_scope_rules.specs.Resolution.{declaring_only};
 ghost use Rattle.ob0_refs.specs.DeclarationParts.{object_of, signature_in};
-ghost use Rattle.ob0_refs.specs.Declarations.{declaration_hover, name_hover, names_after, object_hover, parameter_hover, parameters_hover};
+ghost use Rattle.ob0_refs.specs.Declarations.{declaration_hover, name_hover, names_after, parameter_hover, parameters_hover};
 ghost use Rattle.ob0_refs.specs.Hovers.{field_text, named_type_text, procedure_text, type_text, variable_text};
 ghost use Rattle.ob0_refs.specs.Parameters.{parameter_in};
 ghost use Rattle.ob0_types_table.specs.KnownTables.{declared_in, shapes_of};

@@ -1,7 +1,7 @@
 -- Another name for what is named at a place of a text, a declaration or a record's field: where it is to be written, and what
 -- conflicts with it.
 -- Rule: docs/PROTOCOL.md, Requests on documents 6, Refusals of edits.
-use Rattle.std.specs.Prelude.{◌≡◌, ℕ, Bool, true, false, nat_lt, if◌then◌else◌, List, [], ◌∷◌, Option, Some, None, option_and_then, option_map, slice_get}
+use Rattle.std.specs.Prelude.{◌≡◌, ℕ, Bool, true, false, nat_lt, if◌then◌else◌, List, [], Option, Some, None, option_and_then, option_map, slice_get}
 use Rattle.ob0_scan.specs.Scanned.{Scanned}
 use Rattle.ob0_text.specs.Texts.{offset_of}
 use Rattle.ob0_text.specs.Units.{width_of}

@@ -1,14 +1,12 @@
 //! Places of a text: the tokens at which a new name is to be written, and ranges of tokens.
 
-ghost use Rattle.std.specs.Prelude.{◌≡◌, ℕ, IfOk, length, Some};
+ghost use Rattle.std.specs.Prelude.{◌≡◌, ℕ, IfOk, Some};
 ghost use Rattle.ob0_scope_rules.specs.Names.{same_name};
 ghost use Rattle.ob0_scope_rules.specs.Resolution.{span_at};
 ghost use Rattle.ob0_text.specs.Units.{width_of};
-ghost use Rattle.ob0_tree.specs.Order.{AreIdentifiers, Ascending};
 ghost use Rattle.ob0_tree.specs.Places.{text_at};
 ghost use Rattle.ob0_edits.specs.Ranges.{range_of};
 ghost use Rattle.ob0_edits.specs.Replaced.{AreNames};
-ghost use Rattle.ob0_scope.specs.NamesAtPlaces.{IsRenamedAt, tokens_bound};
 ghost use Rattle.ob0_rename.specs.Renaming.{is_declared_as, tokens_to_rename};
 
 use ob0_edits::range_of;

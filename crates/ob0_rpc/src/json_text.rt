@@ -1,11 +1,10 @@
 //! What is written as JSON, straight into the text of a message.
-ghost use Rattle.std.specs.Prelude.{◌≡◌, ◌<◌, ◌≤◌, ◌^◌, ◌++◌, [], ◌∷◌, true, false, IfOk, OnOk, map};
+ghost use Rattle.std.specs.Prelude.{◌≡◌, ◌<◌, ◌≤◌, ◌^◌, ◌++◌, [], ◌∷◌, true, false, OnOk, map};
 ghost use Rattle.std.specs.Char.{digit_char};
 ghost use Rattle.json.specs.Print.{escape, escape_byte, escape_letter};
 ghost use Rattle.serde_json.specs.Data.{Data, array, boolean, null, number, string, unsigned};
 ghost use Rattle.serde_json.specs.Find.{of_integer};
 ghost use Rattle.serde_json.specs.View.{items_of};
-ghost use Rattle.serde_json.specs.Written.{comma_if};
 ghost use Rattle.ob0_rpc.specs.Appending.{Appends, AppendsEach, AppendsItem, or_null};
 
 use std::alloc::AllocError;

@@ -1,7 +1,7 @@
 //! Objects, member by member. A name is written as it is, so it is one that needs no escape.
 ghost use Rattle.std.specs.Prelude.{◌≡◌, ◌++◌, [], ◌∷◌, OnOk};
 ghost use Rattle.serde_json.specs.Data.{member, no_members, object};
-ghost use Rattle.ob0_rpc.specs.Appending.{Appends, AppendsMember};
+ghost use Rattle.ob0_rpc.specs.Appending.{AppendsMember};
 
 use crate::json_text::{Written, write_piece};
 use std::alloc::AllocError;

@@ -1,10 +1,10 @@
 //! Calls of procedures. The cells of a call are given up at its return.
 
-ghost use Rattle.std.specs.Prelude.{◌≡◌, length, map, option_map, slice_get, take};
+ghost use Rattle.std.specs.Prelude.{◌≡◌, map, option_map, slice_get, take};
 ghost use Rattle.ob0_run_machine.specs.Evaluation.{innermost};
 ghost use Rattle.ob0_run_machine.specs.Levels.{levels_of};
 ghost use Rattle.ob0_run_machine.specs.Machines.{MachineDoes, Enters, activated, state_of};
-ghost use Rattle.ob0_run_machine.specs.View.{procedure_of, program_of};
+ghost use Rattle.ob0_run_machine.specs.View.{procedure_of};
 
 use crate::code::{LoweredCode, Routine};
 use crate::ending::Stop;

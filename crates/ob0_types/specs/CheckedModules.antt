@@ -1,12 +1,10 @@
 -- A checked module: its names, and what was reported of it.
 -- Rule: docs/LANGUAGE.md, Types 8, Faults of scopes and types 1.
-use Rattle.std.specs.Prelude.{◌≡◌, ℕ, ◌≤◌, Bool, true, List, [], length, ◌↔◌, IfSome, is_some, Option}
+use Rattle.std.specs.Prelude.{◌≡◌, ◌≤◌, Bool, true, List, [], length, ◌↔◌, IfSome, is_some, Option}
 use Rattle.ob0_scan.specs.Scanned.{max_faults}
 use Rattle.ob0_scan.specs.declared.fault.Fault.{Fault}
 use Rattle.ob0_scope_rules.specs.Resolution.{Resolution, IsResolution}
-use Rattle.ob0_scope_rules.specs.Names.{Name}
 use Rattle.ob0_tree.specs.Parsed.{named_tree_of}
-use Rattle.ob0_tree.specs.Tree.{Tree, module_text}
 use Rattle.ob0_types_check.specs.ModuleLaws.{HasDeclarations}
 use Rattle.ob0_types_table.specs.KnownTables.{Tables}
 use Rattle.ob0_types_rules.specs.WellTyped.{WellTyped}

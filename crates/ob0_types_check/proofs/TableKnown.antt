@@ -23,7 +23,7 @@ use Rattle.ob0_types_table.specs.declared.types.TypeId.TheVariants as type
 use Rattle.ob0_values.specs.Values.{FieldShapes, Shape, array_shape, boolean_shape, integer_shape, next_field_shape, no_field_shape, record_shape}
 use Rattle.ob0_types_check.specs.Agreement.{DeclarationAgrees, EachMade, FieldsAgree, FormalsAgree, MadeAgrees, MeaningAgrees, as_array, as_record, is_standard, shape_in}
 use Rattle.ob0_types_check.specs.ModuleLaws.{KnowsDeclarations}
-use Rattle.ob0_types_check.specs.SupposedFacts.{fields_in, formal_of, made_type_of, known_meaning, known_object, so_far_in, table_in, with_standards}
+use Rattle.ob0_types_check.specs.SupposedFacts.{fields_in, formal_of, made_type_of, known_meaning, table_object, so_far_in, table_in, with_standards}
 use Rattle.ob0_types_check.specs.declared.reporting.supposed.Meaning.{Meaning}
 use Rattle.ob0_types_check.specs.declared.reporting.supposed.Meaning.TheVariants as declared
 use Rattle.ob0_types_check.specs.declared.reporting.supposed.Supposed.{Supposed}
@@ -112,14 +112,14 @@ procedure_there (Some (meant.a_variable s)) signature own e = absurd (cc)
 procedure_there (Some (meant.a_procedure g)) signature own e = ap (λ z. Some (meant.a_procedure z)) (sym (some-same g signature e))
 procedure_there (Some (meant.a_standard p)) signature own e = absurd (cc)
 
-object_there : (shapes : List Shape) (m : Meaning) (o : Option (meant.Object Shape Signature)) → MeaningAgrees (shape_in shapes) (known_meaning m) o → is_standard o ≡ false → object_in shapes (known_object m) ≡ o
+object_there : (shapes : List Shape) (m : Meaning) (o : Option (meant.Object Shape Signature)) → MeaningAgrees (shape_in shapes) (known_meaning m) o → is_standard o ≡ false → object_in shapes (table_object m) ≡ o
 object_there shapes (declared.Named t) o (s, there, is) own = ap (λ z. Some (meant.a_type z)) (type_there shapes t s there) ∙ sym is
 object_there shapes (declared.Constant (Some v)) o (w, there, is, scalar) own = ap (λ z. Some (meant.a_constant z)) (some-same _ w there) ∙ sym is
 object_there shapes (declared.Constant None) o (w, there, is, scalar) own = absurd (cc)
 object_there shapes (declared.Variable t) o (s, there, is) own = ap (λ z. Some (meant.a_variable z)) (type_there shapes t s there) ∙ sym is
 object_there shapes (declared.Procedure fs) o (signature, there, formals) own = ap (λ z. Some (meant.a_procedure z)) (formals_there shapes fs.items signature formals) ∙ procedure_there o signature own there
 
-declared_there : (shapes : List Shape) (m : Option Meaning) (o : Option (meant.Object Shape Signature)) → DeclarationAgrees (shape_in shapes) (option_map known_meaning m) o → is_standard o ≡ false → option_and_then (object_in shapes) (option_map known_object m) ≡ o
+declared_there : (shapes : List Shape) (m : Option Meaning) (o : Option (meant.Object Shape Signature)) → DeclarationAgrees (shape_in shapes) (option_map known_meaning m) o → is_standard o ≡ false → option_and_then (object_in shapes) (option_map table_object m) ≡ o
 declared_there shapes None o h own = sym h
 declared_there shapes (Some m) o h own = object_there shapes m o h own
 
@@ -128,7 +128,7 @@ apart j k other xs x = get_or-set_other xs j k x None other
 
 module _ (s : Supposed) (m : Tree Name module_text) (h : KnowsDeclarations (so_far_in s) m) where
   abbrev objects : List (Option object.Object)
-  objects = map (option_map known_object) s.meanings.items
+  objects = map (option_map table_object) s.meanings.items
 
   -- the standard procedures, one after another
   abbrev first_set : List (Option object.Object)
@@ -146,7 +146,7 @@ module _ (s : Supposed) (m : Tree Name module_text) (h : KnowsDeclarations (so_f
   -- an ordinal of no standard procedure
   plain_there : (k : ℕ) → is_standard (declared_object m k) ≡ false → option_and_then (object_in h.shapes) (slice_index_or objects k None) ≡ declared_object m k
   plain_there k own =
-      ap (option_and_then (object_in h.shapes)) (get_or-map (option_map known_object) s.meanings.items k None)
+      ap (option_and_then (object_in h.shapes)) (get_or-map (option_map table_object) s.meanings.items k None)
       ∙ declared_there h.shapes (slice_index_or s.meanings.items k None) (declared_object m k)
       (subst (λ z. DeclarationAgrees (shape_in h.shapes) z (declared_object m k)) (get_or-map (option_map known_meaning) s.meanings.items k None) (h.declared k)) own
 
@@ -157,7 +157,7 @@ module _ (s : Supposed) (m : Tree Name module_text) (h : KnowsDeclarations (so_f
   other_there k a b c own = ap (option_and_then (object_in h.shapes)) (kept k a b c) ∙ plain_there k own
 
   long : 7 ≤ length objects
-  long = omega (arith, h.room, length-map {B = Option object.Object} s.meanings.items (option_map known_object), length-map s.meanings.items (option_map known_meaning))
+  long = omega (arith, h.room, length-map {B = Option object.Object} s.meanings.items (option_map table_object), length-map s.meanings.items (option_map known_meaning))
 
   each_there : (k : ℕ) → option_and_then (object_in h.shapes) (slice_index_or (with_standards objects) k None) ≡ declared_object m k
   each_there zero = other_there 0 (λ e. absurd (cc)) (λ e. absurd (cc)) (λ e. absurd (cc)) (ap is_standard (h.predeclared 0 (omega arith)))

@@ -149,12 +149,12 @@ pub record Gathers
   pub now : IsGathered t.known s gathered
 
 -- what a declaration of the code is, in the table; where its constant has a fault, it has no value
-abbrev pub known_object : meaning.Meaning → object.Object
-known_object (declared.Named t) = kind.Named t
-known_object (declared.Constant (Some v)) = kind.Constant v
-known_object (declared.Constant None) = kind.FaultyConstant
-known_object (declared.Variable t) = kind.Variable t
-known_object (declared.Procedure fs) = kind.Procedure fs
+abbrev pub table_object : meaning.Meaning → object.Object
+table_object (declared.Named t) = kind.Named t
+table_object (declared.Constant (Some v)) = kind.Constant v
+table_object (declared.Constant None) = kind.FaultyConstant
+table_object (declared.Variable t) = kind.Variable t
+table_object (declared.Procedure fs) = kind.Procedure fs
 
 -- the standard procedures at their ordinals
 abbrev pub with_standards : List (Option object.Object) → List (Option object.Object)
@@ -169,5 +169,5 @@ abbrev pub table_in : Supposed → Tables
 table_in s =
     record {
       shapes = s.composites.items;
-      objects = with_standards (map (option_map known_object) s.meanings.items);
+      objects = with_standards (map (option_map table_object) s.meanings.items);
     }

@@ -7,7 +7,7 @@ ghost use Rattle.ob0_types_table.specs.KnownTables.{declared_in, shapes_of};
 ghost use Rattle.ob0_types_table.specs.Tables.{type_shape};
 ghost use Rattle.ob0_values.specs.Values.{Shape, integer_shape};
 ghost use Rattle.ob0_types_fields.specs.FieldTypes.{constructed, constructed_by, typed_field_by};
-ghost use Rattle.ob0_types_fields.specs.Search.{after_all, after_one, found_type, meanings_in, search_in, sought_in, type_in, typed_field_in};
+ghost use Rattle.ob0_types_fields.specs.Search.{after_all, after_one, meanings_in, search_in, sought_in, type_in, typed_field_in};
 
 use ob0_scope_rules::Resolved;
 use ob0_tree::{

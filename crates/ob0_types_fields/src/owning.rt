@@ -3,9 +3,7 @@
 ghost use Rattle.std.specs.Prelude.{◌≡◌, ◌++◌, ◌+◌, IfOk, Some, length, option_and_then, option_map};
 ghost use Rattle.ob0_tree.specs.View.{expression_of, compound_of, simple_of, term_of, factor_of, designator_of, selector_of, assignment_of, call_of, arguments_in, statement_of, if_of, elsifs_in, sequence_in, body_of, block_of, procedure_of};
 ghost use Rattle.ob0_types_rules.specs.Declarations.{block_constructors, procedure_constructors};
-ghost use Rattle.ob0_scope_rules.specs.Resolution.{ordinal_in};
-ghost use Rattle.ob0_types_table.specs.FieldPlaces.{field_selected};
-ghost use Rattle.ob0_types_table.specs.KnownTables.{declared_in, shapes_of};
+ghost use Rattle.ob0_types_table.specs.KnownTables.{shapes_of};
 ghost use Rattle.ob0_types_table.specs.Tables.{type_shape};
 ghost use Rattle.ob0_types_rules.specs.Typing.{element_type, field_type, object_type};
 ghost use Rattle.ob0_values.specs.Values.{integer_shape};

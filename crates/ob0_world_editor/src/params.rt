@@ -1,6 +1,6 @@
 //! The messages that an editor writes (LSP 3.17), as types.
 ghost use Rattle.std.specs.Prelude.{◌≡◌, false, Some, None, OnOk, codes, map};
-ghost use Rattle.serde_json.specs.Data.{array, boolean, member, no_members, number, object, string, unsigned};
+ghost use Rattle.serde_json.specs.Data.{array, member, no_members, object};
 ghost use Rattle.serde_json.specs.View.{items_of};
 ghost use Rattle.ob0_rpc.specs.Appending.{AppendsEach};
 ghost use Rattle.ob0_rpc.specs.Shapes.{json_rpc, text as text_data};

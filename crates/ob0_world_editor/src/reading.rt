@@ -1,7 +1,6 @@
 //! The messages of a server, as the editor reads them.
-ghost use Rattle.std.specs.Prelude.{◌≡◌, IfOk, codes, option_map, option_and_then, map, true};
-ghost use Rattle.serde_json.specs.Data.{Items};
-ghost use Rattle.serde_json.specs.Find.{get, as_str, as_number, as_i64, as_array};
+ghost use Rattle.std.specs.Prelude.{◌≡◌, IfOk, codes, option_map, option_and_then, map};
+ghost use Rattle.serde_json.specs.Find.{get, as_number, as_i64, as_array};
 ghost use Rattle.serde_json.specs.View.{view, items_view};
 ghost use Rattle.ob0_rpc.specs.Members.{text_member};
 ghost use Rattle.ob0_world_editor.specs.Code.{message_of, ask_of, requested_of};

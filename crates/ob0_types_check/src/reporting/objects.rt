@@ -2,7 +2,7 @@
 
 ghost use Rattle.std.specs.Prelude.{◌≡◌, IfOk, Some, map, option_map, slice_set};
 ghost use Rattle.ob0_types_table.specs.declared.known.Object.TheVariants as kind;
-ghost use Rattle.ob0_types_check.specs.SupposedFacts.{known_object, with_standards};
+ghost use Rattle.ob0_types_check.specs.SupposedFacts.{table_object, with_standards};
 
 use crate::reporting::supposed::Meaning;
 use ob0_types_table::{Object, Standard};
@@ -21,7 +21,7 @@ pub(crate) fn objects_of(
     meanings: Vec<Option<Meaning>>,
 ) -> Result<Vec<Option<Object>>, AllocError>
     ensures { IfOk result
-        (λ objects. objects.items ≡ map (option_map known_object) meanings.items) }
+        (λ objects. objects.items ≡ map (option_map table_object) meanings.items) }
 {
     let mut objects = Vec::new(alloc);
     for meaning in meanings {
@@ -31,7 +31,7 @@ pub(crate) fn objects_of(
 }
 
 fn object_if_any(meaning: Option<Meaning>) -> Option<Object>
-    ensures { result ≡ option_map known_object meaning }
+    ensures { result ≡ option_map table_object meaning }
 {
     match meaning {
         None => None,
@@ -40,7 +40,7 @@ fn object_if_any(meaning: Option<Meaning>) -> Option<Object>
 }
 
 fn object_of(meaning: Meaning) -> Object
-    ensures { result ≡ known_object meaning }
+    ensures { result ≡ table_object meaning }
 {
     match meaning {
         Meaning::Named(of) => Object::Named(of),

@@ -1,10 +1,10 @@
 use Rattle.std.proofs.Common.{◌≡◌, ◌++◌, length, map, option_map}
 use Rattle.std.specs.Vec.Iter.{into_iter_items, into_iter_len}
-use Rattle.ob0_types_check.specs.SupposedFacts.{known_object}
+use Rattle.ob0_types_check.specs.SupposedFacts.{table_object}
 use Rattle.ob0_types_check.proofs.reporting.objects.objects_of.Given as goal
 
 -- the objects so far, before those of the meanings that are left
 abbrev pub invariant-loop-meaning : goal.invariant-loop-meaning
 invariant-loop-meaning l =
-    (map (option_map known_object) (into_iter_items l.initial.meaning-iterator) ≡ l.objects.items ++ map (option_map known_object) (into_iter_items l.meaning-iterator))
+    (map (option_map table_object) (into_iter_items l.initial.meaning-iterator) ≡ l.objects.items ++ map (option_map table_object) (into_iter_items l.meaning-iterator))
     × (into_iter_len l.meaning-iterator ≡ length (into_iter_items l.meaning-iterator))
