@@ -45,7 +45,8 @@ pub(crate) fn predeclared(alloc: Global) -> Result<Vec<Option<Meaning>>, AllocEr
 /// A procedure with one parameter, a number.
 fn one_parameter(alloc: Global, by_place: bool) -> Result<Meaning, AllocError>
     ensures { IfOk result
-        (λ m. known_meaning m ≡ a_procedure (record { by_place = by_place; of = type.Integer } ∷ [])) }
+        (λ m. known_meaning m
+        ≡ a_procedure (record { by_place = by_place; of = type.Integer } ∷ [])) }
 {
     let mut formals = Vec::new(alloc);
     formals.push(Formal {
