@@ -51,8 +51,8 @@ pub fn edits_leave_other_words()
           [],
         ) ∷ map (edit_at unit (chars s.text) s.tokens new) places
         → length (without_text s first last places new) ≤ max_text
-        → LeavesWords unit (chars s.text) edits (changed_words (without_words first last (at_each places ws)) 0
-        (words_of s)) }
+        → LeavesWords unit (chars s.text) edits
+        (changed_words (without_words first last (at_each places ws)) 0 (words_of s)) }
 {}
 
 /// Words with a name at some places are spelled by the tree with that name there.

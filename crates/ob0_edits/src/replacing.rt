@@ -72,7 +72,8 @@ pub fn edits_without<T: TextStore>(
         (λ edits. length (without_text tokens.now first last places.now new.now) ≤ max_text) }
     ensures words { (ws : List Word) → ReplacesName new.now ws
         → IfOk result (λ edits. LeavesWords (T.unit_of store.now) (T.content store.now) edits.items
-        (changed_words (without_words first last (at_each places.now ws)) 0 (words_of tokens.now))) }
+        (changed_words (without_words first last (at_each places.now ws)) 0
+        (words_of tokens.now))) }
     ensures too_long { IsErrOf result TooLong
         → max_text < length (without_text tokens.now first last places.now new.now) }
     ensures refusals { IfErr result (λ refusal. (refusal ≡ TooLong) ⊎ (refusal ≡ Memory)) }

@@ -41,8 +41,8 @@ pub record WritesName (r : Renaming) (tokens : List ℕ) (tree : Tree Name modul
 pub record Renames (r : Renaming) (d : ℕ) (edits : List Edit) : Type 0 where
   pub identifier : IsIdentifier r.new
   pub free : Free (named_tree r) d r.new
-  pub writes : WritesName r (tokens_to_rename (module_of r) d r.new) (renamed (named_tree r) d r.new)
-      edits
+  pub writes : WritesName r (tokens_to_rename (module_of r) d r.new)
+      (renamed (named_tree r) d r.new) edits
 
 -- Why the new name is refused to the declaration d: of several reasons the first in this order.
 abbrev pub IsRefusedTo : Renaming → ℕ → EditRefusal → Type 0

@@ -16,7 +16,7 @@ use Rattle.ob0_scope.specs.NamesAtPlaces.{name_on, refers}
 use Rattle.ob0_scope.specs.declared.naming.Named.{Named}
 use Rattle.ob0_types_rules.specs.Bindings.{declared_object}
 use Rattle.ob0_types.specs.RowsOfFields.{FieldRow}
-use Rattle.ob0_types_fields.specs.FieldTypes.{constructed, typed_field_in}
+use Rattle.ob0_types_fields.specs.FieldTypes.{constructed, typed_field_named}
 use Rattle.ob0_types_fields.specs.Identifiers.{declared_in_block, field_at, field_identifiers, field_on, first, record_tokens, tokens_among}
 use Rattle.ob0_refs.specs.Declarations.{object_hover}
 use Rattle.ob0_refs.specs.Hovers.{field_text, predeclared_text, type_text}
@@ -57,7 +57,7 @@ module _ (r q : Resolution) (e : Same r.module_read q.module_read) (fields : fie
       or_else (same_name_shown i)
       (option_map (row_shown (e.source i))
       (option_and_then (λ x. option_map (λ f. record { token = x.0; of = f })
-      (option_and_then (λ s. typed_field_in s (text_at (e.source i) x.0))
+      (option_and_then (λ s. typed_field_named s (text_at (e.source i) x.0))
       (get_or (constructed (record { object_for = λ token. option_and_then (declared_object (named (e.source i) (e.tree i))) (tables token i); written = λ token. text_at (e.source i) token }) None (e.tree i)) x.1 None)))
       (same_field i)))
 

@@ -164,8 +164,8 @@ abbrev pub relate_operands : {T : Type 0}
     → Reported (Operand T)
 relate_operands facts r a b = do
   t ← required_both facts (required_by_relation facts.types r a.of) a b
-  right (joint_operand (comparison_type facts.types t) (both (λ x y. given_value (relate r x y)) a.value b.value)
-      a b)
+  right (joint_operand (comparison_type facts.types t)
+      (both (λ x y. given_value (relate r x y)) a.value b.value) a b)
 
 -- a sign requires INTEGER, `~` for BOOLEAN
 abbrev pub sign_operand : {T : Type 0} → Facts T → Option Sign → Operand T → Reported (Operand T)

@@ -70,8 +70,8 @@ known_meaning (declared.Variable t) = a_variable t
 known_meaning (declared.Procedure fs) = a_procedure (map formal_of fs.items)
 
 -- what the name at a token means
-abbrev pub meaning_at : Supposed → ℕ → Option meaning.Meaning
-meaning_at s token =
+abbrev pub supposed_meaning_at : Supposed → ℕ → Option meaning.Meaning
+supposed_meaning_at s token =
     option_and_then (λ k. slice_index_or s.meanings.items k None)
     (ordinal_in s.resolved.now.ordinals token)
 
@@ -80,7 +80,7 @@ abbrev pub facts_in : Supposed → Bool → Facts TypeId
 facts_in s only_constants = record {
   source = s.resolved.now.module_read.source;
   types = known_types s.composites.items;
-  object_for = λ token. option_map known_meaning (meaning_at s token);
+  object_for = λ token. option_map known_meaning (supposed_meaning_at s token);
   only_constants = only_constants;
 }
 

@@ -130,7 +130,8 @@ fn add_unknown(
     declarations: &[usize],
 ) -> Result<(), AllocError>
     ensures { OnOk result (map (option_map known_meaning) meanings.new.items
-        ≡ map (option_map known_meaning) meanings.old.items ++ map (λ token. None) declarations.now) }
+        ≡ map (option_map known_meaning) meanings.old.items
+        ++ map (λ token. None) declarations.now) }
 {
     for _declaration in declarations {
         meanings.push(None)?;

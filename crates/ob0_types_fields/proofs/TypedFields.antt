@@ -23,7 +23,7 @@ use Rattle.ob0_types_rules.proofs.TypedElsewhere.{then_some}
 use Rattle.ob0_types_table.specs.FieldPlaces.{place_of_field}
 use Rattle.ob0_types_table.specs.declared.known.FieldOf.{FieldOf}
 use Rattle.ob0_values.specs.Values.{FieldShapes, Shape, array_shape, integer_shape, next_field_shape, no_field_shape, record_shape}
-use Rattle.ob0_types_fields.specs.FieldTypes.{FieldsTyped, TypedField, constructed, typed_field_in, first_listed, typed_field}
+use Rattle.ob0_types_fields.specs.FieldTypes.{FieldsTyped, TypedField, constructed, typed_field_named, first_listed, typed_field}
 use Rattle.ob0_types_fields.specs.Identifiers.{declared_fields, declared_in_block, declared_in_procedure, declared_in_procedures, declaring_field, field_identifiers, first, is_field, tokens_among}
 use Rattle.ob0_types_fields.specs.Owned.{marked_group, marked_groups, marked_sections, marked_type, marked_types, marked_variables}
 use Rattle.ob0_types_fields.proofs.DeclaredTypes.{BlockStands, Denotes, FormalsStand, ProcedureStands, ProceduresStand, TypesStand, VariablesStand, meaning, module-stands}
@@ -179,7 +179,7 @@ pub record Has (made : List (Option Shape)) (k ordinal : ℕ) (x : Name) : Type 
   pub place : ℕ
   pub is_at : ordinal ≡ k + place
   pub within : place < length made
-  pub typed : is_some (option_and_then (λ s. typed_field_in s x) (get_or made place None)) ≡ true
+  pub typed : is_some (option_and_then (λ s. typed_field_named s x) (get_or made place None)) ≡ true
 
 has-before : (made later : List (Option Shape)) (k ordinal : ℕ) (x : Name) → Has made k ordinal x → Has (made ++ later) k ordinal x
 has-before made later k ordinal x h =
@@ -187,7 +187,7 @@ has-before made later k ordinal x h =
       place = h.place;
       is_at = h.is_at;
       within = omega (arith, h.within, length-append made later);
-      typed = ap (λ t. is_some (option_and_then (λ s. typed_field_in s x) t)) (get_or_append_left made later None h.place h.within) ∙ h.typed;
+      typed = ap (λ t. is_some (option_and_then (λ s. typed_field_named s x) t)) (get_or_append_left made later None h.place h.within) ∙ h.typed;
     }
 
 has-later : (made later : List (Option Shape)) (k ordinal : ℕ) (x : Name) → Has later (k + length made) ordinal x → Has (made ++ later) k ordinal x
@@ -196,7 +196,7 @@ has-later made later k ordinal x h =
       place = length made + h.place;
       is_at = omega (arith, h.is_at);
       within = omega (arith, h.within, length-append made later);
-      typed = ap (λ t. is_some (option_and_then (λ s. typed_field_in s x) t)) (get_or-append-add made later h.place None) ∙ h.typed;
+      typed = ap (λ t. is_some (option_and_then (λ s. typed_field_named s x) t)) (get_or-append-add made later h.place None) ∙ h.typed;
     }
 
 has-next : (t : Option Shape) (made : List (Option Shape)) (k ordinal : ℕ) (x : Name) → Has made (suc k) ordinal x → Has (t ∷ made) k ordinal x
@@ -239,7 +239,7 @@ module _ (r : Resolution) where
 
   -- one of the record itself, or of a type within
   abbrev InRecord : Shape → ℕ → List (Option Shape) → ℕ → ℕ × ℕ → Type 0
-  InRecord s j made k x = ((x.1 ≡ j) × (is_some (typed_field_in s (text x.0)) ≡ true)) ⊎ HasField made k x
+  InRecord s j made k x = ((x.1 ≡ j) × (is_some (typed_field_named s (text x.0)) ≡ true)) ⊎ HasField made k x
 
   in-before : (s : Shape) (j : ℕ) (made later : List (Option Shape)) (k : ℕ) (x : ℕ × ℕ) → InRecord s j made k x → InRecord s j (made ++ later) k x
   in-before s j made later k x (inl own) = inl own
@@ -269,17 +269,17 @@ module _ (r : Resolution) where
 
   module _ (o : ℕ) (all : FieldShapes) where
     -- a name that has a type in a record is a field of it
-    name-typed : (x : Name) (s : Shape) → shape_of_field all x ≡ Some s → is_some (typed_field_in (record_shape o all) x) ≡ true
+    name-typed : (x : Name) (s : Shape) → shape_of_field all x ≡ Some s → is_some (typed_field_named (record_shape o all) x) ≡ true
     name-typed x s typed =
         let place = place-found all x s typed in
         λ i. is_some (option_and_then (λ f. option_map (of_field f) (typed i)) (option_map (place_in o) (place.1 i)))
 
-    own-names : (j k : ℕ) (made : List (Option Shape)) (xs : List ℕ) → AllByRecursion (λ x. is_some (typed_field_in (record_shape o all) (text x)) ≡ true) xs → AllByRecursion (InRecord (record_shape o all) j made k) (map (λ x. (x, j)) xs)
+    own-names : (j k : ℕ) (made : List (Option Shape)) (xs : List ℕ) → AllByRecursion (λ x. is_some (typed_field_named (record_shape o all) (text x)) ≡ true) xs → AllByRecursion (InRecord (record_shape o all) j made k) (map (λ x. (x, j)) xs)
     own-names j k made [] h = tt
     own-names j k made (x ∷ xs) h = (inl (refl, h.0), own-names j k made xs h.1)
 
     further-have : (ns : Tree ℕ (items further_name)) (before : List Name) (s : Shape) → ((y : Name) → is_among y (before ++ further_names (mapped text value ns)) ≡ true → shape_of_field all y ≡ Some s)
-        → AllByRecursion (λ x. is_some (typed_field_in (record_shape o all) (text x)) ≡ true) (further_names ns)
+        → AllByRecursion (λ x. is_some (typed_field_named (record_shape o all) (text x)) ≡ true) (further_names ns)
     further-have end before s has = tt
     further-have (more (then_name x) rest) before s has = (
       name-typed (text x) s (has (text x) (among-right (text x) before (text x ∷ further_names (mapped text value rest)) (ap (λ b. b || is_among (text x) (further_names (mapped text value rest))) (itself (text x))))),
@@ -287,7 +287,7 @@ module _ (r : Resolution) where
     )
 
     names-have : (ns : Tree ℕ names) (s : Shape) → ((y : Name) → is_among y (names_listed (mapped text value ns)) ≡ true → shape_of_field all y ≡ Some s)
-        → AllByRecursion (λ x. is_some (typed_field_in (record_shape o all) (text x)) ≡ true) (names_listed ns)
+        → AllByRecursion (λ x. is_some (typed_field_named (record_shape o all) (text x)) ≡ true) (names_listed ns)
     names-have (listed x rest) s has = (
       name-typed (text x) s (has (text x) (ap (λ b. b || is_among (text x) (further_names (mapped text value rest))) (itself (text x)))),
       further-have rest (text x ∷ []) s has,
@@ -485,7 +485,7 @@ module _ (r : Resolution) where
   has-typed : (x : ℕ × ℕ) → Has made_in_module 0 x.1 (text x.0) → is_some (typed_field r x) ≡ true
   has-typed x h =
       let place : x.1 ≡ h.place = omega (arith, h.is_at) in
-      ap (λ k. is_some (option_and_then (λ s. typed_field_in s (text x.0)) (get_or made_in_module k None))) place ∙ h.typed
+      ap (λ k. is_some (option_and_then (λ s. typed_field_named s (text x.0)) (get_or made_in_module k None))) place ∙ h.typed
 
 pub fields_typed-holds : FieldsTyped
 fields_typed-holds r is well =

@@ -70,8 +70,8 @@ pub record TypedField : Type 0 where
   pub shape : Shape
 
 -- the field of a name that a type has
-abbrev pub typed_field_in : Shape → Name → Option TypedField
-typed_field_in s x =
+abbrev pub typed_field_named : Shape → Name → Option TypedField
+typed_field_named s x =
     option_and_then (λ f. option_map (λ t. record { field = f; shape = t }) (field_type s x))
     (field_selected s x)
 
@@ -81,7 +81,7 @@ abbrev pub typed_field_by : (ℕ → Option (Object Shape Signature))
     → ℕ × ℕ
     → Option TypedField
 typed_field_by objects r x =
-    option_and_then (λ s. typed_field_in s (text_at r.module_read.source x.0))
+    option_and_then (λ s. typed_field_named s (text_at r.module_read.source x.0))
     (constructed_by objects r x.1)
 
 -- the field that an identifier of a module is of: its token, and the ordinal of its record

@@ -95,7 +95,8 @@ struct ConstructorWalk<'a, 't> {
 impl<'a, 't> ConstructorWalk<'a, 't> {
     /// The type of what the name at a token declares.
     fn declared(&self, token: usize) -> Option<TypeId>
-        ensures { type_in self.now result ≡ type_declared ((meanings_in self.now).object_for token) }
+        ensures { type_in self.now result
+            ≡ type_declared ((meanings_in self.now).object_for token) }
     {
         let ordinal = self.resolved.ordinal_at(token)?;
         self.known.declared_type(ordinal)

@@ -119,7 +119,8 @@ fn fields_beside<'a, 't>(
     declared: &[(usize, usize)],
 ) -> Result<FieldTokens, AllocError>
     ensures { IfOk result (λ found. found.items
-        ≡ if_declared declared.now (marked_module (token_objects (declared_in known.now) resolved.now)
+        ≡ if_declared declared.now
+        (marked_module (token_objects (declared_in known.now) resolved.now)
         (tree_of resolved.now.module_read))) }
 {
     if declared.is_empty() {

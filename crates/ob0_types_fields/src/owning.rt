@@ -55,7 +55,8 @@ impl<'a, 't> Owning<'a, 't> {
     ) -> Result<Option<TypeId>, AllocError>
         ensures found { IfOk result (λ _. found.new.items
             ≡ found.old.items
-            ++ marked_field name (owner (option_map (type_shape (shapes_of self.now.known.now)) base)
+            ++ marked_field name
+            (owner (option_map (type_shape (shapes_of self.now.known.now)) base)
             ((meaning_in self.now).written name))) }
         ensures following { IfOk result (λ t.
             option_map (type_shape (shapes_of self.now.known.now)) t
@@ -87,7 +88,8 @@ impl<'a, 't> Owning<'a, 't> {
             ((meaning_in self.now).written name))) }
         ensures following { IfOk result (λ t.
             option_map (type_shape (shapes_of self.now.known.now)) t
-            ≡ field_type (record_shape_in self.now shape.now) ((meaning_in self.now).written name)) }
+            ≡ field_type (record_shape_in self.now shape.now)
+            ((meaning_in self.now).written name)) }
     {
         match shape.fields.find(text_at(self.resolved.tokens(), name)) {
             None => Ok(None),
@@ -281,7 +283,8 @@ impl<'a, 't> Owning<'a, 't> {
     #[cycle(statements)]
     fn branches(&self, found: &mut FieldTokens, i: &If) -> Result<(), AllocError>
         ensures { IfOk result
-            (λ _. found.new.items ≡ found.old.items ++ marked_tree (meaning_in self.now) (if_of i.now)) }
+            (λ _. found.new.items
+            ≡ found.old.items ++ marked_tree (meaning_in self.now) (if_of i.now)) }
     {
         self.expression(found, &i.condition)?;
         self.sequence(found, &i.then)?;

@@ -19,7 +19,8 @@ first_from k (f ∷ fs) x =
 -- the type of the first field of a name
 abbrev pub first_field_type : List Field → Name → Option TypeId
 first_field_type [] x = None
-first_field_type (f ∷ fs) x = if same_name x (string_bytes f.name) then Some f.of else first_field_type fs x
+first_field_type (f ∷ fs) x =
+    if same_name x (string_bytes f.name) then Some f.of else first_field_type fs x
 
 -- a map has the first field of each name among fields from a place on
 pub record IsIndexFrom

@@ -245,7 +245,8 @@ impl Editor {
     fn rewritten(&self, k: u64, edits: &[Edit]) -> Result<Option<Rewritten>, AllocError>
         requires { AreFew self.now }
         ensures { IfOk result (λ rewritten. IsRewritten self.now
-            (applies_requested self.now (replacements edits.now) (request_numbered self.now.requested k))
+            (applies_requested self.now (replacements edits.now)
+            (request_numbered self.now.requested k))
             rewritten) }
     {
         let Some(requested) = numbered_ask(self.requested.as_slice(), k) else {

@@ -49,7 +49,8 @@ later_of None this = this
 -- the last publication for a uri
 abbrev pub last_publication : List ℕ → List Made → Option Made
 last_publication uri [] = None
-last_publication uri (m ∷ ms) = later_of (last_publication uri ms) (if bytes_eq m.uri uri then Some m else None)
+last_publication uri (m ∷ ms) =
+    later_of (last_publication uri ms) (if bytes_eq m.uri uri then Some m else None)
 
 -- there is one, and it was made for this version and this text
 abbrev pub IsMadeFor : ℤ → List ℕ → Option Made → Type 0

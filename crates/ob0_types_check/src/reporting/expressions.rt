@@ -136,7 +136,8 @@ impl Operand {
     /// The operation on this and what is to the right.
     fn with(self, right: Operand, of: TypeId, value: Option<Scalar>) -> Operand
         ensures { operand_of result
-            ≡ joint_operand of (option_map scalar_value value) (operand_of self) (operand_of right) }
+            ≡ joint_operand of (option_map scalar_value value) (operand_of self)
+            (operand_of right) }
     {
         Operand {
             of,

@@ -6,7 +6,7 @@ ghost use Rattle.ob0_tree.specs.Places.{text_at};
 ghost use Rattle.ob0_types_check.specs.Known.{a_procedure};
 ghost use Rattle.ob0_types_check.specs.Operations.{ReportsAfter, fault_between, token_after};
 ghost use Rattle.ob0_types_check.specs.SoFar.{define, is_within, make, predeclared_meanings, size_at, type_with, with_declared};
-ghost use Rattle.ob0_types_check.specs.SupposedFacts.{counted, meaning_at, elements_of, field_of, made_type_of, known_meaning, size_of, so_far_in};
+ghost use Rattle.ob0_types_check.specs.SupposedFacts.{counted, supposed_meaning_at, elements_of, field_of, made_type_of, known_meaning, size_of, so_far_in};
 ghost use Rattle.ob0_types_check.specs.WrittenTypeFaults.{array_size, beside, ordinal_here, record_size};
 
 use ob0_scan::{Code, Fault, Span};
@@ -45,7 +45,8 @@ pub(crate) fn predeclared(alloc: Global) -> Result<Vec<Option<Meaning>>, AllocEr
 /// A procedure with one parameter, a number.
 fn one_parameter(alloc: Global, by_place: bool) -> Result<Meaning, AllocError>
     ensures { IfOk result
-        (λ m. known_meaning m ≡ a_procedure (record { by_place = by_place; of = type.Integer } ∷ [])) }
+        (λ m. known_meaning m
+        ≡ a_procedure (record { by_place = by_place; of = type.Integer } ∷ [])) }
 {
     let mut formals = Vec::new(alloc);
     formals.push(Formal {
@@ -193,7 +194,7 @@ impl<'t> Supposed<'t> {
 
     /// What a name means. None where nothing binds it.
     pub(crate) fn meaning(&self, token: usize) -> Option<&Meaning>
-        ensures { option_map (λ m. m.now) result ≡ meaning_at self.now token }
+        ensures { option_map (λ m. m.now) result ≡ supposed_meaning_at self.now token }
     {
         match self.resolved.ordinal_at(token) {
             None => None,
