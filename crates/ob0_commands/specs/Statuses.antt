@@ -1,6 +1,6 @@
 -- The statuses with which a command on a file ends.
 -- Rule: docs/PROTOCOL.md, The program 8.
-use Rattle.std.specs.Prelude.{◌≡◌, ◌≤◌, ◌⊎◌, ℕ, List, Option, Bool, true, length}
+use Rattle.std.specs.Prelude.{◌≡◌, ◌≢◌, ◌≤◌, ◌⊎◌, ℕ, List, Option, Bool, true, length}
 use Rattle.std.specs.Str.{IsUtf8}
 use Rattle.ob0_scan.specs.Scanned.{max_text}
 use Rattle.ob0_analysis.specs.Diagnosed.{IsWellTypedModule}
@@ -28,11 +28,12 @@ HasNoText file = (length file ≤ max_text) × ¬ (IsUtf8 file)
 
 -- why nothing is reported of a file: it has no text, or what is wrong with it can't be printed
 abbrev pub StopsPrintingFaults : List ℕ → FileFault → Type 0
-StopsPrintingFaults file f = ((f ≡ fault.Utf8) × HasNoText file) ⊎ StopsPrinting f
+StopsPrintingFaults file f =
+    ((f ≡ fault.Utf8) × HasNoText file) ⊎ (StopsPrinting f × ¬ (HasNoText file))
 
--- why reading fails: for a reason, for which there is one name, or an allocation failed
-abbrev pub StopsFor : FileFault → Type 0 → FileFault → Type 0
-StopsFor name reason f = ((f ≡ name) × reason) ⊎ (f ≡ fault.Memory)
+-- why reading fails: for a reason, for which there is one name, or an allocation failed and something else holds
+abbrev pub StopsFor : (name : FileFault) → (reason otherwise : Type 0) → FileFault → Type 0
+StopsFor name reason otherwise f = ((f ≡ name) × reason) ⊎ ((f ≡ fault.Memory) × otherwise)
 
 -- 0 for a run that reaches the end of the module's body, else 1
 abbrev pub status_at : End → ℕ
@@ -52,15 +53,20 @@ IsStatus status = (status ≤ 1) ⊎ ((status ≡ 4) ⊎ (status ≡ 5))
 abbrev pub CanNotReport : List ℕ → Bool → Type 0
 CanNotReport file failed = HasNoText file ⊎ (failed ≡ true)
 
--- the output has failed where the fault says so
-abbrev pub IsOfOutput : Bool → FileFault → Type 0
-IsOfOutput failed f = f ≡ fault.Write → failed ≡ true
+-- the output has failed where the fault says so, and otherwise not since before
+abbrev pub IsOfOutput : (before after : Bool) → FileFault → Type 0
+IsOfOutput before after f =
+    (f ≡ fault.Write → after ≡ true) × (f ≢ fault.Write → after ≡ before)
 
 -- ---- runs
 
 -- a well-typed module has no numbers to run on
 abbrev pub HasNoInput : List ℕ → Option (List ℕ) → (input_failed : Bool) → Type 0
 HasNoInput file given input_failed = IsWellTypedModule file × HasNoNumbers given input_failed
+
+-- the input has failed since before only where the fault says so
+abbrev pub IsOfInput : (before after : Bool) → FileFault → Type 0
+IsOfInput before after f = f ≢ fault.Input → after ≡ before
 
 -- why a run isn't reported: there is no input for it, or nothing can be reported of the file
 abbrev pub StopsRunning : List ℕ → Option (List ℕ) → (input_failed : Bool) → FileFault → Type 0

@@ -1,6 +1,6 @@
 //! Printing what is wrong with a file.
 
-ghost use Rattle.std.specs.Prelude.{◌≡◌, ◌<◌, ◌≤◌, ◌++◌, [], true, IfOk, IfNone, MatchOption, OnOk, IfErr, codes, length, map, string_bytes};
+ghost use Rattle.std.specs.Prelude.{◌≡◌, ◌≢◌, ◌<◌, ◌≤◌, ◌++◌, [], true, IfOk, IfNone, MatchOption, OnOk, IfErr, codes, length, map, string_bytes};
 ghost use Rattle.std.specs.Io.KnownBytes.{Appends};
 ghost use Rattle.std.specs.Mem.{manually_drop_value};
 ghost use Rattle.ob0_commands.specs.Printed.{PrintsFaults, complaint_lines, line_at, lines_at};
@@ -27,8 +27,8 @@ pub fn check_text<O: Output, E: Output>(alloc: Global, file: &[u8], out: &mut O,
         (O.contents out.new) }
     ensures flushed { result ≡ 1 → O.is_flushed out.new ≡ true }
     ensures statuses { IsStatus result }
-    ensures readable { result ≤ 1 → ¬ HasNoText file.now }
-    ensures unfailed { result ≤ 1 → O.has_failed out.new ≡ O.has_failed out.old }
+    ensures readable { result ≢ 4 → ¬ HasNoText file.now }
+    ensures unfailed { result ≢ 4 → O.has_failed out.new ≡ O.has_failed out.old }
     ensures unreported { result ≡ 4 → CanNotReport file.now (O.has_failed out.new) }
 {
     match check(alloc, file, out) {
@@ -52,7 +52,8 @@ pub fn check<'f, O: Output>(
     ensures readable { OnOk result (¬ HasNoText file.entry.now) }
     ensures unfailed { OnOk result (O.has_failed out.new ≡ O.has_failed out.old) }
     ensures fault { IfErr result (StopsPrintingFaults file.entry.now) }
-    ensures failed { IfErr result (IsOfOutput (O.has_failed out.new)) }
+    ensures failed { IfErr result
+        (IsOfOutput (O.has_failed out.old) (O.has_failed out.new)) }
 {
     let Some(text) = text_of(file, out)? else {
         return Ok(None);
@@ -91,7 +92,8 @@ pub fn text_of<'f, O: Output>(file: &'f [u8], out: &mut O) -> Result<Option<&'f 
     ensures readable { OnOk result (¬ HasNoText file.entry.now) }
     ensures unfailed { OnOk result (O.has_failed out.new ≡ O.has_failed out.old) }
     ensures fault { IfErr result (StopsPrintingFaults file.entry.now) }
-    ensures failed { IfErr result (IsOfOutput (O.has_failed out.new)) }
+    ensures failed { IfErr result
+        (IsOfOutput (O.has_failed out.old) (O.has_failed out.new)) }
 {
     if file.len() >= MAX_FILE {
         print(out, "0:0: TooLong: text too long\n")?;
@@ -115,7 +117,8 @@ pub fn print_diagnoses<O: Output>(
     ensures flushed { OnOk result (O.is_flushed out.new ≡ true) }
     ensures unfailed { OnOk result (O.has_failed out.new ≡ O.has_failed out.old) }
     ensures fault { IfErr result StopsPrinting }
-    ensures failed { IfErr result (IsOfOutput (O.has_failed out.new)) }
+    ensures failed { IfErr result
+        (IsOfOutput (O.has_failed out.old) (O.has_failed out.new)) }
 {
     print(out, lines_of(alloc, text, reported)?.as_str())
 }

@@ -18,7 +18,8 @@ pub fn read_numbers<R: Input>(alloc: Global, input: &mut R) -> Result<Vec<i32>, 
         (λ numbers. IfSome (R.remaining input.old) (IsInputOf numbers.items)) }
     ensures unfailed { OnOk result (R.has_failed input.new ≡ R.has_failed input.old) }
     ensures fault { IfErr result
-        (StopsFor faults.Input (HasNoNumbers (R.remaining input.old) (R.has_failed input.new))) }
+        (StopsFor faults.Input (HasNoNumbers (R.remaining input.old) (R.has_failed input.new))
+        (R.has_failed input.new ≡ R.has_failed input.old)) }
 {
     let text = read_input(alloc, input)?;
     match numbers_in(alloc, text.as_slice())? {

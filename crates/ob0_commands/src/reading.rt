@@ -87,7 +87,8 @@ pub fn read_file<R: Input>(alloc: Global, file: &mut R) -> Result<Vec<u8>, FileF
     ensures end { IfOk result
         (λ bytes. length bytes.items < 1048577 → IsAtEnd (R.remaining file.new)) }
     ensures unfailed { OnOk result (R.has_failed file.new ≡ R.has_failed file.old) }
-    ensures fault { IfErr result (StopsFor faults.File (R.has_failed file.new ≡ true)) }
+    ensures fault { IfErr result (StopsFor faults.File (R.has_failed file.new ≡ true)
+        (R.has_failed file.new ≡ R.has_failed file.old)) }
 {
     read_up_to(alloc, file, MAX_FILE, FileFault::File)
 }
@@ -100,7 +101,8 @@ pub fn read_input<R: Input>(alloc: Global, input: &mut R) -> Result<Vec<u8>, Fil
     ensures end { IfOk result (λ bytes. IsAtEnd (R.remaining input.new)) }
     ensures unfailed { OnOk result (R.has_failed input.new ≡ R.has_failed input.old) }
     ensures fault { IfErr result (StopsFor faults.Input ((R.has_failed input.new ≡ true)
-        ⊎ IfSome (R.remaining input.old) (λ text. 16777216 < length text))) }
+        ⊎ IfSome (R.remaining input.old) (λ text. 16777216 < length text))
+        (R.has_failed input.new ≡ R.has_failed input.old)) }
 {
     let bytes = read_up_to(alloc, input, MAX_INPUT + 1, FileFault::Input)?;
     if bytes.len() > MAX_INPUT {
@@ -122,7 +124,8 @@ fn read_up_to<R: Input>(
     ensures end { IfOk result
         (λ bytes. length bytes.items < most → IsAtEnd (R.remaining reader.new)) }
     ensures unfailed { OnOk result (R.has_failed reader.new ≡ R.has_failed reader.old) }
-    ensures stops { IfErr result (StopsFor fault (R.has_failed reader.new ≡ true)) }
+    ensures stops { IfErr result (StopsFor fault (R.has_failed reader.new ≡ true)
+        (R.has_failed reader.new ≡ R.has_failed reader.old)) }
 {
     let mut bytes = Vec::new(alloc);
     let mut piece = [0u8; PIECE_SIZE];

@@ -1,6 +1,6 @@
 //! Another name in a file's text.
 
-ghost use Rattle.std.specs.Prelude.{◌≡◌, ◌≤◌, true, IfOk, IfErr, OnOk};
+ghost use Rattle.std.specs.Prelude.{◌≡◌, ◌≢◌, ◌≤◌, true, IfOk, IfErr, OnOk};
 ghost use Rattle.ob0_commands.specs.Outputs.{IsHandedOn};
 ghost use Rattle.ob0_commands.specs.Renamed.{IsRefusal, PrintsEdited, PrintsNoName, PrintsRenamed};
 ghost use Rattle.ob0_commands.specs.Statuses.{CanNotReport, HasNoText, IsOfOutput, IsStatus, StopsPrinting, StopsPrintingFaults};
@@ -31,8 +31,8 @@ pub fn rename_text<O: Output, E: Output>(
     ensures flushed { result ≡ 0 → O.is_flushed out.new ≡ true }
     ensures handed_on { result ≡ 1 → IsHandedOn (O.is_flushed out.new) out.old out.new }
     ensures statuses { IsStatus result }
-    ensures readable { result ≤ 1 → ¬ HasNoText file.now }
-    ensures unfailed { result ≤ 1 → O.has_failed out.new ≡ O.has_failed out.old }
+    ensures readable { result ≢ 4 → ¬ HasNoText file.now }
+    ensures unfailed { result ≢ 4 → O.has_failed out.new ≡ O.has_failed out.old }
     ensures unreported { result ≡ 4 → CanNotReport file.now (O.has_failed out.new) }
 {
     match rename_file(alloc, file, position, new, out, err) {
@@ -60,7 +60,8 @@ fn rename_file<O: Output, E: Output>(
     ensures readable { OnOk result (¬ HasNoText file.now) }
     ensures unfailed { OnOk result (O.has_failed out.new ≡ O.has_failed out.old) }
     ensures fault { IfErr result (StopsPrintingFaults file.now) }
-    ensures failed { IfErr result (IsOfOutput (O.has_failed out.new)) }
+    ensures failed { IfErr result
+        (IsOfOutput (O.has_failed out.old) (O.has_failed out.new)) }
 {
     let Some(text) = text_of(file, out)? else {
         return Ok(1);
@@ -86,7 +87,8 @@ fn rename_in_text<O: Output, E: Output>(
     ensures ends { IfOk result (λ status. status ≤ 1) }
     ensures unfailed { OnOk result (O.has_failed out.new ≡ O.has_failed out.old) }
     ensures fault { IfErr result StopsPrinting }
-    ensures failed { IfErr result (IsOfOutput (O.has_failed out.new)) }
+    ensures failed { IfErr result
+        (IsOfOutput (O.has_failed out.old) (O.has_failed out.new)) }
 {
     let store = Lines::from_str(alloc, text)?;
     let analysis = analyse(alloc, text)?;
@@ -117,7 +119,8 @@ pub fn print_edited<T: TextStore, O: Output, E: Output>(
     ensures ends { IfOk result (λ status. status ≤ 1) }
     ensures unfailed { OnOk result (O.has_failed out.new ≡ O.has_failed out.old) }
     ensures fault { IfErr result StopsPrinting }
-    ensures failed { IfErr result (IsOfOutput (O.has_failed out.new)) }
+    ensures failed { IfErr result
+        (IsOfOutput (O.has_failed out.old) (O.has_failed out.new)) }
 {
     match edits {
         Ok(edits) => match patch(alloc, store, edits.as_slice()) {

@@ -1,13 +1,13 @@
 //! Running a file's module: its input, and what a run outputs.
 
-ghost use Rattle.std.specs.Prelude.{◌≡◌, ◌≤◌, ◌++◌, true, IfOk, IfErr, IfNone, MatchOption, OnOk, option_map, string_bytes};
+ghost use Rattle.std.specs.Prelude.{◌≡◌, ◌≢◌, ◌≤◌, ◌++◌, true, IfOk, IfErr, IfNone, MatchOption, MatchResult, OnOk, option_map, string_bytes};
 ghost use Rattle.std.specs.Io.KnownBytes.{Appends};
 ghost use Rattle.ob0_tree.specs.Parsed.{named_tree_of};
 ghost use Rattle.ob0_run.specs.Outcomes.{run_of};
 ghost use Rattle.ob0_run.specs.Programs as lowered;
 ghost use Rattle.ob0_run.specs.States.{item_of, items_out};
 ghost use Rattle.ob0_commands.specs.Printed.{IsWrittenBut, PrintsFaults, end_line, output_text, written_text};
-ghost use Rattle.ob0_commands.specs.Statuses.{CanNotRun, HasNoText, IsOfOutput, IsStatus, StopsPrinting, StopsRunning, status_at};
+ghost use Rattle.ob0_commands.specs.Statuses.{CanNotRun, HasNoText, IsOfInput, IsOfOutput, IsStatus, StopsPrinting, StopsRunning, status_at};
 ghost use Rattle.ob0_commands.specs.TextRuns.{IsLoweredTo, PrintsDone, PrintsOther, TextRunsAs};
 
 use crate::checking::{print_diagnoses, text_of};
@@ -56,9 +56,9 @@ pub fn run_text<R: Input, O: Output, E: Output>(
         (O.contents out.new) }
     ensures flushed { result ≤ 1 → O.is_flushed out.new ≡ true }
     ensures statuses { IsStatus result }
-    ensures readable { result ≤ 1 → ¬ HasNoText file.now }
-    ensures read { result ≤ 1 → R.has_failed input.new ≡ R.has_failed input.old }
-    ensures unfailed { result ≤ 1 → O.has_failed out.new ≡ O.has_failed out.old }
+    ensures readable { result ≢ 4 → ¬ HasNoText file.now }
+    ensures read { result ≢ 4 → R.has_failed input.new ≡ R.has_failed input.old }
+    ensures unfailed { result ≢ 4 → O.has_failed out.new ≡ O.has_failed out.old }
     ensures unreported { result ≡ 4 → CanNotRun file.now (R.remaining input.old)
         (R.has_failed input.new) (O.has_failed out.new) }
 {
@@ -86,11 +86,13 @@ fn run_file<R: Input, O: Output, E: Output>(
     ensures flushed { OnOk result (O.is_flushed out.new ≡ true) }
     ensures ends { IfOk result (λ status. status ≤ 1) }
     ensures readable { OnOk result (¬ HasNoText file.now) }
-    ensures read { OnOk result (R.has_failed input.new ≡ R.has_failed input.old) }
+    ensures read { MatchResult result (λ _. R.has_failed input.new ≡ R.has_failed input.old)
+        (IsOfInput (R.has_failed input.old) (R.has_failed input.new)) }
     ensures unfailed { OnOk result (O.has_failed out.new ≡ O.has_failed out.old) }
     ensures fault { IfErr result
         (StopsRunning file.now (R.remaining input.old) (R.has_failed input.new)) }
-    ensures failed { IfErr result (IsOfOutput (O.has_failed out.new)) }
+    ensures failed { IfErr result
+        (IsOfOutput (O.has_failed out.old) (O.has_failed out.new)) }
 {
     let Some(text) = text_of(file, out)? else {
         return Ok(1);
@@ -115,7 +117,8 @@ fn lower_text<O: Output>(
     ensures flushed { IfOk result (λ found. IfNone found (O.is_flushed out.new ≡ true)) }
     ensures unfailed { OnOk result (O.has_failed out.new ≡ O.has_failed out.old) }
     ensures fault { IfErr result StopsPrinting }
-    ensures failed { IfErr result (IsOfOutput (O.has_failed out.new)) }
+    ensures failed { IfErr result
+        (IsOfOutput (O.has_failed out.old) (O.has_failed out.new)) }
 {
     let analysis = Analysis::of(alloc, text)?;
     match ask(alloc, &analysis, &LoweringQuestion {})? {
@@ -174,7 +177,8 @@ pub fn print_outcome<O: Output, E: Output>(
     ensures ends { IfOk result (λ status. status ≤ 1) }
     ensures unfailed { OnOk result (O.has_failed out.new ≡ O.has_failed out.old) }
     ensures fault { IfErr result StopsPrinting }
-    ensures failed { IfErr result (IsOfOutput (O.has_failed out.new)) }
+    ensures failed { IfErr result
+        (IsOfOutput (O.has_failed out.old) (O.has_failed out.new)) }
 {
     print_items(alloc, output, out)?;
     match line_of(end) {
@@ -199,7 +203,8 @@ fn print_items<O: Output>(alloc: Global, output: &[Item], out: &mut O) -> Result
     ensures flushed { OnOk result (O.is_flushed out.new ≡ true) }
     ensures unfailed { OnOk result (O.has_failed out.new ≡ O.has_failed out.old) }
     ensures fault { IfErr result StopsPrinting }
-    ensures failed { IfErr result (IsOfOutput (O.has_failed out.new)) }
+    ensures failed { IfErr result
+        (IsOfOutput (O.has_failed out.old) (O.has_failed out.new)) }
 {
     let mut text = String::with_capacity(alloc, PIECE_SIZE + LONGEST_ITEM)?;
     let mut digits = Buffer::new();
@@ -220,7 +225,8 @@ fn append_item<O: Output>(
         (string_bytes text.old ++ written_text (item_of item)) (string_bytes text.new)) }
     ensures unfailed { OnOk result (O.has_failed out.new ≡ O.has_failed out.old) }
     ensures fault { IfErr result StopsPrinting }
-    ensures failed { IfErr result (IsOfOutput (O.has_failed out.new)) }
+    ensures failed { IfErr result
+        (IsOfOutput (O.has_failed out.old) (O.has_failed out.new)) }
 {
     push_item(text, digits, item)?;
     if text.len() < PIECE_SIZE {

@@ -1,4 +1,4 @@
-use Rattle.std.proofs.Common.{◌≡◌, false, nat_eq, length, rules, ap}
+use Rattle.std.proofs.Common.{◌≡◌, ◌∙◌, false, nat_eq, length, rules, ap}
 use Rattle.ob0_commands.proofs.Wrong.{reports_wrong}
 use Rattle.ob0_commands.proofs.checking.check.Goals as goal
 
@@ -10,6 +10,8 @@ returns g c =
       found = reports_wrong c.in-Some.text.now c.args.file.now c.in_ok-reported.reported.items c.as_slice.result.now (g.O.Write.contents c.args.out.now) _ (g.O.Write.contents c.print_diagnoses.new.out)
           here.0 (ap g.O.Write.contents here.1) c.as_slice.ensures.value c.in_ok-reported.ensures some c.in_ok-print_diagnoses.ensures.printed;
       flushed = c.in_ok-print_diagnoses.ensures.flushed;
+      readable = c.in_ok-text.ensures.readable;
+      unfailed = c.in_ok-print_diagnoses.ensures.unfailed ∙ c.in_ok-text.ensures.unfailed;
       fault = tt;
       failed = tt;
     }

@@ -9,6 +9,7 @@ returns g c =
       refused = λ one. (subst IsRefusal (sym c.in-Err.is) tt, refl);
       flushed = λ no. absurd (omega (arith, no));
       ends = omega arith;
+      unfailed = refl;
       fault = tt;
       failed = tt;
     }
