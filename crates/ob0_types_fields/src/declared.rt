@@ -1,6 +1,6 @@
 //! The walk over types that finds the fields that records declare.
 
-ghost use Rattle.std.specs.Prelude.{◌≡◌, ◌++◌, ◌+◌, IfOk, length, map};
+ghost use Rattle.std.specs.Prelude.{◌≡◌, ◌≤◌, ◌++◌, ◌+◌, ◌^◌, IfOk, MatchResult, map};
 ghost use Rattle.ob0_scope_rules.specs.Parts.{formal_sections, names_listed, section_types, section_variables};
 ghost use Rattle.ob0_tree.specs.View.{fields_of, formals_of, names_of, record_in, type_of, types_of, variables_of};
 ghost use Rattle.ob0_types_rules.specs.Declarations.{formals_constructors, types_constructors, variables_constructors};
@@ -24,24 +24,38 @@ fn names(found: &mut Vec<(usize, usize)>, owner: usize, listed: &Names) -> Resul
     Ok(())
 }
 
-/// Notes the fields that a type's text declares. `made` has the ordinals of the ARRAY and RECORD before it: that of the
-/// next is their number.
+/// The ordinal of the next ARRAY or RECORD, which is how many come before it; then it is counted too. An error exactly
+/// where their number has no 64 bits, which no text is long enough for.
+fn next_ordinal(made: &mut usize) -> Result<usize, AllocError>
+    ensures { MatchResult result (λ n. (n ≡ made.old) × (made.new ≡ made.old + 1))
+        (λ _. 2 ^ 64 ≤ made.old + 1) }
+{
+    let ordinal = *made;
+    match ordinal.checked_add(1) {
+        Some(more) => {
+            *made = more;
+            Ok(ordinal)
+        }
+        None => Err(AllocError),
+    }
+}
+
+/// Notes the fields that a type's text declares. `made` is the number of ARRAY and RECORD before it.
 #[cycle(types)]
 pub(crate) fn written_type(
     found: &mut Vec<(usize, usize)>,
-    made: &mut Vec<usize>,
+    made: &mut usize,
     t: &WrittenType,
 ) -> Result<(), AllocError>
     ensures found { IfOk result (λ _. found.new.items
-        ≡ found.old.items ++ marked_type (length made.old.items) (type_of t.now)) }
+        ≡ found.old.items ++ marked_type made.old (type_of t.now)) }
     ensures made { IfOk result
-        (λ _. length made.new.items ≡ length made.old.items + constructors (type_of t.now)) }
+        (λ _. made.new ≡ made.old + constructors (type_of t.now)) }
 {
     match t {
         WrittenType::Named(_) => Ok(()),
         WrittenType::Array(a) => {
-            let ordinal = made.len();
-            made.push(ordinal)?;
+            let _array = next_ordinal(made)?;
             written_type(found, made, &a.element)
         }
         WrittenType::Record(r) => record(found, made, r),
@@ -51,16 +65,15 @@ pub(crate) fn written_type(
 #[cycle(types)]
 fn record(
     found: &mut Vec<(usize, usize)>,
-    made: &mut Vec<usize>,
+    made: &mut usize,
     r: &RecordType,
 ) -> Result<(), AllocError>
     ensures found { IfOk result (λ _. found.new.items
-        ≡ found.old.items ++ marked_type (length made.old.items) (record_in r.now)) }
+        ≡ found.old.items ++ marked_type made.old (record_in r.now)) }
     ensures made { IfOk result
-        (λ _. length made.new.items ≡ length made.old.items + constructors (record_in r.now)) }
+        (λ _. made.new ≡ made.old + constructors (record_in r.now)) }
 {
-    let ordinal = made.len();
-    made.push(ordinal)?;
+    let ordinal = next_ordinal(made)?;
     for group in &r.groups {
         fields(found, made, ordinal, group)?;
     }
@@ -70,14 +83,14 @@ fn record(
 #[cycle(types)]
 fn fields(
     found: &mut Vec<(usize, usize)>,
-    made: &mut Vec<usize>,
+    made: &mut usize,
     owner: usize,
     f: &Fields,
 ) -> Result<(), AllocError>
     ensures found { IfOk result (λ _. found.new.items
-        ≡ found.old.items ++ marked_group owner (length made.old.items) (fields_of f.now)) }
-    ensures made { IfOk result (λ _. length made.new.items
-        ≡ length made.old.items + group_constructors (fields_of f.now)) }
+        ≡ found.old.items ++ marked_group owner made.old (fields_of f.now)) }
+    ensures made { IfOk result (λ _. made.new
+        ≡ made.old + group_constructors (fields_of f.now)) }
 {
     match f {
         Fields::Empty => Ok(()),
@@ -92,14 +105,14 @@ fn fields(
 /// The same for the types of a block.
 pub(crate) fn types(
     found: &mut Vec<(usize, usize)>,
-    made: &mut Vec<usize>,
+    made: &mut usize,
     listed: &Option<Vec<TypeDeclaration>>,
 ) -> Result<(), AllocError>
     ensures found { IfOk result (λ _. found.new.items
         ≡ found.old.items
-        ++ marked_types (length made.old.items) (section_types (types_of listed.now))) }
-    ensures made { IfOk result (λ _. length made.new.items
-        ≡ length made.old.items + types_constructors (section_types (types_of listed.now))) }
+        ++ marked_types made.old (section_types (types_of listed.now))) }
+    ensures made { IfOk result (λ _. made.new
+        ≡ made.old + types_constructors (section_types (types_of listed.now))) }
 {
     let Some(listed) = listed else {
         return Ok(());
@@ -113,14 +126,14 @@ pub(crate) fn types(
 /// The same for the variables of a block.
 pub(crate) fn variables(
     found: &mut Vec<(usize, usize)>,
-    made: &mut Vec<usize>,
+    made: &mut usize,
     listed: &Option<Vec<Variables>>,
 ) -> Result<(), AllocError>
     ensures found { IfOk result (λ _. found.new.items
         ≡ found.old.items
-        ++ marked_variables (length made.old.items) (section_variables (variables_of listed.now))) }
-    ensures made { IfOk result (λ _. length made.new.items
-        ≡ length made.old.items
+        ++ marked_variables made.old (section_variables (variables_of listed.now))) }
+    ensures made { IfOk result (λ _. made.new
+        ≡ made.old
         + variables_constructors (section_variables (variables_of listed.now))) }
 {
     let Some(listed) = listed else {
@@ -135,14 +148,14 @@ pub(crate) fn variables(
 /// The same for formal parameters.
 pub(crate) fn formals(
     found: &mut Vec<(usize, usize)>,
-    made: &mut Vec<usize>,
+    made: &mut usize,
     listed: &Option<Vec<Section>>,
 ) -> Result<(), AllocError>
     ensures found { IfOk result (λ _. found.new.items
         ≡ found.old.items
-        ++ marked_sections (length made.old.items) (formal_sections (formals_of listed.now))) }
-    ensures made { IfOk result (λ _. length made.new.items
-        ≡ length made.old.items + formals_constructors (formal_sections (formals_of listed.now))) }
+        ++ marked_sections made.old (formal_sections (formals_of listed.now))) }
+    ensures made { IfOk result (λ _. made.new
+        ≡ made.old + formals_constructors (formal_sections (formals_of listed.now))) }
 {
     let Some(listed) = listed else {
         return Ok(());

@@ -1,6 +1,6 @@
 //! The walk over a module's declarations that finds the fields that records declare.
 
-ghost use Rattle.std.specs.Prelude.{◌≡◌, ◌++◌, ◌+◌, IfOk, length};
+ghost use Rattle.std.specs.Prelude.{◌≡◌, ◌++◌, ◌+◌, IfOk};
 ghost use Rattle.ob0_tree.specs.View.{block_of, procedure_of};
 ghost use Rattle.ob0_types_rules.specs.Declarations.{block_constructors, procedure_constructors};
 ghost use Rattle.ob0_types_fields.specs.Identifiers.{declared_in_block, declared_in_procedure};
@@ -9,17 +9,17 @@ use crate::declared::{formals, types, variables};
 use ob0_tree::{Block, Procedure};
 use std::alloc::AllocError;
 
-/// The fields that a block declares, and its procedures. `made` has the ordinals of the ARRAY and RECORD before it.
+/// The fields that a block declares, and its procedures. `made` is the number of ARRAY and RECORD before it.
 #[cycle(blocks)]
 pub(crate) fn block(
     found: &mut Vec<(usize, usize)>,
-    made: &mut Vec<usize>,
+    made: &mut usize,
     b: &Block,
 ) -> Result<(), AllocError>
     ensures found { IfOk result (λ _. found.new.items
-        ≡ found.old.items ++ declared_in_block (length made.old.items) (block_of b.now)) }
+        ≡ found.old.items ++ declared_in_block made.old (block_of b.now)) }
     ensures made { IfOk result
-        (λ _. length made.new.items ≡ length made.old.items + block_constructors (block_of b.now)) }
+        (λ _. made.new ≡ made.old + block_constructors (block_of b.now)) }
 {
     types(found, made, &b.types)?;
     variables(found, made, &b.variables)?;
@@ -32,13 +32,13 @@ pub(crate) fn block(
 #[cycle(blocks)]
 fn procedure(
     found: &mut Vec<(usize, usize)>,
-    made: &mut Vec<usize>,
+    made: &mut usize,
     p: &Procedure,
 ) -> Result<(), AllocError>
     ensures found { IfOk result (λ _. found.new.items
-        ≡ found.old.items ++ declared_in_procedure (length made.old.items) (procedure_of p.now)) }
-    ensures made { IfOk result (λ _. length made.new.items
-        ≡ length made.old.items + procedure_constructors (procedure_of p.now)) }
+        ≡ found.old.items ++ declared_in_procedure made.old (procedure_of p.now)) }
+    ensures made { IfOk result (λ _. made.new
+        ≡ made.old + procedure_constructors (procedure_of p.now)) }
 {
     formals(found, made, &p.formals)?;
     block(found, made, &p.block)

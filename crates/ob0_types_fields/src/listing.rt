@@ -106,7 +106,7 @@ fn declared_fields(alloc: Global, resolved: &Resolved<'_>) -> Result<FieldTokens
     ensures { IfOk result (λ found. found.items ≡ declared_fields resolved.now.module_read) }
 {
     let mut found = Vec::new(alloc);
-    let mut made = Vec::new(alloc);
+    let mut made = 0;
     block(&mut found, &mut made, resolved.module().block())?;
     Ok(found)
 }
@@ -142,7 +142,7 @@ fn found_fields<'a, 't>(
 {
     let walk = Owning { known, resolved };
     let mut found = Vec::new(alloc);
-    let mut made = Vec::new(alloc);
+    let mut made = 0;
     walk.block(&mut found, &mut made, resolved.module().block())?;
     Ok(found)
 }

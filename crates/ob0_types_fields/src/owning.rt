@@ -1,6 +1,6 @@
 //! The walk over a module that finds its fields: where records declare them, and where selectors select them.
 
-ghost use Rattle.std.specs.Prelude.{◌≡◌, ◌++◌, ◌+◌, IfOk, Some, length, option_and_then, option_map};
+ghost use Rattle.std.specs.Prelude.{◌≡◌, ◌++◌, ◌+◌, IfOk, Some, option_and_then, option_map};
 ghost use Rattle.ob0_tree.specs.View.{expression_of, compound_of, simple_of, term_of, factor_of, designator_of, selector_of, assignment_of, call_of, arguments_in, statement_of, if_of, elsifs_in, sequence_in, body_of, block_of, procedure_of};
 ghost use Rattle.ob0_types_rules.specs.Declarations.{block_constructors, procedure_constructors};
 ghost use Rattle.ob0_types_table.specs.KnownTables.{shapes_of};
@@ -322,19 +322,19 @@ impl<'a, 't> Owning<'a, 't> {
     }
 
     /// The fields of a block: those that its declarations and its procedures declare and select, and those of its
-    /// statements. `made` has the ordinals of the ARRAY and RECORD before it.
+    /// statements. `made` is the number of ARRAY and RECORD before it.
     #[cycle(blocks)]
     pub(crate) fn block(
         &self,
         found: &mut FieldTokens,
-        made: &mut Vec<usize>,
+        made: &mut usize,
         b: &Block,
     ) -> Result<(), AllocError>
         ensures found { IfOk result (λ _. found.new.items
             ≡ found.old.items
-            ++ marked_block (meaning_in self.now) (length made.old.items) (block_of b.now)) }
-        ensures made { IfOk result (λ _. length made.new.items
-            ≡ length made.old.items + block_constructors (block_of b.now)) }
+            ++ marked_block (meaning_in self.now) made.old (block_of b.now)) }
+        ensures made { IfOk result (λ _. made.new
+            ≡ made.old + block_constructors (block_of b.now)) }
     {
         types(found, made, &b.types)?;
         variables(found, made, &b.variables)?;
@@ -348,15 +348,15 @@ impl<'a, 't> Owning<'a, 't> {
     fn procedure(
         &self,
         found: &mut FieldTokens,
-        made: &mut Vec<usize>,
+        made: &mut usize,
         p: &Procedure,
     ) -> Result<(), AllocError>
         ensures found { IfOk result (λ _. found.new.items
             ≡ found.old.items
-            ++ marked_procedure (meaning_in self.now) (length made.old.items)
+            ++ marked_procedure (meaning_in self.now) made.old
             (procedure_of p.now)) }
-        ensures made { IfOk result (λ _. length made.new.items
-            ≡ length made.old.items + procedure_constructors (procedure_of p.now)) }
+        ensures made { IfOk result (λ _. made.new
+            ≡ made.old + procedure_constructors (procedure_of p.now)) }
     {
         formals(found, made, &p.formals)?;
         self.block(found, made, &p.block)

@@ -1,4 +1,4 @@
-use Rattle.std.proofs.Common.{◌≡◌, ◌++◌, ◌+◌, IfOk, length, map, sym, ap, ◌∙◌, subst}
+use Rattle.std.proofs.Common.{◌≡◌, ◌++◌, ◌+◌, IfOk, map, sym, ap, ◌∙◌, subst}
 use Rattle.ob0_tree.proofs.Viewed.{record_made}
 use Rattle.ob0_tree.specs.declared.tree.FieldGroup.{FieldGroup}
 use Rattle.ob0_tree.specs.Tree.{some_fields}
@@ -12,17 +12,17 @@ use Rattle.ob0_types_fields.proofs.declared.+types.Goals as goal
 pub written_type-returns-in-Record-clause-found : goal.written_type-returns-in-Record-clause-found
 written_type-returns-in-Record-clause-found t c =
     subst (λ z. IfOk c.record.result (λ _. c.record.new.found.items ≡ c.args.found.now.items ++ z))
-    (ap (marked_type (length c.args.made.now.items)) (sym (record_made c.in-Record.r) ∙ sym (ap type_of c.in-Record.is))) c.record.ensures.found
+    (ap (marked_type c.args.made.now) (sym (record_made c.in-Record.r) ∙ sym (ap type_of c.in-Record.is))) c.record.ensures.found
 
 pub written_type-returns-in-Record-clause-made : goal.written_type-returns-in-Record-clause-made
 written_type-returns-in-Record-clause-made t c =
-    subst (λ z. IfOk c.record.result (λ _. length c.record.new.made.items ≡ length c.args.made.now.items + z))
+    subst (λ z. IfOk c.record.result (λ _. c.record.new.made ≡ c.args.made.now + z))
     (ap constructors (sym (record_made c.in-Record.r) ∙ sym (ap type_of c.in-Record.is))) c.record.ensures.made
 
 pub fields-returns-in_ok-names-in-Listed-clause-found : goal.fields-returns-in_ok-names-in-Listed-clause-found
 fields-returns-in_ok-names-in-Listed-clause-found t c =
     let l = c.deref-l.result.now in
-    let k = length c.args.made.now.items in
+    let k = c.args.made.now in
     let start = c.args.found.now.items in
     let tree = ap (λ (g : FieldGroup). some_fields (names_of g.names) (type_of g.written)) c.deref-l.ensures ∙ sym (ap fields_of c.in-Listed.is) in
     subst (λ z. IfOk c.written_type.result (λ _. c.written_type.new.found.items ≡ z))

@@ -1,6 +1,5 @@
-use Rattle.std.proofs.Common.{length}
 use Rattle.ob0_types_fields.proofs.DeclaredWalks.{OverTypes}
 use Rattle.ob0_types_fields.proofs.declared.types.Given as goal
 
 abbrev pub invariant-loop-d : goal.invariant-loop-d
-invariant-loop-d l = OverTypes (length l.initial.made.items) l.initial.found.items l.d-items l.d-index l.found.items (length l.made.items)
+invariant-loop-d l = OverTypes l.initial.made l.initial.found.items l.d-items l.d-index l.found.items l.made

@@ -1,6 +1,5 @@
-use Rattle.std.proofs.Common.{length}
 use Rattle.ob0_types_fields.proofs.DeclaredWalks.{OverVariables}
 use Rattle.ob0_types_fields.proofs.declared.variables.Given as goal
 
 abbrev pub invariant-loop-d : goal.invariant-loop-d
-invariant-loop-d l = OverVariables (length l.initial.made.items) l.initial.found.items l.d-items l.d-index l.found.items (length l.made.items)
+invariant-loop-d l = OverVariables l.initial.made l.initial.found.items l.d-items l.d-index l.found.items l.made

@@ -1,6 +1,5 @@
-use Rattle.std.proofs.Common.{length}
 use Rattle.ob0_types_fields.proofs.DeclaringWalks.{OverDeclaring}
 use Rattle.ob0_types_fields.proofs.declaring.+blocks.Given as goal
 
 abbrev pub invariant-block-loop-p : goal.invariant-block-loop-p
-invariant-block-loop-p l = OverDeclaring (length l.initial.made.items) l.initial.found.items l.p-items l.p-index l.found.items (length l.made.items)
+invariant-block-loop-p l = OverDeclaring l.initial.made l.initial.found.items l.p-items l.p-index l.found.items l.made

@@ -1,4 +1,4 @@
-use Rattle.std.proofs.Common.{◌≡◌, ℕ, ◌+◌, ◌++◌, IfOk, Result, Ok, Err, length, sym, ap, ◌∙◌, subst, arith}
+use Rattle.std.proofs.Common.{◌≡◌, ℕ, ◌+◌, ◌++◌, IfOk, Result, Ok, Err, sym, ap, ◌∙◌, subst, arith}
 use Rattle.ob0_tree.proofs.Viewed.{block_parts}
 use Rattle.ob0_tree.specs.declared.tree.Block.{out-Block}
 use Rattle.ob0_tree.specs.View.{block_of, body_of, items_of, procedure_of, types_of, variables_of}
@@ -19,14 +19,14 @@ block-returns-clause-found t c =
     let b = out-Block c.args.b.now in
     let m = meaning_in c.args.self.now in
     let start = c.args.found.now.items in
-    let k : ℕ = length c.args.made.now.items in
+    let k : ℕ = c.args.made.now in
     let ts = section_types (types_of b.types) in
     let vs = section_variables (variables_of b.variables) in
     let ps = items_of procedure_of b.procedures.items in
     let jv : ℕ = k + types_constructors ts in
     let jp : ℕ = jv + variables_constructors vs in
-    let first : length c.types.new.made.items ≡ jv = c.in_ok-types.ensures.made in
-    let second : length c.variables.new.made.items ≡ jp = c.in_ok-variables.ensures.made ∙ ap (λ n. n + variables_constructors vs) first in
+    let first : c.types.new.made ≡ jv = c.in_ok-types.ensures.made in
+    let second : c.variables.new.made ≡ jp = c.in_ok-variables.ensures.made ∙ ap (λ n. n + variables_constructors vs) first in
     let e = c.in_ok-variables.ensures.found ∙ ap (λ n. c.types.new.found.items ++ marked_variables n vs) first in
     let ends = procedures_end c.loop-p.invariant c.loop-p-test.false in
     let f = ends.0 ∙ (λ i. c.variables.new.found.items ++ marked_procedures m (second i) (items_of procedure_of (c.deref-p-items.ensures.value i))) in
