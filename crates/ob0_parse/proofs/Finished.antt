@@ -1,14 +1,14 @@
--- A tree's tokens are read to their end.
-use Rattle.std.proofs.Common.{◌≡◌, ℕ, zero, suc, ◌+◌, ◌≤◌, true, false, Some, None, List, [], ◌∷◌, ◌++◌, refl, sym, ◌∙◌, ap, subst, arith, append_assoc, if◌then◌else◌}
+-- A tree's tokens are read by the descent, whatever it goes on to read.
+use Rattle.std.proofs.Common.{◌≡◌, ℕ, zero, suc, ◌+◌, ◌≤◌, true, false, Some, None, List, [], ◌∷◌, ◌++◌, length, refl, sym, ◌∙◌, ap, subst, arith, append_assoc, if◌then◌else◌}
 use Rattle.ob0_scan.specs.declared.lexeme.TokenKind.{TokenKind}
 use Rattle.ob0_scan.specs.declared.lexeme.TokenKind.TheVariants as kind
 use Rattle.ob0_scan.specs.declared.lexeme.Reserved.TheVariants as reserved
 use Rattle.ob0_scan.specs.declared.lexeme.Symbol.TheVariants as symbol
 use Rattle.ob0_tree.specs.declared.tree.Sign.TheVariants as signs
 use Rattle.ob0_tree.specs.Lexeme.{Terminal, Name, Number, Mark}
-use Rattle.ob0_tree.specs.Tree.{Item, arguments, further_argument, further_section, constants, type_names, variables, procedure, Sort, item, items, maybe, expression, statement, fields, section, Tree, none, one, end, more, compares, relates, sum, adds, product, multiplies, designator, integer, parenthesised, negation, field, index, empty, assigns, calls, branches, while_loop, repeat_loop, no_arguments, some_arguments, then_argument, runs, then_statement, elsif_branch, else_branch, listed, then_name, named_type, array_type, record_type, no_fields, some_fields, then_fields, no_formals, some_formals, value_section, variable_section, then_section, declares_constant, declares_constants, declares_type, declares_types, declares_variable, declares_variables, declares_procedure, declares, begins, has_body, is_module, spell, nesting}
+use Rattle.ob0_tree.specs.Tree.{Item, arguments, further_argument, further_section, Sort, item, items, maybe, expression, statement, fields, section, Tree, none, one, end, more, compares, relates, sum, adds, product, multiplies, designator, integer, parenthesised, negation, field, index, empty, assigns, calls, branches, while_loop, repeat_loop, no_arguments, some_arguments, then_argument, runs, then_statement, elsif_branch, else_branch, listed, then_name, named_type, array_type, record_type, no_fields, some_fields, then_fields, no_formals, some_formals, value_section, variable_section, then_section, declares_constant, declares_constants, declares_type, declares_types, declares_variable, declares_variables, declares_procedure, declares, begins, has_body, is_module, spell, nesting}
 use Rattle.ob0_parse.specs.Follow.{rank, item_rank, item_level, level, Stops, Starts}
-use Rattle.ob0_parse.specs.Descent.{Part, token, name, number, node, parts, sign, is_next, is_expression_next, is_section_next, is_assigned, chosen, Done, Descends, taken, made}
+use Rattle.ob0_parse.specs.Descent.{Part, token, name, number, node, parts, sign, is_next, is_expression_next, is_section_next, is_assigned, chosen, Stop, Descends, taken, made}
 use Rattle.ob0_parse.proofs.Unique.{starts_item, stops_less, stops_items, stops_maybe, stops_else, stops_branches, stops_closed, below, unsigned_term}
 use Rattle.ob0_parse.proofs.Refusals.{no_end}
 use Rattle.ob0_parse.proofs.Descent.{next_item, no_next}
@@ -20,24 +20,27 @@ use Rattle.ob0_parse.proofs.StatementParts.{chosen_empty}
 use Rattle.ob0_parse.proofs.NamedStatements.{chosen_named, assigned_next, unassigned}
 use Rattle.ob0_parse.proofs.DeclarationParts.{chosen_typed, section_next}
 
--- the tokens are read to their end, wherever they begin
-abbrev pub Finishes : List Part → List (Terminal ℕ) → Type 0
-Finishes ps w = (i : ℕ) → Descends ps i w Done
+-- the parts are read from these tokens, of which the last is before the place `e`, to this stop
+abbrev pub Finishes : ℕ → Stop → List Part → List (Terminal ℕ) → Type 0
+Finishes e o ps w = (i : ℕ) → i + length w ≡ e → Descends ps i w o
 
-tok : {k : TokenKind} {ps : List Part} {z : List (Terminal ℕ)} → Finishes ps z → Finishes (token k ∷ ps) (Mark k ∷ z)
-tok r = λ i. taken refl (r (i + 1))
+tok : {e : ℕ} {o : Stop} {k : TokenKind} {ps : List Part} {z : List (Terminal ℕ)} → Finishes e o ps z → Finishes e o (token k ∷ ps) (Mark k ∷ z)
+tok r = λ i h. taken refl (r (i + 1) (omega (arith, h)))
 
-nam : {n : ℕ} {ps : List Part} {z : List (Terminal ℕ)} → Finishes ps z → Finishes (name ∷ ps) (Name n ∷ z)
-nam {n = n} r = λ i. taken (n, refl) (r (i + 1))
+nam : {e : ℕ} {o : Stop} {n : ℕ} {ps : List Part} {z : List (Terminal ℕ)} → Finishes e o ps z → Finishes e o (name ∷ ps) (Name n ∷ z)
+nam {n = n} r = λ i h. taken (n, refl) (r (i + 1) (omega (arith, h)))
 
-num : {n : ℕ} {ps : List Part} {z : List (Terminal ℕ)} → Finishes ps z → Finishes (number ∷ ps) (Number n ∷ z)
-num {n = n} r = λ i. taken (n, refl) (r (i + 1))
+num : {e : ℕ} {o : Stop} {n : ℕ} {ps : List Part} {z : List (Terminal ℕ)} → Finishes e o ps z → Finishes e o (number ∷ ps) (Number n ∷ z)
+num {n = n} r = λ i h. taken (n, refl) (r (i + 1) (omega (arith, h)))
 
-prod : {s : Sort} {room : ℕ} {ps qs : List Part} {w : List (Terminal ℕ)} → chosen s room w ≡ parts qs → Finishes (qs ++ ps) w → Finishes (node s room ∷ ps) w
-prod {qs = qs} c r = λ i. made qs c (r i)
+prod : {e : ℕ} {o : Stop} {s : Sort} {room : ℕ} {ps qs : List Part} {w : List (Terminal ℕ)} → chosen s room w ≡ parts qs → Finishes e o (qs ++ ps) w → Finishes e o (node s room ∷ ps) w
+prod {qs = qs} c r = λ i h. made qs c (r i h)
 
-assoc : {ps : List Part} (a b z : List (Terminal ℕ)) → Finishes ps (a ++ (b ++ z)) → Finishes ps ((a ++ b) ++ z)
-assoc {ps = ps} a b z r = λ i. subst (λ w. Descends ps i w Done) (sym (append_assoc a b z)) (r i)
+listed_as : {e : ℕ} {o : Stop} {ps : List Part} {v w : List (Terminal ℕ)} → w ≡ v → Finishes e o ps v → Finishes e o ps w
+listed_as {e = e} {o = o} {ps = ps} is r = subst (λ w. Finishes e o ps w) (sym is) r
+
+assoc : {e : ℕ} {o : Stop} {ps : List Part} (a b z : List (Terminal ℕ)) → Finishes e o ps (a ++ (b ++ z)) → Finishes e o ps ((a ++ b) ++ z)
+assoc a b z r = listed_as (append_assoc a b z) r
 
 some : (i : Item) (room : ℕ) (w : List (Terminal ℕ)) → Starts (item_rank i) w → chosen (maybe i) room w ≡ parts (node (item i) room ∷ [])
 some i room w s = ap (λ b. if b then parts (node (item i) room ∷ []) else parts []) (next_item i w s)
@@ -62,7 +65,7 @@ call_next none (x ∷ z) s = unassigned x z (λ e. let r : rank x ≡ 8 = ap ran
 call_next (one no_arguments) z s = refl
 call_next (one (some_arguments e es)) z s = refl
 
-pub finishes : {s : Sort} (t : Tree ℕ s) (room : ℕ) (ps : List Part) (z : List (Terminal ℕ)) → nesting t ≤ room → Stops (level s) z → Finishes ps z → Finishes (node s room ∷ ps) (spell t ++ z)
+pub finishes : {e : ℕ} {o : Stop} {s : Sort} (t : Tree ℕ s) (room : ℕ) (ps : List Part) (z : List (Terminal ℕ)) → nesting t ≤ room → Stops (level s) z → Finishes e o ps z → Finishes e o (node s room ∷ ps) (spell t ++ z)
 finishes (none {i = i}) room ps z n s r = prod {qs = []} (ap (λ b. if b then parts (node (item i) room ∷ []) else parts []) (left_out i z s)) r
 finishes (one {i = i} t) room ps z n s r = prod (some i room _ (starts_item t z)) (finishes t room ps z n (stops_less z (item_level i) (item_rank i) (omega (arith, below i)) s) r)
 finishes (end {i = i}) room ps z n s r = prod {qs = []} (ap (λ b. if b then parts (node (item i) room ∷ node (items i) room ∷ []) else parts []) (left_out i z s)) r
@@ -143,8 +146,8 @@ finishes (declares cs ds vs us) room ps z n s r =
     let s3 = stops_items us z 14 (omega arith) s in
     let s2 = stops_maybe vs (spell us ++ z) 13 (omega arith) s3 in
     let s1 = stops_maybe ds (spell vs ++ (spell us ++ z)) 12 (omega arith) s2 in
-    prod refl (λ i. subst (λ w. Descends (node (maybe constants) room ∷ node (maybe type_names) room ∷ node (maybe variables) room ∷ node (items procedure) room ∷ ps) i w Done) (sym (long (spell cs) (spell ds) (spell vs) (spell us) z))
-    (finishes cs room _ _ (omega arith) s1 (finishes ds room _ _ (omega arith) s2 (finishes vs room _ _ (omega arith) s3 (finishes us room ps z (omega arith) s r))) i))
+    prod refl (listed_as (long (spell cs) (spell ds) (spell vs) (spell us) z)
+    (finishes cs room _ _ (omega arith) s1 (finishes ds room _ _ (omega arith) s2 (finishes vs room _ _ (omega arith) s3 (finishes us room ps z (omega arith) s r)))))
   where
     long : {A : Type 0} (a b c d z : List A) → (a ++ (b ++ (c ++ d))) ++ z ≡ a ++ (b ++ (c ++ (d ++ z)))
     long a b c d z = simp append_assoc

@@ -1,0 +1,28 @@
+-- The procedures of a module's own block, read or taken over one after another.
+use Rattle.std.proofs.Common.{ℕ, ◌<◌, List, [], ◌∷◌, ◌++◌, Result, Ok, Err}
+use Rattle.ob0_scan.specs.declared.lexeme.Token.{Token}
+use Rattle.ob0_tree.specs.declared.tree.Procedure.{Procedure}
+use Rattle.ob0_tree.specs.Module.{max_nesting}
+use Rattle.ob0_tree.specs.View.{procedure_of}
+use Rattle.ob0_parse.specs.Reading.{Taken}
+use Rattle.ob0_parse.specs.KeptTokens.{AreKept, Each, IsMade, IsTakenAt, StayKept, StayRefused}
+use Rattle.ob0_parse.specs.declared.kept.Kept.{Kept}
+use Rattle.ob0_parse.specs.declared.refusal.ParseRefusal.{ParseRefusal}
+use Rattle.ob0_parse.specs.declared.refusal.ParseRefusal.TheVariants.{Syntax, TooDeep, Memory}
+use Rattle.ob0_parse.proofs.Keeping.{taken_kept, kept_there}
+use Rattle.ob0_parse.proofs.Carried.{each_joined}
+
+stays_refused : {ts : List Token} {k : Kept} → AreKept ts k → (e : ParseRefusal) → StayRefused ts k e
+stays_refused h (Syntax i expected) = h
+stays_refused h (TooDeep i) = h
+stays_refused h Memory = tt
+
+pub stays : {A : Type 0} {ts : List Token} {k : Kept} → AreKept ts k → (r : Result A ParseRefusal) → StayKept ts k r
+stays h (Ok x) = h
+stays h (Err e) = stays_refused h e
+
+pub taken_over : (ts : List Token) (at : ℕ) (x : Procedure × ℕ) → IsTakenAt ts at x → Taken (procedure_of x.0) max_nesting ts at x.1 × (at < x.1)
+taken_over ts at x t = (taken_kept ts at x.1 (procedure_of x.0) t.there t.first, t.there.forward)
+
+pub more_made : (ts : List Token) (m n : ℕ) (ps : List Procedure) (p : Procedure) → Each (IsMade ts) ps → Taken (procedure_of p) max_nesting ts m n → m < n → Each (IsMade ts) (ps ++ (p ∷ []))
+more_made ts m n ps p made t forward = each_joined (IsMade ts) ps (p ∷ []) made (kept_there ts m n (procedure_of p) t.spelled t.shallow forward t.within, tt)

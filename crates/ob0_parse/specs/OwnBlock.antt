@@ -1,0 +1,24 @@
+-- What the parser promises of the block of a module, whose procedures it leaves with those that are kept.
+-- Rule: none; for private contracts of the parser.
+use Rattle.std.specs.Prelude.{ℕ, List, [], ◌∷◌, Result, Ok, Err}
+use Rattle.ob0_scan.specs.declared.lexeme.Token.{Token}
+use Rattle.ob0_tree.specs.declared.tree.Procedure.{Procedure}
+use Rattle.ob0_tree.specs.Module.{max_nesting}
+use Rattle.ob0_tree.specs.Tree.{procedure, items, block, Tree, declares, has_body}
+use Rattle.ob0_tree.specs.View.{constants_of, types_of, variables_of, items_of, procedure_of, body_of}
+use Rattle.ob0_parse.specs.Reading.{node, Taken, FailsToRead}
+use Rattle.ob0_parse.specs.declared.declarations.OwnParts.{OwnParts}
+use Rattle.ob0_parse.specs.declared.refusal.ParseRefusal.{ParseRefusal}
+
+-- the block of these procedures and other parts
+abbrev pub own_block_of : List Procedure → OwnParts → Tree ℕ block
+own_block_of ps parts =
+    has_body
+    (declares (constants_of parts.constants) (types_of parts.types) (variables_of parts.variables)
+    (items_of procedure_of ps))
+    (body_of parts.body)
+
+-- the procedures from one index on are these; or one of them isn't read
+abbrev pub ReadsOwn : List Procedure → List Token → ℕ → Result ℕ ParseRefusal → Type 0
+ReadsOwn ps ts at (Ok next) = Taken (items_of procedure_of ps) max_nesting ts at next
+ReadsOwn ps ts at (Err e) = FailsToRead (node (items procedure) max_nesting ∷ []) ts at e
