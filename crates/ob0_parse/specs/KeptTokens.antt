@@ -1,9 +1,11 @@
 -- Procedures that are kept of an earlier parse, and the tokens that they spell.
 -- Rule: none; for contracts of `tree_after`.
-use Rattle.std.specs.Prelude.{◌≡◌, ℕ, ◌+◌, ◌-◌, ◌<◌, ◌≤◌, List, [], ◌∷◌, Result, Ok, Err, length, take, drop, slice_range}
+use Rattle.std.specs.Prelude.{◌≡◌, ℕ, ◌+◌, ◌-◌, ◌<◌, ◌≤◌, List, [], ◌∷◌, Result, Ok, Err, length, slice_range}
 use Rattle.ob0_scan.specs.declared.lexeme.TokenKind.{TokenKind}
 use Rattle.ob0_scan.specs.declared.lexeme.Token.{Token}
+use Rattle.ob0_scan.specs.declared.tokens.SameTokens.{SameTokens}
 use Rattle.ob0_scan.specs.Reused.{kinds}
+use Rattle.ob0_scan.specs.SameKinds.{HasSameTokens}
 use Rattle.ob0_tree.specs.declared.tree.Procedure.{Procedure}
 use Rattle.ob0_tree.specs.Lexeme.{Terminal}
 use Rattle.ob0_tree.specs.Module.{max_nesting}
@@ -12,7 +14,6 @@ use Rattle.ob0_tree.specs.Tree.{procedure, item, Tree, declares_procedure, spell
 use Rattle.ob0_tree.specs.View.{procedure_of}
 use Rattle.ob0_parse.specs.declared.kept.Kept.{Kept}
 use Rattle.ob0_parse.specs.declared.kept.KeptProcedure.{KeptProcedure}
-use Rattle.ob0_parse.specs.declared.kept.SameTokens.{SameTokens}
 use Rattle.ob0_parse.specs.declared.refusal.ParseRefusal.{ParseRefusal}
 use Rattle.ob0_parse.specs.declared.refusal.ParseRefusal.TheVariants.{Syntax, TooDeep, Memory}
 
@@ -55,15 +56,6 @@ pub record AreKept (ts : List Token) (k : Kept) : Type 0 where
   pub waiting : Each (IsWaiting ts) k.waiting.items
 
 -- ---- another text
-
--- The first tokens of a text are of the kinds of those before, and so are the last: those from `back` on, which were those
--- from `old_back` on.
-pub record HasSameTokens (s : SameTokens) (old new : List Token) : Type 0 where
-  pub front_inside : s.front ≤ length new
-  pub back_inside : s.back ≤ length new
-  pub old_back_inside : s.old_back ≤ length old
-  pub front : take s.front (kinds new) ≡ take s.front (kinds old)
-  pub back : drop s.back (kinds new) ≡ drop s.old_back (kinds old)
 
 -- a procedure of the old text is the other one in the new text
 abbrev pub Moves : SameTokens → KeptProcedure → KeptProcedure → Type 0

@@ -5,19 +5,12 @@ ghost use Rattle.std.specs.Option.{option_to_list};
 ghost use Rattle.ob0_scan.specs.Scanned.{Scanned};
 ghost use Rattle.ob0_scan.specs.declared.lexeme.Token.{Token};
 ghost use Rattle.ob0_tree.specs.Parsed.{IsParsed, parsed_by};
-ghost use Rattle.ob0_parse.specs.KeptTokens.{AreKept, HasSameTokens, CarriesAll, CarriesMade, CarriesAllMade, CarriesOne, IsMadeAt, IsPlaced, IsTakenAt, IsWaiting, Moves, StayWaiting};
+ghost use Rattle.ob0_scan.specs.SameKinds.{HasSameTokens};
+ghost use Rattle.ob0_parse.specs.KeptTokens.{AreKept, CarriesAll, CarriesMade, CarriesAllMade, CarriesOne, IsMadeAt, IsPlaced, IsTakenAt, IsWaiting, Moves, StayWaiting};
 
+use ob0_scan::SameTokens;
 use ob0_tree::{Block, ModuleTree, Procedure};
 use std::alloc::{AllocError, Global};
-
-/// Which tokens of a text are of the kinds that they were in the text before, whatever the values of integers: the
-/// first `front`, and those from `back` on, which were those from `old_back` on.
-#[derive(Clone, Copy, Debug, Drop)]
-pub struct SameTokens {
-    pub front: usize,
-    pub old_back: usize,
-    pub back: usize,
-}
 
 /// A procedure that an earlier parse made. Its tokens are those from `at` up to `next`, in which its leaves are moved by
 /// as much as its first token is.

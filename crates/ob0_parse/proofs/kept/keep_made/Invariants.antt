@@ -1,6 +1,7 @@
 use Rattle.std.proofs.Common.{List, vec_len}
 use Rattle.ob0_scan.specs.declared.lexeme.Token.{Token}
-use Rattle.ob0_parse.specs.KeptTokens.{HasSameTokens, Each, IsMade, IsWaiting}
+use Rattle.ob0_scan.specs.SameKinds.{HasSameTokens}
+use Rattle.ob0_parse.specs.KeptTokens.{Each, IsMade, IsWaiting}
 use Rattle.ob0_parse.proofs.kept.keep_made.Given as goal
 
 abbrev pub invariant-loop-procedure : goal.invariant-loop-procedure
