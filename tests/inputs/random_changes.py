@@ -19,7 +19,10 @@ PIECES = [
     *["(*", "*)", "(* x *)", "(* é 😀 *)", "(**)", ":=", "<=", ">=", "[", "]", "$", "é", "😀", "\0"],
     *["IF", "END", "ELSE", "BEGIN", "VAR", "x", "INTEGER", "TRUE", "2147483648", "1a", "x.y", "x[1]"],
     *["; x := x + 1", "VAR q: INTEGER;", "PROCEDURE P; BEGIN END P;", "IF TRUE THEN END;", "REPEAT UNTIL TRUE;"],
+    *["PROCEDURE", "PROCEDURE P;", "END P;", "CONST c = 1;"],
 ]
+
+BORDERS = {"PROCEDURE", "BEGIN", "END"}  # words at which a procedure begins or ends, or its statements do
 
 
 def is_border(text, at):
@@ -45,6 +48,12 @@ def at_random(text, chance):
         later = chance.choice(found)
         before = max((it.end() for it in found if it.end() <= later.start()), default=0)
         return before, later.start()
+    borders = [it for it in found if it[0] in BORDERS]
+    if way < 0.8 and borders:  # at a border of procedures, or from there on up to another
+        border, other = chance.choice(borders), chance.choice(borders)
+        if chance.random() < 0.7:
+            return border.start(), chance.choice([border.start(), border.end()])
+        return min(border.start(), other.start()), max(border.start(), other.start())
     if way < 0.9:  # a whole lexeme
         return lexeme.start(), lexeme.end()
     later = found[min(len(found) - 1, found.index(lexeme) + chance.choice([1, 2, 5, 30]))]

@@ -4,7 +4,8 @@ use Rattle.std.specs.Prelude.{ℕ, List, string_bytes}
 use Rattle.ob0_scan.specs.Refused.{AreFaults}
 use Rattle.ob0_scan.specs.declared.rescanning.NotRescanned.{NotRescanned}
 use Rattle.ob0_scan.specs.declared.rescanning.NotRescanned.TheVariants as rescanned
-use Rattle.ob0_scan.specs.Scanned.{IsScannable}
+use Rattle.ob0_scan.specs.Scanned.{Scanned, IsScannable}
+use Rattle.ob0_parse.specs.KeptTokens.{AreKept}
 use Rattle.ob0_parse.specs.RefusedBy.{RefusedBy}
 use Rattle.ob0_parse.specs.declared.refusal.ParseRefusal.{ParseRefusal}
 use Rattle.ob0_parse.specs.declared.refusal.ParseRefusal.TheVariants.{Syntax, TooDeep, Memory}
@@ -14,7 +15,7 @@ use Rattle.ob0_analysis.specs.declared.analysis.Findings.TheVariants.{NoLexemes,
 -- the text
 abbrev pub text_of : Findings → List ℕ
 text_of (NoLexemes ill) = string_bytes ill.text
-text_of (NoTree tokens refusal) = tokens.text
+text_of (NoTree ill) = ill.tokens.text
 text_of (Module m) = m.module_read.source.text
 
 -- why a changed text has no tokens: its faults, or that memory ran out
@@ -29,9 +30,14 @@ IsDecided (Syntax token expected) = Unit {0}
 IsDecided (TooDeep token) = Unit {0}
 IsDecided Memory = ⊥
 
--- a text without lexemes has these faults, and one without a tree is refused so
+-- the parser refuses these tokens so
+abbrev pub IsRefused : Scanned → ParseRefusal → Type 0
+IsRefused tokens refusal = RefusedBy tokens refusal × IsDecided refusal
+
+-- A text without lexemes has these faults, and one without a tree is refused so and has the tokens of the procedures that
+-- are kept.
 abbrev pub IsFound : Findings → Type 0
 IsFound (NoLexemes ill) =
     (IsScannable (string_bytes ill.text) → ⊥) × AreFaults (string_bytes ill.text) ill.faults.items
-IsFound (NoTree tokens refusal) = RefusedBy tokens refusal × IsDecided refusal
+IsFound (NoTree ill) = IsRefused ill.tokens ill.refusal × AreKept ill.tokens.tokens ill.kept
 IsFound (Module m) = Unit {0}

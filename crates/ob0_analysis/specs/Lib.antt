@@ -1,6 +1,7 @@
 pub mod Analysed
 pub mod Diagnosed
 pub mod Found
+pub mod Before
 pub mod RunsKept
 pub mod Texts
 pub mod Pieces

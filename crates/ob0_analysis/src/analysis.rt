@@ -4,11 +4,14 @@ ghost use Rattle.std.specs.Prelude.{◌≡◌, [], true, IfErr, IfOk, MatchOptio
 ghost use Rattle.std.specs.Str.{IsUtf8};
 ghost use Rattle.ob0_scan.specs.Refused.{AreFaults};
 ghost use Rattle.ob0_scan.specs.Reused.{kinds, names_in};
+ghost use Rattle.ob0_scan.specs.SameKinds.{HasSameTokens};
 ghost use Rattle.ob0_scan.specs.Scanned.{IsScannable, IsScanOf};
 ghost use Rattle.ob0_tree.specs.Parsed.{IsParsed, parsed_by};
 ghost use Rattle.ob0_scope_rules.specs.Bindings.{resolution_by};
 ghost use Rattle.ob0_scope_rules.specs.Resolution.{IsResolution};
-ghost use Rattle.ob0_analysis.specs.Found.{IsFound, IsRefusalOf};
+ghost use Rattle.ob0_parse.specs.KeptTokens.{AreKept};
+ghost use Rattle.ob0_analysis.specs.Found.{IsFound, IsRefused, IsRefusalOf};
+ghost use Rattle.ob0_analysis.specs.Before.{AreKeptBefore, IsParsedBefore};
 ghost use Rattle.ob0_analysis.specs.declared.analysis.Findings.TheVariants.{NoTree};
 ghost use Rattle.ob0_analysis.specs.Diagnosed.{IsWellTypedModule, Reports, complaint_in};
 
@@ -16,7 +19,7 @@ use crate::diagnoses::{Diagnosis, of_faults};
 use crate::diagnosing::{diagnose_module, diagnose_refusal};
 use crate::differences::Difference;
 use crate::parts::ModuleParts;
-use ob0_parse::{ParseRefusal, tree_of};
+use ob0_parse::{Kept, ParseRefusal, tree_after};
 use ob0_scan::laws::one_scan;
 use ob0_scan::{Fault, NotRescanned, RescanInPlace, ScanRefusal, Tokens, rescan_in_place, scan};
 use ob0_scope::laws::bindings_stay;
@@ -33,11 +36,19 @@ pub(crate) struct IllLexed {
     last: Option<Tokens>,
 }
 
+/// A text that has lexemes and no tree: its tokens, why the parser refuses them, and procedures for the next parse.
+#[derive(Drop)]
+pub(crate) struct IllFormed {
+    tokens: Tokens,
+    refusal: ParseRefusal,
+    kept: Kept,
+}
+
 /// What a text is found to be.
 #[derive(Drop)]
 pub(crate) enum Findings {
     NoLexemes(IllLexed),
-    NoTree(Tokens, ParseRefusal),
+    NoTree(IllFormed),
     Module(ModuleParts),
 }
 
@@ -66,7 +77,7 @@ impl Analysis {
         ensures { IfOk result (λ a. a ≡ text.now) }
     {
         match scan(alloc, text) {
-            Ok(tokens) => Analysis::of_tokens(alloc, tokens),
+            Ok(tokens) => Analysis::of_tokens(alloc, tokens, Kept::none(alloc)),
             Err(refusal) => match refusal {
                 ScanRefusal::Faults(faults) => Analysis::ill_lexed(alloc, text, faults, None),
                 ScanRefusal::Memory => Err(AllocError),
@@ -83,9 +94,7 @@ impl Analysis {
         let Analysis { found } = self;
         match found {
             Findings::NoLexemes(ill) => Analysis::after_faults(alloc, ill, text),
-            Findings::NoTree(tokens, refusal) => {
-                Analysis::after_refusal(alloc, tokens, refusal, text)
-            }
+            Findings::NoTree(ill) => Analysis::after_refusal(alloc, ill, text),
             Findings::Module(parts) => Analysis::after_module(alloc, parts, text),
         }
     }
@@ -108,45 +117,55 @@ impl Analysis {
         ensures { IfOk result (λ a. a ≡ text.now) }
     {
         match scan_changed(alloc, old, text) {
-            Ok(found) => Analysis::of_tokens(alloc, found.rescan.tokens),
+            Ok(changed) => { Analysis::of_tokens(alloc, changed.rescan.tokens, Kept::none(alloc)) }
             Err(refusal) => Analysis::not_scanned(alloc, text, refusal),
         }
     }
 
-    fn after_refusal(
-        alloc: Global,
-        old: Tokens,
-        refusal: ParseRefusal,
-        text: &str,
-    ) -> Result<Analysis, AllocError>
-        requires { IsFound (NoTree old refusal) }
+    fn after_refusal(alloc: Global, ill: IllFormed, text: &str) -> Result<Analysis, AllocError>
+        requires { IsFound (NoTree ill) }
         ensures { IfOk result (λ a. a ≡ text.now) }
     {
-        match scan_changed(alloc, old, text) {
-            Ok(found) => Analysis::of_refused_scan(alloc, found, refusal),
+        let IllFormed {
+            tokens,
+            refusal,
+            kept,
+        } = ill;
+        match scan_changed(alloc, tokens, text) {
+            Ok(changed) => Analysis::of_refused_scan(alloc, changed, refusal, kept),
             Err(refusal) => Analysis::not_scanned(alloc, text, refusal),
         }
     }
 
-    /// The analysis of a text by the refusal of the text before, which is its own where the tokens are alike.
+    /// The analysis of a text by the refusal of the text before, which is its own where the tokens are alike, and by
+    /// the procedures that were kept of it.
     fn of_refused_scan(
         alloc: Global,
-        found: RescanInPlace,
+        changed: RescanInPlace,
         refusal: ParseRefusal,
+        kept: Kept,
     ) -> Result<Analysis, AllocError>
-        requires { found.alike ≡ true → IsFound (NoTree found.rescan.tokens refusal) }
-        ensures { IfOk result (λ a. a ≡ found.rescan.tokens.text) }
+        requires alike { changed.alike ≡ true → IsRefused changed.rescan.tokens refusal }
+        requires kept { AreKeptBefore changed kept }
+        ensures { IfOk result (λ a. a ≡ changed.rescan.tokens.text) }
     {
         let RescanInPlace {
             rescan,
+            same,
             alike,
             same_names: _,
-        } = found;
+        } = changed;
+        let tokens = rescan.tokens;
         if !alike {
-            return Analysis::of_tokens(alloc, rescan.tokens);
+            let kept = kept.after(alloc, same)?;
+            return Analysis::of_tokens(alloc, tokens, kept);
         }
         Ok(Analysis {
-            found: Findings::NoTree(rescan.tokens, refusal),
+            found: Findings::NoTree(IllFormed {
+                tokens,
+                refusal,
+                kept,
+            }),
         })
     }
 
@@ -156,7 +175,7 @@ impl Analysis {
         bindings_stay();
         let (tokens, tree, bindings) = old.into_bound();
         match scan_changed(alloc, tokens, text) {
-            Ok(found) => Analysis::of_scan(alloc, found, tree, bindings),
+            Ok(changed) => Analysis::of_scan(alloc, changed, tree, bindings),
             Err(refusal) => Analysis::not_scanned(alloc, text, refusal),
         }
     }
@@ -165,28 +184,31 @@ impl Analysis {
     /// bindings.
     fn of_scan(
         alloc: Global,
-        found: RescanInPlace,
+        changed: RescanInPlace,
         tree: ModuleTree,
         bindings: Bindings,
     ) -> Result<Analysis, AllocError>
-        requires parsed { found.alike ≡ true → IsParsed (parsed_by found.rescan.tokens tree) }
-        requires resolved { found.alike ≡ true
-            → found.same_names ≡ true
+        requires parsed { changed.alike ≡ true
+            → IsParsed (parsed_by changed.rescan.tokens tree) }
+        requires resolved { changed.alike ≡ true
+            → changed.same_names ≡ true
             → bindings.faults.items ≡ []
-            → IsResolution (resolution_by (parsed_by found.rescan.tokens tree) bindings) }
-        ensures { IfOk result (λ a. a ≡ found.rescan.tokens.text) }
+            → IsResolution (resolution_by (parsed_by changed.rescan.tokens tree) bindings) }
+        requires before { IsParsedBefore changed tree }
+        ensures { IfOk result (λ a. a ≡ changed.rescan.tokens.text) }
     {
         let RescanInPlace {
             rescan,
+            same,
             alike,
             same_names,
-        } = found;
+        } = changed;
         if alike {
             Analysis::of_same_tree(alloc, rescan.tokens, tree, bindings, same_names)
         } else {
-            drop(tree);
             drop(bindings);
-            Analysis::of_tokens(alloc, rescan.tokens)
+            let kept = Kept::of(alloc, tree).after(alloc, same)?;
+            Analysis::of_tokens(alloc, rescan.tokens, kept)
         }
     }
 
@@ -245,14 +267,20 @@ impl Analysis {
         })
     }
 
-    fn of_tokens(alloc: Global, tokens: Tokens) -> Result<Analysis, AllocError>
+    fn of_tokens(alloc: Global, tokens: Tokens, kept: Kept) -> Result<Analysis, AllocError>
+        requires { AreKept tokens.tokens kept }
         ensures { IfOk result (λ a. a ≡ tokens.text) }
     {
-        match tree_of(alloc, &tokens) {
+        let mut kept = kept;
+        match tree_after(alloc, &tokens, &mut kept) {
             Ok(tree) => Analysis::of_tree(alloc, tokens, tree),
             Err(ParseRefusal::Memory) => Err(AllocError),
             Err(refusal) => Ok(Analysis {
-                found: Findings::NoTree(tokens, refusal),
+                found: Findings::NoTree(IllFormed {
+                    tokens,
+                    refusal,
+                    kept,
+                }),
             }),
         }
     }
@@ -273,7 +301,7 @@ impl Analysis {
     {
         match &self.found {
             Findings::NoLexemes(ill) => ill.text.as_str(),
-            Findings::NoTree(tokens, _) => tokens.text(),
+            Findings::NoTree(ill) => ill.tokens.text(),
             Findings::Module(parts) => parts.tokens().text(),
         }
     }
@@ -286,9 +314,9 @@ impl Analysis {
         one_scan();
         match &self.found {
             Findings::NoLexemes(_) => None,
-            Findings::NoTree(tokens, _) => {
+            Findings::NoTree(ill) => {
                 // For the proof: what the contract of this call says.
-                let _text = tokens.text();
+                let _text = ill.tokens.text();
                 None
             }
             Findings::Module(parts) => {
@@ -310,7 +338,7 @@ impl Analysis {
         let _text = self.text();
         match &self.found {
             Findings::NoLexemes(ill) => of_faults(alloc, ill.faults.as_slice()),
-            Findings::NoTree(tokens, refusal) => diagnose_refusal(alloc, tokens, refusal),
+            Findings::NoTree(ill) => diagnose_refusal(alloc, &ill.tokens, &ill.refusal),
             Findings::Module(parts) => diagnose_module(alloc, parts),
         }
     }
@@ -319,6 +347,7 @@ impl Analysis {
 /// The tokens of a text by those of another, or its faults.
 fn scan_changed(alloc: Global, old: Tokens, text: &str) -> Result<RescanInPlace, NotRescanned>
     ensures ok { IfOk result (λ r. IsScanOf text.now r.rescan.tokens) }
+    ensures same { IfOk result (λ r. HasSameTokens r.same old.tokens r.rescan.tokens.tokens) }
     ensures alike { IfOk result
         (λ r. r.alike ≡ true → kinds r.rescan.tokens.tokens ≡ kinds old.tokens) }
     ensures same_names { IfOk result

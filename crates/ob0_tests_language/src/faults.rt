@@ -204,6 +204,19 @@ static CHANGES: &[(&str, &str)] = &[
         "MODULE M; VAR x, y: INTEGER; BEGIN x := y END M.",
         "MODULE M; VAR x, x: INTEGER; BEGIN x := y END M.",
     ),
+    // A statement more in a procedure before another one, and half a statement.
+    (
+        "MODULE M; VAR x: INTEGER; PROCEDURE P; BEGIN x := 1 END P; PROCEDURE Q; BEGIN P; y := 1 \
+         END Q; BEGIN Q END M.",
+        "MODULE M; VAR x: INTEGER; PROCEDURE P; BEGIN x := 1; x := TRUE END P; PROCEDURE Q; \
+         BEGIN P; y := 1 END Q; BEGIN Q END M.",
+    ),
+    (
+        "MODULE M; VAR x: INTEGER; PROCEDURE P; BEGIN x := z END P; PROCEDURE Q; BEGIN P; y := 1 \
+         END Q; BEGIN Q END M.",
+        "MODULE M; VAR x: INTEGER; PROCEDURE P; BEGIN x := z END P; PROCEDURE Q; BEGIN P; y := \
+         END Q; BEGIN Q END M.",
+    ),
 ];
 
 /// Whether a changed text has the faults that an analysis of it from nothing finds.

@@ -1,6 +1,15 @@
+use Rattle.ob0_parse.proofs.Carried.{kept_stay}
 use Rattle.ob0_parse.proofs.Stays.{refusal_stays}
 use Rattle.ob0_analysis.proofs.analysis.Analysis.after_refusal.Goals as goal
 
-pub of_refused_scan-requires : goal.of_refused_scan-requires
-of_refused_scan-requires c =
-    λ alike. (refusal_stays c.args.old c.in-Ok.found.rescan.tokens c.args.refusal (c.in-Ok.ensures.alike alike) c.requires.0, c.requires.1)
+pub of_refused_scan-requires-clause-alike : goal.of_refused_scan-requires-clause-alike
+of_refused_scan-requires-clause-alike c =
+    λ alike. (refusal_stays c.args.ill.tokens c.in-Ok.changed.rescan.tokens c.args.ill.refusal (c.in-Ok.ensures.alike alike) c.requires.0.0, c.requires.0.1)
+
+pub of_refused_scan-requires-clause-kept : goal.of_refused_scan-requires-clause-kept
+of_refused_scan-requires-clause-kept c = record {
+  old = c.args.ill.tokens;
+  same = c.in-Ok.ensures.same;
+  kept = c.requires.1;
+  alike = λ alike. kept_stay c.args.ill.tokens.tokens c.in-Ok.changed.rescan.tokens.tokens c.args.ill.kept (c.in-Ok.ensures.alike alike) c.requires.1;
+}

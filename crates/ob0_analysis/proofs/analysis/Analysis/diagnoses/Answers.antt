@@ -6,7 +6,7 @@ use Rattle.ob0_analysis.proofs.Scanning.{finds_lexemes}
 use Rattle.ob0_analysis.proofs.analysis.Analysis.diagnoses.Goals as goal
 
 pub diagnose_refusal-requires : goal.diagnose_refusal-requires
-diagnose_refusal-requires c = (subst IsFound c.in-NoTree.is c.self.invariant).0
+diagnose_refusal-requires c = (subst IsFound c.in-NoTree.is c.self.invariant).0.0
 
 pub returns-in-NoLexemes-clause-reported : goal.returns-in-NoLexemes-clause-reported
 returns-in-NoLexemes-clause-reported c =

@@ -12,4 +12,4 @@ returns-in-NoLexemes c =
 pub returns-in-NoTree : goal.returns-in-NoTree
 returns-in-NoTree c =
     let by = subst IsFound c.in-NoTree.is c.self.invariant in
-    subst (λ (t : List ℕ). IsWellTypedModule t → ⊥) (sym (ap text_of c.in-NoTree.is) ∙ c.self.view_is) (refused_is_none c.in-NoTree.tokens c.in-NoTree.field-1 c.one_scan.ensures c.text-text.ensures.scan by.0 by.1)
+    subst (λ (t : List ℕ). IsWellTypedModule t → ⊥) (sym (ap text_of c.in-NoTree.is) ∙ c.self.view_is) (refused_is_none c.in-NoTree.ill.tokens c.in-NoTree.ill.refusal c.one_scan.ensures c.text-text.ensures.scan by.0.0 by.0.1)
