@@ -10,11 +10,11 @@ use Rattle.ob0_parse.specs.KeptTokens.{AreKept}
 use Rattle.ob0_parse.specs.declared.kept.Kept.{Kept}
 
 -- the text before has the tokens of these procedures
-pub record AreKeptBefore (c : RescanInPlace) (kept : Kept) : Type 0 where
+pub record AreKeptBefore (c : RescanInPlace) (procedures : Kept) : Type 0 where
   pub old : Scanned
   pub same : HasSameTokens c.same old.tokens c.rescan.tokens.tokens
-  pub kept : AreKept old.tokens kept
-  pub alike : c.alike ≡ true → AreKept c.rescan.tokens.tokens kept
+  pub kept : AreKept old.tokens procedures
+  pub alike : c.alike ≡ true → AreKept c.rescan.tokens.tokens procedures
 
 -- the text before was a module with this tree
 pub record IsParsedBefore (c : RescanInPlace) (tree : ModuleTree) : Type 0 where
