@@ -1,0 +1,60 @@
+-- What is printed of a text's run is printed of the file's run.
+use Rattle.std.proofs.Common.{◌≡◌, ◌≢◌, ℕ, ℤ, List, Option, Result, Ok, Err, IfOk, IfSome, OnOk, inl, inr, refl, subst, arith}
+use Rattle.std.specs.Io.KnownBytes.{Appends}
+use Rattle.ob0_run_machine.specs.declared.machine.Item.{Item}
+use Rattle.ob0_run.specs.declared.running.End.{End}
+use Rattle.ob0_run.specs.declared.running.End.TheVariants as end
+use Rattle.ob0_run.specs.declared.running.Outcome.{Outcome}
+use Rattle.ob0_run.specs.Outcomes.{end_in, run_of}
+use Rattle.ob0_run.specs.States.{items_out}
+use Rattle.ob0_commands.specs.Numbers.{IsInputOf}
+use Rattle.ob0_commands.specs.Printed.{PrintsFaults, output_text}
+use Rattle.ob0_commands.specs.Statuses.{status_at}
+use Rattle.ob0_commands.specs.TextRuns.{PrintsDone, PrintsOther, PrintsRun, TextRunsAs}
+
+-- the run reached the end of the module's body
+done : (e : End) (n : ℕ) → n ≡ status_at e → n ≡ 0 → end_in e ≡ end_in end.Done
+done end.Done n is zero = refl
+done end.Overflow n is zero = absurd (omega (arith, is, zero))
+done end.Divisor n is zero = absurd (omega (arith, is, zero))
+done end.Index n is zero = absurd (omega (arith, is, zero))
+done end.InputEnd n is zero = absurd (omega (arith, is, zero))
+done end.CallBound n is zero = absurd (omega (arith, is, zero))
+done end.TurnBound n is zero = absurd (omega (arith, is, zero))
+
+-- the run ended otherwise
+ended_otherwise : (e : End) (n : ℕ) → n ≡ status_at e → n ≡ 1 → end_in e ≢ end_in end.Done
+ended_otherwise end.Done n is one = absurd (omega (arith, is, one))
+ended_otherwise end.Overflow n is one = λ e. cc
+ended_otherwise end.Divisor n is one = λ e. cc
+ended_otherwise end.Index n is one = λ e. cc
+ended_otherwise end.InputEnd n is one = λ e. cc
+ended_otherwise end.CallBound n is one = λ e. cc
+ended_otherwise end.TurnBound n is one = λ e. cc
+
+pub prints_run : (file text : List ℕ) (given : Option (List ℕ)) (c t : ℕ) (before mid after : Option (List ℕ)) (numbers input : List ℤ) (o : Outcome) (items : List Item)
+    → text ≡ file → mid ≡ before → input ≡ numbers → IfSome given (IsInputOf numbers) → TextRunsAs text input c t (run_of o) → items ≡ o.output.items → Appends mid after (output_text (items_out items))
+    → PrintsRun file given c t before after (run_of o)
+prints_run file text given c t before mid after numbers input o items same kept is written runs all printed = record {
+  input = numbers;
+  written = written;
+  runs = subst (λ (ns : List ℤ). TextRunsAs file ns c t (run_of o)) is (subst (λ (f : List ℕ). TextRunsAs f input c t (run_of o)) same runs);
+  printed = subst (λ (b : Option (List ℕ)). Appends b after (output_text (items_out o.output.items))) kept (subst (λ (xs : List Item). Appends mid after (output_text (items_out xs))) all printed);
+}
+
+pub prints_done : (file : List ℕ) (given : Option (List ℕ)) (c t n : ℕ) (before after : Option (List ℕ)) (o : Outcome) → PrintsRun file given c t before after (run_of o) → n ≡ status_at o.end → n ≡ 0
+    → PrintsDone file given c t before after
+prints_done file given c t n before after o printed is zero = (run_of o, printed, done o.end n is zero)
+
+pub prints_other : (file : List ℕ) (given : Option (List ℕ)) (c t n : ℕ) (before after : Option (List ℕ)) (o : Outcome) → PrintsRun file given c t before after (run_of o) → n ≡ status_at o.end → n ≡ 1
+    → PrintsOther file given c t before after
+prints_other file given c t n before after o printed is one = inr (run_of o, printed, ended_otherwise o.end n is one)
+
+pub prints_wrong : (file text : List ℕ) (given : Option (List ℕ)) (c t : ℕ) (before mid after : Option (List ℕ)) → text ≡ file → mid ≡ before → PrintsFaults text mid after → PrintsOther file given c t before after
+prints_wrong file text given c t before mid after same kept wrong =
+    inl (subst (λ (b : Option (List ℕ)). PrintsFaults file b after) kept (subst (λ (f : List ℕ). PrintsFaults f mid after) same wrong))
+
+-- what follows from two facts of a value
+pub from_both : {X E A : Type 0} {P Q : X → Type 0} (r : Result X E) → ((x : X) → P x → A → Q x) → IfOk r P → OnOk r A → IfOk r Q
+from_both (Ok x) f p a = f x p a
+from_both (Err e) f p a = tt
