@@ -1,6 +1,6 @@
 # What a fresh machine with the toolchain needs:
 #   make demo              plays a conversation with the server: with bin/ob0 where that is proved and up to date, else with
-#                          the program compiled without its proofs, in two to three minutes
+#                          the program compiled without its proofs, in one to three minutes
 #   make build             proves and builds the program, bin/ob0
 #   make package           packs the proved program: a Debian package and a .tar.gz with the same tree, in bin/
 #   make install PREFIX=.. copies that tree to PREFIX: the program, manual page, completions, editor files, pages and examples

@@ -2,7 +2,7 @@
 """Plays a conversation with the server, and prints what goes each way in readable form.
 
 It is played with bin/ob0 where that was proved and built from the sources as they are. Else the program is compiled by
-`rt try`, which proves nothing and takes two to three minutes, and gets all messages at once."""
+`rt try`, which proves nothing and takes one to three minutes, and gets all messages at once."""
 import json
 import os
 import subprocess
@@ -163,7 +163,7 @@ def main():
         print("The program is bin/ob0, which is proved.", flush=True)
         return play(Live())
     common.need("rt")
-    print("The program is compiled by `rt try` and NOT PROVED: nothing checks its proofs here. This takes two to three minutes.", flush=True)
+    print("The program is compiled by `rt try` and NOT PROVED: nothing checks its proofs here. This takes one to three minutes.", flush=True)
     status = play(Recorded())
     say("that was the program without its proofs")
     print(
