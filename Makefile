@@ -11,7 +11,7 @@
 # (where bin/ob0 is there and up to date, build, package, install and demo need no toolchain)
 # and beside them:
 #   make editors           installs the editors and tools that the end-to-end tests want, by apt-get
-#   make try               the tables of check, run and rename, with the program compiled without its proofs, in some four minutes
+#   make try               the tables of check, run and rename, with the program compiled without its proofs, in two to four minutes
 #   make end-to-end        the end-to-end tests alone, on bin/ob0
 #   make faults            what takes longer: memory refused at each allocation, two long conversations, many random runs; WORDS=".." names some
 #   make wrong-bodies      tries each crate's mutants, all at once where that can be; CRATE="NAME.." names some
