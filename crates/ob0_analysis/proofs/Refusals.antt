@@ -1,14 +1,13 @@
 -- The parser's refusal of a text, and what is reported of it, is one.
-use Rattle.std.proofs.Common.{◌≡◌, ℕ, List, [], ◌∷◌, refl, sym, ◌∙◌, ap, subst}
+use Rattle.std.proofs.Common.{◌≡◌, ℕ, [], ◌∷◌, sym, ◌∙◌, ap, subst}
 use Rattle.ob0_scan.specs.Scanned.{Scanned}
-use Rattle.ob0_tree.specs.Places.{lexemes}
-use Rattle.ob0_parse.specs.Descent.{OneStop, Stop, Expects, Deep, DescendsText}
+use Rattle.ob0_parse.specs.Descent.{OneStop, Expects, Deep}
 use Rattle.ob0_parse.specs.ExpectedText.{expected_text}
 use Rattle.ob0_parse.specs.RefusedBy.{RefusedBy}
 use Rattle.ob0_parse.specs.declared.refusal.Expected.{Expected}
 use Rattle.ob0_parse.specs.declared.refusal.ParseRefusal.{ParseRefusal}
 use Rattle.ob0_parse.specs.declared.refusal.ParseRefusal.TheVariants.{Syntax, TooDeep, Memory}
-use Rattle.ob0_analysis.specs.Diagnosed.{Complaint, IsRefusalAt, ReportsParser, OneRefusal, expects, too_deep, place_of}
+use Rattle.ob0_analysis.specs.Diagnosed.{Complaint, IsRefusalAt, OneRefusal, expects, too_deep, place_of}
 use Rattle.ob0_analysis.proofs.Scanning.{OneScan}
 
 same_place : {i j : ℕ} {x y : Expected} → Expects i x ≡ Expects j y → (i ≡ j) × (x ≡ y)

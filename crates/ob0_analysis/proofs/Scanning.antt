@@ -18,7 +18,7 @@ use Rattle.ob0_types.specs.CheckedModules.{CheckedModule, IsChecked, IsWellTyped
 use Rattle.ob0_types_rules.specs.WellTyped.{WellTyped}
 use Rattle.ob0_analysis.specs.Analysed.{IsModuleIn}
 use Rattle.ob0_analysis.specs.Found.{IsDecided}
-use Rattle.ob0_analysis.specs.Diagnosed.{Complaint, IsTextOf, IsWellTypedModule, IsRefusalAt, Reports, ReportsFaults, complaint_of}
+use Rattle.ob0_analysis.specs.Diagnosed.{Complaint, IsWellTypedModule, IsRefusalAt, Reports, ReportsFaults, complaint_of}
 use Rattle.ob0_analysis.specs.Texts.{utf8}
 
 -- the bytes of a text's characters are its bytes

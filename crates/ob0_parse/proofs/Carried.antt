@@ -11,7 +11,6 @@ use Rattle.ob0_tree.proofs.Viewed.{procedure_made}
 use Rattle.ob0_scan.specs.SameKinds.{HasSameTokens}
 use Rattle.ob0_parse.specs.KeptTokens.{lexemes_by, first_of, end_of, IsThere, IsMade, IsWaiting, Each, AreKept}
 use Rattle.ob0_parse.specs.declared.kept.Kept.{Kept}
-use Rattle.ob0_parse.specs.declared.kept.KeptProcedure.{KeptProcedure}
 
 -- ---- each of several
 
@@ -85,12 +84,6 @@ procedure_parts p = sym (ap procedure_of (roll-out-Procedure p)) ∙ procedure_m
 
 pub first_is : (p : Procedure) → first_of (procedure_of p) ≡ (out-Procedure p).name - 1
 first_is p = ap first_of (procedure_parts p)
-
-pub end_is : (p : Procedure) → end_of (procedure_of p) ≡ (out-Procedure p).closing + 2
-end_is p = ap end_of (procedure_parts p)
-
-pub made_waits : (ts : List Token) (p : Procedure) (k : KeptProcedure) → k.procedure ≡ p → k.at ≡ first_of (procedure_of p) → k.next ≡ end_of (procedure_of p) → IsMade ts p → IsWaiting ts k
-made_waits ts p k is at next m = rw (is, at, next) m
 
 each_as : {A : Type 0} (P Q : A → Type 0) (xs : List A) → ((x : A) → P x → Q x) → Each P xs → Each Q xs
 each_as P Q [] f p = tt

@@ -1,6 +1,5 @@
 -- The run of a lowered program is the run of its module.
-use Rattle.std.proofs.Common.{◌≡◌, ℕ, suc, ◌+◌, ◌*◌, ◌^◌, ◌<◌, ◌≤◌, true, List, [], ℤ, sym, refl, ap, ◌∙◌, subst, arith}
-use Rattle.std.proofs.lemmas.Nat.{mul-le}
+use Rattle.std.proofs.Common.{◌≡◌, ℕ, suc, ◌+◌, ◌*◌, ◌^◌, ◌<◌, true, List, [], ℤ, sym, refl, ap, ◌∙◌, subst, arith}
 use Rattle.ob0_tree.specs.Tree.{Tree, is_module, module_text}
 use Rattle.ob0_scope_rules.specs.Names.{Naming, as_labels}
 use Rattle.ob0_scope_rules.specs.Parts.{block_statements}

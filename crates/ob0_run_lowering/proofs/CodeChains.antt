@@ -18,9 +18,6 @@ pub record IsFold {X : Type 0} {i : Item} (chain : X → Tree Label (items i) �
 pub record Folded {X A : Type 0} {i : Item} (chain : X → Tree Label (items i) → X) (r : Resolution) (f : A → Tree ℕ (item i)) (start : X) (xs : List A) (done : ℕ) (out : X) : Type 0 where
   pub so_far : chain out (in_labels r (items_of f (drop done xs))) ≡ chain start (in_labels r (items_of f xs))
 
-pub fold_begins : {X A : Type 0} {i : Item} (chain : X → Tree Label (items i) → X) (r : Resolution) (f : A → Tree ℕ (item i)) (start : X) (xs : List A) → Folded chain r f start xs 0 start
-fold_begins chain r f start xs = record { so_far = refl }
-
 pub fold_goes_on : {X A : Type 0} {i : Item} {chain : X → Tree Label (items i) → X} {step : X → Tree Label (item i) → X} {r : Resolution} {f : A → Tree ℕ (item i)} {start : X} {xs : List A} {done : ℕ} {out : X} (x : A) (next : X)
     → IsFold chain step → Folded chain r f start xs done out → done < length xs → x ≡ get_or xs done x → next ≡ step out (in_labels r (f x)) → Folded chain r f start xs (done + 1) next
 fold_goes_on {chain = chain} {step = step} {r = r} {f = f} {xs = xs} {done = done} {out = out} x next h c less here given =

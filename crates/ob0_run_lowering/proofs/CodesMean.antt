@@ -1,5 +1,5 @@
 -- Operations on codes mean the operations of expressions.
-use Rattle.std.proofs.Common.{◌≡◌, ℕ, Bool, true, Some, None, Option, sym, refl, ap, ◌∙◌, subst}
+use Rattle.std.proofs.Common.{◌≡◌, Some, None, Option, sym, refl, ◌∙◌, subst}
 use Rattle.ob0_tree.specs.declared.tree.Relation.{Relation}
 use Rattle.ob0_tree.specs.declared.tree.Relation.TheVariants as relation
 use Rattle.ob0_tree.specs.declared.tree.Sign.{Sign}
@@ -17,8 +17,7 @@ use Rattle.ob0_values.specs.Values.{Outcome, Shape, Value, array_shape, boolean_
 use Rattle.ob0_run_machine.specs.Lowered as lowered
 use Rattle.ob0_run_cells.specs.Cells.{size}
 use Rattle.ob0_run_cells.specs.Lowering.{Evaluated, Leads, NumberLeads, NumberMeans, RestOfChain, Slot, TruthLeads, TruthMeans, ValueAt, addends_left, multipliers_left, value_of_expression, value_of_factor, value_of_simple, value_of_term}
-use Rattle.ob0_run_cells.proofs.Lowered.{addends_lower-holds, conjunctions_lower-holds, disjunctions_lower-holds, expressions_lower-holds, negations_lower-holds, operators_end-holds, parentheses_lower-holds, products_lower-holds, relations_lower-holds, sums_lower-holds, terms_lower-holds}
-use Rattle.ob0_run_cells.proofs.LoweredOutcomes.{gives-then}
+use Rattle.ob0_run_cells.proofs.Lowered.{addends_lower-holds, conjunctions_lower-holds, disjunctions_lower-holds, negations_lower-holds, operators_end-holds, products_lower-holds, relations_lower-holds, sums_lower-holds, terms_lower-holds}
 use Rattle.ob0_run_lowering.specs.Codes.{ExpressionCode, CodeMeans, a_block, a_number, a_truth, added, multiplied, negated, no_code, related, signed}
 
 pub some_inj : {A : Type 0} {x y : A} → Some x ≡ Some y → x ≡ y

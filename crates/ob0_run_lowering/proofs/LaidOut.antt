@@ -17,7 +17,7 @@ use Rattle.ob0_types_table.specs.declared.known.TypeEntry as code
 use Rattle.ob0_types_table.specs.declared.known.Field.{Field}
 use Rattle.ob0_values.specs.Values.{FieldShapes, Shape, array_shape, boolean_shape, integer_shape, next_field_shape, no_field_shape, number, record_shape}
 use Rattle.ob0_run_cells.specs.Cells.{field_offset, field_sizes, size}
-use Rattle.ob0_run_lowering.specs.Layouts.{AreLaidOut, HasLayout, LayOut, RecordAt, offsets_from}
+use Rattle.ob0_run_lowering.specs.Layouts.{AreLaidOut, HasLayout, LayOut, offsets_from}
 use Rattle.ob0_run_lowering.specs.declared.types.Layout.{Layout}
 use Rattle.ob0_run_lowering.specs.declared.types.Layout.TheVariants as layout
 use Rattle.ob0_run_lowering.specs.declared.types.RecordLayout.{RecordLayout}

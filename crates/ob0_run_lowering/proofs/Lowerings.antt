@@ -1,12 +1,12 @@
 -- What the code makes of an expression means it, by the code that the tree has.
-use Rattle.std.proofs.Common.{◌≡◌, ℕ, zero, suc, ◌<◌, ◌≤◌, Bool, true, false, ◌&&◌, ℤ, pos, List, [], ◌∷◌, length, get_or, slice_get, nat_lt, Some, None, Option, option_map, sym, refl, ap, ◌∙◌, subst, arith}
+use Rattle.std.proofs.Common.{◌≡◌, ℕ, zero, suc, ◌<◌, ◌≤◌, true, false, ℤ, pos, List, [], ◌∷◌, length, get_or, slice_get, Some, None, Option, option_map, sym, refl, ap, ◌∙◌, subst, arith}
 use Rattle.std.proofs.lemmas.Bool.Decides.{nat_tests}
 use Rattle.ob0_scan.specs.Scanned.{IsScan, Scanned}
 use Rattle.ob0_scan.specs.declared.lexeme.Token.{Token}
 use Rattle.ob0_tree.specs.Places.{value_at, value_in, value_of}
 use Rattle.ob0_tree.specs.Tree.{Tree, expression, items, selector}
 use Rattle.ob0_scope_rules.specs.Names.{Label, as_written, declared}
-use Rattle.ob0_types_table.specs.KnownTables.{Tables, declared_in, shapes_of}
+use Rattle.ob0_types_table.specs.KnownTables.{declared_in, shapes_of}
 use Rattle.ob0_types_table.specs.Tables.{formal_in, mode_of, type_shape}
 use Rattle.ob0_types_table.specs.declared.known.Formal.{Formal}
 use Rattle.ob0_types_rules.specs.InLabels.{in_labels, label_in}
@@ -14,9 +14,9 @@ use Rattle.ob0_types_rules.proofs.Numbers.{small_number}
 use Rattle.ob0_types_rules.specs.Expressions.{Object, a_constant, a_procedure, a_standard, a_type, a_variable}
 use Rattle.ob0_types_rules.specs.Typing.{designated, type_at, type_of}
 use Rattle.ob0_types_rules.specs.WellTyped as typing
-use Rattle.ob0_types_rules.specs.WellTyped.{Mode, Signature, Typed, agree, argument_fits, by_place, by_value, same_shape, variable_type}
+use Rattle.ob0_types_rules.specs.WellTyped.{Mode, Signature, Typed, agree, argument_fits, by_place, by_value, variable_type}
 use Rattle.ob0_types_rules.proofs.Conditions.{same_shape-true}
-use Rattle.ob0_values.specs.Values.{Shape, Value, array_shape, boolean_shape, integer_shape, number, record_shape}
+use Rattle.ob0_values.specs.Values.{Shape, array_shape, boolean_shape, integer_shape, number, record_shape}
 use Rattle.ob0_run_machine.specs.Evaluation as machine
 use Rattle.ob0_run_machine.specs.Lowered as lowered
 use Rattle.ob0_run_machine.specs.View.{argument_of, number_of, place_of, truth_of}
@@ -26,12 +26,12 @@ use Rattle.ob0_run_machine.specs.declared.code.Number.{Number}
 use Rattle.ob0_run_machine.specs.declared.code.Place.{Place}
 use Rattle.ob0_run_machine.specs.declared.code.Truth.{Truth}
 use Rattle.ob0_run_cells.specs.Cells.{size}
-use Rattle.ob0_run_cells.specs.LoweredStatements.{ArgumentMeans, IsAt}
+use Rattle.ob0_run_cells.specs.LoweredStatements.{ArgumentMeans}
 use Rattle.ob0_run_cells.specs.Lowering.{NumberMeans, PlaceMeans, Slot, TruthMeans, ValueAt, place_of_designator, value_of_expression}
-use Rattle.ob0_run_lowering.specs.Codes.{ExpressionCode, CodeMeans, FoundPlace, a_block, a_number, a_truth, no_code}
+use Rattle.ob0_run_lowering.specs.Codes.{CodeMeans, FoundPlace}
 use Rattle.ob0_run_lowering.specs.Means.{Locates, LocatesAlone, Lowers, LowersArgument, LowersNumber, LowersTruth}
 use Rattle.ob0_run_lowering.specs.Parts.{IsNumberOf, IsTypedPlaceOf, IsTruthOf, IsValueOf}
-use Rattle.ob0_run_lowering.specs.Scenes.{HasSmall, Sees, object_at}
+use Rattle.ob0_run_lowering.specs.Scenes.{HasSmall, object_at}
 use Rattle.ob0_run_lowering.specs.Trees.{base_found, code_of, expression_code, found_of, selected_place}
 use Rattle.ob0_run_lowering.specs.declared.lowered.TypedPlace.{TypedPlace}
 use Rattle.ob0_run_lowering.specs.declared.lowered.Lowered.{Lowered}

@@ -1,5 +1,5 @@
 -- Sights that follow one another, and names placed one after the other.
-use Rattle.std.proofs.Common.{◌≡◌, ℕ, suc, ◌+◌, ◌-◌, ◌<◌, ◌≤◌, ◌==◌, Bool, true, false, List, [], ◌∷◌, ◌++◌, length, get_or, drop, Some, Option, if◌then◌else◌, refl, sym, ap, ◌∙◌, subst, arith, append_assoc, length-append, eqb-true, eq-eqb, true≢false, le_refl}
+use Rattle.std.proofs.Common.{◌≡◌, ℕ, suc, ◌+◌, ◌-◌, ◌<◌, ◌≤◌, ◌==◌, Bool, true, false, List, [], ◌∷◌, ◌++◌, length, get_or, drop, Option, if◌then◌else◌, refl, sym, ap, ◌∙◌, subst, arith, append_assoc, length-append, eqb-true, eq-eqb, true≢false, le_refl}
 use Rattle.std.proofs.Math.ListN.{set}
 use Rattle.std.proofs.lemmas.List.{append-nil, drop_all, drop_more, get_or-set_other, get_or-set_same, length-set}
 use Rattle.ob0_types_table.proofs.Sighted.{last_of}
@@ -83,27 +83,6 @@ site-set xs j s k room = by (k == j) refl
     by true same = ap (site_at (set xs j s)) (eqb-true k j same) ∙ get_or-set_same xs j s site.Nowhere (omega (arith, room))
     by false other = get_or-set_other xs j k s site.Nowhere (λ e. true≢false (sym (eq-eqb k j e) ∙ other))
 
-pub bound_sites : (w mid v : VisibleSites) (j : ℕ) (s : Site) → ((k : ℕ) → site_at mid.sites.items k ≡ site_at w.sites.items k) → suc j ≤ length mid.sites.items → v.sites.items ≡ set mid.sites.items j s
-    → (k : ℕ) → site_at v.sites.items k ≡ put_at (Some j) s (site_at w.sites.items) k
-bound_sites w mid v j s same room put k =
-    ap (λ xs. site_at xs k) put ∙ site-set mid.sites.items j s k room ∙ ap (λ z. if k == j then s else z) (same k)
-
-pub bound_follows : (w mid v : VisibleSites) (j : ℕ) (s before : Site) → ((k : ℕ) → site_at mid.sites.items k ≡ site_at w.sites.items k) → mid.hidden.items ≡ w.hidden.items → length w.sites.items ≤ length mid.sites.items → suc j ≤ length mid.sites.items
-    → before ≡ site_at mid.sites.items j → v.sites.items ≡ set mid.sites.items j s → v.hidden.items ≡ mid.hidden.items ++ record { ordinal = j; before = before } ∷ [] → Follows w v
-bound_follows w mid v j s before same hidden longer room is put pushed =
-    let long : length v.sites.items ≡ length mid.sites.items = ap length put ∙ length-set mid.sites.items j s in
-    record {
-      more = record { ordinal = j; before = before } ∷ [];
-      added = pushed ∙ ap (λ hs. hs ++ record { ordinal = j; before = before } ∷ []) hidden;
-      within = (omega (arith, long, room), tt);
-      longer = omega (arith, long, longer);
-      goes_back = λ k. by k (k == j) refl;
-    }
-  where
-    by : (k : ℕ) (t : Bool) → (k == j) ≡ t → (if t then before else site_at v.sites.items k) ≡ site_at w.sites.items k
-    by k true e = is ∙ same j ∙ ap (site_at w.sites.items) (sym (eqb-true k j e))
-    by k false e = bound_sites w mid v j s same room put k ∙ ap (λ t. if t then s else site_at w.sites.items k) e
-
 -- one hidden site less
 abbrev pub AllBack : VisibleSites → ℕ → VisibleSites → Type 0
 AllBack start mark now = (w : VisibleSites) → Follows w start → mark ≡ length w.hidden.items → Follows w now × (length now.sites.items ≡ length start.sites.items)
@@ -148,17 +127,6 @@ back_ends start now mark back all w f is =
     )
 
 -- steps of placing
-
-pub places_nothing : (w : VisibleSites) (f : Frame) → Places w w f (λ p. p) f
-places_nothing w f = record { placed = λ p h. h; follows = follows_itself w; depth = refl; more_cells = le_refl f.cells }
-
-pub places_then : (w v u : VisibleSites) (f g h : Frame) (first second : Placed Label → Placed Label) → Places w v f first g → Places v u g second h → Places w u f (λ p. second (first p)) h
-places_then w v u f g h first second a b = record {
-  placed = λ p is. b.placed (first p) (a.placed p is);
-  follows = follows_then w v u a.follows b.follows;
-  depth = b.depth ∙ a.depth;
-  more_cells = omega (arith, a.more_cells, b.more_cells);
-}
 
 pub places_as : (w v : VisibleSites) (f g : Frame) (first second : Placed Label → Placed Label) → ((p : Placed Label) → first p ≡ second p) → Places w v f first g → Places w v f second g
 places_as w v f g first second same a = subst (λ (step : Placed Label → Placed Label). Places w v f step g) (λ i p. same p i) a

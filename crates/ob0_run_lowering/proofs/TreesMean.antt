@@ -6,9 +6,9 @@ use Rattle.ob0_scope_rules.specs.Names.{Label, label_text}
 use Rattle.ob0_types_rules.specs.InLabels.{in_labels, label_in}
 use Rattle.ob0_types_rules.specs.Expressions.{Meanings, Object, a_constant, a_procedure, a_standard, a_type, a_variable}
 use Rattle.ob0_types_rules.specs.Typing.{add_type, complement_type, constant_of, element_type, field_type, multiply_type, object_type, relation_type, sign_type, type_at, type_of, type_of_addends, type_of_factor, type_of_multipliers, type_of_simple, type_of_term, value_type}
-use Rattle.ob0_types_rules.specs.WellTyped.{Signature, Typed, variable_type}
+use Rattle.ob0_types_rules.specs.WellTyped.{Signature, Typed}
 use Rattle.ob0_types_rules.proofs.TypedElsewhere.{then_some}
-use Rattle.ob0_values.specs.Values.{FieldShapes, Place, Shape, Value, array_shape, boolean_shape, elements, integer_shape, members, number, record_shape, truth}
+use Rattle.ob0_values.specs.Values.{Place, Shape, Value, array_shape, boolean_shape, elements, integer_shape, members, number, record_shape, truth}
 use Rattle.ob0_run_machine.specs.Evaluation as machine
 use Rattle.ob0_run_machine.specs.Lowered as lowered
 use Rattle.ob0_run_cells.specs.Cells.{field_offset, size}
@@ -16,7 +16,7 @@ use Rattle.ob0_run_cells.specs.LoweredStatements.{Target}
 use Rattle.ob0_run_cells.specs.Lowering.{Evaluated, PlaceLeads, PlaceMeans, Slot, place_of_designator, slot_place, value_of_expression, value_of_factor, value_of_simple, value_of_term}
 use Rattle.ob0_run_cells.specs.Lowering as lowering
 use Rattle.ob0_run_cells.proofs.Lowered.{blocks_lower-holds, cells_lower-holds, constants_lower-holds, fields_lower-holds, indexes_lower-holds, integers_lower-holds, selectors_end-holds, variables_lower-holds}
-use Rattle.ob0_run_lowering.specs.Codes.{ExpressionCode, CodeMeans, FoundPlace, a_block, a_number, a_truth, added, constant_code, element_found, element_of, field_found, multiplied, named_code, negated, no_code, related, signed, code_at_place}
+use Rattle.ob0_run_lowering.specs.Codes.{ExpressionCode, CodeMeans, FoundPlace, a_number, a_truth, added, constant_code, element_found, element_of, field_found, multiplied, named_code, signed, code_at_place}
 use Rattle.ob0_run_lowering.specs.Scenes.{HasSmall, Sees, object_at, slot_at}
 use Rattle.ob0_run_lowering.specs.Trees.{addends_code, base_found, expression_code, factor_code, multipliers_code, selected_place, simple_code, term_code, variable_found}
 use Rattle.ob0_run_lowering.specs.declared.scene.Scene.{Scene}

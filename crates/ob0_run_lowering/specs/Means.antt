@@ -1,6 +1,6 @@
 -- What the code of expressions, designators and arguments means, wherever a scene is right.
 -- Rule: none; for contracts of lowering.
-use Rattle.std.specs.Prelude.{◌≡◌, ℕ, true, List, Some}
+use Rattle.std.specs.Prelude.{◌≡◌, ℕ, true, Some}
 use Rattle.ob0_tree.specs.Tree.{Tree, expression, items, selector}
 use Rattle.ob0_scope_rules.specs.Names.{Label}
 use Rattle.ob0_types_table.specs.KnownTables.{shapes_of}
@@ -9,14 +9,13 @@ use Rattle.ob0_types_table.specs.declared.known.Formal.{Formal}
 use Rattle.ob0_types_rules.specs.InLabels.{in_labels, label_in}
 use Rattle.ob0_types_rules.specs.Typing.{designated, type_of}
 use Rattle.ob0_types_rules.specs.WellTyped.{Typed, argument_fits, variable_type}
-use Rattle.ob0_values.specs.Values.{Place, Shape, Value, array_shape, boolean_shape, integer_shape, record_shape}
+use Rattle.ob0_values.specs.Values.{Shape, Value, boolean_shape, integer_shape}
 use Rattle.ob0_run_machine.specs.View.{argument_of, number_of, place_of, truth_of}
 use Rattle.ob0_run_machine.specs.declared.code.Argument.{Argument}
 use Rattle.ob0_run_machine.specs.declared.code.Number.{Number}
 use Rattle.ob0_run_machine.specs.declared.code.Truth.{Truth}
-use Rattle.ob0_run_cells.specs.Cells.{size}
 use Rattle.ob0_run_cells.specs.LoweredStatements.{ArgumentMeans, IsAt, Target}
-use Rattle.ob0_run_cells.specs.Lowering.{Evaluated, NumberMeans, PlaceMeans, Slot, TruthMeans, ValueAt, place_of_designator, value_of_expression}
+use Rattle.ob0_run_cells.specs.Lowering.{Evaluated, NumberMeans, PlaceMeans, Slot, TruthMeans, place_of_designator, value_of_expression}
 use Rattle.ob0_run_lowering.specs.Codes.{CodeMeans}
 use Rattle.ob0_run_lowering.specs.Scenes.{Sees}
 use Rattle.ob0_run_lowering.specs.Trees.{code_of}

@@ -4,7 +4,6 @@ use Rattle.std.specs.Prelude.{◌≡◌, ℕ, ◌-◌, List, slice_index_or, Som
 use Rattle.ob0_tree.specs.Places.{value_at}
 use Rattle.ob0_run_machine.specs.Evaluation as machine
 use Rattle.ob0_scope_rules.specs.Names.{Label, as_written, declared, label_text}
-use Rattle.ob0_scope_rules.specs.Resolution.{Resolution}
 use Rattle.ob0_types_table.specs.KnownTables.{Tables, declared_in}
 use Rattle.ob0_types_rules.specs.Expressions.{Object, a_constant, a_procedure, a_variable}
 use Rattle.ob0_types_rules.specs.WellTyped.{Signature, Typed}

@@ -1,9 +1,8 @@
 -- The code of designators and expressions of a scene, by what declarations are and where they are.
 -- Rule: none; for contracts of lowering.
-use Rattle.std.specs.Prelude.{◌≡◌, ℕ, List, map, pos, Some, None, Option, option_and_then}
+use Rattle.std.specs.Prelude.{List, pos, Some, None, Option, option_and_then}
 use Rattle.ob0_tree.specs.Tree.{Tree, addend, adds, compares, designator, end, expression, factor, field, index, integer, item, items, more, multiplier, multiplies, negation, none, one, parenthesised, product, relates, selector, simple, sum, term}
 use Rattle.ob0_scope_rules.specs.Names.{Label, label_text}
-use Rattle.ob0_types_table.specs.KnownTables.{shapes_of}
 use Rattle.ob0_types_table.specs.Tables.{type_shape}
 use Rattle.ob0_types_rules.specs.Expressions.{Object, a_constant, a_procedure, a_standard, a_type, a_variable}
 use Rattle.ob0_types_rules.specs.Typing.{constant_of}

@@ -1,7 +1,7 @@
 -- The old tokens and comments that a changed text goes on to have, and what lies between them.
-use Rattle.std.proofs.Common.{◌≡◌, ℕ, zero, suc, ◌+◌, ◌-◌, ◌<◌, ◌≤◌, get_or, set, Bool, true, false, cond, List, [], ◌∷◌, ◌++◌, length, map, take, drop, refl, sym, ap, ap₂, ◌∙◌, subst, arith, append_assoc, append-nil, length-drop, length-take-le, take-append-drop, drop_at, ltb}
+use Rattle.std.proofs.Common.{◌≡◌, ℕ, zero, suc, ◌+◌, ◌-◌, ◌<◌, ◌≤◌, get_or, set, Bool, true, false, cond, List, [], ◌∷◌, ◌++◌, length, map, take, drop, refl, sym, ap, ap₂, ◌∙◌, subst, arith, append_assoc, length-drop, length-take-le, take-append-drop, drop_at, ltb}
 use Rattle.std.specs.List.{All, prefix_len, splice}
-use Rattle.std.proofs.lemmas.List.{take_all, drop_all, take-append-le, set-append_right, get_or-append_right}
+use Rattle.std.proofs.lemmas.List.{take-append-le, set-append_right, get_or-append_right}
 use Rattle.std.proofs.lemmas.List.Elements.{All-head, All-tail, All-same, All-weaker}
 use Rattle.std.proofs.lemmas.List.Folds.{length-prefix_len}
 use Rattle.std.proofs.lemmas.List.Sums.{prefix_len-le-length}
@@ -125,15 +125,6 @@ module _ {X : Type 0} (f : X → X) (xs : List X) (first : ℕ) (some : first �
   left : length (take first xs) ≡ first
   left = length-take-le first xs some
 
-  pub changed_none : ChangedTo f xs first first xs
-  changed_none =
-      let none : first - first ≡ 0 = omega arith in
-      record {
-        following = omega arith;
-        inside = some;
-        are = sym (take-append-drop first xs) ∙ ap (λ n. take first xs ++ (map f (take n (drop first xs)) ++ drop n (drop first xs))) (sym none);
-      }
-
   module _ (at : ℕ) (now : List X) (d : X) (inside : at < length xs) (c : ChangedTo f xs first at now) where
     further : at - first < length (drop first xs)
     further = omega (arith, length-drop first xs, c.following)
@@ -152,11 +143,6 @@ module _ {X : Type 0} (f : X → X) (xs : List X) (first : ℕ) (some : first �
           ∙ set-append_right (take first xs) (map f (take (at - first) (drop first xs)) ++ drop (at - first) (drop first xs)) first at v left c.following
           ∙ ap (λ ys. take first xs ++ ys) (changed_there f (drop first xs) (at - first) (at + 1 - first) d v further (omega (arith, c.following)) (w ∙ ap f still));
     }
-
-  pub changed_all : (at : ℕ) (now : List X) → length xs ≤ at → ChangedTo f xs first at now → now ≡ take first xs ++ map f (drop first xs)
-  changed_all at now end c =
-      let all : length (drop first xs) ≤ at - first = omega (arith, length-drop first xs, end) in
-      c.are ∙ ap₂ (λ x y. take first xs ++ (map f x ++ y)) (take_all (at - first) (drop first xs) all) (drop_all (at - first) (drop first xs) all) ∙ ap (λ x. take first xs ++ x) (append-nil (map f (drop first xs)))
 
 -- others are put between a front and what is after
 pub put_between : {X : Type 0} (xs ys zs us vs now : List X) (front following : ℕ) → front ≤ following → following ≤ length xs → ys ≡ take following xs ++ zs → now ≡ splice ys front following vs → vs ≡ us → now ≡ take front xs ++ (us ++ zs)

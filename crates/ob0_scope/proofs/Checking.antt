@@ -25,14 +25,6 @@ pub record Gathering {A B : Type 0} (f : List A → List B) (xs : List A) (start
 pub gathered : {A B : Type 0} (f : List A → List B) {xs : List A} {start : List B} {done : ℕ} {out : List B} → f [] ≡ [] → Gathering f xs start done out → length xs ≤ done → out ≡ start ++ f xs
 gathered f {xs = xs} {done = done} {out = out} empty_is w all = sym (append-nil out) ∙ (ap (λ z. out ++ z) (sym (ap f (drop_all done xs all) ∙ empty_is)) ∙ w.so_far)
 
--- one more element, of which so much is collected
-pub gathers_on : {A B : Type 0} (f : List A → List B) {xs : List A} {start : List B} {done : ℕ} {now : List B} (x : A) (found next : List B) → Gathering f xs start done now → done < length xs → x ≡ get_or xs done x
-    → ((rest : List A) → f (x ∷ rest) ≡ found ++ f rest) → next ≡ now ++ found → Gathering f xs start (done + 1) next
-gathers_on f {xs = xs} {done = done} {now = now} x found next w less here step e =
-    let split : drop done xs ≡ x ∷ drop (done + 1) xs = drop_more xs done x less ∙ ap (λ y. y ∷ drop (done + 1) xs) (sym here) in
-    let rest = drop (done + 1) xs in
-    record { so_far = ap (λ a. a ++ f rest) e ∙ (append_assoc now found (f rest) ∙ (ap (λ c. now ++ c) (sym (step rest)) ∙ (sym (ap (λ ys. now ++ f ys) split) ∙ w.so_far))) }
-
 -- whether a set of texts has one
 abbrev pub has : BTreeSet (Bor Name) → Name → Bool
 has seen x = contains_by (λ key. slice_cmp nat_cmp x key.now) seen
@@ -73,14 +65,6 @@ sees_on source all start done seen next now later added token x w less here name
 pub all_seen : {source : Scanned} {all : List ℕ} {start : List Fault} {done : ℕ} {seen : Name → Bool} {now : List Fault} → Seeing source all start done seen now → length all ≤ done → now ≡ start ++ again source [] all
 all_seen {source = source} {all = all} {start = start} {done = done} {now = now} w over =
     sym (append-nil now) ∙ (sym (ap (λ ys. now ++ again source w.before ys) (drop_all done all over)) ∙ w.so_far)
-
-pub nothing_seen : (source : Scanned) (all : List ℕ) (start : List Fault) (seen : BTreeSet (Bor Name)) → seen.keys ≡ [] → Seeing source all start 0 (has seen) start
-nothing_seen source all start seen empty_is =
-    record {
-      before = [];
-      found = λ x. ap (λ ks. list_any (λ (key : Bor Name). is_eq (slice_cmp nat_cmp x key.now)) ks) empty_is;
-      so_far = refl;
-    }
 
 swapped : (a b c : Bool) → (a || (b || c)) ≡ (b || (a || c))
 swapped true true c = refl

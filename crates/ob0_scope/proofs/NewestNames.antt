@@ -14,7 +14,7 @@ use Rattle.ob0_scope.specs.declared.newest.BoundName.{BoundName}
 use Rattle.ob0_scope.specs.Keys.{Key, compare_keys, compare_name, number_of}
 use Rattle.ob0_scope_rules.specs.Names.{Name, same_name}
 use Rattle.ob0_scope_rules.proofs.NameEquality.{same_name-comm, same_name-refl}
-use Rattle.ob0_scope.specs.NewestNames.{ArePlaces, IsAdded, IsRenewed, KeepsNewest, KeepsPlaces, newest_in, place_of}
+use Rattle.ob0_scope.specs.NewestNames.{ArePlaces, IsRenewed, KeepsNewest, newest_in, place_of}
 
 -- names that are reported apart: of the first, of a later one, of none
 first_place : (same : Bool) (o : Option ℕ) → (if same then Some zero else option_map suc o) ≡ Some zero → same ≡ true
@@ -199,15 +199,6 @@ places_added places next es r h renews w =
                 ∙ (place_added es r h r.name.now ∙ (if_true (same_name r.name.now r.name.now) (Some (length es)) (place_of es r.name.now) (same_name-refl r.name.now) ∙ ap (λ n. Some n) (sym last)))
           ];
     }
-
--- a name that is added takes no name's place, and has the one after all others
-pub places_kept : (before after : List BoundName) (x : Name) → place_of before x ≡ None → IsAdded before after x → KeepsPlaces before after
-places_kept before after x none added = λ y i there.
-    let other : same_name x y ≡ false = not_same (same_name x y) (λ e. some_apart (place_of before y) i there (ap (place_of before) (sym ((bytes_eq-Decides x y).0 e)) ∙ none)) in
-    added y ∙ (if_false (same_name x y) (Some (length before)) (place_of before y) other ∙ there)
-
-pub placed_last : (before after : List BoundName) (x : Name) → IsAdded before after x → place_of after x ≡ Some (length before)
-placed_last before after x added = added x ∙ if_true (same_name x x) (Some (length before)) (place_of before x) (same_name-refl x)
 
 -- nothing is bound to a name that is added
 pub none_newer : (es : List BoundName) (r : BoundName) → r.newest ≡ None → place_of es r.name.now ≡ None → KeepsNewest es (es ++ (r ∷ []))

@@ -11,7 +11,7 @@ use Rattle.ob0_tree.specs.declared.tree.ModuleTree.{ModuleTree}
 use Rattle.ob0_tree.specs.declared.tree.Role.{Role}
 use Rattle.ob0_tree.specs.declared.tree.Role.TheVariants as role
 use Rattle.ob0_tree.specs.Order.{AreIdentifiers, names_only}
-use Rattle.ob0_tree.specs.Parsed.{IsParsed, named_tree_of, parsed_by, tree_of}
+use Rattle.ob0_tree.specs.Parsed.{named_tree_of, parsed_by, tree_of}
 use Rattle.ob0_tree.specs.Places.{text_at, text_in, value_at}
 use Rattle.ob0_tree.specs.Tree.{Tree, identifiers, mapped, module_text, occurrences}
 use Rattle.ob0_tree.proofs.Leaves.{leaves_are_identifiers}
@@ -19,7 +19,7 @@ use Rattle.ob0_scope_rules.specs.Bindings.{resolution_by}
 use Rattle.ob0_scope_rules.specs.DeclaredOnce.{declared_once}
 use Rattle.ob0_scope_rules.specs.DeclaredTwice.{twice_in}
 use Rattle.ob0_scope_rules.specs.Names.{Name, as_names}
-use Rattle.ob0_scope_rules.specs.Resolution.{AreFaultsOf, IsNumbering, IsResolution, is_of_declarations, is_of_occurrences, ordinal_in, span_at, undeclared_at, unbound_in, with_ordinal}
+use Rattle.ob0_scope_rules.specs.Resolution.{AreFaultsOf, IsNumbering, IsResolution, is_of_declarations, is_of_occurrences, ordinal_in, undeclared_at, with_ordinal}
 use Rattle.ob0_scope_rules.specs.Scopes.{Labels, as_label, relabelled}
 use Rattle.ob0_scope_rules.specs.declared.resolved.Bindings.{Bindings}
 use Rattle.ob0_scope.specs.Marking.{started}

@@ -110,9 +110,6 @@ one_less_placed newest (x ∷ items) b h = let rest = one_less_placed newest ite
 pub still_newest : (before after : List BoundName) (items : List Binding) → KeepsNewest before after → IsNewest before items → IsNewest after items
 still_newest before after items kept w = record { found = λ x. kept x ∙ w.found x; hidden = w.hidden }
 
-pub scope-popped : (items : List Binding) (b : Binding) → scope_of (items ++ (b ∷ [])) ≡ shown b ∷ scope_of items
-scope-popped items b = ap (map shown) (reverse-append items (b ∷ []))
-
 pub looked_up_below : (newest : List BoundName) (items : List Binding) (x : Name) (i : ℕ) → IsNewest newest items → Some i ≡ newest_in newest x → i < length items
 looked_up_below newest items x i w e = subst (λ n. i < n) (length-reverse items) (latest_below x (reverse items) i (sym (w.found x) ∙ sym e))
 

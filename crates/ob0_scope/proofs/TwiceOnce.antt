@@ -19,10 +19,6 @@ and_true : (b : Bool) → (b && true) ≡ b
 and_true true = refl
 and_true false = refl
 
-and_assoc : (a b c : Bool) → ((a && b) && c) ≡ (a && (b && c))
-and_assoc true b c = refl
-and_assoc false b c = refl
-
 -- names that are distinct, and distinct from some that were there before
 abbrev distinct_from : List Name → List Name → Bool
 distinct_from before [] = true

@@ -12,10 +12,6 @@ use Rattle.ob0_scope_rules.proofs.Relabelled.{constants-section, formals-section
 
 -- the labels and the ordinals of declarations don't hang on names
 
-pub label_names-twice : {N : Type 0} (naming : Naming N) (ren : Labels N N) (j k : ℕ) (xs : List N) → j ≡ k → label_names (as_label naming) j (label_names ren k xs) ≡ label_names (as_label naming) k xs
-label_names-twice naming ren j k [] e = refl
-label_names-twice naming ren j k (x ∷ xs) e = λ i. declared (e i) ∷ label_names-twice naming ren (suc j) (suc k) xs (ap suc e) i
-
 pub after_names-label : {N M : Type 0} (label : Labels N M) (j k : ℕ) (xs : List N) → j ≡ k → after_names j (label_names label k xs) ≡ after_names k xs
 after_names-label label j k [] e = e
 after_names-label label j k (x ∷ xs) e = after_names-label label (suc j) (suc k) xs (ap suc e)

@@ -4,7 +4,7 @@ use Rattle.ob0_tree.specs.declared.tree.Relation.TheVariants as relation
 use Rattle.ob0_tree.specs.declared.tree.Sign.TheVariants as sign
 use Rattle.ob0_tree.specs.declared.tree.AddOperator.TheVariants as add_operator
 use Rattle.ob0_tree.specs.declared.tree.MultiplyOperator.TheVariants as multiply_operator
-use Rattle.ob0_tree.specs.Tree.{Tree, adds, array_type, assigns, begins, branches, calls, compares, declares, declares_constant, declares_constants, declares_procedure, declares_type, declares_types, declares_variable, declares_variables, designator, empty, end, expression, factor, field, has_body, index, integer, is_module, listed, module_text, more, multiplies, named_type, none, one, parenthesised, product, record_type, relates, repeat_loop, runs, some_arguments, some_fields, some_formals, sum, then_argument, then_name, then_section, then_statement, value_section, variable_section, while_loop}
+use Rattle.ob0_tree.specs.Tree.{Tree, adds, array_type, assigns, begins, branches, calls, compares, declares, declares_constant, declares_constants, declares_procedure, declares_type, declares_types, declares_variable, declares_variables, designator, end, expression, factor, field, has_body, index, integer, is_module, listed, module_text, more, multiplies, named_type, none, one, parenthesised, product, record_type, relates, repeat_loop, runs, some_arguments, some_fields, some_formals, sum, then_argument, then_name, then_section, then_statement, value_section, variable_section, while_loop}
 use Rattle.ob0_scope_rules.specs.Names.{Name}
 
 -- an expression that is a factor alone
@@ -82,10 +82,6 @@ negative_divisor = is_module (codes "M") (has_body (declares none none none end)
 -- MODULE M; VAR n: INTEGER; BEGIN Read(n); REPEAT Write(n); n := n - 1 UNTIL n <= 0 END M.
 abbrev pub repeats : Tree Name module_text
 repeats = is_module (codes "M") (has_body (declares none none (one (declares_variables (more (declares_variable (listed (codes "n") end) (named_type (codes "INTEGER"))) end))) end) (one (begins (runs (calls (codes "Read") (one (some_arguments (alone (designator (codes "n") end)) end))) (more (then_statement (repeat_loop (runs (calls (codes "Write") (one (some_arguments (alone (designator (codes "n") end)) end))) (more (then_statement (assigns (codes "n") end (compares (sum None (product (designator (codes "n") end) end) (more (adds add_operator.Subtract (product (integer 1) end)) end)) none))) end)) (compares (sum None (product (designator (codes "n") end) end) end) (one (relates relation.LessEqual (sum None (product (integer 0) end) end)))))) end))))) (codes "M")
-
--- MODULE M; BEGIN REPEAT UNTIL 1 END M.
-abbrev pub repeats_number : Tree Name module_text
-repeats_number = is_module (codes "M") (has_body (declares none none none end) (one (begins (runs (repeat_loop (runs empty end) (alone (integer 1))) end)))) (codes "M")
 
 -- MODULE M; VAR x: INTEGER; PROCEDURE Q(VAR r: INTEGER); VAR k: INTEGER; BEGIN k := 5; r := r + k END Q; PROCEDURE P; VAR j: INTEGER; BEGIN Q(j); Q(j); Write(j); x := j END P; BEGIN P; P; Write(x) END M.
 abbrev pub store_of_calls : Tree Name module_text

@@ -1,5 +1,5 @@
 -- What the entries of a cache are after a call.
-use Rattle.std.proofs.Common.{◌≡◌, ◌∙◌, ℕ, ◌⊎◌, inl, inr, Bool, true, false, cond, take, List, [], ◌∷◌, Contains, Option, Some, None, String, string_bytes, Global, IfSome, refl, sym, ap, subst}
+use Rattle.std.proofs.Common.{◌≡◌, ◌∙◌, ℕ, ◌⊎◌, inl, inr, Bool, true, false, cond, take, List, [], ◌∷◌, Contains, Some, None, String, string_bytes, Global, refl, sym, ap, subst}
 use Rattle.std.specs.Str.{bytes_eq}
 use Rattle.std.specs.Cmp.{IsEquivalence}
 use Rattle.std.specs.Map.{keys_of, lookup, remove_entry}

@@ -1,5 +1,5 @@
 -- A question about what is at a place of a text has one answer.
-use Rattle.std.proofs.Common.{◌≡◌, ◌∙◌, ℕ, ◌+◌, ◌-◌, ◌++◌, nat_lt, Bool, true, false, Option, Some, None, List, map, drop, get_or, if◌then◌else◌, refl, sym, ap, inl, inr}
+use Rattle.std.proofs.Common.{◌≡◌, ◌∙◌, ℕ, ◌+◌, ◌-◌, nat_lt, Bool, true, false, Option, Some, None, List, map, drop, get_or, if◌then◌else◌, refl, sym, ap, inl, inr}
 use Rattle.std.specs.Prelude.{option_and_then, option_map, unwrap_or}
 use Rattle.std.specs.List.{filter, position_from}
 use Rattle.serde_json.specs.Data.{Data, array}

@@ -1,21 +1,16 @@
 -- What is found about the name at a position, and that it can be sent.
-use Rattle.std.proofs.Common.{◌≡◌, ◌≤◌, ℕ, List, [], ◌∷◌, false, Option, Some, None, map, option_map, inl, inr, refl, sym, subst, arith}
+use Rattle.std.proofs.Common.{◌≡◌, ◌≤◌, ℕ, List, [], ◌∷◌, Option, Some, None, map, subst, arith}
 use Rattle.std.specs.Str.{chars, IsUtf8}
 use Rattle.serde_json.specs.Data.{Data, null, array, items_depth}
 use Rattle.serde_json.specs.View.{items_of}
-use Rattle.ob0_rpc.specs.Requesting.{At}
 use Rattle.ob0_rpc.specs.Writing.{CanBeSent}
-use Rattle.ob0_refs.specs.Shown.{HoverText}
-use Rattle.ob0_refs.specs.Questions.{hover_at_place, definition_at}
 use Rattle.ob0_scan.specs.declared.lexeme.Span.{Span}
 use Rattle.ob0_scope_rules.specs.Resolution.{Resolution}
 use Rattle.ob0_text.specs.declared.position_types.Unit.{Unit}
 use Rattle.ob0_analysis.specs.Analysed.{Finds, IsModuleIn}
 use Rattle.ob0_analysis.specs.Diagnosed.{IsWellTypedModule}
 use Rattle.ob0_analysis.specs.Texts.{utf8}
-use Rattle.ob0_session_queries.specs.Questions.{AnswersName, AnswersIn, no_answer, offset_in, renamable_in, hover_at, location_at, range_at, value_or_null}
-use Rattle.ob0_session_queries.specs.declared.questions.NameQuestion.{NameQuestion}
-use Rattle.ob0_session_queries.specs.declared.questions.NameQuestion.TheVariants.{Hover, Definition, References, PrepareRename}
+use Rattle.ob0_session_queries.specs.Questions.{location_at}
 use Rattle.ob0_analysis.proofs.Scanning.{utf8_of}
 
 -- what was found of the module that a text is, or that there is none

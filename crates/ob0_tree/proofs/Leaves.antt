@@ -102,12 +102,6 @@ leaves_parsed m p =
     ∙ (sym (lexeme_names-append (spell (tree_of m)) (EndOfText ∷ []))
     ∙ (ap lexeme_names p.places ∙ names_from m.source.tokens 0)))
 
--- Numbers that ascend, in parts.
-pub record Split (low : ℕ) (xs ys : List ℕ) (high : ℕ) : Type 0 where
-  pub middle : ℕ
-  pub front : Ascending low xs middle
-  pub back : Ascending middle ys high
-
 pub ascending_bounds : (low : ℕ) (xs : List ℕ) (high : ℕ) → Ascending low xs high → low ≤ high
 ascending_bounds low [] high p = p
 ascending_bounds low (x ∷ xs) high p = let h = ascending_bounds (x + 1) xs high p.1 in omega (arith, p.0)

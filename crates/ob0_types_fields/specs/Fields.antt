@@ -192,7 +192,8 @@ abbrev mutual
       has_body
       (declares cs (refield_type_section l k ts)
       (refield_variable_section l (after_types k (has_body (declares cs ts vs ps) statements)) vs)
-      (refield_procedures l (types_after_variables env k (has_body (declares cs ts vs ps) statements))
+      (refield_procedures l
+      (types_after_variables env k (has_body (declares cs ts vs ps) statements))
       (after_variables k (has_body (declares cs ts vs ps) statements)) ps))
       (refield l (meanings as_names (types_after_procedures
       (types_after_variables env k (has_body (declares cs ts vs ps) statements))

@@ -253,9 +253,10 @@ abbrev mutual
   marked_tree m (field a) = []
   marked_tree m (index a) = marked_tree m a
   marked_tree m empty = []
-  marked_tree m (assigns a b c) = marked_path m (object_type (m.object_for a)) b ++ (marked_tree m c)
+  marked_tree m (assigns a b c) = marked_path m (object_type (m.object_for a)) b ++ marked_tree m c
   marked_tree m (calls a b) = marked_tree m b
-  marked_tree m (branches a b c d) = marked_tree m a ++ (marked_tree m b ++ (marked_tree m c ++ (marked_tree m d)))
+  marked_tree m (branches a b c d) =
+      marked_tree m a ++ (marked_tree m b ++ (marked_tree m c ++ marked_tree m d))
   marked_tree m (while_loop a b) = marked_tree m a ++ (marked_tree m b)
   marked_tree m (repeat_loop a b) = marked_tree m a ++ (marked_tree m b)
   marked_tree m no_arguments = []

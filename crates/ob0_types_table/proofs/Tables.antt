@@ -10,8 +10,6 @@ use Rattle.ob0_types_table.specs.declared.types.TypeId.TheVariants as type
 use Rattle.ob0_types_table.specs.declared.known.TypeEntry as code
 use Rattle.ob0_types_table.specs.declared.known.TypeEntry.TheVariants as made
 use Rattle.ob0_types_table.specs.declared.known.Field.{Field}
-use Rattle.ob0_types_table.specs.declared.known.Object as declaration
-use Rattle.ob0_types_table.specs.declared.known.Object.TheVariants as kind
 use Rattle.ob0_types_table.specs.Tables.{AreEntriesInOrder, CountsParts, IsTypeMade, PartsAreMade, fields_shape, made_shape, no_shape, only_array, only_record, shapes_from, type_shape}
 
 pub shapes_from-push : (known : List Shape) (ms : List code.TypeEntry) (m : code.TypeEntry) → shapes_from known (ms ++ m ∷ []) ≡ shapes_from known ms ++ made_shape (shapes_from known ms) m ∷ []

@@ -1,7 +1,6 @@
-use Rattle.std.proofs.Common.{map, ap, subst}
-use Rattle.std.proofs.Common.{◌∙◌}
+use Rattle.std.proofs.Common.{map, subst}
 use Rattle.ob0_scan.specs.Scanned.{IsScan}
-use Rattle.ob0_analysis.specs.Diagnosed.{complaint_in, complaint_of}
+use Rattle.ob0_analysis.specs.Diagnosed.{complaint_in}
 use Rattle.ob0_analysis.proofs.Scanning.{reports_module}
 use Rattle.ob0_analysis.proofs.diagnosing.diagnose_module.Goals as goal
 

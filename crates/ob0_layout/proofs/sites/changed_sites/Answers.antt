@@ -2,7 +2,6 @@ use Rattle.std.proofs.Common.{◌-◌, ◌++◌, [], ◌∷◌, ℕ, List, Some,
 use Rattle.ob0_scan.specs.declared.lexeme.LexemeKind.TheVariants as lexeme
 use Rattle.ob0_scan.specs.declared.lexeme.Span.{Span}
 use Rattle.ob0_scan.specs.declared.lexeme.Token.{Token}
-use Rattle.ob0_layout.specs.declared.sites.GapSite.{GapSite}
 use Rattle.ob0_layout.specs.declared.line_role.LineRole.{LineRole}
 use Rattle.ob0_layout.specs.Layout.{next_line, comment_role}
 use Rattle.ob0_layout.specs.Sites.{all_sites, changed_sites, gap_before}

@@ -1,4 +1,3 @@
-use Rattle.std.proofs.Common.{sym, ap}
 use Rattle.ob0_run_lowering.proofs.Lowerings.{small-scene}
 use Rattle.ob0_run_lowering.proofs.scene.Scene.has_small.Goals as goal
 

@@ -1,4 +1,4 @@
-use Rattle.std.proofs.Common.{IfOk, option_map, sym, ap, ◌∙◌}
+use Rattle.std.proofs.Common.{option_map, sym, ap, ◌∙◌}
 use Rattle.std.proofs.lemmas.Result.{IfOk-weaker}
 use Rattle.ob0_tree.specs.View.{expression_of}
 use Rattle.ob0_tree.specs.declared.tree.Designator.{out-Designator}

@@ -1,4 +1,4 @@
-use Rattle.std.proofs.Common.{◌∙◌, ◌⊎◌, inl, inr, Some, ap, subst, sym}
+use Rattle.std.proofs.Common.{◌∙◌, inl, inr, Some, ap, subst, sym}
 use Rattle.ob0_session.specs.KeptAnalyses.{IsIn}
 use Rattle.ob0_session.proofs.Kept.{put_in}
 use Rattle.ob0_session.proofs.analyses.Analyses.insert.Goals as goal

@@ -1,5 +1,5 @@
 use Rattle.std.proofs.Common.{ap, subst, sym}
-use Rattle.ob0_session.specs.KeptAnalyses.{IsIn, KeepsOthers}
+use Rattle.ob0_session.specs.KeptAnalyses.{IsIn}
 use Rattle.ob0_session.proofs.Kept.{found_in, left_in}
 use Rattle.ob0_session.proofs.analyses.Analyses.take.Goals as goal
 

@@ -5,7 +5,7 @@ use Rattle.ob0_tree.specs.View.{expression_of, fields_of, further_fields_of_grou
 use Rattle.ob0_types_check.specs.ExpressionFaults.{reported_expression}
 use Rattle.ob0_types_check.specs.Operations.{ReportsAfter, right, ◌>>=◌}
 use Rattle.ob0_types_check.specs.SoFar.{TypedAfter, facts_at}
-use Rattle.ob0_types_check.specs.SupposedFacts.{Gathers, operand_of, so_far_in}
+use Rattle.ob0_types_check.specs.SupposedFacts.{operand_of, so_far_in}
 use Rattle.ob0_types_check.specs.TypeFaults.{length_of, type_named}
 use Rattle.ob0_types_check.specs.WrittenTypeFaults.{Gathered, array_made, gathered_after, nothing_gathered, ordinal_here, record_word, reported_fields, reported_groups, reported_type}
 use Rattle.ob0_types_check.specs.WrittenTypeFaults as spec
