@@ -277,6 +277,12 @@ ProgressIs at _ _ = ⊥
 abbrev pub Alike : List ℕ → (State → Progress) → (State → Progress) → Type 0
 Alike at f g = (s u : State) → StateIs at s u → ProgressIs at (f s) (g u)
 
+use_in-is : {A B : Type 0} (at : List ℕ) (Is : A → B → Type 0) (s u : State) (o : Outcome A) (q : Outcome B) (f : A → Progress) (g : B → Progress) → s.output ≡ u.output → OutcomeIs Is o q → ((a : A) (b : B) → Is a b → ProgressIs at (f a) (g b)) → ProgressIs at (use_in s o f) (use_in u q g)
+use_in-is at Is s u (gives a) (gives b) f g out h each = each a b h
+use_in-is at Is s u (ends e) (ends x) f g out h each = (h, out)
+use_in-is at Is s u (gives a) (ends x) f g out h each = absurd h
+use_in-is at Is s u (ends e) (gives b) f g out h each = absurd h
+
 use_same : {A : Type 0} (at : List ℕ) (s u : State) (o q : Outcome A) (f g : A → Progress) → s.output ≡ u.output → o ≡ q → ((a : A) → ProgressIs at (f a) (g a)) → ProgressIs at (use_in s o f) (use_in u q g)
 use_same {A} at s u o q f g out e each = subst (λ q. ProgressIs at (use_in s o f) (use_in u q g)) e (go o)
   where
