@@ -2,7 +2,7 @@
 
 ghost use Rattle.std.specs.Prelude.{◌≡◌, [], true, IfErr, IfOk, MatchOption, map};
 ghost use Rattle.std.specs.Str.{IsUtf8};
-ghost use Rattle.ob0_scan.specs.Refused.{AreFaults};
+ghost use Rattle.ob0_scan.specs.Refused.{AreFaults, IsRightRefusalOver};
 ghost use Rattle.ob0_scan.specs.Reused.{kinds, names_in};
 ghost use Rattle.ob0_scan.specs.SameKinds.{HasSameTokens};
 ghost use Rattle.ob0_scan.specs.Scanned.{IsScannable, IsScanOf};
@@ -10,9 +10,9 @@ ghost use Rattle.ob0_tree.specs.Parsed.{IsParsed, parsed_by};
 ghost use Rattle.ob0_scope_rules.specs.Bindings.{resolution_by};
 ghost use Rattle.ob0_scope_rules.specs.Resolution.{IsResolution};
 ghost use Rattle.ob0_parse.specs.KeptTokens.{AreKept};
-ghost use Rattle.ob0_analysis.specs.Found.{IsFound, IsRefused, IsRefusalOf};
+ghost use Rattle.ob0_analysis.specs.Found.{HasProcedures, IsFound, IsRefused, IsRefusalOf};
 ghost use Rattle.ob0_analysis.specs.Before.{AreKeptBefore, IsParsedBefore};
-ghost use Rattle.ob0_analysis.specs.declared.analysis.Findings.TheVariants.{NoTree};
+ghost use Rattle.ob0_analysis.specs.declared.analysis.Findings.TheVariants.{NoLexemes, NoTree};
 ghost use Rattle.ob0_analysis.specs.Diagnosed.{IsWellTypedModule, Reports, complaint_in};
 
 use crate::diagnoses::{Diagnosis, of_faults};
@@ -28,12 +28,19 @@ use ob0_tree::ModuleTree;
 use std::alloc::{AllocError, Global};
 use std::marker::Model;
 
-/// A text without lexemes, with its faults, and the tokens of the last text before it that had lexemes.
+/// The tokens of the last text that had lexemes, and its procedures for the next parse.
+#[derive(Drop)]
+pub(crate) struct LastTokens {
+    tokens: Tokens,
+    kept: Kept,
+}
+
+/// A text without lexemes, with its faults, and what is kept of the last text before it that had lexemes.
 #[derive(Drop)]
 pub(crate) struct IllLexed {
     text: String,
     faults: Vec<Fault>,
-    last: Option<Tokens>,
+    last: Option<LastTokens>,
 }
 
 /// A text that has lexemes and no tree: its tokens, why the parser refuses them, and procedures for the next parse.
@@ -85,9 +92,10 @@ impl Analysis {
         }
     }
 
-    /// The analysis of another text. What it has in common with the text before is taken over from it: tokens, and
-    /// where all tokens are of the kinds that they were the tree, or where the parser stops; where all identifiers are
-    /// written as they were also what they are bound to.
+    /// The analysis of another text. What it has in common with the text before is taken over from it: tokens and
+    /// procedures, and where all tokens are of the kinds that they were the tree, or where the parser stops; where all
+    /// identifiers are written as they were also what they are bound to. A text with faults of lexemes passes on the
+    /// tokens and procedures of the last text that had lexemes.
     pub fn after(self, alloc: Global, text: &str) -> Result<Analysis, AllocError>
         ensures { IfOk result (λ a. a ≡ text.now) }
     {
@@ -100,6 +108,7 @@ impl Analysis {
     }
 
     fn after_faults(alloc: Global, ill: IllLexed, text: &str) -> Result<Analysis, AllocError>
+        requires { IsFound (NoLexemes ill) }
         ensures { IfOk result (λ a. a ≡ text.now) }
     {
         let IllLexed {
@@ -109,16 +118,23 @@ impl Analysis {
         } = ill;
         match last {
             None => Analysis::of(alloc, text),
-            Some(old) => Analysis::after_tokens(alloc, old, text),
+            Some(last) => Analysis::after_tokens(alloc, last, text),
         }
     }
 
-    fn after_tokens(alloc: Global, old: Tokens, text: &str) -> Result<Analysis, AllocError>
+    /// The analysis of a text by the tokens of the last text that had lexemes, and by the procedures that were kept of
+    /// it.
+    fn after_tokens(alloc: Global, last: LastTokens, text: &str) -> Result<Analysis, AllocError>
+        requires { AreKept last.tokens.tokens last.kept }
         ensures { IfOk result (λ a. a ≡ text.now) }
     {
-        match scan_changed(alloc, old, text) {
-            Ok(changed) => { Analysis::of_tokens(alloc, changed.rescan.tokens, Kept::none(alloc)) }
-            Err(refusal) => Analysis::not_scanned(alloc, text, refusal),
+        let LastTokens { tokens, kept } = last;
+        match scan_changed(alloc, tokens, text) {
+            Ok(changed) => {
+                let kept = kept.after(alloc, changed.same)?;
+                Analysis::of_tokens(alloc, changed.rescan.tokens, kept)
+            }
+            Err(refusal) => Analysis::not_scanned(alloc, text, refusal, kept),
         }
     }
 
@@ -133,7 +149,7 @@ impl Analysis {
         } = ill;
         match scan_changed(alloc, tokens, text) {
             Ok(changed) => Analysis::of_refused_scan(alloc, changed, refusal, kept),
-            Err(refusal) => Analysis::not_scanned(alloc, text, refusal),
+            Err(refusal) => Analysis::not_scanned(alloc, text, refusal, kept),
         }
     }
 
@@ -176,7 +192,10 @@ impl Analysis {
         let (tokens, tree, bindings) = old.into_bound();
         match scan_changed(alloc, tokens, text) {
             Ok(changed) => Analysis::of_scan(alloc, changed, tree, bindings),
-            Err(refusal) => Analysis::not_scanned(alloc, text, refusal),
+            Err(refusal) => {
+                drop(bindings);
+                Analysis::not_scanned(alloc, text, refusal, Kept::of(alloc, tree))
+            }
         }
     }
 
@@ -239,13 +258,20 @@ impl Analysis {
         }
     }
 
-    fn not_scanned(alloc: Global, text: &str, refusal: NotRescanned) -> Result<Analysis, AllocError>
-        requires { IsRefusalOf text.now refusal }
+    /// The analysis of a text that has no lexemes, with the old tokens and the procedures that are kept of them.
+    fn not_scanned(
+        alloc: Global,
+        text: &str,
+        refusal: NotRescanned,
+        kept: Kept,
+    ) -> Result<Analysis, AllocError>
+        requires { IsRefusalOf text.now kept refusal }
         ensures { IfOk result (λ a. a ≡ text.now) }
     {
         match refusal {
-            NotRescanned::Faults(faults, old) => {
-                Analysis::ill_lexed(alloc, text, faults, Some(old))
+            NotRescanned::Faults(faults, tokens) => {
+                let last = Some(LastTokens { tokens, kept });
+                Analysis::ill_lexed(alloc, text, faults, last)
             }
             NotRescanned::Memory => Err(AllocError),
         }
@@ -255,10 +281,11 @@ impl Analysis {
         alloc: Global,
         text: &str,
         faults: Vec<Fault>,
-        last: Option<Tokens>,
+        last: Option<LastTokens>,
     ) -> Result<Analysis, AllocError>
         requires faults { AreFaults text.now faults.items }
         requires unscannable { IsScannable text.now → ⊥ }
+        requires last { HasProcedures last }
         ensures { IfOk result (λ a. a ≡ text.now) }
     {
         let text = String::from_str(alloc, text)?;
@@ -353,7 +380,7 @@ fn scan_changed(alloc: Global, old: Tokens, text: &str) -> Result<RescanInPlace,
     ensures same_names { IfOk result
         (λ r. r.same_names ≡ true → names_in r.rescan.tokens.text r.rescan.tokens.tokens
         ≡ names_in old.text old.tokens) }
-    ensures err { IfErr result (IsRefusalOf text.now) }
+    ensures err { IfErr result (IsRightRefusalOver old text.now) }
 {
     let change = Difference::between(old.text(), text);
     rescan_in_place(alloc, old, text, change.from, change.removed, change.added)

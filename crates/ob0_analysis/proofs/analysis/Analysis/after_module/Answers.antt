@@ -1,6 +1,7 @@
 use Rattle.std.proofs.Common.{refl}
 use Rattle.ob0_tree.specs.Parsed.{parsed_by}
 use Rattle.ob0_parse.proofs.Stays.{tree_stays}
+use Rattle.ob0_analysis.proofs.GivenBack.{given_back}
 use Rattle.ob0_analysis.proofs.analysis.Analysis.after_module.Goals as goal
 
 pub of_scan-requires-clause-parsed : goal.of_scan-requires-clause-parsed
@@ -20,3 +21,8 @@ of_scan-requires-clause-resolved c =
 
 pub of_scan-requires-clause-before : goal.of_scan-requires-clause-before
 of_scan-requires-clause-before c = record { old = c.into_bound-tokens.result.0; same = c.in-Ok.ensures.same; parsed = c.into_bound-tokens.ensures.parsed }
+
+pub not_scanned-requires : goal.not_scanned-requires
+not_scanned-requires c =
+    let old = c.into_bound-tokens.result.0 in
+    given_back old _ c.of.result _ c.in-Err.ensures.err (c.of.ensures old c.into_bound-tokens.ensures.parsed)

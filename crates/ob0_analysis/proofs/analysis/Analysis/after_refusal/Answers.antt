@@ -1,5 +1,6 @@
 use Rattle.ob0_parse.proofs.Carried.{kept_stay}
 use Rattle.ob0_parse.proofs.Stays.{refusal_stays}
+use Rattle.ob0_analysis.proofs.GivenBack.{given_back}
 use Rattle.ob0_analysis.proofs.analysis.Analysis.after_refusal.Goals as goal
 
 pub of_refused_scan-requires-clause-alike : goal.of_refused_scan-requires-clause-alike
@@ -13,3 +14,6 @@ of_refused_scan-requires-clause-kept c = record {
   kept = c.requires.1;
   alike = λ alike. kept_stay c.args.ill.tokens.tokens c.in-Ok.changed.rescan.tokens.tokens c.args.ill.kept (c.in-Ok.ensures.alike alike) c.requires.1;
 }
+
+pub not_scanned-requires : goal.not_scanned-requires
+not_scanned-requires c = given_back c.args.ill.tokens _ c.args.ill.kept _ c.in-Err.ensures.err c.requires.1
