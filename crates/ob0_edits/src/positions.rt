@@ -9,8 +9,9 @@ use ob0_scan::{Span, Token};
 use ob0_text::{Range, TextStore};
 use std::alloc::{AllocError, Global};
 
-/// As many spans are turned into ranges together: what is kept of them meanwhile is small.
-const PART: usize = 1024;
+/// As many spans are turned into ranges together: what is kept of them meanwhile is small, and seldom is a long line
+/// counted again from its start.
+const PART: usize = 16_384;
 
 /// The ranges of spans, found in one pass over the text where the spans are in text order.
 pub fn ranges<T: TextStore>(
