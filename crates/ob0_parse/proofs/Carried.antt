@@ -1,5 +1,5 @@
 -- Kept procedures in another text, and one after another.
-use Rattle.std.proofs.Common.{◌≡◌, ℕ, zero, suc, ◌+◌, ◌-◌, ◌<◌, ◌≤◌, Option, Some, None, IfSome, List, [], ◌∷◌, ◌++◌, take, drop, length, refl, sym, ◌∙◌, ap, arith, slice_range, length-drop}
+use Rattle.std.proofs.Common.{◌≡◌, ℕ, zero, suc, ◌+◌, ◌-◌, ◌<◌, ◌≤◌, List, [], ◌∷◌, ◌++◌, take, drop, length, refl, sym, ◌∙◌, ap, arith, slice_range, length-drop}
 use Rattle.std.proofs.lemmas.List.{drop-drop, length-map}
 use Rattle.ob0_scan.specs.declared.lexeme.Token.{Token}
 use Rattle.ob0_scan.specs.declared.tokens.SameTokens.{SameTokens}
@@ -25,10 +25,6 @@ each_before P (x ∷ xs) ys p = (p.0, each_before P xs ys p.1)
 pub each_following : {A : Type 0} (P : A → Type 0) (xs ys : List A) → Each P (xs ++ ys) → Each P ys
 each_following P [] ys p = p
 each_following P (x ∷ xs) ys p = each_following P xs ys p.1
-
-pub if_some : {A : Type 0} (r : Option A) (P Q : A → Type 0) → ((x : A) → P x → Q x) → IfSome r P → IfSome r Q
-if_some None P Q f h = h
-if_some (Some x) P Q f h = f x h
 
 -- ---- another text
 

@@ -8,6 +8,7 @@ ghost use Rattle.ob0_tree.specs.Parsed.{IsParsed, parsed_by};
 ghost use Rattle.ob0_scan.specs.SameKinds.{HasSameTokens};
 ghost use Rattle.ob0_parse.specs.KeptTokens.{AreKept, CarriesAll, CarriesMade, CarriesAllMade, CarriesOne, IsMadeAt, IsPlaced, IsTakenAt, IsWaiting, Moves, StayWaiting};
 
+use crate::moving::{self, Move};
 use ob0_scan::SameTokens;
 use ob0_tree::{Block, ModuleTree, Procedure};
 use std::alloc::{AllocError, Global};
@@ -186,7 +187,7 @@ pub(crate) fn kept_at(waiting: &mut Vec<KeptProcedure>, at: usize) -> Option<(Pr
 {
     while let Some(kept) = pop_by(waiting, at) {
         if kept.at == at {
-            return placed(kept);
+            return Some(placed(kept));
         }
     }
     None
@@ -207,17 +208,19 @@ fn pop_by(waiting: &mut Vec<KeptProcedure>, at: usize) -> Option<KeptProcedure>
     waiting.pop()
 }
 
-/// The procedure and the index of the token after it, where its leaves are in place.
-fn placed(kept: KeptProcedure) -> Option<(Procedure, usize)>
-    ensures { IfSome result (λ x. (ts : List Token) → IsWaiting ts kept → IsTakenAt ts kept.at x) }
+/// The procedure and the index of the token after it. Leaves that aren't in place are moved.
+fn placed(kept: KeptProcedure) -> (Procedure, usize)
+    ensures { (ts : List Token) → IsWaiting ts kept → IsTakenAt ts kept.at result }
 {
     let KeptProcedure {
-        procedure,
+        mut procedure,
         at,
         next,
     } = kept;
-    if at != procedure.name.saturating_sub(1) {
-        return None;
+    let from = procedure.name.saturating_sub(1);
+    if at == from {
+        return (procedure, next);
     }
-    Some((procedure, next))
+    moving::procedure(&mut procedure, Move { from, to: at });
+    (procedure, next)
 }
