@@ -28,6 +28,9 @@ use ob0_tree::ModuleTree;
 use std::alloc::{AllocError, Global};
 use std::marker::Model;
 
+/// What a text of at most twice so many bytes has is kept whatever follows it.
+const KEPT_ANYWAY: usize = 4096;
+
 /// The tokens of the last text that had lexemes, and its procedures for the next parse.
 #[derive(Drop)]
 pub(crate) struct LastTokens {
@@ -270,7 +273,7 @@ impl Analysis {
     {
         match refusal {
             NotRescanned::Faults(faults, tokens) => {
-                let last = Some(LastTokens { tokens, kept });
+                let last = last_tokens(text, tokens, kept);
                 Analysis::ill_lexed(alloc, text, faults, last)
             }
             NotRescanned::Memory => Err(AllocError),
@@ -369,6 +372,18 @@ impl Analysis {
             Findings::Module(parts) => diagnose_module(alloc, parts),
         }
     }
+}
+
+/// What a text without lexemes keeps of the last text that had some: nothing where that was much longer, so that what
+/// is kept of a text is bounded by its own length.
+fn last_tokens(text: &str, tokens: Tokens, kept: Kept) -> Option<LastTokens>
+    requires { AreKept tokens.tokens kept }
+    ensures { HasProcedures result }
+{
+    if tokens.text().len() / 2 > text.len().saturating_add(KEPT_ANYWAY) {
+        return None;
+    }
+    Some(LastTokens { tokens, kept })
 }
 
 /// The tokens of a text by those of another, or its faults.
