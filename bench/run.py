@@ -504,6 +504,20 @@ def many_documents():
         said("peak memory", megabytes(peak_until_now(talk.process.pid)))
 
 
+@measure("serve: documents of 1 MB that become a comment that isn't closed")
+def commented_out():
+    """What is kept of a text without lexemes is bounded by its own length: both lines are about the same."""
+    text = corpus.module(MIB - 1000)
+    with Talk(text) as talk:
+        talk.after(did_change("(*"))
+        for number in range(40):
+            uri = f"file:///{number}"
+            talk.after(did_open(text, uri))
+            talk.after(did_change("(*", uri))
+            if number in (0, 39):
+                said(f"{number + 1} of them: peak memory", megabytes(peak_until_now(talk.process.pid)))
+
+
 @measure("questions: references of one name, on 100 KB and 1 MB")
 def referred():
     ask = {"context": {"includeDeclaration": True}, "position": place(0, 18)}
