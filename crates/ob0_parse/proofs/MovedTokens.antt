@@ -1,5 +1,5 @@
 -- A procedure whose leaves are moved spells the tokens that are where it is now.
-use Rattle.std.proofs.Common.{◌≡◌, ℕ, ◌+◌, ◌-◌, ◌^◌, ◌<◌, ◌≤◌, List, [], ◌∷◌, map, length, min, refl, sym, ◌∙◌, ap, arith, slice_range}
+use Rattle.std.proofs.Common.{◌≡◌, ℕ, ◌+◌, ◌-◌, ◌^◌, ◌≤◌, List, [], ◌∷◌, map, length, refl, sym, ◌∙◌, ap, arith, slice_range}
 use Rattle.std.proofs.Math.Nat.{min-eq_left}
 use Rattle.ob0_scan.specs.declared.lexeme.TokenKind.{TokenKind}
 use Rattle.ob0_scan.specs.declared.lexeme.TokenKind.TheVariants as kind
@@ -30,19 +30,19 @@ lexemes_moved : (by : Move) (i j : ℕ) (ks : List TokenKind) → by.from ≤ i 
 lexemes_moved by i j [] low same high = refl
 lexemes_moved by i j (k ∷ ks) low same high =
     let there : i - by.from + by.to ≡ j = omega (arith, low, same) in
-    let inside : i - by.from + by.to ≤ most = omega (arith, there, high) in
-    let first : moved_to by i ≡ j = min-eq_left inside ∙ there in
+    let below : i - by.from + by.to ≤ most = omega (arith, there, high) in
+    let first : moved_to by i ≡ j = min-eq_left below ∙ there in
     ap (λ l. l ∷ map (relabelled (moved_to by) (moved_to by)) (lexemes_by (i + 1) ks)) (lexeme_moved by i j k first)
     ∙ ap (λ ls. lexeme_of j k ∷ ls) (lexemes_moved by (i + 1) (j + 1) ks (omega (arith, low)) (omega (arith, same)) (omega (arith, high)))
 
 -- it is where its first leaf is moved to
 pub moved_there : (ts : List Token) (at next : ℕ) (t u : Tree ℕ (item procedure)) (by : Move) → by.from ≡ first_of t → by.to ≡ at → next ≤ most → u ≡ moved by t → IsThere ts at next t → IsThere ts at next u × (first_of u ≡ at)
-moved_there ts at next t u by from to most_next is p =
+moved_there ts at next t u by from to inside is p =
     let ks : List TokenKind = slice_range (kinds ts) at next in
     let count : at + length ks ≡ next = omega (arith, p.forward, count_slice ts at next (omega (arith, p.forward)) p.within) in
     let spelled : spell u ≡ lexemes_by at ks =
     ap spell is ∙ spell_mapped (moved_to by) (moved_to by) t ∙ ap (map (relabelled (moved_to by) (moved_to by))) p.spelled
-    ∙ lexemes_moved by (first_of t) at ks (omega (arith, from)) (omega (arith, from, to)) (omega (arith, count, most_next)) in
+    ∙ lexemes_moved by (first_of t) at ks (omega (arith, from)) (omega (arith, from, to)) (omega (arith, count, inside)) in
     let first : first_of u ≡ at = (in_place u at ks spelled).0 in (
       record {
         spelled = spelled ∙ ap (λ i. lexemes_by i (slice_range (kinds ts) at next)) (sym first);
@@ -53,8 +53,8 @@ moved_there ts at next t u by from to most_next is p =
       first,
     )
 
--- .. and may be taken over, as may one whose leaves are in place
+-- .. and may be taken over
 pub placed_moved : (ts : List Token) (at next : ℕ) (p q : Procedure) (by : Move) → by.from ≡ first_of (procedure_of p) → by.to ≡ at → next ≤ most → procedure_of q ≡ moved by (procedure_of p) → IsThere ts at next (procedure_of p) → IsTakenAt ts at (q, next)
-placed_moved ts at next p q by from to most_next is h =
-    let m = moved_there ts at next (procedure_of p) (procedure_of q) by from to most_next is h in
+placed_moved ts at next p q by from to inside is h =
+    let m = moved_there ts at next (procedure_of p) (procedure_of q) by from to inside is h in
     record { there = m.0; first = m.1 }

@@ -1,4 +1,3 @@
-use Rattle.std.proofs.Common.{ℕ}
 use Rattle.ob0_tree.specs.View.{addend_of, multiplier_of, selector_of}
 use Rattle.ob0_parse.proofs.Moved.{Moving}
 use Rattle.ob0_parse.proofs.moving.+expressions.Given as goal

@@ -1,5 +1,4 @@
 use Rattle.std.proofs.Common.{◌≡◌, Box, Some, refl, sym, ◌∙◌, ap, rules, arith}
-use Rattle.std.specs.declared.vec.Vec.{Vec}
 use Rattle.std.specs.declared.alloc.Global.{Global}
 use Rattle.ob0_tree.specs.declared.tree.Statement.{Statement}
 use Rattle.ob0_tree.specs.declared.tree.Statement as statement_module

@@ -1,5 +1,4 @@
 use Rattle.std.proofs.Common.{rules, arith}
-use Rattle.ob0_tree.specs.View.{expression_of}
 use Rattle.ob0_parse.proofs.Moved.{next, ends, arguments_moved}
 use Rattle.ob0_parse.proofs.moving.arguments.Goals as goal
 

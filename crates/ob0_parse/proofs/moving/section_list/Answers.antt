@@ -1,5 +1,4 @@
 use Rattle.std.proofs.Common.{rules, arith}
-use Rattle.ob0_tree.specs.View.{section_of}
 use Rattle.ob0_parse.proofs.Moved.{next, ends, formals_moved}
 use Rattle.ob0_parse.proofs.moving.section_list.Goals as goal
 
