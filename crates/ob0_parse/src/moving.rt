@@ -12,7 +12,7 @@ use ob0_tree::{
     Simple, Statement, Term, TypeDeclaration, Variables, While, WrittenType,
 };
 
-/// The leaf `from` becomes `to`, and each one after it is moved by as much.
+/// The token that was at `from` is at `to`, and each one after it is moved by as much.
 #[derive(Clone, Copy)]
 pub(crate) struct Move {
     pub from: usize,
@@ -20,7 +20,7 @@ pub(crate) struct Move {
 }
 
 impl Move {
-    /// What a leaf becomes.
+    /// Where a leaf is moved to, at most the largest index.
     fn of(self, leaf: usize) -> usize
         ensures { result ≡ moved_to self leaf }
     {
