@@ -28,7 +28,7 @@ use ob0_tree::ModuleTree;
 use std::alloc::{AllocError, Global};
 use std::marker::Model;
 
-/// What a text of at most twice so many bytes has is kept whatever follows it.
+/// The tokens of a text of at most twice as many bytes as this are kept however short the next text is.
 const KEPT_ANYWAY: usize = 4096;
 
 /// The tokens of the last text that had lexemes, and its procedures for the next parse.
