@@ -98,7 +98,8 @@ def words_of(files):
             words = found[files[int(line[5:])]] = []
         elif line:
             at, _, _, kind, text = line.split(" ", 4)
-            if kind in ("Code", "Literal"):
+            # (a comment above a type of errors is a literal to the toolchain)
+            if kind in ("Code", "Literal") and not json.loads(text).startswith("//"):
                 words.append(Word(int(at), json.loads(text)))
     return found
 
@@ -154,6 +155,7 @@ class Source:
 
     def __init__(self, crate):
         self.crate, self.functions, self.constants, self.types = crate, [], {}, {}
+        self.shapes, self.aliases = {}, set()
         self.public_modules, self.brought_out, self.imports = {()}, [], []
         self.words = words_of(sources(crate))
         self.folder = os.path.join(common.TOP, "crates", crate)
@@ -200,6 +202,8 @@ class Source:
                 self.types[name] = (scope.module, is_pub)
         elif word in ("struct", "enum", "type"):
             self.types[name] = (scope.module, is_pub)
+            self.shapes[name] = [it.text for it in words[at + 2 :]]
+            self.aliases |= {name} if word == "type" else set()
         elif word in ("const", "static"):
             self.constants[name] = (scope.file, words[0].line, words[-1].line)
         elif word == "use":
