@@ -44,19 +44,23 @@ def named_files():
 
 
 # pages whose names in backticks are those of functions, definitions, types and files
-CITING = ["docs/PROMISES.md", "docs/ARCHITECTURE.md", "docs/GLOSSARY.md", "docs/PROVING.md", "CONTRIBUTING.md"]
-# words in backticks that name no part of the sources: of the kit, of commands, or examples
-OTHERS = {"FILE", "NAME", "WORDS", "XWritten", "Lts", "tidy"}
+CITING = ["docs/PROMISES.md", "docs/ARCHITECTURE.md", "docs/GLOSSARY.md", "docs/PROVING.md", "CONTRIBUTING.md", "docs/notes/*.md"]
+# words in backticks that name no part of the sources: of the kit, of the system, of commands, or examples
+OTHERS = {"FILE", "NAME", "WORDS", "XWritten", "X_made", "Lts", "tidy", "Serialize", "getrusage"}
 
 
-@test("sources: the names that the pages on promises, architecture, words and proofs cite are in the sources")
+@test("sources: the names that the pages on promises, architecture, words and proofs, and the notes cite are in the sources")
 def cited_names():
     files = [it for part in ("src", "specs", "proofs") for it in glob.glob(os.path.join(TOP, "crates", "*", part, "**", "*"), recursive=True)]
     files += glob.glob(os.path.join(TOP, "t*", "**", "*.py"), recursive=True)
     words = {word for it in files if os.path.isfile(it) for word in re.findall(r"\w+", text_of(it))}
     words |= {word for it in files for word in re.findall(r"\w+", os.path.relpath(it, TOP))} | {*common.listed()} | OTHERS
     words |= {word for names in common.listed().values() for word in names}
-    for page in CITING:
+    # (of mutants the names count, and not what is in them)
+    words |= {os.path.basename(it.file).removesuffix(".edit") for crate in common.listed() for it in edits.edits_of(crate)}
+    pages = [os.path.relpath(it, TOP) for page in CITING for it in sorted(glob.glob(os.path.join(TOP, page)))]
+    holds(len(pages) > len(CITING), "no notes were found")
+    for page in pages:
         text = re.sub(r"^```.*?^```$", "", text_of(page), flags=re.M | re.S)
         cited = {it for it in re.findall(r"`([A-Za-z]\w*(?:::\w+)?)`", text)}
         same(sorted(it for it in cited if not all(word in words for word in it.split("::"))), [], f"what {page} cites and isn't there")
