@@ -102,7 +102,7 @@ impl<'a> Written for &'a Id {
     }
 }
 
-/// The text of a message, which reads back as that message.
+/// The text of a message, which reads back as that message where it isn't nested deeper than 127.
 pub fn content_of<W: Written>(alloc: Global, message: &W) -> Result<Vec<u8>, AllocError>
     ensures { IfOk result
         (λ bytes. depth (W.value message.now) ≤ 127 → Writes (W.value message.now) bytes.items) }
@@ -112,7 +112,7 @@ pub fn content_of<W: Written>(alloc: Global, message: &W) -> Result<Vec<u8>, All
     Ok(out)
 }
 
-/// The answer to a request.
+/// The answer to a request, with a value that isn't nested deeper than 126.
 pub fn result_of<W: Written>(alloc: Global, id: &Id, value: &W) -> Result<Vec<u8>, AllocError>
     ensures { IfOk result (λ bytes. CanBeSent (W.value value.now)
         → Writes (result_message (id_data id.now) (W.value value.now)) bytes.items) }
@@ -135,7 +135,7 @@ pub fn error(
     content_of(alloc, &ErrorResponse { error, id })
 }
 
-/// A notification.
+/// A notification, with params that aren't nested deeper than 126.
 pub fn notify<W: Written>(alloc: Global, method: &str, params: &W) -> Result<Vec<u8>, AllocError>
     ensures { IfOk result (λ bytes. CanBeSent (W.value params.now)
         → Writes (notification_message method.now (W.value params.now)) bytes.items) }

@@ -1,5 +1,5 @@
 -- Whether an allocation of a run has failed.
--- Rule: docs/LANGUAGE.md, Runs: a run ends as out of memory only where an allocation failed.
+-- Rule: docs/PROTOCOL.md, The program 6: `Memory` is reported where an allocation fails.
 use Rattle.std.specs.Prelude.{Bool}
 use Rattle.ob0_run_machine.specs.declared.memory.Memory.{Memory}
 
