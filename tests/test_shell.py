@@ -7,7 +7,6 @@ import shlex
 import tempfile
 import time
 
-import common
 from harness import TOP, holds, run, same, test, text_of, want, want_proved
 from homes import at_home, run_plainly, write
 from snippets import fenced

@@ -14,7 +14,6 @@ from homes import at_home, run_in_terminal, run_plainly, write
 from screen import Screen
 
 PREDECLARED = {"INTEGER", "BOOLEAN", "TRUE", "FALSE", "Read", "Write", "WriteLn"}
-OF_LAYOUT = re.compile(r"[A-Z][A-Za-z]*")
 
 
 @functools.lru_cache(None)
