@@ -4,11 +4,9 @@ pub mod Pairs
 pub mod Named
 pub mod Apart
 pub mod Modules
-pub mod Walks
 pub mod Ahead
 pub mod EditSteps
 pub mod Pieced
-pub mod Unnamed
 pub mod LastBytes
 pub mod TextCuts
 pub mod Patched

@@ -1,4 +1,3 @@
-pub mod LineRoles
 pub mod Layout
 pub mod Sites
 pub mod Cuts

@@ -4,9 +4,6 @@
 mod formatting;
 mod gap;
 pub mod laws;
-mod line_role;
 mod sites;
-mod walk;
 
 pub use formatting::format;
-pub use line_role::LineRole;

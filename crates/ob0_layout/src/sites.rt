@@ -6,7 +6,7 @@ ghost use Rattle.ob0_layout.specs.Layout.{next_line, next_role, comment_role, ha
 ghost use Rattle.ob0_layout.specs.Sites.{all_sites, changed_sites, is_changed, next_of, gap_before, last_gap, LiesIn};
 
 use crate::gap::{Gap, gap_between};
-use crate::line_role::LineRole;
+use ob0_layout_roles::LineRole;
 use ob0_scan::{LexemeKind, Span, Token, Tokens};
 use ob0_text::Indent;
 use std::alloc::{AllocError, Global};

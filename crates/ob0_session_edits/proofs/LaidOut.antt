@@ -15,7 +15,7 @@ use Rattle.ob0_tree.specs.Parsed.{Parsed, named_tree_of}
 use Rattle.ob0_tree.specs.Tree.{Tree, module_text}
 use Rattle.ob0_layout.specs.Layout.{laid_out, layout}
 use Rattle.ob0_layout.specs.Sites.{edit_text, edit_of, changed_sites, all_sites}
-use Rattle.ob0_layout.specs.LineRoles.{line_roles}
+use Rattle.ob0_layout_roles.specs.LineRoles.{line_roles}
 use Rattle.ob0_text.specs.declared.refusals.EditRefusal.{EditRefusal}
 use Rattle.ob0_text.specs.declared.refusals.EditRefusal.TheVariants.{TooLong, Memory}
 use Rattle.ob0_analysis.specs.Analysed.{Finds, IsModuleIn}

@@ -14,7 +14,7 @@ use Rattle.ob0_tree.specs.Tree.{Tree, module_text}
 use Rattle.ob0_scope_rules.specs.Names.{Name}
 use Rattle.ob0_layout.specs.Layout.{layout}
 use Rattle.ob0_layout.specs.Sites.{EditText, edit_text, edit_of, changed_sites, all_sites}
-use Rattle.ob0_layout.specs.LineRoles.{line_roles}
+use Rattle.ob0_layout_roles.specs.LineRoles.{line_roles}
 use Rattle.ob0_session_offers.specs.Diagnosed.{IsTextOf, IsWellTypedModule}
 use Rattle.ob0_session_offers.specs.Texts.{utf8}
 use Rattle.ob0_session_offers.specs.Layouts.{LaysOut, IsTooLongLaidOut, layout_changes, layout_of}
