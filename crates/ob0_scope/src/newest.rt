@@ -68,6 +68,11 @@ fn slot_of(name: &str) -> usize {
     (sketch(name).wrapping_mul(0x9E37_79B9_7F4A_7C15) >> 54) as usize
 }
 
+/// Places for the names that are found without the map. A place that is noted there counts only where the name is at it.
+fn no_recent(alloc: Global) -> Result<Vec<usize>, AllocError> {
+    vec![in alloc; 0; RECENT]
+}
+
 /// A name that was bound, with the index of its newest binding, where it has one.
 #[derive(Clone, Copy)]
 pub(crate) struct BoundName<'t> {
@@ -113,7 +118,7 @@ impl<'t> Newest<'t> {
         Ok(Newest {
             entries: Vec::new(alloc),
             places: BTreeMap::new(alloc),
-            recent: vec![in alloc; 0; RECENT]?,
+            recent: no_recent(alloc)?,
         })
     }
 

@@ -1,6 +1,6 @@
 //! Goes through the declarations of a module in text order, and gives each identifier the ordinal of its declaration.
 
-ghost use Rattle.std.specs.Prelude.{◌≡◌, ◌+◌, ◌<◌, ◌^◌, OnOk, IfOk, length, Some, None};
+ghost use Rattle.std.specs.Prelude.{◌≡◌, ◌+◌, ◌<◌, ◌^◌, [], OnOk, IfOk, length, Some, None};
 ghost use Rattle.ob0_tree.specs.declared.tree.Role.TheVariants as roles;
 ghost use Rattle.ob0_tree.specs.Parsed.{tree_of};
 ghost use Rattle.ob0_tree.specs.View.{names_of, constant_of, constants_of, type_declaration_of, types_of, variable_of, variables_of, section_of, formals_of, procedure_of, block_of};
@@ -8,6 +8,7 @@ ghost use Rattle.ob0_scope_rules.specs.Names.{as_names};
 ghost use Rattle.ob0_scope_rules.specs.Parts.{names_listed};
 ghost use Rattle.ob0_scope_rules.specs.Resolution.{ordinal_in};
 ghost use Rattle.ob0_scope_rules.specs.Scopes.{ordinal_of, predeclared_scope};
+ghost use Rattle.ob0_scope.specs.Shadowing.{with_scope};
 ghost use Rattle.ob0_scope.specs.Written.{is_renamed, name_at};
 ghost use Rattle.ob0_scope.specs.Tabling.{marked, numbered_at, numbered_all, visible, visible_from, left_to, found, visit_constant, visit_constant_section, visit_type, visit_type_section, visit_variable, visit_variable_section, visit_section, visit_formals, visit_procedure, visit_block, visit_module, started, module_numbered};
 
@@ -66,6 +67,15 @@ fn predeclared<'t>(alloc: Global, new: &'t str) -> Result<Visible<'t>, AllocErro
         (λ v. v ≡ record { new_name = new.entry.now; scope = predeclared_scope as_names }) }
 {
     let mut visible = Visible::new(alloc, new)?;
+    declare_predeclared(&mut visible)?;
+    Ok(visible)
+}
+
+/// Makes the predeclared names visible, where none is yet.
+fn declare_predeclared(visible: &mut Visible<'_>) -> Result<(), AllocError>
+    ensures { OnOk result (visible.old.scope ≡ []
+        → visible.new ≡ with_scope visible.old (predeclared_scope as_names)) }
+{
     visible.declare("INTEGER", 0)?;
     visible.declare("BOOLEAN", 1)?;
     visible.declare("TRUE", 2)?;
@@ -73,7 +83,7 @@ fn predeclared<'t>(alloc: Global, new: &'t str) -> Result<Visible<'t>, AllocErro
     visible.declare("Read", 4)?;
     visible.declare("Write", 5)?;
     visible.declare("WriteLn", 6)?;
-    Ok(visible)
+    Ok(())
 }
 
 /// Goes through a module of which the identifiers are written so.
