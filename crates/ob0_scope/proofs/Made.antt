@@ -16,12 +16,12 @@ use Rattle.ob0_scope_rules.specs.DeclaredTwice.{twice_in}
 use Rattle.ob0_scope_rules.specs.Names.{Name, as_names}
 use Rattle.ob0_scope_rules.specs.Resolution.{AreFaultsOf, IsNumbering, IsResolution, is_of_declarations, is_of_occurrences, is_unbound, label_at, ordinal_in, span_at, unbound_at, unbound_in, undeclared_at, with_ordinal}
 use Rattle.ob0_scope_rules.specs.Scopes.{as_label}
-use Rattle.ob0_scope.specs.Marks.{with_marks}
-use Rattle.ob0_scope.specs.Marking.{Visit, started, visit_module}
-use Rattle.ob0_scope.specs.Written.{as_in}
+use Rattle.ob0_scope_numbering.specs.Marks.{with_marks}
+use Rattle.ob0_scope_numbering.specs.Marking.{Visit, started, visit_module}
+use Rattle.ob0_scope_numbering.specs.Written.{as_in}
 use Rattle.ob0_scope_rules.proofs.Bound.{bindings_by_table}
-use Rattle.ob0_scope.proofs.Passing.{HasMarks, at_start, module_passed}
-use Rattle.ob0_scope.proofs.Tables.{kept_elsewhere, marks_stand, none_at}
+use Rattle.ob0_scope_numbering.proofs.Passing.{HasMarks, at_start, module_passed}
+use Rattle.ob0_scope_numbering.proofs.Tables.{kept_elsewhere, marks_stand, none_at}
 use Rattle.ob0_scope.proofs.TwiceOnce.{twice_alone, twice_where}
 use Rattle.ob0_tree.specs.Order.{Ascending}
 use Rattle.ob0_tree.proofs.Leaves.{leaves_ascend}

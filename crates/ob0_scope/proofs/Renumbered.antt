@@ -1,10 +1,7 @@
 -- A module gone through with a new name for a declaration gives the numbered tree of the renamed module.
-use Rattle.std.proofs.Common.{◌≡◌, ℕ, suc, ◌+◌, ◌≤◌, Bool, true, false, not, cond, if◌then◌else◌, Option, Some, None, List, [], ◌∷◌, map, length, replicate, refl, sym, ap, ◌∙◌, subst, option_map, le_refl, arith}
-use Rattle.std.proofs.lemmas.List.{length-replicate}
+use Rattle.std.proofs.Common.{◌≡◌, ℕ, suc, ◌+◌, Bool, true, false, not, cond, if◌then◌else◌, Option, Some, None, List, [], ◌∷◌, map, length, replicate, refl, sym, ap, ◌∙◌, option_map, arith}
 use Rattle.std.specs.List.{position_from}
-use Rattle.ob0_tree.proofs.Leaves.{leaves_ascend}
-use Rattle.ob0_tree.specs.Order.{Ascending}
-use Rattle.ob0_tree.specs.Parsed.{IsParsed, Parsed, named_tree_of, tree_of}
+use Rattle.ob0_tree.specs.Parsed.{named_tree_of, tree_of}
 use Rattle.ob0_tree.specs.Places.{text_at, value_at}
 use Rattle.ob0_tree.specs.Tree.{mapped, occurrences}
 use Rattle.ob0_scope_rules.specs.Names.{Label, Name, as_names, as_written}
@@ -12,27 +9,15 @@ use Rattle.ob0_scope_rules.specs.Occurrences.{bindings, first_difference, label_
 use Rattle.ob0_scope.specs.Renames.{IsRenumbering, is_bound_alike, renamed_in}
 use Rattle.ob0_scope_rules.specs.Resolution.{IsResolution, Resolution, bound_at, label_at, ordinal_in, with_ordinal}
 use Rattle.ob0_scope_rules.specs.Scopes.{as_label, numbered, renamed, same_ordinal}
-use Rattle.ob0_scope.specs.Marks.{with_marks}
-use Rattle.ob0_scope.specs.Marking.{Visit, started, visit_module}
-use Rattle.ob0_scope.specs.Written.{Writing, name_at, spelled_by}
+use Rattle.ob0_scope_numbering.specs.Marks.{with_marks}
+use Rattle.ob0_scope_numbering.specs.Marking.{Visit, started, visit_module}
+use Rattle.ob0_scope_numbering.specs.Written.{name_at, spelled_by}
 use Rattle.ob0_scope_rules.proofs.Bound.{bindings_by_table}
 use Rattle.ob0_scope.proofs.FirstCaptures.{same_binding-refl}
 use Rattle.ob0_scope.proofs.Fused.{mapped-mapped, relabelled-mapped}
 use Rattle.ob0_scope_rules.proofs.OccurrencesMapped.{occurrences-mapped}
-use Rattle.ob0_scope.proofs.Passing.{HasMarks, at_start, module_passed}
-use Rattle.ob0_scope.proofs.Tables.{marks_stand}
-
--- the table of all marks has each at its token
-pub marks_in_table : (m : Parsed) (w : Writing) (v : Visit) (ordinals : List (Option ℕ)) → IsParsed m → v ≡ visit_module (tree_of m) (started w)
-    → ordinals ≡ with_marks (replicate (length m.source.tokens) None) v.marks → HasMarks (ordinal_in ordinals) (visit_module (tree_of m) (started w)).marks
-marks_in_table m w v ordinals parsed gone tabled =
-    let marks = (visit_module (tree_of m) (started w)).marks in
-    let count = length-replicate (length m.source.tokens) (let nothing : Option ℕ = None in nothing) in
-    let passed = module_passed (ordinal_in ordinals) (as_label as_names) w (tree_of m) (started w) (at_start w) in
-    let table : ordinals ≡ with_marks (replicate (length m.source.tokens) None) marks = tabled ∙ ap (λ (v : Visit). with_marks (replicate (length m.source.tokens) None) v.marks) gone in
-    let ascend = subst (λ ts. Ascending 0 ts (length m.source.tokens)) (sym passed.tokens) (leaves_ascend m parsed) in
-    let stand = marks_stand marks (replicate (length m.source.tokens) None) 0 (length m.source.tokens) ascend (subst (λ n. length m.source.tokens ≤ n) (sym count) (le_refl (length m.source.tokens))) in
-    subst (λ (os : List (Option ℕ)). HasMarks (ordinal_in os) marks) (sym table) stand
+use Rattle.ob0_scope_numbering.proofs.Passing.{at_start, module_passed}
+use Rattle.ob0_scope_numbering.proofs.Tables.{marks_in_table}
 
 abbrev new_or : ℕ → Name → Option ℕ × Name → Name
 new_or d new p = if same_ordinal p.0 d then new else p.1

@@ -22,12 +22,12 @@ use Rattle.ob0_scope_rules.specs.Names.{Name, as_names}
 use Rattle.ob0_scope_rules.specs.Resolution.{AreFaultsOf, IsNumbering, IsResolution, is_of_declarations, is_of_occurrences, ordinal_in, undeclared_at, with_ordinal}
 use Rattle.ob0_scope_rules.specs.Scopes.{Labels, as_label, relabelled}
 use Rattle.ob0_scope_rules.specs.declared.resolved.Bindings.{Bindings}
-use Rattle.ob0_scope.specs.Marking.{started}
+use Rattle.ob0_scope_numbering.specs.Marking.{started}
 use Rattle.ob0_scope.specs.Respelled.{AreNamedAlike, BindingsStay}
-use Rattle.ob0_scope.specs.Written.{as_in}
+use Rattle.ob0_scope_numbering.specs.Written.{as_in}
 use Rattle.ob0_scope.proofs.Alike.{AllAlike, alike}
 use Rattle.ob0_scope.proofs.Made.{faults_reported, undeclared_unbound}
-use Rattle.ob0_scope.proofs.Passing.{at_start, module_passed_with}
+use Rattle.ob0_scope_numbering.proofs.Passing.{at_start, module_passed_with}
 use Rattle.ob0_scope.proofs.TokensWith.{marks_resolved}
 use Rattle.ob0_scope.proofs.TwiceOnce.{once_with, twice_alone, twice_where}
 

@@ -19,16 +19,15 @@ use Rattle.ob0_scope_rules.specs.Parts.{constant_names, formal_names, formal_sec
 use Rattle.ob0_scope_rules.specs.Resolution.{IsResolution, Resolution, ordinal_in}
 use Rattle.ob0_scope_rules.specs.Scopes.{Labels, Scope, after_block, after_names, after_procedure, after_procedures, as_label, declare_names, declare_procedure_names, label_of, ordinal_of, predeclared_scope, relabel_block, relabel_constant_section, relabel_constants, relabel_formals, relabel_procedure, relabel_procedures, relabel_section, relabel_sections, relabel_type_section, relabel_types, relabel_uses, relabel_variable_section, relabel_variables, relabelled, same_ordinal}
 use Rattle.ob0_scope_rules.specs.SeenNames.{looking_for, ordinals_seen, sees}
-use Rattle.ob0_scope.specs.Marks.{first_at}
-use Rattle.ob0_scope.specs.Marks.{with_marks}
-use Rattle.ob0_scope.specs.Marking.{Visit, started, visit_module}
-use Rattle.ob0_scope.specs.Written.{Writing, name_at}
+use Rattle.ob0_scope_numbering.specs.Marks.{first_at}
+use Rattle.ob0_scope_numbering.specs.Marks.{with_marks}
+use Rattle.ob0_scope_numbering.specs.Marking.{Visit, started, visit_module}
+use Rattle.ob0_scope_numbering.specs.Written.{Writing, name_at}
 use Rattle.ob0_scope.proofs.Fused.{relabelled-mapped}
 use Rattle.ob0_scope_rules.proofs.OccurrenceNames.{occurrences-with_names}
 use Rattle.ob0_scope_rules.proofs.OccurrencesMapped.{occurrences-mapped}
-use Rattle.ob0_scope.proofs.Passing.{at_start, module_passed, tokens_of}
-use Rattle.ob0_scope.proofs.Renumbered.{marks_in_table}
-use Rattle.ob0_scope.proofs.Tables.{kept_below}
+use Rattle.ob0_scope_numbering.proofs.Passing.{at_start, module_passed, tokens_of}
+use Rattle.ob0_scope_numbering.proofs.Tables.{kept_below, marks_in_table}
 
 -- an identifier is written f, where the text has h: y where it is looked up, and else as in the text
 abbrev Sought : Name → (ℕ → Name) → (ℕ → Name) → Role → ℕ → Type 0

@@ -16,13 +16,14 @@ use Rattle.ob0_scope_rules.specs.Occurrences.{label_ordinal}
 use Rattle.ob0_scope_rules.specs.Resolution.{IsResolution, Resolution, declaring_only, label_at, ordinal_in, token_declaring}
 use Rattle.ob0_scope_rules.specs.Scopes.{as_label, same_ordinal}
 use Rattle.ob0_scope.specs.Listing.{first_token, omitted, tokens_from, tokens_with}
-use Rattle.ob0_scope.specs.Marking.{started, visit_module}
-use Rattle.ob0_scope.specs.Marks.{OrdinalMark, with_marks}
+use Rattle.ob0_scope_numbering.specs.Marking.{started, visit_module}
+use Rattle.ob0_scope_numbering.specs.Marks.{OrdinalMark, with_marks}
 use Rattle.ob0_scope.specs.NamesAtPlaces.{is_declaring, tokens_bound}
-use Rattle.ob0_scope.specs.Written.{as_in}
-use Rattle.ob0_scope.proofs.Passing.{AreInOrder, HasMarks, IsBefore, at_start, module_passed, tokens_of}
+use Rattle.ob0_scope_numbering.specs.Written.{as_in}
+use Rattle.ob0_scope_numbering.proofs.Passing.{AreInOrder, HasMarks, IsBefore, at_start, module_passed, tokens_of}
 use Rattle.ob0_scope.proofs.Placed.{bound_listed, is_listed, leaves-mapped, tokens_listed}
-use Rattle.ob0_scope.proofs.Renumbered.{marks_in_table, ordinals_back}
+use Rattle.ob0_scope.proofs.Renumbered.{ordinals_back}
+use Rattle.ob0_scope_numbering.proofs.Tables.{marks_in_table}
 
 -- ---- the ordinals of a resolution are in order
 

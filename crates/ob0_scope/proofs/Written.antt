@@ -13,7 +13,7 @@ use Rattle.ob0_scope_rules.specs.Names.{Name}
 use Rattle.ob0_scope.specs.Renames.{renamed_in}
 use Rattle.ob0_scope_rules.specs.Resolution.{IsResolution, Resolution, ordinal_in}
 use Rattle.ob0_scope_rules.specs.Scopes.{same_ordinal}
-use Rattle.ob0_scope.specs.Written.{name_at}
+use Rattle.ob0_scope_numbering.specs.Written.{name_at}
 use Rattle.ob0_scope.proofs.Renumbered.{renamed_spelled}
 use Rattle.ob0_scope.specs.NamesAtPlaces.{IsRenamedAt, is_among, tokens_bound}
 use Rattle.ob0_scope.proofs.Alike.{AllAlike, alike}

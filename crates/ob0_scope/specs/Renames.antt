@@ -13,7 +13,7 @@ use Rattle.ob0_scope_rules.specs.Occurrences.{Capture, at_declaration, at_occurr
 use Rattle.ob0_scope_rules.specs.Parts.{module_block}
 use Rattle.ob0_scope_rules.specs.Resolution.{Resolution, ordinal_in}
 use Rattle.ob0_scope_rules.specs.Scopes.{Scope, as_label, numbered, renamed}
-use Rattle.ob0_scope.specs.Written.{Writing, name_at}
+use Rattle.ob0_scope_numbering.specs.Written.{Writing, name_at}
 
 -- the newest of these declarations that has the name and isn't d
 abbrev pub other_named : Scope Name → ℕ → Name → Option ℕ

@@ -4,12 +4,11 @@ ghost use Rattle.std.specs.Prelude.{◌≡◌, IfOk, map, length, replicate, Non
 ghost use Rattle.ob0_tree.specs.Parsed.{named_tree_of};
 ghost use Rattle.ob0_scope_rules.specs.Resolution.{ordinal_in};
 ghost use Rattle.ob0_scope_rules.specs.SeenNames.{ordinals_seen};
-ghost use Rattle.ob0_scope.specs.Marks.{first_at};
-ghost use Rattle.ob0_scope.specs.Marks.{with_marks};
+ghost use Rattle.ob0_scope_numbering.specs.Marks.{first_at};
+ghost use Rattle.ob0_scope_numbering.specs.Marks.{with_marks};
 
-use crate::numbering::number;
 use crate::renamed::ordinals_of;
-use crate::writing::Writing;
+use ob0_scope_numbering::{Writing, number};
 use ob0_scope_rules::{OrdinalEntry, Resolved};
 use std::alloc::{AllocError, Global};
 

@@ -7,8 +7,7 @@ ghost use Rattle.ob0_scope_rules.specs.Scopes.{renamed};
 ghost use Rattle.ob0_scope.specs.Renames.{IsRenumbering};
 ghost use Rattle.ob0_scope_rules.specs.Resolution.{IsResolution, ordinal_in};
 
-use crate::numbering::number;
-use crate::writing::Writing;
+use ob0_scope_numbering::{Writing, number};
 use ob0_scope_rules::{OrdinalEntry, Resolved, ordinal_at};
 use std::alloc::{AllocError, Global};
 

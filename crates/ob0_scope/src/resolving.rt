@@ -5,9 +5,8 @@ ghost use Rattle.ob0_scope_rules.specs.Resolution.{IsResolution};
 ghost use Rattle.ob0_scope_rules.specs.Bindings.{resolution_by};
 
 use crate::checks::check;
-use crate::numbering::number;
 use crate::table::undeclared;
-use crate::writing::Writing;
+use ob0_scope_numbering::{Writing, number};
 use ob0_scope_rules::{Bindings, Resolved};
 use ob0_tree::Module;
 use std::alloc::{AllocError, Global};

@@ -1,6 +1,6 @@
 use Rattle.std.proofs.Common.{[], ◌∷◌, ◌++◌, refl, sym, ap, ◌∙◌, append_assoc}
 use Rattle.ob0_scope.proofs.Checking.{gathered}
-use Rattle.ob0_scope.proofs.Going.{names_further}
+use Rattle.ob0_scope_numbering.proofs.Declaring.{names_further}
 use Rattle.ob0_scope.proofs.checks.add_names.Goals as goal
 
 pub returns : goal.returns

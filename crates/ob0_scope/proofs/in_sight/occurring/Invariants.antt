@@ -1,6 +1,6 @@
 use Rattle.std.proofs.Common.{◌≡◌, drop, map}
-use Rattle.ob0_scope.specs.Marks.{with_marks}
-use Rattle.ob0_scope.specs.Marks.{first_at}
+use Rattle.ob0_scope_numbering.specs.Marks.{with_marks}
+use Rattle.ob0_scope_numbering.specs.Marks.{first_at}
 use Rattle.ob0_scope.proofs.in_sight.occurring.Given as goal
 
 abbrev pub invariant-loop-token : goal.invariant-loop-token

@@ -1,8 +1,8 @@
 use Rattle.std.proofs.Common.{Some, refl, ap, ◌∙◌}
 use Rattle.ob0_tree.specs.Parsed.{tree_of}
-use Rattle.ob0_scope.specs.Marking as listing
-use Rattle.ob0_scope.specs.Tabling.{Visit, module_numbered}
-use Rattle.ob0_scope.specs.Written.{Writing}
+use Rattle.ob0_scope_numbering.specs.Marking as listing
+use Rattle.ob0_scope_numbering.specs.Tabling.{Visit, module_numbered}
+use Rattle.ob0_scope_numbering.specs.Written.{Writing}
 use Rattle.ob0_scope.proofs.SeenInPlaces.{seen_in_places}
 use Rattle.ob0_scope.proofs.in_sight.ordinals_in_place.Goals as goal
 

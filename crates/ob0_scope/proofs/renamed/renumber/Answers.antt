@@ -1,8 +1,8 @@
 use Rattle.std.proofs.Common.{Some, refl, ap, ◌∙◌}
 use Rattle.ob0_tree.specs.Parsed.{tree_of}
-use Rattle.ob0_scope.specs.Marking as listing
+use Rattle.ob0_scope_numbering.specs.Marking as listing
 use Rattle.ob0_scope.specs.Renames.{renamed_in}
-use Rattle.ob0_scope.specs.Tabling.{Visit, module_numbered}
+use Rattle.ob0_scope_numbering.specs.Tabling.{Visit, module_numbered}
 use Rattle.ob0_scope.proofs.Renumbered.{renumbered}
 use Rattle.ob0_scope.proofs.renamed.renumber.Goals as goal
 

@@ -1,9 +1,9 @@
 use Rattle.std.proofs.Common.{◌++◌, refl, ap, ◌∙◌}
-use Rattle.ob0_scope.specs.Marking as listing
+use Rattle.ob0_scope_numbering.specs.Marking as listing
 use Rattle.ob0_scope_rules.specs.Resolution.{undeclared_at}
 use Rattle.ob0_tree.specs.Parsed.{tree_of}
-use Rattle.ob0_scope.specs.Tabling.{Visit, module_numbered}
-use Rattle.ob0_scope.specs.Written.{as_in}
+use Rattle.ob0_scope_numbering.specs.Tabling.{Visit, module_numbered}
+use Rattle.ob0_scope_numbering.specs.Written.{as_in}
 use Rattle.ob0_scope.proofs.Made.{resolution_made}
 use Rattle.ob0_scope.proofs.resolving.bindings_of.Goals as goal
 

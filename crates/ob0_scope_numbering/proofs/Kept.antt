@@ -1,0 +1,121 @@
+-- A text has fewer declarations than an entry has ordinals, so that entries have the ordinals of all marks.
+use Rattle.std.proofs.Common.{◌≡◌, ℕ, suc, ◌+◌, ◌≤◌, Option, Some, None, List, [], ◌∷◌, length, replicate, set, refl, sym, ap, ◌∙◌, subst, arith, append-nil, length-append}
+use Rattle.std.proofs.Math.Nat.{min-eq_left}
+use Rattle.ob0_scan.specs.declared.lexeme.LexemeKind.{LexemeKind}
+use Rattle.ob0_scan.specs.declared.lexeme.LexemeKind.TheVariants as lexeme
+use Rattle.ob0_scan.specs.declared.lexeme.Span.{Span}
+use Rattle.ob0_scan.specs.declared.lexeme.Token.{Token}
+use Rattle.ob0_scan.specs.Lexed.{Lexeme, joined}
+use Rattle.ob0_scan.specs.Scanned.{IsScan, Scanned, max_text, span_from, token_at, tokens_from}
+use Rattle.ob0_scan.proofs.Standing.{Full, full}
+use Rattle.ob0_tree.specs.declared.tree.Role.{Role}
+use Rattle.ob0_tree.specs.declared.tree.Role.TheVariants as role
+use Rattle.ob0_tree.specs.Order.{Ascending, names_only}
+use Rattle.ob0_tree.specs.Parsed.{IsParsed, Parsed, tree_of}
+use Rattle.ob0_tree.specs.Tree.{identifiers}
+use Rattle.ob0_tree.proofs.Leaves.{leaves_ascend}
+use Rattle.ob0_scope_rules.specs.Entries.{greatest, kept}
+use Rattle.ob0_scope_rules.specs.Names.{as_names}
+use Rattle.ob0_scope_rules.specs.Resolution.{ordinal_in}
+use Rattle.ob0_scope_rules.specs.Scopes.{as_label}
+use Rattle.ob0_scope_numbering.specs.Marking.{started, visit_module}
+use Rattle.ob0_scope_numbering.specs.Marks.{OrdinalMark, with_marks}
+use Rattle.ob0_scope_numbering.specs.Written.{Writing}
+use Rattle.ob0_scope_numbering.proofs.Passing.{AreInOrder, HasMarks, IsBefore, at_start, module_passed, tokens_of}
+use Rattle.ob0_scope_numbering.proofs.Tables.{marks_in_table}
+
+-- ---- a text has no more tokens than bytes
+
+one_token : (k : LexemeKind) (place : Span) → length (token_at k place) ≤ 1
+one_token lexeme.Space place = omega arith
+one_token lexeme.Comment place = omega arith
+one_token (lexeme.Token k) place = omega arith
+
+few_from : (from : ℕ) (ls : List Lexeme) → Full ls → length (tokens_from from ls) ≤ length (joined ls)
+few_from from [] h = omega arith
+few_from from (l ∷ ls) h =
+    let place = span_from from (length l.text) in
+    let rest = tokens_from (from + length l.text) ls in
+    let some = h.0 in
+    let one = one_token l.kind place in
+    let more = few_from (from + length l.text) ls h.1 in
+    let tokens = length-append (token_at l.kind place) rest in
+    let bytes = length-append l.text (joined ls) in
+    omega (arith, some, one, more, tokens, bytes)
+
+few_tokens : (s : Scanned) → IsScan s → length s.tokens ≤ max_text
+few_tokens s scan =
+    let few = few_from 0 scan.lexemes (full scan.lexemes [] scan.lexed.each) in
+    let tokens : length s.tokens ≡ length (tokens_from 0 scan.lexemes) = ap (λ (ts : List Token). length ts) scan.tokens in
+    let bytes : length (joined scan.lexemes) ≡ length s.text = ap (λ (bs : List ℕ). length bs) scan.lexed.whole in
+    let short = scan.short in
+    omega (arith, few, tokens, bytes, short)
+
+few_between : (low : ℕ) (xs : List ℕ) (high : ℕ) → Ascending low xs high → low + length xs ≤ high
+few_between low [] high h = omega (arith, h)
+few_between low (x ∷ xs) high h = let more = few_between (x + 1) xs high h.1 in omega (arith, h.0, more)
+
+-- ---- the ordinals of a module are before the number of its identifiers, and the seven of predeclared names
+
+before_more : (k n : ℕ) (o : Option ℕ) → k ≤ n → IsBefore k o → IsBefore n o
+before_more k n None le h = tt
+before_more k n (Some j) le h = omega (arith, le, h)
+
+module _ (table : ℕ → Option ℕ) (n : ℕ) where
+  -- what a table has at these tokens is before a number
+  abbrev AreBeforeAt : List ℕ → Type 0
+  AreBeforeAt [] = Unit {0}
+  AreBeforeAt (i ∷ is) = IsBefore n (table i) × AreBeforeAt is
+
+  -- the ordinals of these marks are before a number
+  abbrev AreMarksBefore : List OrdinalMark → Type 0
+  AreMarksBefore [] = Unit {0}
+  AreMarksBefore (m ∷ ms) = IsBefore n m.ordinal × AreMarksBefore ms
+
+  before_at : (k : ℕ) (xs : List (Role × ℕ)) → AreInOrder table k xs → k + length (names_only xs) ≤ n → AreBeforeAt (names_only xs)
+  before_at k [] h le = tt
+  before_at k ((role.Declaring, i) ∷ xs) h le =
+      let here : IsBefore n (Some k) = omega (arith, le) in
+      (subst (IsBefore n) (sym h.0) here, before_at (suc k) xs h.1 (omega (arith, le)))
+  before_at k ((role.LookedUp, i) ∷ xs) h le = (before_more k n (table i) (omega (arith, le)) h.0, before_at k xs h.1 (omega (arith, le)))
+  before_at k ((role.ClosingName, i) ∷ xs) h le = (before_more k n (table i) (omega (arith, le)) h.0, before_at k xs h.1 (omega (arith, le)))
+  before_at k ((role.FieldName, i) ∷ xs) h le = (before_more k n (table i) (omega (arith, le)) h.0, before_at k xs h.1 (omega (arith, le)))
+  before_at k ((role.ModuleName, i) ∷ xs) h le = (before_more k n (table i) (omega (arith, le)) h.0, before_at k xs h.1 (omega (arith, le)))
+
+  marks_before : (ms : List OrdinalMark) → AreBeforeAt (tokens_of ms) → HasMarks table ms → AreMarksBefore ms
+  marks_before [] before has = tt
+  marks_before (m ∷ ms) before has = (subst (IsBefore n) has.0 before.0, marks_before ms before.1 has.1)
+
+-- ---- entries keep such ordinals
+
+-- a table with the entry of each mark at its token
+abbrev pub with_entries : List (Option ℕ) → List OrdinalMark → List (Option ℕ)
+with_entries table [] = table
+with_entries table (m ∷ ms) = with_entries (set table m.token (kept m.ordinal)) ms
+
+kept_before : (n : ℕ) (o : Option ℕ) → n ≤ greatest → IsBefore n o → kept o ≡ o
+kept_before n None le h = refl
+kept_before n (Some j) le h = ap Some (min-eq_left (let below : j ≤ greatest = omega (arith, le, h) in below))
+
+entries_kept : (read : ℕ → Option ℕ) (n : ℕ) (ms : List OrdinalMark) (table : List (Option ℕ)) → n ≤ greatest → AreMarksBefore read n ms → with_entries table ms ≡ with_marks table ms
+entries_kept read n [] table le h = refl
+entries_kept read n (m ∷ ms) table le h =
+    ap (λ o. with_entries (set table m.token o) ms) (kept_before n m.ordinal le h.0) ∙ entries_kept read n ms (set table m.token m.ordinal) le h.1
+
+-- entries have the ordinals of all marks of a module
+pub all_kept : (m : Parsed) (w : Writing) (table : List (Option ℕ)) → IsParsed m → IsScan m.source
+    → with_entries table (visit_module (tree_of m) (started w)).marks ≡ with_marks table (visit_module (tree_of m) (started w)).marks
+all_kept m w table parsed scan =
+    let v = visit_module (tree_of m) (started w) in
+    let ids = identifiers role.Declaring (tree_of m) in
+    let nothing : List (Option ℕ) = replicate (length m.source.tokens) None in
+    let read = ordinal_in (with_marks nothing v.marks) in
+    let has : HasMarks read v.marks = marks_in_table m w v (with_marks nothing v.marks) parsed refl refl in
+    let passed = module_passed read (as_label as_names) w (tree_of m) (started w) (at_start w) in
+    let order : AreInOrder read 7 ids = subst (AreInOrder read 7) (append-nil ids) (passed.in_order has [] tt) in
+    let few = few_between 0 (names_only ids) (length m.source.tokens) (leaves_ascend m parsed) in
+    let tokens = few_tokens m.source scan in
+    let n = 7 + length (names_only ids) in
+    let small : n ≤ greatest = omega (arith, few, tokens) in
+    let before = before_at read n 7 ids order (omega arith) in
+    entries_kept read n v.marks table small (marks_before read n v.marks (subst (AreBeforeAt read n) (sym passed.tokens) before) has)

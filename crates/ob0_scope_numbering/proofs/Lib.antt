@@ -1,0 +1,7 @@
+pub mod Declaring
+pub mod Agreed
+pub mod Passing
+pub mod Tables
+mod Kept
+mod Tabled
+mod Using

@@ -1,0 +1,549 @@
+-- What is known after each part of a module: which names are visible, and that a table with all marks numbers the part.
+use Rattle.std.proofs.Common.{◌≡◌, ◌<◌, ◌≤◌, ℕ, suc, ◌+◌, ◌-◌, true, false, Option, Some, None, List, [], ◌∷◌, ◌++◌, map, length, drop, refl, sym, ap, ◌∙◌, subst, arith, append_assoc, append-nil, length-append}
+use Rattle.std.proofs.lemmas.List.{map-append}
+use Rattle.std.proofs.Math.Seq.{drop-append-add}
+use Rattle.ob0_tree.specs.declared.tree.Role.{Role}
+use Rattle.ob0_tree.specs.declared.tree.Role.TheVariants as role
+use Rattle.ob0_tree.specs.Tree.{Sort, Tree, block, constant, constants, declares, declares_constant, declares_constants, declares_procedure, declares_type, declares_types, declares_variable, declares_variables, end, formals, further_name, further_section, has_body, identifiers, is_module, item, items, listed, mapped, maybe, module_text, more, names, no_formals, none, one, procedure, section, some_formals, then_name, then_section, type_name, type_names, value_section, variable, variable_section, variables, written_type}
+use Rattle.ob0_tree.specs.Order.{names_only}
+use Rattle.ob0_tree.specs.Places.{value_at}
+use Rattle.ob0_scope_numbering.specs.Written.{Writing, name_at, spelled_by}
+use Rattle.ob0_tree.proofs.Occurring.{looked_up_only, looked_up_only-append}
+use Rattle.ob0_scope_numbering.specs.Marks.{OrdinalMark}
+use Rattle.ob0_scope_rules.specs.Names.{Name, as_names, same_name}
+use Rattle.ob0_scope_rules.specs.Parts.{constant_names, formal_names, formal_sections, further_names, module_block, named_types, names_listed, procedure_name, section_constants, section_names, section_types, section_variables, variable_names}
+use Rattle.ob0_scope_rules.specs.Resolution.{declaring_only}
+use Rattle.ob0_scope_rules.specs.Scopes.{Labels, Scope, after_block, after_names, after_procedure, after_procedures, body_scope, declare_names, declare_procedure_names, ordinal_of, predeclared_scope, relabel_block, relabel_constant_section, relabel_constants, relabel_formals, relabel_further, relabel_names, relabel_procedure, relabel_procedures, relabel_section, relabel_sections, relabel_type_section, relabel_types, relabel_uses, relabel_variable_section, relabel_variables, relabelled}
+use Rattle.ob0_scope_numbering.specs.Marking.{Visit, started, leave_block, after_heading, found, found_all, left_to, marked, numbered_all, numbered_at, visible_from, used, visit_block, visit_constant, visit_constant_section, visit_constants, visit_formals, visit_module, visit_procedure, visit_procedures, visit_section, visit_sections, visit_type, visit_type_section, visit_types, visit_variable, visit_variable_section, visit_variables}
+use Rattle.ob0_scope_numbering.proofs.Agreed.{AllFit, agreed}
+use Rattle.ob0_scope_rules.proofs.Ordinals.{after_names-append, declare_names-append, le-after_block, le-after_names}
+use Rattle.ob0_scope_rules.proofs.OccurrenceNames.{length-map}
+use Rattle.ob0_scope_rules.proofs.Peeling.{Two}
+use Rattle.ob0_scope_rules.proofs.Plain.{IsPlain, declares_nothing, declaring_only-append}
+
+-- a table has each mark's ordinal at its token
+abbrev pub HasMarks : (ℕ → Option ℕ) → List OrdinalMark → Type 0
+HasMarks table [] = Unit {0}
+HasMarks table (m ∷ ms) = (table m.token ≡ m.ordinal) × HasMarks table ms
+
+marks_split : (table : ℕ → Option ℕ) (xs ys : List OrdinalMark) → HasMarks table (xs ++ ys) → HasMarks table xs × HasMarks table ys
+marks_split table [] ys h = (tt, h)
+marks_split table (x ∷ xs) ys h = let rest = marks_split table xs ys h.1 in ((h.0, rest.0), rest.1)
+
+abbrev pub tokens_of : List OrdinalMark → List ℕ
+tokens_of ms = map (λ m. m.token) ms
+
+-- an ordinal, if there is one, is that of a declaration before this
+abbrev pub IsBefore : ℕ → Option ℕ → Type 0
+IsBefore k None = Unit {0}
+IsBefore k (Some j) = j < k
+
+-- all names of a scope are bound to declarations before this
+abbrev AreBefore : ℕ → Scope Name → Type 0
+AreBefore k [] = Unit {0}
+AreBefore k (b ∷ s) = (b.1 < k) × AreBefore k s
+
+before_later : (k later : ℕ) (s : Scope Name) → k ≤ later → AreBefore k s → AreBefore later s
+before_later k later [] le h = tt
+before_later k later (b ∷ s) le h = (omega (arith, le, h.0), before_later k later s le h.1)
+
+names_before : (k : ℕ) (xs : List Name) (s : Scope Name) (later : ℕ) → k + length xs ≤ later → AreBefore later s → AreBefore later (declare_names k xs s)
+names_before k [] s later le h = h
+names_before k (x ∷ xs) s later le h = names_before (suc k) xs ((x, k) ∷ s) later (omega (arith, le)) (omega (arith, le), h)
+
+older_before : (k : ℕ) (newer s : Scope Name) → AreBefore k (newer ++ s) → AreBefore k s
+older_before k [] s h = h
+older_before k (b ∷ newer) s h = older_before k newer s h.1
+
+looked_up_before : (k : ℕ) (s : Scope Name) (x : Name) → AreBefore k s → IsBefore k (ordinal_of as_names s x)
+looked_up_before k [] x h = tt
+looked_up_before k (b ∷ s) x h = elim (same_name x b.0) as (λ v. IsBefore k (elim v [ true ↦ Some b.1 | false ↦ ordinal_of as_names s x ])) [ true ↦ h.0 | false ↦ looked_up_before k s x h.1 ]
+
+-- each declaring identifier has the next ordinal, and each other one that of a declaration before it, or none
+abbrev pub AreInOrder : (ℕ → Option ℕ) → ℕ → List (Role × ℕ) → Type 0
+AreInOrder table k [] = Unit {0}
+AreInOrder table k ((role.Declaring, i) ∷ xs) = (table i ≡ Some k) × AreInOrder table (suc k) xs
+AreInOrder table k ((role.LookedUp, i) ∷ xs) = IsBefore k (table i) × AreInOrder table k xs
+AreInOrder table k ((role.ClosingName, i) ∷ xs) = IsBefore k (table i) × AreInOrder table k xs
+AreInOrder table k ((role.FieldName, i) ∷ xs) = IsBefore k (table i) × AreInOrder table k xs
+AreInOrder table k ((role.ModuleName, i) ∷ xs) = IsBefore k (table i) × AreInOrder table k xs
+
+some_declared : {x : ℕ} {xs : List ℕ} → (x ∷ xs) ≡ [] → ⊥
+some_declared e = absurd (cc)
+
+other_in_order : (table : ℕ → Option ℕ) (k : ℕ) (r : Role) (i : ℕ) (xs : List (Role × ℕ)) → declaring_only ((r, i) ∷ []) ≡ [] → IsBefore k (table i) → AreInOrder table k xs → AreInOrder table k ((r, i) ∷ xs)
+other_in_order table k role.Declaring i xs e h rest = absurd (some_declared e)
+other_in_order table k role.LookedUp i xs e h rest = (h, rest)
+other_in_order table k role.ClosingName i xs e h rest = (h, rest)
+other_in_order table k role.FieldName i xs e h rest = (h, rest)
+other_in_order table k role.ModuleName i xs e h rest = (h, rest)
+
+-- a part that declares nothing
+used_in_order : (table : ℕ → Option ℕ) (src : Writing) (s : Scope Name) (k : ℕ) (xs rest : List (Role × ℕ)) → AreBefore k s → declaring_only xs ≡ [] → AllFit table src s xs → AreInOrder table k rest → AreInOrder table k (xs ++ rest)
+used_in_order table src s k [] rest low e h order = order
+used_in_order table src s k ((role.Declaring, i) ∷ xs) rest low e h order = absurd (some_declared e)
+used_in_order table src s k ((role.LookedUp, i) ∷ xs) rest low e h order = (subst (IsBefore k) (sym h.0) (looked_up_before k s (name_at src i) low), used_in_order table src s k xs rest low e h.1 order)
+used_in_order table src s k ((role.ClosingName, i) ∷ xs) rest low e h order = (subst (IsBefore k) (sym h.0) tt, used_in_order table src s k xs rest low e h.1 order)
+used_in_order table src s k ((role.FieldName, i) ∷ xs) rest low e h order = (subst (IsBefore k) (sym h.0) tt, used_in_order table src s k xs rest low e h.1 order)
+used_in_order table src s k ((role.ModuleName, i) ∷ xs) rest low e h order = (subst (IsBefore k) (sym h.0) tt, used_in_order table src s k xs rest low e h.1 order)
+
+pub record At (v : Visit) (src : Writing) (s : Scope Name) (k : ℕ) : Type 0 where
+  pub writing : v.writing ≡ src
+  pub scope : v.scope ≡ s
+  pub next : 7 + length v.declarations ≡ k
+  pub before : AreBefore k s
+
+pub at_start : (src : Writing) → At (started src) src (predeclared_scope as_names) 7
+at_start src = record { writing = refl; scope = refl; next = refl; before = names_before 0 (map as_names.predeclared (0 ∷ 1 ∷ 2 ∷ 3 ∷ 4 ∷ 5 ∷ 6 ∷ [])) [] 7 (omega arith) tt }
+
+joined : {X Y : Type 0} (f : List X → List Y) (xs ys : List X) (a b c : List Y) → f (xs ++ ys) ≡ f xs ++ f ys → b ≡ a ++ f xs → c ≡ b ++ f ys → c ≡ a ++ f (xs ++ ys)
+joined f xs ys a b c split e g = g ∙ (ap (λ z. z ++ f ys) e ∙ (append_assoc a (f xs) (f ys) ∙ ap (λ z. a ++ z) (sym split)))
+
+-- a scope with newer bindings
+pub record Extends (s s' : Scope Name) : Type 0 where
+  pub newer : List (Name × ℕ)
+  pub is : s' ≡ newer ++ s
+
+extends_nothing : (s : Scope Name) → Extends s s
+extends_nothing s = record { newer = []; is = refl }
+
+one_extends : (b : Name × ℕ) (s : Scope Name) → Extends s (b ∷ s)
+one_extends b s = record { newer = b ∷ []; is = refl }
+
+extends_then : {s t u : Scope Name} → Extends s t → Extends t u → Extends s u
+extends_then {s = s} e f = record { newer = f.newer ++ e.newer; is = f.is ∙ (ap (λ z. f.newer ++ z) e.is ∙ sym (append_assoc f.newer e.newer s)) }
+
+names_extend : (k : ℕ) (xs : List Name) (s : Scope Name) → Extends s (declare_names k xs s)
+names_extend k [] s = extends_nothing s
+names_extend k (x ∷ xs) s = extends_then (one_extends (x, k) s) (names_extend (suc k) xs ((x, k) ∷ s))
+
+procedures_extend : (k : ℕ) (ps : Tree Name (items procedure)) (s : Scope Name) → Extends s (declare_procedure_names k ps s)
+procedures_extend k end s = extends_nothing s
+procedures_extend k (more p rest) s = extends_then (one_extends (procedure_name p, k) s) (procedures_extend (after_procedure (suc k) p) rest ((procedure_name p, k) ∷ s))
+
+block_extends : (k : ℕ) (b : Tree Name block) (s : Scope Name) → Extends s (body_scope k b s)
+block_extends k (has_body (declares cs ts vs ps) statements) s =
+    let xs = constant_names (section_constants cs) in
+    let ys = named_types (section_types ts) in
+    let zs = variable_names (section_variables vs) in
+    extends_then (names_extend k xs s)
+    (extends_then (names_extend (after_names k xs) ys (declare_names k xs s))
+    (extends_then (names_extend (after_names (after_names k xs) ys) zs (declare_names (after_names k xs) ys (declare_names k xs s)))
+    (procedures_extend (after_names (after_names (after_names k xs) ys) zs) ps (declare_names (after_names (after_names k xs) ys) zs (declare_names (after_names k xs) ys (declare_names k xs s))))))
+
+left_extends : {s s' : Scope Name} → Extends s s' → drop (length s' - length s) s' ≡ s
+left_extends {s = s} e =
+    let count : length (e.newer ++ s) - length s ≡ length e.newer + 0 = omega (arith, length-append e.newer s) in
+    ap (λ z. drop (length z - length s) z) e.is ∙ (ap (λ n. drop n (e.newer ++ s)) count ∙ drop-append-add e.newer s 0)
+
+-- what the identifiers of a part that declares nothing leave
+record FoundAll (table : ℕ → Option ℕ) (src : Writing) (v w : Visit) (xs : List (Role × ℕ)) : Type 0 where
+  writing : w.writing ≡ v.writing
+  scope : w.scope ≡ v.scope
+  kept : w.declarations ≡ v.declarations
+  used : w.uses ≡ v.uses ++ looked_up_only xs
+  tokens : tokens_of w.marks ≡ tokens_of v.marks ++ names_only xs
+  agree : v.writing ≡ src → HasMarks table w.marks → HasMarks table v.marks × AllFit table src v.scope xs
+
+mark_added : (ms : List OrdinalMark) (m : OrdinalMark) → tokens_of (ms ++ (m ∷ [])) ≡ tokens_of ms ++ (m.token ∷ [])
+mark_added ms m = map-append (λ m. m.token) ms (m ∷ [])
+
+found_none : (table : ℕ → Option ℕ) (src : Writing) (i : ℕ) (v : Visit) → HasMarks table (marked i None v).marks → HasMarks table v.marks × (table i ≡ None) × Unit {0}
+found_none table src i v h = let m = marks_split table v.marks (record { token = i; ordinal = None } ∷ []) h in (m.0, m.1.0, tt)
+
+found_one : (table : ℕ → Option ℕ) (src : Writing) (r : Role) (i : ℕ) (v : Visit) → FoundAll table src v (found r i v) ((r, i) ∷ [])
+found_one table src role.LookedUp i v =
+    let m : OrdinalMark = record { token = i; ordinal = ordinal_of as_names v.scope (name_at v.writing i) } in
+    record {
+      writing = refl;
+      scope = refl;
+      kept = refl;
+      used = refl;
+      tokens = mark_added v.marks m;
+      agree = λ e h.
+          let parts = marks_split table v.marks (m ∷ []) h in
+          (parts.0, (parts.1.0 ∙ ap (λ z. ordinal_of as_names v.scope (name_at z i)) e, tt));
+    }
+found_one table src role.Declaring i v = record { writing = refl; scope = refl; kept = refl; used = sym (append-nil v.uses); tokens = mark_added v.marks (record { token = i; ordinal = None }); agree = λ e h. let f = found_none table src i v h in (f.0, (f.1, tt)) }
+found_one table src role.ClosingName i v = record { writing = refl; scope = refl; kept = refl; used = sym (append-nil v.uses); tokens = mark_added v.marks (record { token = i; ordinal = None }); agree = λ e h. let f = found_none table src i v h in (f.0, (f.1, tt)) }
+found_one table src role.FieldName i v = record { writing = refl; scope = refl; kept = refl; used = sym (append-nil v.uses); tokens = mark_added v.marks (record { token = i; ordinal = None }); agree = λ e h. let f = found_none table src i v h in (f.0, (f.1, tt)) }
+found_one table src role.ModuleName i v = record { writing = refl; scope = refl; kept = refl; used = sym (append-nil v.uses); tokens = mark_added v.marks (record { token = i; ordinal = None }); agree = λ e h. let f = found_none table src i v h in (f.0, (f.1, tt)) }
+
+found_every : (table : ℕ → Option ℕ) (src : Writing) (xs : List (Role × ℕ)) (v : Visit) → FoundAll table src v (found_all xs v) xs
+found_every table src [] v = record { writing = refl; scope = refl; kept = refl; used = sym (append-nil v.uses); tokens = sym (append-nil (tokens_of v.marks)); agree = λ e h. (h, tt) }
+found_every table src (x ∷ xs) v =
+    let a = found_one table src x.0 x.1 v in
+    let b = found_every table src xs (found x.0 x.1 v) in
+    record {
+      writing = b.writing ∙ a.writing;
+      scope = b.scope ∙ a.scope;
+      kept = b.kept ∙ a.kept;
+      used = joined looked_up_only (x ∷ []) xs _ _ _ (looked_up_only-append (x ∷ []) xs) a.used b.used;
+      tokens = joined names_only (x ∷ []) xs _ _ _ (map-append (λ x. x.1) (x ∷ []) xs) a.tokens b.tokens;
+      agree = λ e h.
+          let later = b.agree (a.writing ∙ e) h in
+          let now = a.agree e later.0 in
+          (now.0, (now.1.0, subst (λ s. AllFit table src s xs) a.scope later.1));
+    }
+
+-- what a part has passed on, with the identifiers in it, the names visible after it, the next ordinal, and what a table with all marks says
+pub record Passed (table : ℕ → Option ℕ) (src : Writing) (v w : Visit) (ids : List (Role × ℕ)) (s : Scope Name) (k : ℕ) (P : Type 0) : Type 0 where
+  pub at : At w src s k
+  pub declared : w.declarations ≡ v.declarations ++ declaring_only ids
+  pub used : w.uses ≡ v.uses ++ looked_up_only ids
+  pub tokens : tokens_of w.marks ≡ tokens_of v.marks ++ names_only ids
+  pub agree : HasMarks table w.marks → HasMarks table v.marks × P
+  pub in_order : HasMarks table w.marks → (later : List (Role × ℕ)) → AreInOrder table k later → AreInOrder table (7 + length v.declarations) (ids ++ later)
+
+module _ {M : Type 0} (table : ℕ → Option ℕ) (label : Labels Name M) (src : Writing) (value : ℕ → ℕ) where
+  abbrev Passes : Visit → Visit → List (Role × ℕ) → Scope Name → ℕ → Type 0 → Type 0
+  Passes = Passed table src
+
+  -- a part with the names as they are written, and any numbers
+  abbrev spelled : {s : Sort} → Tree ℕ s → Tree Name s
+  spelled t = mapped (name_at src) value t
+
+  -- a part with the table's ordinals
+  abbrev by_table : {s : Sort} → Tree ℕ s → Tree M s
+  by_table t = mapped (λ i. label (table i) (name_at src i)) value t
+
+  pass_nothing : (v : Visit) (s : Scope Name) (k : ℕ) → At v src s k → Passes v v [] s k (Unit {0})
+  pass_nothing v s k at = record { at = at; declared = sym (append-nil v.declarations); used = sym (append-nil v.uses); tokens = sym (append-nil (tokens_of v.marks)); agree = λ h. (h, tt); in_order = λ h later. subst (λ n. AreInOrder table n later) (sym at.next) }
+
+  pass_then : {a b c : Visit} {xs ys : List (Role × ℕ)} {s s' : Scope Name} {k k' : ℕ} {P Q : Type 0} → Passes a b xs s k P → Passes b c ys s' k' Q → Passes a c (xs ++ ys) s' k' (Two P Q)
+  pass_then {a = a} {xs = xs} {ys = ys} p q =
+      record {
+        at = q.at;
+        declared = joined declaring_only xs ys _ _ _ (declaring_only-append xs ys) p.declared q.declared;
+        used = joined looked_up_only xs ys _ _ _ (looked_up_only-append xs ys) p.used q.used;
+        tokens = joined names_only xs ys _ _ _ (map-append (λ x. x.1) xs ys) p.tokens q.tokens;
+        agree = λ h. let later = q.agree h in let now = p.agree later.0 in (now.0, record { first = now.1; second = later.1 });
+        in_order = λ h later o.
+            subst (AreInOrder table (7 + length a.declarations)) (sym (append_assoc xs ys later))
+            (p.in_order (q.agree h).0 (ys ++ later) (subst (λ n. AreInOrder table n (ys ++ later)) p.at.next (q.in_order h later o)));
+      }
+
+  pass_to : {a b : Visit} {xs : List (Role × ℕ)} {s : Scope Name} {k : ℕ} {P Q : Type 0} → Passes a b xs s k P → (P → Q) → Passes a b xs s k Q
+  pass_to p f = record { at = p.at; declared = p.declared; used = p.used; tokens = p.tokens; agree = λ h. let x = p.agree h in (x.0, f x.1); in_order = p.in_order }
+
+  pass_is : {a b : Visit} {xs ys : List (Role × ℕ)} {s s' : Scope Name} {k k' : ℕ} {P : Type 0} → xs ≡ ys → s ≡ s' → k ≡ k' → Passes a b xs s k P → Passes a b ys s' k' P
+  pass_is {a = a} {s = s} {s' = s'} {k = k} e f g p =
+      record {
+        at = record { writing = p.at.writing; scope = p.at.scope ∙ f; next = p.at.next ∙ g; before = subst (λ n. AreBefore n s') g (subst (AreBefore k) f p.at.before) };
+        declared = p.declared ∙ ap (λ ids. a.declarations ++ declaring_only ids) e;
+        used = p.used ∙ ap (λ ids. a.uses ++ looked_up_only ids) e;
+        tokens = p.tokens ∙ ap (λ ids. tokens_of a.marks ++ names_only ids) e;
+        agree = p.agree;
+        in_order = λ h later o.
+            subst (λ ids. AreInOrder table (7 + length a.declarations) (ids ++ later)) e (p.in_order h later (subst (λ n. AreInOrder table n later) (sym g) o));
+      }
+
+  used_passed : {σ : Sort} (t : Tree ℕ σ) (v : Visit) (s : Scope Name) (k : ℕ) → IsPlain σ → At v src s k
+      → Passes v (used t v) (identifiers role.Declaring t) s k (relabel_uses as_names label s (spelled t) ≡ by_table t)
+  used_passed t v s k is_plain at =
+      let plain = (declares_nothing is_plain t).plain in
+      let f = found_every table src (identifiers role.Declaring t) v in
+      record {
+        at = record { writing = f.writing ∙ at.writing; scope = f.scope ∙ at.scope; next = ap (λ ds. 7 + length ds) f.kept ∙ at.next; before = at.before };
+        declared = f.kept ∙ (sym (append-nil v.declarations) ∙ ap (λ ds. v.declarations ++ ds) (sym plain));
+        used = f.used;
+        tokens = f.tokens;
+        agree = λ h.
+            let x = f.agree at.writing h in
+            (x.0, (agreed table label src s value role.Declaring (λ i e. e) t).reads (subst (λ s. AllFit table src s (identifiers role.Declaring t)) at.scope x.1));
+        in_order = λ h later o.
+            let fit = subst (λ s. AllFit table src s (identifiers role.Declaring t)) at.scope (f.agree at.writing h).1 in
+            subst (λ n. AreInOrder table n (identifiers role.Declaring t ++ later)) (sym at.next) (used_in_order table src s k (identifiers role.Declaring t) later at.before plain fit o);
+      }
+
+  number_passed : (x : ℕ) (v : Visit) (s : Scope Name) (k : ℕ) → At v src s k → Passes v (numbered_at x v) ((role.Declaring, x) ∷ []) s (suc k) (table x ≡ Some k)
+  number_passed x v s k at =
+      let m : OrdinalMark = record { token = x; ordinal = Some (7 + length v.declarations) } in
+      record {
+        at = record { writing = at.writing; scope = at.scope; next = omega (arith, length-append v.declarations (x ∷ []), at.next); before = before_later k (suc k) s (omega arith) at.before };
+        declared = refl;
+        used = sym (append-nil v.uses);
+        tokens = mark_added v.marks m;
+        agree = λ h. let parts = marks_split table v.marks (m ∷ []) h in (parts.0, parts.1.0 ∙ ap Some at.next);
+        in_order = λ h later o. ((marks_split table v.marks (m ∷ []) h).1.0, subst (λ n. AreInOrder table (suc n) later) (sym at.next) o);
+      }
+
+  mark_passed : (r : Role) (x : ℕ) (ordinal : Option ℕ) (v : Visit) (s : Scope Name) (k : ℕ) → declaring_only ((r, x) ∷ []) ≡ [] → looked_up_only ((r, x) ∷ []) ≡ [] → IsBefore k ordinal → At v src s k
+      → Passes v (marked x ordinal v) ((r, x) ∷ []) s k (table x ≡ ordinal)
+  mark_passed r x ordinal v s k no_declaration no_use low at =
+      let m : OrdinalMark = record { token = x; ordinal = ordinal } in
+      record {
+        at = record { writing = at.writing; scope = at.scope; next = at.next; before = at.before };
+        declared = sym (append-nil v.declarations) ∙ ap (λ ds. v.declarations ++ ds) (sym no_declaration);
+        used = sym (append-nil v.uses) ∙ ap (λ us. v.uses ++ us) (sym no_use);
+        tokens = mark_added v.marks m;
+        agree = λ h. let parts = marks_split table v.marks (m ∷ []) h in (parts.0, parts.1.0);
+        in_order = λ h later o.
+            let here = subst (IsBefore k) (sym (marks_split table v.marks (m ∷ []) h).1.0) low in
+            subst (λ n. AreInOrder table n ((r, x) ∷ later)) (sym at.next) (other_in_order table k r x later no_declaration here o);
+      }
+
+  -- names have the ordinals from k on
+  abbrev HasNumbers : ℕ → List ℕ → Type 0
+  HasNumbers k [] = Unit {0}
+  HasNumbers k (x ∷ xs) = (table x ≡ Some k) × HasNumbers (suc k) xs
+
+  abbrev all_declaring : List ℕ → List (Role × ℕ)
+  all_declaring xs = map (λ x. (role.Declaring, x)) xs
+
+  numbers_passed : (xs : List ℕ) (v : Visit) (s : Scope Name) (k : ℕ) → At v src s k → Passes v (numbered_all xs v) (all_declaring xs) s (after_names k (map (name_at src) xs)) (HasNumbers k xs)
+  numbers_passed [] v s k at = pass_nothing v s k at
+  numbers_passed (x ∷ xs) v s k at =
+      let here = number_passed x v s k at in
+      pass_to (pass_then here (numbers_passed xs (numbered_at x v) s (suc k) here.at)) (λ p. (p.first, p.second))
+
+  further_declaring : (ns : Tree ℕ (items further_name)) → all_declaring (further_names ns) ≡ identifiers role.Declaring ns
+  further_declaring end = refl
+  further_declaring (more (then_name x) rest) = λ i. (role.Declaring, x) ∷ further_declaring rest i
+
+  names_declaring : (ns : Tree ℕ names) → all_declaring (names_listed ns) ≡ identifiers role.Declaring ns
+  names_declaring (listed x rest) = λ i. (role.Declaring, x) ∷ further_declaring rest i
+
+  further_named : (ns : Tree ℕ (items further_name)) → map (name_at src) (further_names ns) ≡ further_names (spelled ns)
+  further_named end = refl
+  further_named (more (then_name x) rest) = λ i. name_at src x ∷ further_named rest i
+
+  names_named : (ns : Tree ℕ names) → map (name_at src) (names_listed ns) ≡ names_listed (spelled ns)
+  names_named (listed x rest) = λ i. name_at src x ∷ further_named rest i
+
+  further_agree : (ns : Tree ℕ (items further_name)) (k : ℕ) → HasNumbers k (further_names ns) → relabel_further label k (spelled ns) ≡ by_table ns
+  further_agree end k h = refl
+  further_agree (more (then_name x) rest) k h = λ i. more (then_name (label (sym h.0 i) (name_at src x))) (further_agree rest (suc k) h.1 i)
+
+  names_agree : (ns : Tree ℕ names) (k : ℕ) → HasNumbers k (names_listed ns) → relabel_names label k (spelled ns) ≡ by_table ns
+  names_agree (listed x rest) k h = λ i. listed (label (sym h.0 i) (name_at src x)) (further_agree rest (suc k) h.1 i)
+
+  names_passed : (ns : Tree ℕ names) (v : Visit) (s : Scope Name) (k : ℕ) → At v src s k
+      → Passes v (numbered_all (names_listed ns) v) (identifiers role.Declaring ns) s (after_names k (names_listed (spelled ns))) (relabel_names label k (spelled ns) ≡ by_table ns)
+  names_passed ns v s k at =
+      pass_is (names_declaring ns) refl (ap (after_names k) (names_named ns)) (pass_to (numbers_passed (names_listed ns) v s k at) (names_agree ns k))
+
+  drop_past : (xs ys : List ℕ) → drop (length xs) (xs ++ ys) ≡ ys
+  drop_past xs ys = let n : length xs + 0 ≡ length xs = omega arith in ap (λ n. drop n (xs ++ ys)) (sym n) ∙ drop-append-add xs ys 0
+
+  -- what was declared in a part is visible after it
+  show_passed : {a b : Visit} {xs : List (Role × ℕ)} {s s' : Scope Name} {k k' : ℕ} {P : Type 0} (ns : List Name) → At a src s k → map (name_at src) (declaring_only xs) ≡ ns → Passes a b xs s' k' P
+      → Passes a (visible_from (length a.declarations) b) xs (declare_names k ns s') k' P
+  show_passed {a = a} {b = b} {xs = xs} {s' = s'} {k = k} {k' = k'} ns at are p =
+      let left : drop (length a.declarations) b.declarations ≡ declaring_only xs = ap (drop (length a.declarations)) p.declared ∙ drop_past a.declarations (declaring_only xs) in
+      let visible : declare_names (7 + length a.declarations) (map (name_at b.writing) (drop (length a.declarations) b.declarations)) b.scope ≡ declare_names k ns s' =
+      (λ i. declare_names (at.next i) (map (name_at (p.at.writing i)) (left i)) (p.at.scope i)) ∙ ap (λ ns. declare_names k ns s') are in
+      let count : k + length ns ≤ k' = omega (arith, at.next, p.at.next, ap length p.declared, length-append a.declarations (declaring_only xs), length-map (name_at src) (declaring_only xs), ap length are) in
+      record {
+        at = record { writing = p.at.writing; scope = visible; next = p.at.next; before = names_before k ns s' k' count p.at.before };
+        declared = p.declared;
+        used = p.used;
+        tokens = p.tokens;
+        agree = p.agree;
+        in_order = p.in_order;
+      }
+
+  listed_declaring : (xs : List ℕ) → declaring_only (all_declaring xs) ≡ xs
+  listed_declaring [] = refl
+  listed_declaring (x ∷ xs) = λ i. x ∷ listed_declaring xs i
+
+  group_declaring : (ns : Tree ℕ names) (t : Tree ℕ written_type) → declaring_only (identifiers role.Declaring ns ++ identifiers role.Declaring t) ≡ names_listed ns
+  group_declaring ns t =
+      declaring_only-append (identifiers role.Declaring ns) (identifiers role.Declaring t)
+      ∙ ((λ i. declaring_only (sym (names_declaring ns) i) ++ (declares_nothing tt t).plain i) ∙ (append-nil (declaring_only (all_declaring (names_listed ns))) ∙ listed_declaring (names_listed ns)))
+
+  -- names of one type, visible after it
+  group_passed : (ns : Tree ℕ names) (t : Tree ℕ written_type) (v : Visit) (s : Scope Name) (k : ℕ) → At v src s k
+      → Passes v (visible_from (length v.declarations) (used t (numbered_all (names_listed ns) v))) (identifiers role.Declaring ns ++ identifiers role.Declaring t)
+      (declare_names k (names_listed (spelled ns)) s) (after_names k (names_listed (spelled ns)))
+      (Two (relabel_names label k (spelled ns) ≡ by_table ns) (relabel_uses as_names label s (spelled t) ≡ by_table t))
+  group_passed ns t v s k at =
+      let a = names_passed ns v s k at in
+      let b = used_passed t (numbered_all (names_listed ns) v) s (after_names k (names_listed (spelled ns))) tt a.at in
+      show_passed (names_listed (spelled ns)) at (ap (map (name_at src)) (group_declaring ns t) ∙ names_named ns) (pass_then a b)
+
+  constants_passed : (cs : Tree ℕ (items constant)) (v : Visit) (s : Scope Name) (k : ℕ) → At v src s k
+      → Passes v (visit_constants cs v) (identifiers role.Declaring cs) (declare_names k (constant_names (spelled cs)) s) (after_names k (constant_names (spelled cs)))
+      (relabel_constants as_names label s k (spelled cs) ≡ by_table cs)
+  constants_passed end v s k at = pass_to (pass_nothing v s k at) (λ h. refl)
+  constants_passed (more (declares_constant x e) cs) v s k at =
+      let a = number_passed x v s k at in
+      let b = used_passed e (numbered_at x v) s (suc k) tt a.at in
+      let c = show_passed (name_at src x ∷ []) at (ap (λ xs. name_at src x ∷ map (name_at src) xs) (declares_nothing tt e).plain) (pass_then a b) in
+      pass_to (pass_then c (constants_passed cs (visit_constant (declares_constant x e) v) ((name_at src x, k) ∷ s) (suc k) c.at))
+      (λ p i. more (declares_constant (label (sym p.first.first i) (name_at src x)) (p.first.second i)) (p.second i))
+
+  types_passed : (ts : Tree ℕ (items type_name)) (v : Visit) (s : Scope Name) (k : ℕ) → At v src s k
+      → Passes v (visit_types ts v) (identifiers role.Declaring ts) (declare_names k (named_types (spelled ts)) s) (after_names k (named_types (spelled ts)))
+      (relabel_types as_names label s k (spelled ts) ≡ by_table ts)
+  types_passed end v s k at = pass_to (pass_nothing v s k at) (λ h. refl)
+  types_passed (more (declares_type x t) ts) v s k at =
+      let a = number_passed x v s k at in
+      let b = used_passed t (numbered_at x v) s (suc k) tt a.at in
+      let c = show_passed (name_at src x ∷ []) at (ap (λ xs. name_at src x ∷ map (name_at src) xs) (declares_nothing tt t).plain) (pass_then a b) in
+      pass_to (pass_then c (types_passed ts (visit_type (declares_type x t) v) ((name_at src x, k) ∷ s) (suc k) c.at))
+      (λ p i. more (declares_type (label (sym p.first.first i) (name_at src x)) (p.first.second i)) (p.second i))
+
+  variables_passed : (gs : Tree ℕ (items variable)) (v : Visit) (s : Scope Name) (k : ℕ) → At v src s k
+      → Passes v (visit_variables gs v) (identifiers role.Declaring gs) (declare_names k (variable_names (spelled gs)) s) (after_names k (variable_names (spelled gs)))
+      (relabel_variables as_names label s k (spelled gs) ≡ by_table gs)
+  variables_passed end v s k at = pass_to (pass_nothing v s k at) (λ h. refl)
+  variables_passed (more (declares_variable ns t) gs) v s k at =
+      let xs = names_listed (spelled ns) in
+      let rest = variable_names (spelled gs) in
+      let a = group_passed ns t v s k at in
+      pass_is refl (sym (declare_names-append k xs rest s)) (sym (after_names-append k xs rest))
+      (pass_to (pass_then a (variables_passed gs (visit_variable (declares_variable ns t) v) (declare_names k xs s) (after_names k xs) a.at))
+      (λ p i. more (declares_variable (p.first.first i) (p.first.second i)) (p.second i)))
+
+  section_passed : (f : Tree ℕ section) (v : Visit) (s : Scope Name) (k : ℕ) → At v src s k
+      → Passes v (visit_section f v) (identifiers role.Declaring f) (declare_names k (section_names (spelled f)) s) (after_names k (section_names (spelled f)))
+      (relabel_section as_names label s k (spelled f) ≡ by_table f)
+  section_passed (value_section ns t) v s k at = pass_to (group_passed ns t v s k at) (λ p i. value_section (p.first i) (p.second i))
+  section_passed (variable_section ns t) v s k at = pass_to (group_passed ns t v s k at) (λ p i. variable_section (p.first i) (p.second i))
+
+  sections_passed : (fs : Tree ℕ (items further_section)) (v : Visit) (s : Scope Name) (k : ℕ) → At v src s k
+      → Passes v (visit_sections fs v) (identifiers role.Declaring fs) (declare_names k (formal_names (spelled fs)) s) (after_names k (formal_names (spelled fs)))
+      (relabel_sections as_names label s k (spelled fs) ≡ by_table fs)
+  sections_passed end v s k at = pass_to (pass_nothing v s k at) (λ h. refl)
+  sections_passed (more (then_section f) fs) v s k at =
+      let xs = section_names (spelled f) in
+      let rest = formal_names (spelled fs) in
+      let a = section_passed f v s k at in
+      pass_is refl (sym (declare_names-append k xs rest s)) (sym (after_names-append k xs rest))
+      (pass_to (pass_then a (sections_passed fs (visit_section f v) (declare_names k xs s) (after_names k xs) a.at))
+      (λ p i. more (then_section (p.first i)) (p.second i)))
+
+  section_declaring : (f : Tree ℕ section) → map (name_at src) (declaring_only (identifiers role.Declaring f)) ≡ section_names (spelled f)
+  section_declaring (value_section ns t) = ap (map (name_at src)) (group_declaring ns t) ∙ names_named ns
+  section_declaring (variable_section ns t) = ap (map (name_at src)) (group_declaring ns t) ∙ names_named ns
+
+  sections_declaring : (fs : Tree ℕ (items further_section)) → map (name_at src) (declaring_only (identifiers role.Declaring fs)) ≡ formal_names (spelled fs)
+  sections_declaring end = refl
+  sections_declaring (more (then_section f) fs) =
+      let xs = identifiers role.Declaring f in
+      let ys = identifiers role.Declaring fs in
+      ap (map (name_at src)) (declaring_only-append xs ys) ∙ (map-append (name_at src) (declaring_only xs) (declaring_only ys) ∙ (λ i. section_declaring f i ++ sections_declaring fs i))
+
+  formals_passed : (fs : Tree ℕ (maybe formals)) (v : Visit) (s : Scope Name) (k : ℕ) → At v src s k
+      → Passes v (visit_formals fs v) (identifiers role.Declaring fs) (declare_names k (formal_names (formal_sections (spelled fs))) s) (after_names k (formal_names (formal_sections (spelled fs))))
+      (relabel_formals as_names label s k (spelled fs) ≡ by_table fs)
+  formals_passed none v s k at = pass_to (pass_nothing v s k at) (λ h. refl)
+  formals_passed (one no_formals) v s k at = pass_to (pass_nothing v s k at) (λ h. refl)
+  formals_passed (one (some_formals f fs)) v s k at =
+      let xs = section_names (spelled f) in
+      let rest = formal_names (spelled fs) in
+      let a = section_passed f v s k at in
+      pass_is refl (sym (declare_names-append k xs rest s)) (sym (after_names-append k xs rest))
+      (pass_to (pass_then a (sections_passed fs (visit_section f v) (declare_names k xs s) (after_names k xs) a.at))
+      (λ p i. one (some_formals (p.first i) (p.second i))))
+
+  formals_declaring : (fs : Tree ℕ (maybe formals)) → map (name_at src) (declaring_only (identifiers role.Declaring fs)) ≡ formal_names (formal_sections (spelled fs))
+  formals_declaring none = refl
+  formals_declaring (one no_formals) = refl
+  formals_declaring (one (some_formals f fs)) = sections_declaring (more (then_section f) fs)
+
+  constant_section_passed : (cs : Tree ℕ (maybe constants)) (v : Visit) (s : Scope Name) (k : ℕ) → At v src s k
+      → Passes v (visit_constant_section cs v) (identifiers role.Declaring cs) (declare_names k (constant_names (section_constants (spelled cs))) s) (after_names k (constant_names (section_constants (spelled cs))))
+      (relabel_constant_section as_names label s k (spelled cs) ≡ by_table cs)
+  constant_section_passed none v s k at = pass_to (pass_nothing v s k at) (λ h. refl)
+  constant_section_passed (one (declares_constants cs)) v s k at = pass_to (constants_passed cs v s k at) (λ p i. one (declares_constants (p i)))
+
+  type_section_passed : (ts : Tree ℕ (maybe type_names)) (v : Visit) (s : Scope Name) (k : ℕ) → At v src s k
+      → Passes v (visit_type_section ts v) (identifiers role.Declaring ts) (declare_names k (named_types (section_types (spelled ts))) s) (after_names k (named_types (section_types (spelled ts))))
+      (relabel_type_section as_names label s k (spelled ts) ≡ by_table ts)
+  type_section_passed none v s k at = pass_to (pass_nothing v s k at) (λ h. refl)
+  type_section_passed (one (declares_types ts)) v s k at = pass_to (types_passed ts v s k at) (λ p i. one (declares_types (p i)))
+
+  variable_section_passed : (vs : Tree ℕ (maybe variables)) (v : Visit) (s : Scope Name) (k : ℕ) → At v src s k
+      → Passes v (visit_variable_section vs v) (identifiers role.Declaring vs) (declare_names k (variable_names (section_variables (spelled vs))) s) (after_names k (variable_names (section_variables (spelled vs))))
+      (relabel_variable_section as_names label s k (spelled vs) ≡ by_table vs)
+  variable_section_passed none v s k at = pass_to (pass_nothing v s k at) (λ h. refl)
+  variable_section_passed (one (declares_variables vs)) v s k at = pass_to (variables_passed vs v s k at) (λ p i. one (declares_variables (p i)))
+
+  left_passed : {a b : Visit} {xs : List (Role × ℕ)} {s s' : Scope Name} {k' : ℕ} {P : Type 0} (outer : ℕ) → outer ≡ length s → Extends s s' → Passes a b xs s' k' P → Passes a (left_to outer b) xs s k' P
+  left_passed {b = b} {s = s} {k' = k'} outer count extends p =
+      record {
+        at = record { writing = p.at.writing; scope = (λ i. drop (length (p.at.scope i) - count i) (p.at.scope i)) ∙ left_extends extends; next = p.at.next; before = older_before k' extends.newer s (subst (AreBefore k') extends.is p.at.before) };
+        declared = p.declared;
+        used = p.used;
+        tokens = p.tokens;
+        agree = p.agree;
+        in_order = p.in_order;
+      }
+
+  mutual
+    pub block_passed : (b : Tree ℕ block) (v : Visit) (s : Scope Name) (k : ℕ) → At v src s k
+        → Passes v (visit_block b v) (identifiers role.Declaring b) (body_scope k (spelled b) s) (after_block k (spelled b))
+        (relabel_block as_names label s k (spelled b) ≡ by_table b)
+    block_passed (has_body (declares cs ts vs ps) statements) v s k at =
+        let xs = constant_names (section_constants (spelled cs)) in
+        let ys = named_types (section_types (spelled ts)) in
+        let zs = variable_names (section_variables (spelled vs)) in
+        let a = constant_section_passed cs v s k at in
+        let v₁ = visit_constant_section cs v in
+        let b = type_section_passed ts v₁ (declare_names k xs s) (after_names k xs) a.at in
+        let v₂ = visit_type_section ts v₁ in
+        let c = variable_section_passed vs v₂ (declare_names (after_names k xs) ys (declare_names k xs s)) (after_names (after_names k xs) ys) b.at in
+        let v₃ = visit_variable_section vs v₂ in
+        let d = procedures_passed ps v₃ (declare_names (after_names (after_names k xs) ys) zs (declare_names (after_names k xs) ys (declare_names k xs s))) (after_names (after_names (after_names k xs) ys) zs) c.at in
+        let e = used_passed statements (visit_procedures ps v₃) (body_scope k (spelled (has_body (declares cs ts vs ps) statements)) s) (after_block k (spelled (has_body (declares cs ts vs ps) statements))) tt d.at in
+        pass_to (pass_then (pass_then a (pass_then b (pass_then c d))) e)
+        (λ p i. has_body (declares (p.first.first i) (p.first.second.first i) (p.first.second.second.first i) (p.first.second.second.second i)) (p.second i))
+
+    pub procedures_passed : (ps : Tree ℕ (items procedure)) (v : Visit) (s : Scope Name) (k : ℕ) → At v src s k
+        → Passes v (visit_procedures ps v) (identifiers role.Declaring ps) (declare_procedure_names k (spelled ps) s) (after_procedures k (spelled ps))
+        (relabel_procedures as_names label s k (spelled ps) ≡ by_table ps)
+    procedures_passed end v s k at = pass_to (pass_nothing v s k at) (λ h. refl)
+    procedures_passed (more p ps) v s k at =
+        let a = procedure_passed p v s k at in
+        pass_to (pass_then a (procedures_passed ps (visit_procedure p v) ((procedure_name (spelled p), k) ∷ s) (after_procedure (suc k) (spelled p)) a.at))
+        (λ q i. more (q.first i) (q.second i))
+
+    pub procedure_passed : (p : Tree ℕ (item procedure)) (v : Visit) (s : Scope Name) (k : ℕ) → At v src s k
+        → Passes v (visit_procedure p v) (identifiers role.Declaring p) ((procedure_name (spelled p), k) ∷ s) (after_procedure (suc k) (spelled p))
+        (relabel_procedure as_names label s k (spelled p) ≡ by_table p)
+    procedure_passed (declares_procedure x fs b closing) v s k at =
+        let own = length v.declarations in
+        let outside = length v.scope in
+        let name = name_at src x in
+        let formal = formal_names (formal_sections (spelled fs)) in
+        let k₁ = after_names (suc k) formal in
+        let inside = declare_names (suc k) formal ((name, k) ∷ s) in
+        let count : outside ≡ length s = ap length at.scope in
+        let v₁ = numbered_at x v in
+        let a = number_passed x v s k at in
+        let v₂ = visit_formals fs v₁ in
+        let f = formals_passed fs v₁ s (suc k) a.at in
+        let heading = left_passed outside count (names_extend (suc k) formal s) (pass_then a f) in
+        let h = show_passed (name ∷ formal) at (ap (λ xs. name ∷ xs) (formals_declaring fs)) heading in
+        let v₃ = after_heading own outside v₂ in
+        let g = block_passed b v₃ inside k₁ h.at in
+        let whole = pass_then h g in
+        let e = extends_then (extends_then (one_extends (name, k) s) (names_extend (suc k) formal ((name, k) ∷ s))) (block_extends k₁ (spelled b) inside) in
+        let following = left_passed outside count e whole in
+        let low : k < after_block k₁ (spelled b) = omega (arith, le-after_names (suc k) formal, le-after_block k₁ (spelled b)) in
+        let shown_again : At (leave_block x (7 + own) outside (visit_block b v₃)) src ((name, k) ∷ s) (after_block k₁ (spelled b)) =
+        record { writing = following.at.writing; scope = (λ i. (name_at (following.at.writing i) x, at.next i) ∷ following.at.scope i); next = following.at.next; before = (low, following.at.before) } in
+        let visible : Passes v (leave_block x (7 + own) outside (visit_block b v₃)) (((role.Declaring, x) ∷ identifiers role.Declaring fs) ++ identifiers role.Declaring b) ((name, k) ∷ s) (after_block k₁ (spelled b)) _ =
+        record { at = shown_again; declared = following.declared; used = following.used; tokens = following.tokens; agree = following.agree; in_order = following.in_order } in
+        let last = mark_passed role.ClosingName closing (Some (7 + own)) (leave_block x (7 + own) outside (visit_block b v₃)) ((name, k) ∷ s) (after_block k₁ (spelled b)) refl refl (omega (arith, low, at.next)) shown_again in
+        pass_is (append_assoc ((role.Declaring, x) ∷ identifiers role.Declaring fs) (identifiers role.Declaring b) ((role.ClosingName, closing) ∷ []) ∙ append_assoc ((role.Declaring, x) ∷ []) (identifiers role.Declaring fs) (identifiers role.Declaring b ++ ((role.ClosingName, closing) ∷ []))) refl refl
+        (pass_to (pass_then visible last)
+        (λ p i. declares_procedure (label (sym p.first.first.first i) name) (p.first.first.second i) (p.first.second i) (label (sym (p.second ∙ ap Some at.next) i) (name_at src closing))))
+
+  pub module_passed_with : (m : Tree ℕ module_text) (v : Visit) → At v src (predeclared_scope as_names) 7
+      → Passes v (visit_module m v) (identifiers role.Declaring m) (body_scope 7 (module_block (spelled m)) (predeclared_scope as_names)) (after_block 7 (module_block (spelled m)))
+      (relabelled as_names label (spelled m) ≡ by_table m)
+  module_passed_with (is_module x b closing) v at =
+      let s = predeclared_scope as_names in
+      let a = mark_passed role.ModuleName x None v s 7 refl refl tt at in
+      let g = block_passed b (marked x None v) s 7 a.at in
+      let last = mark_passed role.ModuleName closing None (visit_block b (marked x None v)) (body_scope 7 (spelled b) s) (after_block 7 (spelled b)) refl refl tt g.at in
+      pass_to (pass_then a (pass_then g last))
+      (λ p i. is_module (label (sym p.first i) (name_at src x)) (p.second.first i) (label (sym p.second.second i) (name_at src closing)))
+
+pub module_passed : {M : Type 0} (table : ℕ → Option ℕ) (label : Labels Name M) (src : Writing) (m : Tree ℕ module_text) (v : Visit) → At v src (predeclared_scope as_names) 7
+    → Passed table src v (visit_module m v) (identifiers role.Declaring m) (body_scope 7 (module_block (spelled_by src m)) (predeclared_scope as_names)) (after_block 7 (module_block (spelled_by src m)))
+    (relabelled as_names label (spelled_by src m) ≡ mapped (λ i. label (table i) (name_at src i)) (value_at src.source) m)
+module_passed table label src = module_passed_with table label src (value_at src.source)

@@ -1,0 +1,12 @@
+use Rattle.std.proofs.Common.{◌∷◌, sym, ap, ◌∙◌}
+use Rattle.ob0_scope_numbering.specs.Tabling.{numbered_all}
+use Rattle.ob0_scope_visible.proofs.Going.{gone_through}
+use Rattle.ob0_scope_numbering.proofs.Declaring.{names_further}
+use Rattle.ob0_scope_numbering.proofs.numbering.Numbering.names.Goals as goal
+
+pub returns : goal.returns
+returns c =
+    let ns = c.args.ns.now in
+    gone_through numbered_all c.loop-name.invariant c.loop-name-test.false
+    ∙ (ap (λ v. numbered_all c.deref-name-items.result.now v) c.in_ok-number.ensures.numbered
+    ∙ ap (λ xs. numbered_all (ns.first ∷ xs) c.args.self.now) (c.deref-name-items.ensures.value ∙ sym (names_further ns.more.items)))

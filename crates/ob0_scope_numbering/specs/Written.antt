@@ -1,0 +1,35 @@
+-- How the identifiers of a text are written: as in the text, or those of one declaration by another name.
+-- Rule: none; for contracts: identifiers as they are written.
+use Rattle.std.specs.Prelude.{ℕ, Bool, false, if◌then◌else◌, List, [], Option, Some, None}
+use Rattle.ob0_scan.specs.Scanned.{Scanned}
+use Rattle.ob0_tree.specs.Tree.{Sort, Tree, mapped}
+use Rattle.ob0_tree.specs.Places.{text_at, value_at}
+use Rattle.ob0_scope_rules.specs.Names.{Name}
+use Rattle.ob0_scope_rules.specs.Resolution.{ordinal_in}
+use Rattle.ob0_scope_rules.specs.Scopes.{same_ordinal}
+
+-- A text with the ordinals of its identifiers by token, the ordinal of the declaration that has a new name, if one has,
+-- and that name.
+pub record Writing : Type 0 where
+  pub source : Scanned
+  pub ordinals : List (Option ℕ)
+  pub declaration : Option ℕ
+  pub new : Name
+
+-- an identifier of this ordinal has the new name
+abbrev pub is_renamed : Option ℕ → Option ℕ → Bool
+is_renamed None ordinal = false
+is_renamed (Some d) ordinal = same_ordinal ordinal d
+
+-- how a token is written
+abbrev pub name_at : Writing → ℕ → Name
+name_at w i =
+    if is_renamed w.declaration (ordinal_in w.ordinals i) then w.new else text_at w.source i
+
+-- each as in the text
+abbrev pub as_in : Scanned → Writing
+as_in source = record { source = source; ordinals = []; declaration = None; new = [] }
+
+-- a tree over indexes of tokens, with the names as they are written
+abbrev pub spelled_by : {s : Sort} → Writing → Tree ℕ s → Tree Name s
+spelled_by w t = mapped (name_at w) (value_at w.source) t

@@ -1,0 +1,361 @@
+//! Goes through the declarations of a module in text order, and gives each identifier the ordinal of its declaration.
+
+ghost use Rattle.std.specs.Prelude.{◌≡◌, ◌+◌, ◌<◌, ◌^◌, [], OnOk, IfOk, length, Some, None};
+ghost use Rattle.ob0_tree.specs.declared.tree.Role.TheVariants as roles;
+ghost use Rattle.ob0_tree.specs.Parsed.{tree_of};
+ghost use Rattle.ob0_tree.specs.View.{names_of, constant_of, constants_of, type_declaration_of, types_of, variable_of, variables_of, section_of, formals_of, procedure_of, block_of};
+ghost use Rattle.ob0_scope_rules.specs.Names.{as_names};
+ghost use Rattle.ob0_scope_rules.specs.Parts.{names_listed};
+ghost use Rattle.ob0_scope_rules.specs.Resolution.{ordinal_in};
+ghost use Rattle.ob0_scope_rules.specs.Scopes.{ordinal_of, predeclared_scope};
+ghost use Rattle.ob0_scope_visible.specs.Shadowing.{with_scope};
+ghost use Rattle.ob0_scope_numbering.specs.Written.{is_renamed, name_at};
+ghost use Rattle.ob0_scope_numbering.specs.Tabling.{marked, numbered_at, numbered_all, visible, visible_from, left_to, found, visit_constant, visit_constant_section, visit_type, visit_type_section, visit_variable, visit_variable_section, visit_section, visit_formals, visit_procedure, visit_block, visit_module, started, module_numbered};
+
+use crate::writing::{Writing, is_renamed};
+use ob0_scan::Tokens;
+use ob0_scope_rules::{OrdinalEntry, PREDECLARED, ordinal_at};
+use ob0_scope_visible::Visible;
+use ob0_tree::{
+    Block, Constant, Module, Names, Procedure, Section, TypeDeclaration, Variables, text_at,
+};
+use std::alloc::{AllocError, Global};
+use std::marker::Model;
+
+/// What is known in the middle of a module. The table has the ordinal of each identifier so far at its token.
+#[derive(Drop)]
+pub struct Numbering<'t> {
+    tokens: &'t Tokens,
+    ordinals: &'t [OrdinalEntry],
+    declaration: Option<usize>,
+    visible: Visible<'t>,
+    declarations: Vec<usize>,
+    occurrences: Vec<usize>,
+    table: Vec<OrdinalEntry>,
+}
+
+impl<'t> Model for Numbering<'t> {
+    ghost use Rattle.ob0_scope_numbering.specs.Tabling.{Visit};
+
+    ghost Value = { Visit };
+
+    ghost view = { λ n. record {
+      writing = record {
+        source = n.tokens.now;
+        ordinals = n.ordinals.now;
+        declaration = n.declaration;
+        new = n.visible.new_name;
+      };
+      scope = n.visible.scope;
+      declarations = n.declarations.items;
+      uses = n.occurrences.items;
+      marks = n.table.items;
+    } };
+}
+
+/// The ordinal of a declaration by its index among the declarations of the text.
+fn ordinal_at_index(index: usize) -> usize
+    requires { index < 2 ^ 63 }
+    ensures { result ≡ 7 + index }
+{
+    PREDECLARED + index
+}
+
+/// The predeclared names, visible, and the new name that a declaration has.
+fn predeclared<'t>(alloc: Global, new: &'t str) -> Result<Visible<'t>, AllocError>
+    ensures { IfOk result
+        (λ v. v ≡ record { new_name = new.entry.now; scope = predeclared_scope as_names }) }
+{
+    let mut visible = Visible::new(alloc, new)?;
+    declare_predeclared(&mut visible)?;
+    Ok(visible)
+}
+
+/// Makes the predeclared names visible, where none is yet.
+fn declare_predeclared(visible: &mut Visible<'_>) -> Result<(), AllocError>
+    ensures { OnOk result (visible.old.scope ≡ []
+        → visible.new ≡ with_scope visible.old (predeclared_scope as_names)) }
+{
+    visible.declare("INTEGER", 0)?;
+    visible.declare("BOOLEAN", 1)?;
+    visible.declare("TRUE", 2)?;
+    visible.declare("FALSE", 3)?;
+    visible.declare("Read", 4)?;
+    visible.declare("Write", 5)?;
+    visible.declare("WriteLn", 6)?;
+    Ok(())
+}
+
+/// Goes through a module of which the identifiers are written so.
+fn visit_module<'t>(
+    alloc: Global,
+    read: &'t Module<'t>,
+    writing: Writing<'t>,
+) -> Result<Numbering<'t>, AllocError>
+    ensures { IfOk result (λ n. n ≡ visit_module (tree_of read.now) (started writing.entry)) }
+{
+    let table = vec![in alloc; OrdinalEntry::new(None); writing.tokens.tokens().len()]?;
+    let mut numbering = Numbering {
+        tokens: writing.tokens,
+        ordinals: writing.ordinals,
+        declaration: writing.declaration,
+        visible: predeclared(alloc, writing.new)?,
+        declarations: Vec::new(alloc),
+        occurrences: Vec::new(alloc),
+        table,
+    };
+    numbering.mark(read.name(), None);
+    numbering.block(read.block())?;
+    numbering.mark(read.closing(), None);
+    Ok(numbering)
+}
+
+/// Numbers a module of which the identifiers are written so. The table has each ordinal: a text has no more declarations
+/// than bytes.
+pub fn number<'t>(
+    alloc: Global,
+    read: &'t Module<'t>,
+    writing: Writing<'t>,
+) -> Result<Numbering<'t>, AllocError>
+    ensures { IfOk result (λ n. n ≡ module_numbered (tree_of read.now) writing.entry) }
+{
+    // For the proof: what the contracts of these calls say.
+    let _scanned = read.tokens().text();
+    visit_module(alloc, read, writing)
+}
+
+impl<'t> Numbering<'t> {
+    /// The declaring tokens, the tokens of the occurrences, and the table.
+    pub fn into_parts(self) -> (Vec<usize>, Vec<usize>, Vec<OrdinalEntry>)
+        ensures declarations { result.0.items ≡ self.entry.declarations }
+        ensures uses { result.1.items ≡ self.entry.uses }
+        ensures table { result.2.items ≡ self.entry.marks }
+    {
+        let Numbering {
+            tokens: _,
+            ordinals: _,
+            declaration: _,
+            visible: _,
+            declarations,
+            occurrences,
+            table,
+        } = self;
+        (declarations, occurrences, table)
+    }
+
+    /// How many declarations there are so far, the predeclared ones not counted.
+    fn declared(&self) -> usize
+        ensures { result ≡ length self.now.declarations }
+    {
+        self.declarations.len()
+    }
+
+    /// How many names are visible.
+    fn bindings(&self) -> usize
+        ensures { result ≡ length self.now.scope }
+    {
+        self.visible.len()
+    }
+
+    pub(crate) fn mark(&mut self, token: usize, ordinal: Option<usize>)
+        ensures { self.new ≡ marked token ordinal self.old }
+    {
+        if token < self.table.len() {
+            self.table[token] = OrdinalEntry::new(ordinal);
+        }
+    }
+
+    /// Gives a declaring name the next ordinal.
+    fn number(&mut self, token: usize) -> Result<usize, AllocError>
+        ensures next { IfOk result (λ ordinal. ordinal ≡ 7 + length self.old.declarations) }
+        ensures numbered { OnOk result (self.new ≡ numbered_at token self.old) }
+    {
+        let ordinal = ordinal_at_index(self.declarations.len());
+        self.declarations.push(token)?;
+        self.mark(token, Some(ordinal));
+        Ok(ordinal)
+    }
+
+    /// Makes the name of a declaration visible.
+    fn show(&mut self, token: usize, ordinal: usize) -> Result<(), AllocError>
+        ensures { OnOk result (self.new ≡ visible token ordinal self.old) }
+    {
+        if self.is_renamed(token) {
+            self.visible.declare_new(ordinal)
+        } else {
+            self.visible.declare(text_at(self.tokens, token), ordinal)
+        }
+    }
+
+    /// Makes the names of the declarations from this one on visible.
+    fn show_from(&mut self, first: usize) -> Result<(), AllocError>
+        ensures { OnOk result (self.new ≡ visible_from first self.old) }
+    {
+        for index in first..self.declarations.len() {
+            let token = self.declarations[index];
+            self.show(token, ordinal_at_index(index))?;
+        }
+        Ok(())
+    }
+
+    /// Drops the newest bindings until `len` are left.
+    fn leave_to(&mut self, len: usize)
+        ensures { self.new ≡ left_to len self.old }
+    {
+        self.visible.leave_to(len);
+    }
+
+    /// Whether an identifier has the new name.
+    fn is_renamed(&self, token: usize) -> bool
+        ensures { result
+            ≡ is_renamed self.now.writing.declaration (ordinal_in self.now.writing.ordinals token) }
+    {
+        is_renamed(self.declaration, ordinal_at(self.ordinals, token))
+    }
+
+    /// The ordinal of the declaration to which the name at a token is bound.
+    fn ordinal_bound(&mut self, token: usize) -> Option<usize>
+        ensures found { result
+            ≡ ordinal_of as_names self.old.scope (name_at self.old.writing token) }
+        ensures same { self.new ≡ self.old }
+    {
+        if self.is_renamed(token) {
+            self.visible.look_up_new()
+        } else {
+            self.visible.look_up(text_at(self.tokens, token))
+        }
+    }
+
+    /// Looks a name up.
+    #[inline(always)]
+    pub(crate) fn look_up(&mut self, token: usize) -> Result<(), AllocError>
+        ensures { OnOk result (self.new ≡ found roles.LookedUp token self.old) }
+    {
+        let ordinal = self.ordinal_bound(token);
+        self.occurrences.push(token)?;
+        self.mark(token, ordinal);
+        Ok(())
+    }
+
+    fn names(&mut self, ns: &Names) -> Result<(), AllocError>
+        ensures { OnOk result (self.new ≡ numbered_all (names_listed (names_of ns.now)) self.old) }
+    {
+        self.number(ns.first)?;
+        for name in &ns.more {
+            self.number(*name)?;
+        }
+        Ok(())
+    }
+
+    fn constant(&mut self, c: &Constant) -> Result<(), AllocError>
+        ensures { OnOk result (self.new ≡ visit_constant (constant_of c.now) self.old) }
+    {
+        let first = self.declared();
+        self.number(c.name)?;
+        self.expression(&c.value)?;
+        self.show_from(first)
+    }
+
+    fn type_declaration(&mut self, t: &TypeDeclaration) -> Result<(), AllocError>
+        ensures { OnOk result (self.new ≡ visit_type (type_declaration_of t.now) self.old) }
+    {
+        let first = self.declared();
+        self.number(t.name)?;
+        self.written(&t.written)?;
+        self.show_from(first)
+    }
+
+    fn variables(&mut self, v: &Variables) -> Result<(), AllocError>
+        ensures { OnOk result (self.new ≡ visit_variable (variable_of v.now) self.old) }
+    {
+        let first = self.declared();
+        self.names(&v.names)?;
+        self.written(&v.written)?;
+        self.show_from(first)
+    }
+
+    fn section(&mut self, s: &Section) -> Result<(), AllocError>
+        ensures { OnOk result (self.new ≡ visit_section (section_of s.now) self.old) }
+    {
+        let first = self.declared();
+        self.names(&s.names)?;
+        self.written(&s.written)?;
+        self.show_from(first)
+    }
+
+    fn constants(&mut self, section: &Option<Vec<Constant>>) -> Result<(), AllocError>
+        ensures { OnOk result
+            (self.new ≡ visit_constant_section (constants_of section.now) self.old) }
+    {
+        if let Some(constants) = section {
+            for c in constants {
+                self.constant(c)?;
+            }
+        }
+        Ok(())
+    }
+
+    fn types(&mut self, section: &Option<Vec<TypeDeclaration>>) -> Result<(), AllocError>
+        ensures { OnOk result (self.new ≡ visit_type_section (types_of section.now) self.old) }
+    {
+        if let Some(types) = section {
+            for t in types {
+                self.type_declaration(t)?;
+            }
+        }
+        Ok(())
+    }
+
+    fn variable_section(&mut self, section: &Option<Vec<Variables>>) -> Result<(), AllocError>
+        ensures { OnOk result
+            (self.new ≡ visit_variable_section (variables_of section.now) self.old) }
+    {
+        if let Some(variables) = section {
+            for v in variables {
+                self.variables(v)?;
+            }
+        }
+        Ok(())
+    }
+
+    fn heading(&mut self, formals: &Option<Vec<Section>>) -> Result<(), AllocError>
+        ensures { OnOk result (self.new ≡ visit_formals (formals_of formals.now) self.old) }
+    {
+        if let Some(sections) = formals {
+            for s in sections {
+                self.section(s)?;
+            }
+        }
+        Ok(())
+    }
+
+    #[cycle(blocks)]
+    fn procedure(&mut self, p: &Procedure) -> Result<(), AllocError>
+        ensures { OnOk result (self.new ≡ visit_procedure (procedure_of p.now) self.old) }
+    {
+        let own = self.declared();
+        let outside = self.bindings();
+        let ordinal = self.number(p.name)?;
+        self.heading(&p.formals)?;
+        self.leave_to(outside);
+        self.show_from(own)?;
+        self.block(&p.block)?;
+        self.leave_to(outside);
+        self.show(p.name, ordinal)?;
+        self.mark(p.closing, Some(ordinal));
+        Ok(())
+    }
+
+    #[cycle(blocks)]
+    fn block(&mut self, b: &Block) -> Result<(), AllocError>
+        ensures { OnOk result (self.new ≡ visit_block (block_of b.now) self.old) }
+    {
+        self.constants(&b.constants)?;
+        self.types(&b.types)?;
+        self.variable_section(&b.variables)?;
+        for p in &b.procedures {
+            self.procedure(p)?;
+        }
+        self.body(&b.body)
+    }
+}
