@@ -116,16 +116,19 @@ section_without d k (one (declares_constants cs)) = one (declares_constants (wit
 
 -- a block, its first declaration of ordinal k, without the constant d; the word CONST stays
 abbrev mutual
+  -- a block whose first declaration has ordinal k
   pub block_without : ℕ → ℕ → Tree Name block → Tree Name block
   block_without d k (has_body (declares cs ts vs ps) statements) =
       has_body (declares (section_without d k cs) ts vs (procedures_without d
       (first_procedure k (has_body (declares cs ts vs ps) statements)) ps)) statements
 
+  -- procedures, the first of which has ordinal k
   pub procedures_without : ℕ → ℕ → Tree Name (items procedure) → Tree Name (items procedure)
   procedures_without d k end = end
   procedures_without d k (more p rest) =
       more (procedure_without d (suc k) p) (procedures_without d (after_procedure (suc k) p) rest)
 
+  -- a procedure; k is the ordinal after its own
   pub procedure_without : ℕ → ℕ → Tree Name (item procedure) → Tree Name (item procedure)
   procedure_without d k (declares_procedure x fs b closing) =
       declares_procedure x fs

@@ -22,16 +22,19 @@ binds m occurrence = option_and_then label_ordinal (slice_get (bindings m) occur
 
 -- the declarations of each block, with their ordinals; a procedure's parameters and locals are one block
 abbrev mutual
+  -- a block from ordinal k on, with `own` (its procedure's parameters); then the blocks in it
   pub blocks_in : {N : Type 0} → ℕ → Scope N → Tree N block → List (Scope N)
   blocks_in k own (has_body (declares cs ts vs ps) statements) =
       body_scope k (has_body (declares cs ts vs ps) statements) own
       ∷ blocks_in_procedures (first_procedure k (has_body (declares cs ts vs ps) statements)) ps
 
+  -- the blocks of procedures, the first of which has ordinal k
   pub blocks_in_procedures : {N : Type 0} → ℕ → Tree N (items procedure) → List (Scope N)
   blocks_in_procedures k end = []
   blocks_in_procedures k (more p rest) =
       blocks_in_procedure (suc k) p ++ blocks_in_procedures (after_procedure (suc k) p) rest
 
+  -- the blocks of a procedure; k is the ordinal after its own
   pub blocks_in_procedure : {N : Type 0} → ℕ → Tree N (item procedure) → List (Scope N)
   blocks_in_procedure k (declares_procedure x fs b closing) =
       blocks_in (after_names k (formal_names (formal_sections fs)))

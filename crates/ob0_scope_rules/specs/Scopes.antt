@@ -33,16 +33,19 @@ after_names k (x ∷ xs) = after_names (suc k) xs
 
 -- the first ordinal after those of a block, of some procedures, and of a procedure's parameters and block
 abbrev mutual
+  -- after a block, whose first declaration has ordinal k
   pub after_block : {N : Type 0} → ℕ → Tree N block → ℕ
   after_block k (has_body (declares cs ts vs ps) statements) =
       after_procedures (after_names (after_names
       (after_names k (constant_names (section_constants cs))) (named_types (section_types ts)))
       (variable_names (section_variables vs))) ps
 
+  -- after procedures, the first of which has ordinal k
   pub after_procedures : {N : Type 0} → ℕ → Tree N (items procedure) → ℕ
   after_procedures k end = k
   after_procedures k (more p rest) = after_procedures (after_procedure (suc k) p) rest
 
+  -- after a procedure's parameters and block; k is the ordinal after its own
   pub after_procedure : {N : Type 0} → ℕ → Tree N (item procedure) → ℕ
   after_procedure k (declares_procedure x fs b closing) =
       after_block (after_names k (formal_names (formal_sections fs))) b
@@ -242,6 +245,7 @@ body_scope k b scope =
 
 -- a block, its procedures and a procedure with labels, in the scope around them; k is the ordinal of the first declaration
 abbrev mutual
+  -- a block, whose first declaration has ordinal k
   pub relabel_block : {N M : Type 0}
       → Naming N
       → Labels N M
@@ -264,6 +268,7 @@ abbrev mutual
       (relabel_uses naming label (body_scope k (has_body (declares cs ts vs ps) statements) scope)
       statements)
 
+  -- procedures, the first of ordinal k, each visible to those after it
   pub relabel_procedures : {N M : Type 0}
       → Naming N
       → Labels N M
