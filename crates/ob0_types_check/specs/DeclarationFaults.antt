@@ -126,12 +126,14 @@ unfoldable mutual
     with_procedures ← reported_procedures with_variables ps
     reported_body with_procedures statements
 
+  -- the faults of procedures; what is known after one is known to the next
   pub reported_procedures : SoFar → Tree ℕ (items procedure) → Reported SoFar
   reported_procedures p end = right p
   reported_procedures p (more d rest) = do
     q ← reported_procedure p d
     reported_procedures q rest
 
+  -- the faults of a procedure: of its parameters, and then of its block
   pub reported_procedure : SoFar → Tree ℕ (item procedure) → Reported SoFar
   reported_procedure p (declares_procedure x fs b closing) = do
     h ← reported_sections (record { formals = []; following = p }) (formal_sections fs)

@@ -112,6 +112,7 @@ reported_call facts p es = call_by_meaning facts p (facts.object_for p) es
 unfoldable mutual
   unfolding reported_required reported_target reported_argument
 
+  -- the faults of a statement, and of the statements in it
   pub reported_statement : {T : Type 0} → Facts T → Tree ℕ statement → List Fault
   reported_statement facts empty = []
   reported_statement facts (assigns x path e) =
@@ -126,21 +127,25 @@ unfoldable mutual
   reported_statement facts (repeat_loop statements e) =
       reported_sequence facts statements ++ reported_condition facts e
 
+  -- the faults of a sequence, statement by statement
   pub reported_sequence : {T : Type 0} → Facts T → Tree ℕ sequence → List Fault
   reported_sequence facts (runs a rest) =
       reported_statement facts a ++ reported_statements facts rest
 
+  -- the faults of the statements after the first
   pub reported_statements : {T : Type 0} → Facts T → Tree ℕ (items further_statement) → List Fault
   reported_statements facts end = []
   reported_statements facts (more (then_statement a) rest) =
       reported_statement facts a ++ reported_statements facts rest
 
+  -- the faults of each ELSIF part: of its condition, and then of its statements
   pub reported_elsifs : {T : Type 0} → Facts T → Tree ℕ (items elsif_part) → List Fault
   reported_elsifs facts end = []
   reported_elsifs facts (more (elsif_branch e statements) rest) =
       reported_condition facts e
       ++ (reported_sequence facts statements ++ reported_elsifs facts rest)
 
+  -- the faults of the ELSE part, if there is one
   pub reported_else : {T : Type 0} → Facts T → Tree ℕ (maybe else_part) → List Fault
   reported_else facts none = []
   reported_else facts (one (else_branch statements)) = reported_sequence facts statements

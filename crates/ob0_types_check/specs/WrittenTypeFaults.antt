@@ -91,6 +91,7 @@ record_made word ordinal g = make g.following word ordinal (of_fields g.fields) 
 unfoldable mutual
   unfolding reported_expression
 
+  -- a name, or an array or a record after its parts
   pub reported_type : ℕ → SoFar → Tree ℕ written_type → Reported TypedAfter
   reported_type around p (named_type x) = do
     t ← type_named (facts_at p false) x
@@ -105,12 +106,14 @@ unfoldable mutual
     all ← reported_groups (suc around) first rest
     record_made (word_before g (record_word rest)) (ordinal_here around p) all
 
+  -- a group of fields, added to those so far
   pub reported_fields : ℕ → Gathered → Tree ℕ fields → Reported Gathered
   reported_fields around so_far no_fields = right so_far
   reported_fields around so_far (some_fields ns t) = do
     u ← reported_type around so_far.following t
     right (gathered_after so_far (names_listed ns) u)
 
+  -- further groups, added one after the other
   pub reported_groups : ℕ → Gathered → Tree ℕ (items further_fields) → Reported Gathered
   reported_groups around so_far end = right so_far
   reported_groups around so_far (more (then_fields g) rest) = do

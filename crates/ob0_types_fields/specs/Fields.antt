@@ -76,6 +76,7 @@ refield l meaning s t = t
 -- the fields that a type's text declares; k is the ordinal of the text's first ARRAY or RECORD, and r that of the group's record.
 -- An array's length is a constant expression and has no selectors
 abbrev mutual
+  -- the type as it is written, from ordinal k on
   pub refield_type : FieldNames → ℕ → Tree Name written_type → Tree Name written_type
   refield_type l k (named_type x) = named_type x
   refield_type l k (array_type e t) = array_type e (refield_type l (suc k) t)
@@ -83,11 +84,13 @@ abbrev mutual
       record_type (refield_group l k (suc k) g)
       (refield_groups l k (suc k + group_constructors g) rest)
 
+  -- a group of fields of the record r, its type from ordinal k on
   pub refield_group : FieldNames → ℕ → ℕ → Tree Name fields → Tree Name fields
   refield_group l r k no_fields = no_fields
   refield_group l r k (some_fields ns t) =
       some_fields (with_names (λ x. x) (l (Some r)) ns) (refield_type l k t)
 
+  -- further groups of fields of the record r, their types from ordinal k on
   pub refield_groups : FieldNames
       → ℕ
       → ℕ
@@ -187,6 +190,7 @@ types_after_procedures env k (more p rest) =
 
 -- a block in an environment, the first ARRAY or RECORD in it of ordinal k; constants have no fields
 abbrev mutual
+  -- a block: its types, its variables, its procedures and its statements
   pub refield_block : FieldNames → TypeEnvironment Name → ℕ → Tree Name block → Tree Name block
   refield_block l env k (has_body (declares cs ts vs ps) statements) =
       has_body
@@ -199,6 +203,7 @@ abbrev mutual
       (types_after_variables env k (has_body (declares cs ts vs ps) statements))
       (after_variables k (has_body (declares cs ts vs ps) statements)) ps)) None statements)
 
+  -- procedures, each of which is known to those after it
   pub refield_procedures : FieldNames
       → TypeEnvironment Name
       → ℕ

@@ -67,11 +67,13 @@ abbrev mutual
       (section_variables vs)
       ++ declared_in_procedures (after_variables k (has_body (declares cs ts vs ps) statements)) ps)
 
+  -- those that procedures declare, in text order
   pub declared_in_procedures : ℕ → Tree ℕ (items procedure) → List (ℕ × ℕ)
   declared_in_procedures k end = []
   declared_in_procedures k (more p rest) =
       declared_in_procedure k p ++ declared_in_procedures (k + procedure_constructors p) rest
 
+  -- those that a procedure declares: with its parameters, and in its block
   pub declared_in_procedure : ℕ → Tree ℕ (item procedure) → List (ℕ × ℕ)
   declared_in_procedure k (declares_procedure x fs b closing) =
       marked_sections k (formal_sections fs)

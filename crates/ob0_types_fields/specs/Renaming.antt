@@ -26,6 +26,7 @@ pub record RecordFields : Type 0 where
 
 -- the records in the text of a type; k is the ordinal of its first ARRAY or RECORD
 abbrev mutual
+  -- in a type as it is written, an outer record before those in it
   pub records_in_type : ℕ → Tree Name written_type → List RecordFields
   records_in_type k (named_type x) = []
   records_in_type k (array_type e t) = records_in_type (suc k) t
@@ -33,10 +34,12 @@ abbrev mutual
       record { ordinal = k; declared = group_fields g ++ groups_fields rest }
       ∷ (records_in_group (suc k) g ++ records_in_groups (suc k + group_constructors g) rest)
 
+  -- in the type of a group of fields
   pub records_in_group : ℕ → Tree Name fields → List RecordFields
   records_in_group k no_fields = []
   records_in_group k (some_fields ns t) = records_in_type k t
 
+  -- in the types of further groups of fields
   pub records_in_groups : ℕ → Tree Name (items further_fields) → List RecordFields
   records_in_groups k end = []
   records_in_groups k (more (then_fields g) rest) =
@@ -62,6 +65,7 @@ records_in_sections k (more (then_section f) fs) =
 
 -- the records of a block, of its procedures and of a procedure; k is the ordinal of the first ARRAY or RECORD
 abbrev mutual
+  -- in a block: in its types, its variables and its procedures
   pub records_in_block : ℕ → Tree Name block → List RecordFields
   records_in_block k (has_body (declares cs ts vs ps) statements) =
       records_in_types k (section_types ts)
@@ -69,11 +73,13 @@ abbrev mutual
       (section_variables vs)
       ++ records_in_procedures (after_variables k (has_body (declares cs ts vs ps) statements)) ps)
 
+  -- in procedures, in text order
   pub records_in_procedures : ℕ → Tree Name (items procedure) → List RecordFields
   records_in_procedures k end = []
   records_in_procedures k (more p rest) =
       records_in_procedure k p ++ records_in_procedures (k + procedure_constructors p) rest
 
+  -- in a procedure: in its parameters and its block
   pub records_in_procedure : ℕ → Tree Name (item procedure) → List RecordFields
   records_in_procedure k (declares_procedure x fs b closing) =
       records_in_sections k (formal_sections fs)

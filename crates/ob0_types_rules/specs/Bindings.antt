@@ -25,6 +25,7 @@ for_some (Some a) list = list a
 unfoldable mutual
   unfolding declare_procedure typed_parameters
 
+  -- what a block binds; k is the ordinal of its first ARRAY or RECORD
   pub block_bindings : {N : Type 0}
       → Naming N
       → TypeEnvironment N
@@ -37,6 +38,7 @@ unfoldable mutual
       (after_variables k (has_body (declares cs ts vs ps) statements)) ps
       ++ since env inner)
 
+  -- what procedures bind, that of the last one first
   pub procedures_bindings : {N : Type 0}
       → Naming N
       → TypeEnvironment N

@@ -22,6 +22,7 @@ pub record BodyAt (N : Type 0) : Type 0 where
 unfoldable mutual
   unfolding typed_parameters
 
+  -- those of a block's procedures, and then its own; none where a declaration denotes nothing
   pub block_bodies : {N : Type 0}
       → Naming N
       → TypeEnvironment N
@@ -33,6 +34,7 @@ unfoldable mutual
       (λ inner. procedures_bodies naming inner
       (after_variables k (has_body (declares cs ts vs ps) statements)) statements ps)
 
+  -- those of procedures, in order, and then the statements of the block
   pub procedures_bodies : {N : Type 0}
       → Naming N
       → TypeEnvironment N
@@ -48,6 +50,7 @@ unfoldable mutual
       ++ procedures_bodies naming (heading (procedure_name p) ps env)
       (k + procedure_constructors p) statements rest)
 
+  -- those of a procedure's block, in an environment with its name and parameters
   pub procedure_bodies : {N : Type 0}
       → Naming N
       → TypeEnvironment N

@@ -45,6 +45,7 @@ value_among known d k (more (declares_constant x e) cs) = do
 unfoldable mutual
   unfolding value_among declare_constants
 
+  -- among the constants of a block, or in its procedures
   pub value_in_block : Known → ℕ → ℕ → Tree Name block → Option Value
   value_in_block known d k (has_body (declares cs ts vs ps) statements) =
       if nat_lt d (first_type k (has_body (declares cs ts vs ps) statements))
@@ -55,6 +56,7 @@ unfoldable mutual
       inner) d (first_procedure k (has_body (declares cs ts vs ps) statements)) ps)
       (declare_constants as_names known (section_constants cs))
 
+  -- in the procedure whose ordinals d is among; the first procedure has ordinal k
   pub value_in_procedures : Known → ℕ → ℕ → Tree Name (items procedure) → Option Value
   value_in_procedures known d k end = None
   value_in_procedures known d k (more p rest) =
@@ -63,6 +65,7 @@ unfoldable mutual
       else value_in_procedures ((procedure_name p, no_constant) ∷ known) d
       (after_procedure (suc k) p) rest
 
+  -- in a procedure's block; its parameters, from ordinal k on, aren't constants
   pub value_in_procedure : Known → ℕ → ℕ → Tree Name (item procedure) → Option Value
   value_in_procedure known d k (declares_procedure x fs b closing) =
       if nat_lt d (after_names k (formal_names (formal_sections fs))) then None

@@ -64,15 +64,18 @@ formals_constructors (more (then_section f) fs) =
 
 -- how many ARRAY and RECORD are in a block, those of its procedures too
 abbrev mutual
+  -- in a block: in its types, its variables and its procedures
   pub block_constructors : {N : Type 0} → Tree N block → ℕ
   block_constructors (has_body (declares cs ts vs ps) statements) =
       types_constructors (section_types ts)
       + (variables_constructors (section_variables vs) + procedures_constructors ps)
 
+  -- in procedures
   pub procedures_constructors : {N : Type 0} → Tree N (items procedure) → ℕ
   procedures_constructors end = 0
   procedures_constructors (more p rest) = procedure_constructors p + procedures_constructors rest
 
+  -- in a procedure: in its parameters and its block
   pub procedure_constructors : {N : Type 0} → Tree N (item procedure) → ℕ
   procedure_constructors (declares_procedure x fs b closing) =
       formals_constructors (formal_sections fs) + block_constructors b

@@ -14,6 +14,7 @@ use Rattle.ob0_values.specs.Values.{FieldShapes, Shape, array_shape, boolean_sha
 
 -- two types are the same where they are equal
 abbrev mutual
+  -- both scalars of one type, or made by one ARRAY or RECORD of the text, with equal parts
   pub same_shape : Shape → Shape → Bool
   same_shape integer_shape integer_shape = true
   same_shape boolean_shape boolean_shape = true
@@ -21,6 +22,7 @@ abbrev mutual
   same_shape (record_shape k fs) (record_shape j gs) = (k == j) && same_fields fs gs
   same_shape _ _ = false
 
+  -- the same number of fields, in order with the same names and types
   pub same_fields : FieldShapes → FieldShapes → Bool
   same_fields no_field_shape no_field_shape = true
   same_fields (next_field_shape x s rest) (next_field_shape y t others) =
@@ -120,6 +122,7 @@ condition_fits meaning e = agree (Some boolean_shape) (type_of meaning e)
 unfoldable mutual
   unfolding condition_fits call_fits
 
+  -- a statement, and the statements in it
   pub statement_fits : {N : Type 0} → Typed N → Tree N statement → Bool
   statement_fits meaning empty = true
   statement_fits meaning (assigns x path e) =
@@ -134,19 +137,23 @@ unfoldable mutual
   statement_fits meaning (repeat_loop statements e) =
       sequence_fits meaning statements && condition_fits meaning e
 
+  -- each statement of a sequence
   pub sequence_fits : {N : Type 0} → Typed N → Tree N sequence → Bool
   sequence_fits meaning (runs a rest) = statement_fits meaning a && statements_fit meaning rest
 
+  -- the statements after the first
   pub statements_fit : {N : Type 0} → Typed N → Tree N (items further_statement) → Bool
   statements_fit meaning end = true
   statements_fit meaning (more (then_statement a) rest) =
       statement_fits meaning a && statements_fit meaning rest
 
+  -- the condition and the statements of each ELSIF part
   pub elsifs_fit : {N : Type 0} → Typed N → Tree N (items elsif_part) → Bool
   elsifs_fit meaning end = true
   elsifs_fit meaning (more (elsif_branch e statements) rest) =
       condition_fits meaning e && (sequence_fits meaning statements && elsifs_fit meaning rest)
 
+  -- the statements of the ELSE part, if there is one
   pub else_fits : {N : Type 0} → Typed N → Tree N (maybe else_part) → Bool
   else_fits meaning none = true
   else_fits meaning (one (else_branch statements)) = sequence_fits meaning statements
@@ -226,6 +233,7 @@ some_and (Some a) test = test a
 unfoldable mutual
   unfolding declare_first declare_typed typed_parameters body_fits
 
+  -- a block; k is the ordinal of its first ARRAY or RECORD
   pub block_fits : {N : Type 0} → Naming N → TypeEnvironment N → ℕ → Tree N block → Bool
   block_fits naming env k (has_body (declares cs ts vs ps) statements) =
       some_and (do
@@ -250,6 +258,7 @@ unfoldable mutual
       && procedures_fit naming (heading (procedure_name p) ps env) (k + procedure_constructors p)
       statements rest)
 
+  -- a procedure's block, in an environment with its name and parameters
   pub procedure_fits : {N : Type 0}
       → Naming N
       → TypeEnvironment N
