@@ -156,6 +156,7 @@ BodyMeans naming checked placing code (one (begins statements)) =
 -- a table has the code of the procedures of a block, and of those in them; so many cells are those of the block's own variables, and
 -- no activation has more than a most
 abbrev mutual
+  -- a block: its variables are placed after what p has, and `code` means its statements
   pub BlockMeans : {N : Type 0}
       → List lowered.Routine
       → ℕ
@@ -191,6 +192,7 @@ abbrev mutual
       × ProceduresMean table most naming inner q.placing
       (after_variables k (has_body (declares cs ts vs ps) statements)) code statements ps
 
+  -- each procedure has an entry in the table, and `code` means the statements of the block
   pub ProceduresMean : {N : Type 0}
       → List lowered.Routine
       → ℕ
@@ -216,6 +218,7 @@ abbrev mutual
       ((procedure_name p, own_target i) ∷ placing) (k + procedure_constructors p) code statements
       rest
 
+  -- an entry of the table means the block of this procedure
   pub ProcedureMeans : {N : Type 0}
       → List lowered.Routine
       → ℕ

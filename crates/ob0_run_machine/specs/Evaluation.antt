@@ -84,6 +84,7 @@ operate quotient a b = divided_by quotient_of a b
 operate remainder a b = divided_by remainder_of a b
 
 abbrev mutual
+  -- the address of a place among all cells; Index where an element isn't there
   pub address : Levels → List ℤ → Place → StepResult ℕ
   address ls cells (in_module offset) = gives offset
   address ls cells (here offset) = gives (forward (innermost ls).base offset)
@@ -93,6 +94,7 @@ abbrev mutual
       address ls cells p >>= (λ a. number ls cells i >>= element_at a length stride)
   address ls cells (part p offset) = address ls cells p >>= (λ a. gives (forward a offset))
 
+  -- the value of a number; each operation gives 32 bits or ends the run
   pub number : Levels → List ℤ → Number → StepResult ℤ
   number ls cells (literal n) = gives n
   number ls cells (cell p) = address ls cells p >>= (λ a. gives (cell_at cells a))

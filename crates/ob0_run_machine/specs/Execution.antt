@@ -127,6 +127,7 @@ entered ls base up p = record { base = base; addresses = p.addresses } ∷ drop 
 
 -- an assignment finds its place, then evaluates its right side, then stores
 unfoldable mutual
+  -- one statement; `enter` is what a call does, and t bounds the iterations of each loop
   pub execute : CallEffect → ℕ → Levels → Instruction → MachineState → MachineProgress
   execute enter t ls (stores_number p n) s =
       use_in s (address ls s.cells p)
@@ -151,11 +152,13 @@ unfoldable mutual
       use_in s (pass_all ls args record { cells = s.cells; addresses = [] })
       (λ p. enter k (entered ls (length s.cells) up p) record s { cells = p.cells })
 
+  -- statements, one after the other
   pub execute_all : CallEffect → ℕ → Levels → Instructions → MachineState → MachineProgress
   execute_all enter t ls no_statement s = running s
   execute_all enter t ls (before a rest) s =
       continue_with (execute enter t ls a s) (execute_all enter t ls rest)
 
+  -- what the first branch with a TRUE condition executes; `otherwise` where there is none
   pub execute_branches : CallEffect → ℕ → Levels → Branches
       → (MachineState → MachineProgress)
       → MachineState

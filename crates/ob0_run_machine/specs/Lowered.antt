@@ -23,6 +23,7 @@ mutual
     -- a part at an offset
     part : Place → (offset : ℕ) → Place
 
+  -- a number: a literal, the cell at a place, or an operation on numbers
   pub data Number : Type 0 where
     literal : ℤ → Number
     cell : Place → Number
@@ -50,6 +51,7 @@ pub data LoweredArgument : Type 0 where
   by_block : Place → (cells : ℕ) → LoweredArgument
 
 mutual
+  -- one statement
   pub data Instruction : Type 0 where
     stores_number : Place → Number → Instruction
     stores_truth : Place → Truth → Instruction
@@ -65,10 +67,12 @@ mutual
     -- of a procedure that is declared in the activation so many levels out
     calls : (procedure up : ℕ) → List LoweredArgument → Instruction
 
+  -- statements, one before the rest
   pub data Instructions : Type 0 where
     no_statement : Instructions
     before : Instruction → Instructions → Instructions
 
+  -- conditions, each with what is executed where it is the first that is TRUE
   pub data Branches : Type 0 where
     no_branch : Branches
     branch : Truth → Instructions → Branches → Branches

@@ -142,6 +142,7 @@ turns_until (suc t) condition turn s =
 unfoldable mutual
   unfolding evaluate designate evaluate_arguments
 
+  -- one statement; `enter` is what a call does, and t bounds the iterations of each loop
   pub execute : {N : Type 0}
       → Meanings N Place (List Mode)
       → Calls N
@@ -167,6 +168,7 @@ unfoldable mutual
       turns_until (t - 1) (λ s'. evaluate meaning s'.store e)
       (execute_all meaning enter t statements) s
 
+  -- a sequence of statements
   pub execute_all : {N : Type 0}
       → Meanings N Place (List Mode)
       → Calls N
@@ -177,6 +179,7 @@ unfoldable mutual
   execute_all meaning enter t (runs a rest) s =
       continue_with (execute meaning enter t a s) (execute_further meaning enter t rest)
 
+  -- the statements after the first
   pub execute_further : {N : Type 0}
       → Meanings N Place (List Mode)
       → Calls N
@@ -202,6 +205,7 @@ unfoldable mutual
       use_in s (evaluate meaning s.store e) (λ v. choose s v
       (execute_all meaning enter t statements) (execute_elsifs meaning enter t rest otherwise))
 
+  -- the statements of the ELSE part; where there is none, nothing happens
   pub execute_else : {N : Type 0}
       → Meanings N Place (List Mode)
       → Calls N
