@@ -8,7 +8,8 @@ use Rattle.ob0_scan.specs.declared.lexeme.TokenKind.{TokenKind}
 use Rattle.ob0_scan.specs.declared.lexeme.TokenKind.TheVariants as kind
 use Rattle.ob0_scan.specs.Scanned.{Scanned, spanned}
 
--- So many bytes of the old text from a place on gave way to so many others: the new one is as the old before them and after them.
+-- The new text has `added` bytes instead of the `removed` bytes of the old text from `from` on. Before and
+-- after these the two texts are equal.
 pub record IsReplaced (old new : List ℕ) (from removed added : ℕ) : Type 0 where
   pub inside_old : from + removed ≤ length old
   pub inside_new : from + added ≤ length new

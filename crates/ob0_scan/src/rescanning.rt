@@ -191,8 +191,8 @@ pub(crate) struct LexemeCounts {
     pub(crate) comments: usize,
 }
 
-/// What comes between the old tokens and comments that a changed text goes on to have: those before it, of which there
-/// are so many, and those from `following` on.
+/// What comes between the old tokens and comments that a changed text goes on to have: those before it, whose numbers
+/// are `front`, and those from `following` on.
 #[derive(Drop)]
 pub(crate) struct Between {
     pub(crate) front: LexemeCounts,
