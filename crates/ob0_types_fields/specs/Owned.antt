@@ -276,7 +276,7 @@ abbrev mutual
   marked_tree m (begins a) = marked_tree m a
   marked_tree m t = []
 
-  -- those of a designator's selectors, of a value of a type and its parts in turn
+  -- those of a designator's selectors, from a value of this type on, part after part
   pub marked_path : {P : Type 0}
       → Meanings ℕ Shape P
       → Option Shape

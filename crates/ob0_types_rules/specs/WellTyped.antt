@@ -229,7 +229,8 @@ abbrev pub some_and : {A : Type 0} → Option A → (A → Bool) → Bool
 some_and None test = false
 some_and (Some a) test = test a
 
--- a block's declarations bind what they name, its procedures fit in turn, and its statements fit in the whole environment
+-- a block's declarations bind what they name, its procedures fit one after the other, and its statements
+-- fit in the whole environment
 unfoldable mutual
   unfolding declare_first declare_typed typed_parameters body_fits
 
