@@ -17,8 +17,8 @@ use Rattle.ob0_run_cells.specs.Cells.{sizes}
 use Rattle.ob0_run_cells.specs.LoweredStatements.{CallsRepresent, HaveNumbers, written_of}
 use Rattle.ob0_run_cells.specs.Lowering.{end_of}
 
--- with so many calls left to open, each of at most so many cells, as many as have addresses; a call that returns gives its cells up,
--- as one of the module's that drops its variables
+-- calls do what those of the module do that drop their variables: c more may be open, each with at most
+-- `most` cells, and all these cells have addresses; a call that returns drops its cells
 abbrev pub CallsLowered : Type 0
 CallsLowered =
     (table : List lowered.Routine) (most c t : ℕ) (typing : StoreTyping) (ls : Levels)

@@ -87,7 +87,7 @@ pub record Placed (N : Type 0) : Type 0 where
   pub cells : ℕ
   pub reference_places : ℕ
 
--- names placed one by one, each with so many cells
+-- names placed one by one, each with n cells
 abbrev pub place_names : {N : Type 0} → (ℕ → Slot) → List N → ℕ → Placed N → Placed N
 place_names at [] n p = p
 place_names at (x ∷ xs) n p =
@@ -153,8 +153,8 @@ BodyMeans naming checked placing code (one (begins statements)) =
     SequenceMeans (meanings naming checked) (slots_in naming placing) (targets_in naming placing)
     code statements
 
--- a table has the code of the procedures of a block, and of those in them; so many cells are those of the block's own variables, and
--- no activation has more than a most
+-- a table has the code of the procedures of a block, and of those in them; `cells` are those of the block's
+-- own variables, and no activation has more than `most`
 abbrev mutual
   -- a block: its variables are placed after what p has, and `code` means its statements
   pub BlockMeans : {N : Type 0}
@@ -301,7 +301,7 @@ outermost_placing naming =
     ∷ (naming.predeclared 0, nowhere)
     ∷ []
 
--- a program is lowered from a module, and no activation, the module's among them, has more than so many cells
+-- a program is lowered from a module, and no activation, the module's among them, has more than `most` cells
 abbrev pub ProgramMeans : {N : Type 0}
     → ℕ
     → Naming N

@@ -136,7 +136,8 @@ VariablesAreAdded =
     × PlaceFits (typing ++ s ∷ []) record { variable = length store; path = [] } s
     × (address (typing ++ s ∷ []) record { variable = length store; path = [] } ≡ sizes typing)
 
--- variables given up are cells given up: a store cut back to the variables of an older one has as many cells as that
+-- to drop variables is to drop their cells: a store cut back to the variables of an older one has as many
+-- cells as that
 abbrev pub VariablesAreDropped : Type 0
 VariablesAreDropped =
     (typing others : StoreTyping) (old new : Store)

@@ -77,7 +77,7 @@ address typing p =
     sizes (take p.variable typing)
     + unwrap_or (option_map (offset p.path) (slice_get typing p.variable)) 0
 
--- so many cells from an address on
+-- n cells from an address on
 abbrev pub cells_at : ℕ → ℕ → List ℤ → List ℤ
 cells_at address n cells = take n (drop address cells)
 

@@ -93,7 +93,7 @@ pub record ShowsBody {N : Type 0} (checked : Typed N) (slots : N → Slot) (targ
   pub has_addresses : sizes b.typing < 2 ^ 64
   pub calls_represent : CallsRepresent checked targets b
 
--- what lowered code does in a body, with so many turns of a loop, and what the module's does
+-- what lowered code does in a body, with t iterations of a loop left, and what the module's does
 abbrev pub Does : {N : Type 0}
     → Typed N
     → (N → Slot)

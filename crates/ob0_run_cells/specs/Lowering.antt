@@ -13,8 +13,8 @@ use Rattle.ob0_run_machine.specs.Evaluation.{Levels, level_at}
 use Rattle.ob0_run_machine.specs.Lowered as lowered
 use Rattle.ob0_run_cells.specs.Cells.{address, all_cells, sizes}
 
--- where a variable is: at an offset in the cells of the module or of the activation so many levels out, or where a VAR parameter
--- of the activation so many levels out leads, by its index among these parameters
+-- where a variable is: at an offset in the cells of the module or of the activation `up` levels out, or where
+-- a VAR parameter of the activation `up` levels out leads, by its index among these parameters
 pub data Slot : Type 0 where
   of_module : (offset : ℕ) → Slot
   held : (up offset : ℕ) → Slot

@@ -33,7 +33,7 @@ pub record BlockState : Type 0 where
   pub placing : Placing Label
   pub next : ℕ
 
--- the procedures and statements that are left fit there, and all that they see is known and held
+-- the procedures and statements that are left fit there, and all that they see is known and located
 pub record Ready (t : Tables) (sites : List Site) (depth : ℕ) (s : BlockState)
     (statements : Tree Label (maybe body)) (ps : Tree Label (items procedure)) : Type 0 where
   pub declared_there : AreDeclared (declared_in t) s.env

@@ -117,7 +117,7 @@ field_found x f =
     (λ t. record { place = lowered.part f.place (step_offset f.shape (at_field x)); shape = t })
     (field_type f.shape x)
 
--- an element is one of so many, each of so many cells
+-- an element of an array: one of n, each with the cells of its type
 abbrev pub element_found : ExpressionCode → lowered.Place → Shape → Option FoundPlace
 element_found (a_number i) q (array_shape k n s) =
     Some (record { place = lowered.element q i n (size s); shape = s })

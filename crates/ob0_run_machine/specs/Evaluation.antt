@@ -46,7 +46,7 @@ element_at address length stride (pos i) =
     if nat_lt i length then gives (forward address (i * stride)) else ends Index
 element_at address length stride (negsuc i) = ends Index
 
--- the value of isn't there 0
+-- the value of a cell; 0 where there is none
 abbrev pub cell_at : List ℤ → ℕ → ℤ
 cell_at cells address = slice_index_or cells address (pos 0)
 

@@ -1,5 +1,5 @@
--- Runs of lowered code, by big steps: statements, calls and whole programs, over the activations that are seen, the cells, the
--- rest of the input, and bounds c on open calls and t on the turns of a loop.
+-- Runs of lowered code, by big steps: statements, calls and whole programs, over the activations that are
+-- seen, the cells, the rest of the input, and bounds c on open calls and t on the iterations of a loop.
 -- Rule: none; for contracts of the machine: what lowered statements mean, by the rules of docs/LANGUAGE.md, Runs 5 to 10.
 use Rattle.std.specs.Prelude.{ℕ, zero, suc, ◌+◌, ◌-◌, Bool, true, false, ◌&&◌, List, [], ◌∷◌, ◌++◌, length, take, drop, replicate, ℤ, pos, Some, None, Option, if◌then◌else◌, nat_le, slice_get, slice_set}
 use Rattle.ob0_run_machine.specs.Lowered.{LoweredArgument, by_place, by_number, by_truth, by_block, Instruction, stores_number, stores_truth, copies, reads, writes, writes_line, chooses, while_loop, repeat_loop, calls, Instructions, no_statement, before, Branches, no_branch, branch, Routine, LoweredCode}
@@ -49,18 +49,18 @@ append_output s i = record s { output = s.output ++ i ∷ [] }
 abbrev pub store_at : MachineState → ℕ → ℤ → MachineState
 store_at s a n = record s { cells = slice_set s.cells a n }
 
--- so many cells from one address go to another, where both are there; else nothing changes
+-- n cells from one address go to another, where both are there; else nothing changes
 abbrev pub copied : List ℤ → (to from n : ℕ) → List ℤ
 copied cells to from n =
     if nat_le (to + n) (length cells) && nat_le (from + n) (length cells)
     then take to cells ++ (take n (drop from cells) ++ drop (to + n) cells)
     else cells
 
--- so many new cells, each 0
+-- n new cells, each 0
 abbrev pub zeros : ℕ → List ℤ
 zeros n = replicate n (pos 0)
 
--- so many cells from an address on, 0 where they aren't there
+-- n cells from an address on; all are 0 where not all of them are there
 abbrev pub block_at : List ℤ → (from n : ℕ) → List ℤ
 block_at cells from n =
     if nat_le (from + n) (length cells) then take n (drop from cells) else zeros n
@@ -94,7 +94,8 @@ abbrev pub pass_all : Levels → List LoweredArgument → Passed → StepResult 
 pass_all ls [] done = gives done
 pass_all ls (a ∷ as_given) done = pass ls a done >>= pass_all ls as_given
 
--- a loop evaluates its condition; where it is TRUE and t turns were made, it ends with TurnBound; else one more turn is made
+-- WHILE evaluates its condition; where it is TRUE and none of t iterations is left, the run ends with
+-- TurnBound; else one more is made
 abbrev pub turns : ℕ → (MachineState → StepResult Bool)
     → (MachineState → MachineProgress)
     → MachineState
@@ -105,8 +106,8 @@ turns (suc t) condition statements s =
     choose s (condition s) (λ s'. continue_with (statements s') (turns t condition statements))
     running
 
--- REPEAT makes a turn and then evaluates its condition: TRUE ends the statement; FALSE ends it with TurnBound where no more
--- turns may be made, t more after this one; else one more turn is made
+-- REPEAT makes an iteration and then evaluates its condition: TRUE ends the statement; FALSE ends the run
+-- with TurnBound where none of the t iterations after the first is left; else one more is made
 abbrev pub turns_until : ℕ → (MachineState → StepResult Bool)
     → (MachineState → MachineProgress)
     → MachineState

@@ -14,11 +14,11 @@ mutual
     in_module : (offset : ℕ) → Place
     -- at an offset in the cells of the running activation
     here : (offset : ℕ) → Place
-    -- at an offset in the cells of the activation so many levels out
+    -- at an offset in the cells of the activation `up` levels out
     outside : (up offset : ℕ) → Place
-    -- where a VAR parameter of the activation so many levels out leads, by its index among these parameters
+    -- where a VAR parameter of the activation `up` levels out leads, by its index among them
     passed : (up index : ℕ) → Place
-    -- an element of an array, whose elements have so many cells each
+    -- an element of an array, which has `length` elements of `stride` cells each
     element : Place → Number → (length stride : ℕ) → Place
     -- a part at an offset
     part : Place → (offset : ℕ) → Place
@@ -55,7 +55,7 @@ mutual
   pub data Instruction : Type 0 where
     stores_number : Place → Number → Instruction
     stores_truth : Place → Truth → Instruction
-    -- so many cells from the second place go to the first
+    -- this number of cells from the second place go to the first
     copies : Place → Place → (cells : ℕ) → Instruction
     reads : Place → Instruction
     writes : Number → Instruction
@@ -64,7 +64,7 @@ mutual
     chooses : Branches → Instructions → Instruction
     while_loop : Truth → Instructions → Instruction
     repeat_loop : Instructions → Truth → Instruction
-    -- of a procedure that is declared in the activation so many levels out
+    -- of a procedure that is declared in the activation `up` levels out
     calls : (procedure up : ℕ) → List LoweredArgument → Instruction
 
   -- statements, one before the rest
@@ -77,12 +77,12 @@ mutual
     no_branch : Branches
     branch : Truth → Instructions → Branches → Branches
 
--- a procedure has so many cells beside those of its parameters
+-- a procedure, with `cells` cells beside those of its parameters
 pub record Routine : Type 0 where
   pub cells : ℕ
   pub body : Instructions
 
--- a module has so many cells of its own
+-- a module, with `cells` cells of its own
 pub record LoweredCode : Type 0 where
   pub cells : ℕ
   pub body : Instructions

@@ -82,7 +82,7 @@ pub record MachineDoes (post : Post) (r : Result (Unit {0}) Stop) (m m' : Machin
 abbrev pub passed_in : List ℤ → List ℕ → Passed
 passed_in cells addresses = record { cells = cells; addresses = addresses }
 
--- a procedure, declared so many levels out, is entered in an activation with this base and these addresses
+-- a procedure, declared `up` levels out, is entered in an activation with this base and these addresses
 abbrev pub entering : ℕ → ℕ → Levels → ℕ → List ℕ → Doing
 entering k up ls base addresses enters s =
     enters k (entered ls base up (passed_in s.cells addresses)) s

@@ -353,7 +353,7 @@ fn run_loop<F: Fn(&mut Machine<'_>, usize, &Level<'_>) -> Result<(), Stop>>(
     }
 }
 
-/// REPEAT: the first turn is made whatever the bound.
+/// REPEAT: the first iteration is made whatever the bound.
 #[inline(never)]
 #[cycle(execution)]
 fn until<F: Fn(&mut Machine<'_>, usize, &Level<'_>) -> Result<(), Stop>>(

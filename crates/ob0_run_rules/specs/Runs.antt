@@ -1,4 +1,5 @@
--- Runs, by big steps: statements, calls and whole modules, over names, an environment, a store, the rest of the input, and bounds c on open calls and t on the turns of a loop.
+-- Runs, by big steps: statements, calls and whole modules, over names, an environment, a store, the rest of
+-- the input, and bounds c on open calls and t on the iterations of a loop.
 -- Rule: docs/LANGUAGE.md, Runs 1 to 10.
 use Rattle.std.specs.Prelude.{ℕ, zero, suc, ◌+◌, ◌-◌, true, false, List, [], ◌∷◌, ◌++◌, map, length, ℤ, Some, None, Option, option_map, option_and_then}
 use Rattle.ob0_tree.specs.Tree.{Tree, assigns, begins, block, body, branches, calls, declares_variable, else_branch, else_part, elsif_branch, elsif_part, empty, end, expression, further_section, further_statement, item, items, maybe, module_text, more, none, one, procedure, repeat_loop, runs, sequence, statement, then_section, then_statement, variable, while_loop}
@@ -115,8 +116,8 @@ perform (Some (a_standard writes)) enter (value_argument (number n) ∷ []) s =
 perform (Some (a_standard writes_line)) enter [] s = running (append_output s line_out)
 perform _ enter args s = stopped Stuck s.output
 
--- WHILE evaluates its condition; where it is TRUE and none of t turns is left, the run ends with TurnBound; else
--- one more is made
+-- WHILE evaluates its condition; where it is TRUE and none of t iterations is left, the run ends with
+-- TurnBound; else one more is made
 abbrev pub turns : ℕ → (State → Outcome Value) → (State → Progress) → State → Progress
 turns zero condition statements s =
     use_in s (condition s) (λ v. choose s v (λ s'. stopped TurnBound s'.output) running)
@@ -128,8 +129,8 @@ turns (suc t) condition statements s =
 abbrev pub Calls : Type 0 → Type 0
 Calls N = N → List Argument → State → Progress
 
--- REPEAT makes a turn and then evaluates its condition: TRUE ends the statement; FALSE ends it with TurnBound where no more
--- turns may be made, t more after this one; else one more turn is made
+-- REPEAT makes an iteration and then evaluates its condition: TRUE ends the statement; FALSE ends the run
+-- with TurnBound where none of the t iterations after the first is left; else one more is made
 abbrev pub turns_until : ℕ → (State → Outcome Value) → (State → Progress) → State → Progress
 turns_until zero condition turn s =
     continue_with (turn s) (λ s'. use_in s' (condition s')
