@@ -105,7 +105,8 @@ pub record InlinesEverywhere (unit : counting.Unit) (text : List ℕ) (m : Parse
   pub well_typed : WellTyped (inlined_all m c)
   pub same_runs : SameRuns (inlined_all m c) (named_tree_of m)
 
--- The edits where nothing refuses a constant, else the first refusal; out of memory may be answered in place of either.
+-- The edits where nothing refuses a constant, else the first refusal; out of memory may be returned instead
+-- of either.
 abbrev pub AnswersConstant : counting.Unit
     → List ℕ
     → Parsed

@@ -73,7 +73,7 @@ pub record InlinesHere (unit : counting.Unit) (text : List ℕ) (m : Parsed) (u 
   pub well_typed : WellTyped (inlined_here m u)
   pub same_runs : SameRuns (inlined_here m u) (named_tree_of m)
 
--- The edits where nothing refuses a use, else the first refusal; out of memory may be for either.
+-- The edits where nothing refuses a use, else the first refusal; out of memory instead of either.
 abbrev pub AnswersUse : counting.Unit
     → List ℕ
     → Parsed

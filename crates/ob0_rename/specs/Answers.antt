@@ -1,4 +1,4 @@
--- What is answered where a declaration or a field is to have another name: edits, or a refusal.
+-- What a renaming of a declaration or a field gives: edits, or a refusal.
 -- Rule: docs/PROTOCOL.md, Requests on documents 6, Refusals of edits.
 use Rattle.std.specs.Prelude.{◌≡◌, ◌⊎◌, ℕ, ◌<◌, ◌≤◌, List, Some, Result, Ok, Err, IfErr, Vec, length, map, true}
 use Rattle.std.specs.Str.{chars}
@@ -67,7 +67,7 @@ IsRefusedTo r d refusal.Shadowed = ⊥
 IsRefusedTo r d refusal.CommentInside = ⊥
 IsRefusedTo r d refusal.Memory = ⊥
 
--- edits for the declaration d, or why there are none; out of memory may take the place of either
+-- edits for the declaration d, or why there are none; out of memory instead of either
 abbrev pub AnswersDeclaration : Renaming → ℕ → Result (Vec Edit Global) EditRefusal → Type 0
 AnswersDeclaration r d (Ok edits) = Renames r d edits.items
 AnswersDeclaration r d (Err why) = (why ≡ refusal.Memory) ⊎ IsRefusedTo r d why
@@ -101,7 +101,7 @@ IsRefusedToField r k f refusal.Shadowed = ⊥
 IsRefusedToField r k f refusal.CommentInside = ⊥
 IsRefusedToField r k f refusal.Memory = ⊥
 
--- edits for the field, or why there are none; out of memory may take the place of either
+-- edits for the field, or why there are none; out of memory instead of either
 abbrev pub AnswersForField : Renaming → ℕ → Name → Result (Vec Edit Global) EditRefusal → Type 0
 AnswersForField r k f (Ok edits) = RenamesField r k f edits.items
 AnswersForField r k f (Err why) = (why ≡ refusal.Memory) ⊎ IsRefusedToField r k f why
