@@ -35,7 +35,7 @@ rename_requested r =
       new = r.new.now;
     }
 
--- the edits as they are answered to the client
+-- the edits as they are sent to the client
 abbrev pub edits_for_client : RequestedRename → List Edit → Data
 edits_for_client requested edits =
     workspace_edit requested.client requested.at.uri requested.version edits
