@@ -140,7 +140,7 @@ pub record Within (n : ℕ) (e : Editor) : Type 0 where
 abbrev pub IsReached : Ends → Type 0
 IsReached w = (unit : Unit) × (events : List Event) × Course (start unit) events w
 
--- ---- the steps of the server's turn
+-- ---- the steps of the server's event
 
 -- the publication with a version that the first of these contents is
 abbrev pub made_sent : OpenDocuments → List SentAsk → Contents → Option Made

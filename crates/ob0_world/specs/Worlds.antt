@@ -68,7 +68,7 @@ TakesFirst (content ∷ rest) old new =
     × (new.to_server ≡ rest)
     × (new.to_editor ≡ old.to_editor ++ sent)
 
--- only its own turn moves it
+-- only its own event moves it
 abbrev pub MovesServer : Event → Both → Both → Type 0
 MovesServer serve old new = TakesFirst old.to_server old new
 MovesServer (open_document uri text) old new = new.session ≡ old.session

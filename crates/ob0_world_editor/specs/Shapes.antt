@@ -17,7 +17,7 @@ request_message k method params =
     object (member (codes "id") (number (unsigned k)) (member (codes "jsonrpc") json_rpc
     (member (codes "method") (text method) (member (codes "params") params no_members))))
 
--- ---- notes
+-- ---- notifications
 
 -- {"languageId":"oberon-0","text":t,"uri":u,"version":v}
 abbrev pub opened_value : List ℕ → ℕ → List ℕ → Data
@@ -103,7 +103,7 @@ formatting_params uri indent =
     object (member (codes "options") (options_value indent)
     (member (codes "textDocument") (document_value uri) no_members))
 
--- the method of an ask; both ways of inlining ask for the actions at their place
+-- the method of an ask; both ways of inlining request the actions at their place
 abbrev pub method_of : Ask → List ℕ
 method_of (rename position name) = codes "textDocument/rename"
 method_of (inline_here position) = codes "textDocument/codeAction"

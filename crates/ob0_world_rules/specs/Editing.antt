@@ -80,7 +80,7 @@ abbrev pub all_but : ℕ → List Answer → List Answer
 all_but k [] = []
 all_but k (a ∷ rest) = if a.number == k then rest else a ∷ all_but k rest
 
--- the editor once answer k is held no more
+-- the editor without answer k
 abbrev pub without_answer : Editor → ℕ → Editor
 without_answer e k = record e { answers = all_but k e.answers }
 

@@ -28,7 +28,7 @@ pub record SentAsk : Type 0 where
   pub opening : ℕ
   pub version : ℕ
 
--- an answer that the editor holds
+-- an answer that the editor has
 pub record Answer : Type 0 where
   pub number : ℕ
   pub edits : List Replacement
@@ -112,7 +112,7 @@ start unit =
       made = [];
     }
 
--- the documents that the server will hold once it has taken the messages that wait for it
+-- the documents that the server will have once it has taken the messages that wait for it
 abbrev pub after_message : OpenDocuments → ToServer → OpenDocuments
 after_message held (notifies note) = after_event held note
 after_message held (requests number uri ask) = held
@@ -121,11 +121,11 @@ after_message held (requests number uri ask) = held
 abbrev pub will_have : Ends → OpenDocuments
 will_have w = fold after_message w.held w.to_server
 
--- a document of the editor, as the server holds it
+-- a document of the editor, as the server has it
 abbrev pub as_open : Open → Document
 as_open d = InStep (pos d.version) d.text
 
--- The mirror: what is held, followed by the messages that wait for the server, is the editor's documents.
+-- The mirror: the server's documents, after the messages that wait for it, are the editor's documents.
 abbrev pub Mirrors : Ends → Type 0
 Mirrors w =
     (uri : List ℕ) → document_at (will_have w) uri ≡ option_map as_open (open_at w.editor uri)

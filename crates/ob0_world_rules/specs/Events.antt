@@ -17,7 +17,7 @@ pub data Event : Type 0 where
   serve : Event
   -- the editor takes one message
   take_message : Event
-  -- the editor applies an answer that it holds, or drops it
+  -- the editor applies an answer that it has, or drops it
   apply : ℕ → Event
   discard : ℕ → Event
 
