@@ -1,4 +1,4 @@
-//! Conversations over devices that fail, and a writer that hands on what it is given only where it is flushed.
+//! Conversations over devices that fail, and a writer that passes on what it is given only where it is flushed.
 
 use crate::devices::{Count, Counter, Source};
 use ob0_session::{Noted, ServeFault, serve};
