@@ -17,7 +17,8 @@ abbrev pub EndsWord : List ℕ → Type 0
 EndsWord [] = ⊤
 EndsWord (b ∷ bs) = IsTrue (is_space b)
 
--- A text writes numbers: each is a word of its own, and between words is white space: space, tab, CR or LF.
+-- A text writes numbers: each is a word of its own, and between words is white space:
+-- space, tab, CR or LF.
 pub data WritesNumbers : List ℕ → List ℤ → Type 0 where
   nothing : WritesNumbers [] []
   space : {b : ℕ} {text : List ℕ} {ns : List ℤ}

@@ -31,8 +31,9 @@ abbrev pub last_gap : Option Solid → Gap
 last_gap None = Nothing
 last_gap (Some b) = Line 0
 
--- The gaps of a text that goes on with these lexemes at a place, each with what is to be there. The first of them began at `from`, after
--- a token or comment or at the text's start; `level`, `broken` and `ss` are those of `placed`.
+-- The gaps of a text that goes on with these lexemes at a place, each with what is to be there. The
+-- first of them began at `from`, after a token or comment or at the text's start;
+-- `level`, `broken` and `ss` are those of `placed`.
 abbrev pub sites : Option Solid → ℕ → Bool → List LineRole → ℕ → ℕ → List Lexeme → List GapSite
 sites before level broken ss from at [] =
     record { start = from; end = at; gap = last_gap before } ∷ []

@@ -1,4 +1,5 @@
--- Where lowered code finds what names mean, and what it means that a table of procedures is lowered from a module's blocks.
+-- Where lowered code finds what names mean, and what it means that a table
+-- of procedures is lowered from a module's blocks.
 -- Rule: none; for contracts of lowering, against docs/LANGUAGE.md, Runs 6.
 use Rattle.std.specs.Prelude.{◌≡◌, ℕ, suc, ◌+◌, ◌≤◌, true, false, List, [], ◌∷◌, drop, slice_get, Some, Option, option_and_then}
 use Rattle.ob0_tree.specs.Tree.{Tree, begins, block, body, declares, declares_procedure, declares_variable, end, has_body, item, items, maybe, module_text, more, none, one, procedure, variable}
@@ -153,8 +154,8 @@ BodyMeans naming checked placing code (one (begins statements)) =
     SequenceMeans (meanings naming checked) (slots_in naming placing) (targets_in naming placing)
     code statements
 
--- a table has the code of the procedures of a block, and of those in them; `cells` are those of the block's
--- own variables, and no activation has more than `most`
+-- a table has the code of the procedures of a block, and of those in them; `cells` are those of the
+-- block's own variables, and no activation has more than `most`
 abbrev mutual
   -- a block: its variables are placed after what p has, and `code` means its statements
   pub BlockMeans : {N : Type 0}
@@ -233,8 +234,8 @@ abbrev mutual
       BlockMeans table most naming (held 0) checked p
       (k + formals_constructors (formal_sections fs)) entry.cells entry.body b
 
--- one binding, over those after it: a variable's slot has its place's address, and a procedure's code means its block, where it is
--- declared
+-- one binding, over those after it: a variable's slot has its place's address, and a procedure's
+-- code means its block, where it is declared
 abbrev pub IsPlaced : {N : Type 0}
     → List lowered.Routine
     → ℕ
@@ -301,7 +302,8 @@ outermost_placing naming =
     ∷ (naming.predeclared 0, nowhere)
     ∷ []
 
--- a program is lowered from a module, and no activation, the module's among them, has more than `most` cells
+-- a program is lowered from a module, and no activation, the module's among them,
+-- has more than `most` cells
 abbrev pub ProgramMeans : {N : Type 0}
     → ℕ
     → Naming N

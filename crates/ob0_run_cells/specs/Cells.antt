@@ -1,4 +1,5 @@
--- A store as one list of cells, each a number: a number is its cell, FALSE is 0 and TRUE is 1, and elements and members lie one after the other.
+-- A store as one list of cells, each a number: a number is its cell, FALSE is 0 and TRUE is 1, and
+-- elements and members lie one after the other.
 -- Rule: none; for contracts of lowering: a store of docs/LANGUAGE.md, Runs, as cells.
 use Rattle.std.specs.Prelude.{ℕ, ◌+◌, ◌*◌, Bool, true, false, List, [], ◌∷◌, ◌++◌, length, take, drop, ℤ, pos, if◌then◌else◌, slice_get, option_map, unwrap_or}
 use Rattle.ob0_scope_rules.specs.Names.{Name, same_name}

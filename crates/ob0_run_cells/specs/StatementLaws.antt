@@ -1,4 +1,5 @@
--- Lowering is right for each production of statements: what the parts mean makes what the whole means.
+-- Lowering is right for each production of statements:
+-- what the parts mean makes what the whole means.
 -- Rule: none; laws of lowered statements.
 use Rattle.std.specs.Prelude.{◌≡◌, List, [], ◌∷◌, Some}
 use Rattle.ob0_tree.specs.Tree.{Tree, arguments, assigns, branches, calls, else_branch, else_part, elsif_branch, elsif_part, empty, end, expression, further_statement, items, maybe, more, none, one, repeat_loop, runs, selector, sequence, statement, then_statement, while_loop}

@@ -17,7 +17,8 @@ use Rattle.ob0_run_machine.specs.Lowered as lowered
 use Rattle.ob0_run_cells.specs.Cells.{size, step_offset}
 use Rattle.ob0_run_cells.specs.Lowering.{Evaluated, NumberMeans, Slot, TruthMeans, ValueAt, relation_of}
 
--- a number, a truth, the cells of an array or a record, or nothing that an expression of a well-typed module is
+-- a number, a truth, the cells of an array or a record,
+-- or nothing that an expression of a well-typed module is
 pub data ExpressionCode : Type 0 where
   a_number : lowered.Number → ExpressionCode
   a_truth : lowered.Truth → ExpressionCode

@@ -20,7 +20,8 @@ AreDeclared objects [] = Unit {0}
 AreDeclared objects (b ∷ env) =
     ((k : ℕ) × (b.0 ≡ declared k) × (objects k ≡ Some b.1)) × AreDeclared objects env
 
--- so do all bindings where a block's procedures and statements are checked, and those of the blocks in it
+-- so do all bindings where a block's procedures and statements are checked,
+-- and those of the blocks in it
 abbrev mutual
   -- after a block's constants, types and variables, and in its procedures
   pub BlockDeclared : Objects → TypeEnvironment Label → ℕ → Tree Label block → Type 0

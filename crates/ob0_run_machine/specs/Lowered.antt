@@ -1,5 +1,5 @@
--- Lowered code: a module whose variables are offsets of cells, whose designators are bases, bounds and offsets, and whose calls
--- name their procedure by its index.
+-- Lowered code: a module whose variables are offsets of cells, whose designators are bases, bounds
+-- and offsets, and whose calls name their procedure by its index.
 -- Rule: none; for contracts of the machine: lowered code.
 use Rattle.std.specs.Prelude.{ℕ, Bool, List, ℤ}
 
@@ -43,7 +43,8 @@ pub data Truth : Type 0 where
   related : Comparator → Number → Number → Truth
   same different : Truth → Truth → Truth
 
--- a place for a VAR parameter, a value for another: a number, a truth, or the cells of an array or a record
+-- a place for a VAR parameter, a value for another:
+-- a number, a truth, or the cells of an array or a record
 pub data LoweredArgument : Type 0 where
   by_place : Place → LoweredArgument
   by_number : Number → LoweredArgument

@@ -1,5 +1,5 @@
--- Runs, by big steps: statements, calls and whole modules, over names, an environment, a store, the rest of
--- the input, and bounds c on open calls and t on the iterations of a loop.
+-- Runs, by big steps: statements, calls and whole modules, over names, an environment, a store, the
+-- rest of the input, and bounds c on open calls and t on the iterations of a loop.
 -- Rule: docs/LANGUAGE.md, Runs 1 to 10.
 use Rattle.std.specs.Prelude.{ℕ, zero, suc, ◌+◌, ◌-◌, true, false, List, [], ◌∷◌, ◌++◌, map, length, ℤ, Some, None, Option, option_map, option_and_then}
 use Rattle.ob0_tree.specs.Tree.{Tree, assigns, begins, block, body, branches, calls, declares_variable, else_branch, else_part, elsif_branch, elsif_part, empty, end, expression, further_section, further_statement, item, items, maybe, module_text, more, none, one, procedure, repeat_loop, runs, sequence, statement, then_section, then_statement, variable, while_loop}
@@ -116,8 +116,8 @@ perform (Some (a_standard writes)) enter (value_argument (number n) ∷ []) s =
 perform (Some (a_standard writes_line)) enter [] s = running (append_output s line_out)
 perform _ enter args s = stopped Stuck s.output
 
--- WHILE evaluates its condition; where it is TRUE and none of t iterations is left, the run ends with
--- TurnBound; else one more is made
+-- WHILE evaluates its condition; where it is TRUE and none of t iterations is left, the run ends
+-- with TurnBound; else one more is made
 abbrev pub turns : ℕ → (State → Outcome Value) → (State → Progress) → State → Progress
 turns zero condition statements s =
     use_in s (condition s) (λ v. choose s v (λ s'. stopped TurnBound s'.output) running)
@@ -129,8 +129,9 @@ turns (suc t) condition statements s =
 abbrev pub Calls : Type 0 → Type 0
 Calls N = N → List Argument → State → Progress
 
--- REPEAT makes an iteration and then evaluates its condition: TRUE ends the statement; FALSE ends the run
--- with TurnBound where none of the t iterations after the first is left; else one more is made
+-- REPEAT makes an iteration and then evaluates its condition: TRUE ends the statement; FALSE ends
+-- the run with TurnBound where none of the t iterations after the first is left;
+-- else one more is made
 abbrev pub turns_until : ℕ → (State → Outcome Value) → (State → Progress) → State → Progress
 turns_until zero condition turn s =
     continue_with (turn s) (λ s'. use_in s' (condition s')
@@ -285,7 +286,8 @@ declare_block naming k b f =
     record { env = env; store = f.store }))
     (declare_first naming f.env k b)
 
--- a parameter of a call: a VAR parameter is its argument's place, another a variable with the argument's value
+-- a parameter of a call: a VAR parameter is its argument's place,
+-- another a variable with the argument's value
 abbrev pub bind_parameter : {N : Type 0} → Mode → N → Argument → Frame N → Option (Frame N)
 bind_parameter by_place x (place_argument p) f =
     Some record { env = (x, a_variable p) ∷ f.env; store = f.store }
@@ -363,8 +365,8 @@ abbrev pub in_frame : {N : Type 0}
 in_frame s None next = stopped Stuck s.output
 in_frame s (Some f) next = next f record s { store = f.store }
 
--- the body of the procedure at the head of an environment runs with its own variables, in the bindings that were
--- visible at its declaration, those of the activation that declared it
+-- the body of the procedure at the head of an environment runs with its own variables, in the
+-- bindings that were visible at its declaration, those of the activation that declared it
 unfoldable pub activate : {N : Type 0}
     → Naming N
     → (Activation N → Calls N)

@@ -59,7 +59,8 @@ pub record ReadsOn (old : Scanned) (from removed added : ℕ) (s t : Scanner) : 
   pub tokens_new : All (λ (t : Token). IsNew old from removed added t.span) tokens
   pub comments_new : All (λ (c : Span). IsNew old from removed added c) comments
 
--- after the change, at the end of the text or where an old token or comment begins again; with the old ones from there on
+-- after the change, at the end of the text or where an old token or comment begins again;
+-- with the old ones from there on
 pub record IsMet (old : Scanned) (end from removed added at : ℕ) (tokens : List Token)
     (comments : List Span) : Type 0 where
   pub following : from + added ≤ at
@@ -69,7 +70,8 @@ pub record IsMet (old : Scanned) (end from removed added at : ℕ) (tokens : Lis
       ⊎ IsTrue
       (token_begins (at + removed - added) tokens || comment_begins (at + removed - added) comments)
 
--- the new text with the old tokens and comments before it, those between, and the old ones after, moved
+-- the new text with the old tokens and comments before it, those between,
+-- and the old ones after, moved
 abbrev pub with_between : Scanned → List ℕ → ℕ → ℕ → Between → Scanned
 with_between old new removed added b = record {
   text = new;

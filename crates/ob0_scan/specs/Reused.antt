@@ -8,8 +8,8 @@ use Rattle.ob0_scan.specs.declared.lexeme.TokenKind.{TokenKind}
 use Rattle.ob0_scan.specs.declared.lexeme.TokenKind.TheVariants as kind
 use Rattle.ob0_scan.specs.Scanned.{Scanned, spanned}
 
--- The new text has `added` bytes instead of the `removed` bytes of the old text from `from` on. Before and
--- after these the two texts are equal.
+-- The new text has `added` bytes instead of the `removed` bytes of the old text from `from` on.
+-- Before and after these the two texts are equal.
 pub record IsReplaced (old new : List ℕ) (from removed added : ℕ) : Type 0 where
   pub inside_old : from + removed ≤ length old
   pub inside_new : from + added ≤ length new
@@ -32,7 +32,8 @@ name_of (kind.Integer value) text = []
 name_of (kind.Reserved word) text = []
 name_of (kind.Symbol symbol) text = []
 
--- how the identifiers among tokens of a text are written, one after the other, with nothing for each other token
+-- how the identifiers among tokens of a text are written, one after the other,
+-- with nothing for each other token
 abbrev pub names_in : List ℕ → List Token → List (List ℕ)
 names_in text tokens = map (λ (t : Token). name_of t.kind (spanned text t.span)) tokens
 
@@ -73,9 +74,10 @@ abbrev pub IsNew : Scanned → ℕ → ℕ → ℕ → Span → Type 0
 IsNew old from removed added span =
     from + added ≤ span.start → NoOldBegins old (span.start + removed - added)
 
--- Of the tokens and comments of a changed text, the first are the old ones that end before the change, and the last are old ones after it,
--- moved. As many as `read` says are between: of these, none after the change begins where an old one began. So the last begin
--- at the first place that the new text's tokens and comments have in common with the old one's.
+-- Of the tokens and comments of a changed text, the first are the old ones that end before the
+-- change, and the last are old ones after it, moved. As many as `read` says are between: of these,
+-- none after the change begins where an old one began. So the last begin at the first place that
+-- the new text's tokens and comments have in common with the old one's.
 pub record Reuses (old new : Scanned) (from removed added read : ℕ) : Type 0 where
   pub place : ℕ
   pub following : from + removed ≤ place

@@ -71,7 +71,8 @@ abbrev pub formals_once : Tree Name (items further_section) → Bool
 formals_once end = true
 formals_once (more (then_section s) fs) = fields_once (section_type s) && formals_once fs
 
--- a block declares a name once, a procedure's parameters and locals are one block, and closing names are their procedures'
+-- a block declares a name once, a procedure's parameters and locals are one block,
+-- and closing names are their procedures'
 abbrev mutual
   -- a block: its names and `own`, those of its procedure's parameters, are distinct
   pub block_once : List Name → Tree Name block → Bool

@@ -1,5 +1,5 @@
--- The faults of names that are declared once more, and of closing names that differ, in the order in which they are reported. The names
--- of these trees are tokens.
+-- The faults of names that are declared once more, and of closing names that differ, in the order
+-- in which they are reported. The names of these trees are tokens.
 -- Rule: docs/LANGUAGE.md, Faults of scopes and types, `Duplicate`, `EndName`.
 use Rattle.std.specs.Prelude.{ℕ, Bool, not, List, [], ◌∷◌, ◌++◌, if◌then◌else◌}
 use Rattle.ob0_scan.specs.declared.fault.Code.TheVariants as code
@@ -25,7 +25,8 @@ duplicate_at source token = record { code = code.Duplicate; span = span_at sourc
 abbrev pub end_name_at : Scanned → ℕ → Fault
 end_name_at source token = record { code = code.EndName; span = span_at source token }
 
--- each of some names that precedes it in the list, or among those before the list, is reported where it is once more
+-- each of some names that precedes it in the list, or among those before the list,
+-- is reported where it is once more
 abbrev pub again : Scanned → List Name → List ℕ → List Fault
 again source before [] = []
 again source before (x ∷ xs) =
@@ -74,7 +75,8 @@ formals_twice source end = []
 formals_twice source (more (then_section s) fs) =
     fields_twice source (section_type s) ++ formals_twice source fs
 
--- the names of a block, with those of its procedure's parameters before them; then its types, variables and procedures
+-- the names of a block, with those of its procedure's parameters before them;
+-- then its types, variables and procedures
 abbrev mutual
   -- a block, with `own`, the names of its procedure's parameters
   pub block_twice : Scanned → List ℕ → Tree ℕ block → List Fault

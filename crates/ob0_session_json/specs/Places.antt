@@ -5,7 +5,8 @@ use Rattle.serde_json.specs.Data.{string}
 use Rattle.serde_json.specs.Written.{compact_text}
 use Rattle.ob0_rpc.specs.Appending.{IsReadBack}
 
--- free space, and after it what follows the range of a place: its uri, and the bracket that closes it
+-- free space, and after it what follows the range of a place:
+-- its uri, and the bracket that closes it
 pub record EndsInUri (uri room : List ℕ) : Type 0 where
   pub roomy : 192 ≤ length room
   pub ends : drop 192 room

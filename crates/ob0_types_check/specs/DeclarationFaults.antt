@@ -1,5 +1,5 @@
--- The faults of a module's declarations and bodies in the order in which they are reported: in text order, each declaration known
--- after its text.
+-- The faults of a module's declarations and bodies in the order in which they are reported: in text
+-- order, each declaration known after its text.
 -- Rule: docs/LANGUAGE.md, Faults of scopes and types 2 to 11.
 use Rattle.std.specs.Prelude.{ℕ, Bool, true, false, List, [], ◌++◌, map}
 use Rattle.std.specs.List.{filter}

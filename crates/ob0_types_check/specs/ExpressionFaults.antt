@@ -1,5 +1,5 @@
--- The faults of an expression in the order in which they are reported: those of its parts from left to right, and after the
--- parts of an operation its own.
+-- The faults of an expression in the order in which they are reported: those of its parts from left
+-- to right, and after the parts of an operation its own.
 -- Rule: docs/LANGUAGE.md, Faults of scopes and types 2, 3, 5, 6.
 use Rattle.std.specs.Prelude.{ℕ}
 use Rattle.ob0_tree.specs.Tree.{Tree, addend, adds, compares, designator, end, expression, factor, field, index, integer, item, items, more, multiplier, multiplies, negation, none, one, parenthesised, product, relates, selector, simple, sum, term}

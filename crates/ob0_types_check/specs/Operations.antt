@@ -1,4 +1,5 @@
--- What operations, names and selectors require: the faults that are reported of them, and what is known of what they give.
+-- What operations, names and selectors require:
+-- the faults that are reported of them, and what is known of what they give.
 -- Rule: docs/LANGUAGE.md, Types 2, 3, Faults of scopes and types 3, 5.
 use Rattle.std.specs.Prelude.{◌≡◌, ℕ, ◌+◌, ◌-◌, nat_lt, Bool, true, false, ◌||◌, List, [], ◌∷◌, ◌++◌, length, if◌then◌else◌, Option, Some, None, option_and_then, pos}
 use Rattle.ob0_scan.specs.declared.fault.Code.{Code}
@@ -79,7 +80,8 @@ required facts wanted o = record {
   faults = if fits facts.types o.of wanted then [] else at_operand facts code.TypeMismatch o;
 }
 
--- a type is required of two operands: the left one is reported where it is wrong, else the right one
+-- a type is required of two operands: the left one is reported where it is wrong,
+-- else the right one
 abbrev pub required_both : {T : Type 0} → Facts T → T → Operand T → Operand T → Reported T
 required_both facts wanted a b =
     if fits facts.types a.of wanted
@@ -104,7 +106,8 @@ required_by_multiply types multiply_operator.Divide = types.integer
 required_by_multiply types multiply_operator.Modulo = types.integer
 required_by_multiply types multiply_operator.And = types.boolean
 
--- `=` and `#` compare two INTEGER or two BOOLEAN, and require nothing where the left side is unknown
+-- `=` and `#` compare two INTEGER or two BOOLEAN,
+-- and require nothing where the left side is unknown
 abbrev pub required_by_equality : {T : Type 0} → Types T → T → T
 required_by_equality types left =
     if types.same left types.integer then types.integer
@@ -219,8 +222,8 @@ abbrev pub a_constant_name : {T : Type 0} → Types T → Option Value → ℕ �
 a_constant_name types v token =
     record { of = value_type types v; value = v; is_place = false; first = token; last = token }
 
--- A name where a value is required: no type and no procedure, and in a constant expression no variable. Names that nothing
--- binds are reported by themselves.
+-- A name where a value is required: no type and no procedure, and in a constant expression no
+-- variable. Names that nothing binds are reported by themselves.
 abbrev pub named_value : {T : Type 0} → Facts T → ℕ → Option (Meaning T) → Reported (Operand T)
 named_value facts token None = right (a_name facts.types.unknown token)
 named_value facts token (Some (a_constant v)) = right (a_constant_name facts.types v token)

@@ -1,4 +1,5 @@
--- The faults of statements in the order in which they are reported: those of each part from left to right, statement by statement.
+-- The faults of statements in the order in which they are reported:
+-- those of each part from left to right, statement by statement.
 -- Rule: docs/LANGUAGE.md, Types 2, 5, Faults of scopes and types 5, 7 to 9.
 use Rattle.std.specs.Prelude.{ℕ, nat_eq, ◌&&◌, not, List, [], ◌∷◌, ◌++◌, length, Option, Some, None, if◌then◌else◌}
 use Rattle.ob0_scan.specs.declared.fault.Code.TheVariants as code
@@ -18,8 +19,8 @@ reported_required facts wanted e = (reported_expression facts e >>= required fac
 abbrev pub reported_condition : {T : Type 0} → Facts T → Tree ℕ expression → List Fault
 reported_condition facts e = reported_required facts facts.types.boolean e
 
--- What may be assigned to: variables and parameters. Of anything else the type is unknown, so nothing more is required of its
--- selectors and of the right side.
+-- What may be assigned to: variables and parameters. Of anything else the type is unknown, so
+-- nothing more is required of its selectors and of the right side.
 abbrev pub target_by_meaning : {T : Type 0} → Facts T → ℕ → Option (Meaning T) → Reported T
 target_by_meaning facts token (Some (a_variable t)) = right t
 target_by_meaning facts token (Some (a_constant v)) =
@@ -85,8 +86,9 @@ abbrev pub reported_parts : {T : Type 0} → Facts T → List (Tree ℕ expressi
 reported_parts facts [] = []
 reported_parts facts (e ∷ es) = (reported_expression facts e).faults ++ reported_parts facts es
 
--- A call of a procedure has as many arguments as the procedure has parameters, else nothing more is reported of them. In a call of
--- anything else the arguments are of any type; a name that nothing binds is reported by itself.
+-- A call of a procedure has as many arguments as the procedure has parameters, else nothing more is
+-- reported of them. In a call of anything else the arguments are of any type;
+-- a name that nothing binds is reported by itself.
 abbrev pub call_by_meaning : {T : Type 0}
     → Facts T
     → ℕ

@@ -1,5 +1,5 @@
--- The faults of types as they are written, in the order in which they are reported: those of the parts from left to right, then
--- that the whole is too large.
+-- The faults of types as they are written, in the order in which they are reported: those of the
+-- parts from left to right, then that the whole is too large.
 -- Rule: docs/LANGUAGE.md, Faults of scopes and types 2, 4, 10, `TypeTooLarge`.
 use Rattle.std.specs.Prelude.{ℕ, suc, ◌+◌, ◌*◌, max, true, false, List, [], ◌∷◌, ◌++◌, length, Option, Some, None}
 use Rattle.ob0_scope_rules.specs.Parts.{names_listed}
@@ -17,13 +17,13 @@ use Rattle.ob0_types_check.specs.TypeFaults.{length_of, type_named}
 abbrev pub array_size : ℕ → Size → Size
 array_size n z = record { scalars = z.scalars * n; depth = z.depth + 1 }
 
--- Each ARRAY and RECORD makes one type, those inside it before it. So where nothing is reported, the ordinal of a word is
--- how many were made before it and how many are around it.
+-- Each ARRAY and RECORD makes one type, those inside it before it. So where nothing is reported,
+-- the ordinal of a word is how many were made before it and how many are around it.
 abbrev pub ordinal_here : ℕ → SoFar → ℕ
 ordinal_here around p = length p.made + around
 
--- An array of a faulty length is unknown as a whole; the type of its elements is looked at all the same. The word ARRAY is
--- before the length.
+-- An array of a faulty length is unknown as a whole; the type of its elements is looked at all the
+-- same. The word ARRAY is before the length.
 abbrev pub array_made : ℕ → Operand TypeId → Option ℕ → TypedAfter → Reported TypedAfter
 array_made ordinal o None element =
     right (record { of = type.Unknown; following = element.following })
@@ -68,8 +68,8 @@ gathered_after g xs t =
 abbrev pub record_size : Size → Size
 record_size z = record { scalars = max z.scalars 1; depth = z.depth + 1 }
 
--- The word RECORD precedes the name of the first field, and before a semicolon for each group without fields before
--- it. A record without any field is never too large.
+-- The word RECORD precedes the name of the first field, and before a semicolon for each group
+-- without fields before it. A record without any field is never too large.
 abbrev pub first_name : Tree ℕ names → ℕ
 first_name (listed x rest) = x
 

@@ -1,4 +1,5 @@
--- Each identifier of a text with the ordinal of the record whose field it is, in text order. The names of these trees are tokens.
+-- Each identifier of a text with the ordinal of the record whose field it is, in text order.
+-- The names of these trees are tokens.
 -- Rule: docs/LANGUAGE.md, Scopes 7.
 use Rattle.std.specs.Prelude.{◌≡◌, ℕ, suc, ◌+◌, List, [], ◌∷◌, ◌++◌, map, Some, None, Option, option_and_then, option_map, length, replicate, set}
 use Rattle.ob0_tree.specs.declared.tree.Role.{Role}
@@ -81,7 +82,8 @@ owned m s (else_branch a) = owned m None a
 owned m s (begins a) = owned m None a
 owned m s t = unowned t
 
--- the identifiers of a type; k is the ordinal of its first ARRAY or RECORD, and r that of the group's record
+-- the identifiers of a type; k is the ordinal of its first ARRAY or RECORD,
+-- and r that of the group's record
 abbrev mutual
   -- a type's name; of an array those of its length and its elements; of a record its groups
   pub owned_type : ℕ → Tree ℕ written_type → List (ℕ × Option ℕ)
@@ -141,7 +143,8 @@ owned_formals k (one no_formals) = []
 owned_formals k (one (some_formals f fs)) =
     owned_section k f ++ owned_sections (k + constructors (section_type f)) fs
 
--- the identifiers of a block, of its procedures and of a procedure; k is the ordinal of the first ARRAY or RECORD
+-- the identifiers of a block, of its procedures and of a procedure;
+-- k is the ordinal of the first ARRAY or RECORD
 abbrev mutual
   -- a block: its declarations, and then its statements
   pub owned_block : {P : Type 0} → Meanings ℕ Shape P → ℕ → Tree ℕ block → List (ℕ × Option ℕ)
@@ -202,8 +205,8 @@ abbrev pub HasOwners : (ℕ → Option ℕ) → List (ℕ × Option ℕ) → Typ
 HasOwners table [] = Unit {0}
 HasOwners table (x ∷ xs) = (table x.0 ≡ x.1) × HasOwners table xs
 
--- In a well-typed module a table that has the listed owners at its tokens is a table of owners: what names mean in the
--- environment at each place is what their declarations are.
+-- In a well-typed module a table that has the listed owners at its tokens is a table of owners:
+-- what names mean in the environment at each place is what their declarations are.
 abbrev pub OwnersByDeclaration : Type 0
 OwnersByDeclaration =
     (r : Resolution) (owners : List (Option ℕ))
@@ -223,7 +226,8 @@ abbrev pub with_fields_at : List (Option ℕ) → List (ℕ × ℕ) → List (Op
 with_fields_at table [] = table
 with_fields_at table (f ∷ fs) = with_fields_at (set table f.0 (Some f.1)) fs
 
--- In a well-typed module the empty table, one entry a token, with its fields written into it is a table of owners.
+-- In a well-typed module the empty table, one entry a token,
+-- with its fields written into it is a table of owners.
 abbrev pub OwnersOfFields : Type 0
 OwnersOfFields =
     (r : Resolution)
@@ -289,7 +293,8 @@ abbrev mutual
   marked_path m s (more (index e) rest) =
       marked_tree m e ++ marked_path m (option_and_then (λ t. element_type t integer_shape) s) rest
 
--- the fields that a type's text declares; k is the ordinal of its first ARRAY or RECORD, and r that of the group's record
+-- the fields that a type's text declares; k is the ordinal of its first ARRAY or RECORD,
+-- and r that of the group's record
 abbrev mutual
   -- in a type as it is written; a length declares none
   pub marked_type : ℕ → Tree ℕ written_type → List (ℕ × ℕ)

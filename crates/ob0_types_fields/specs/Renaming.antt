@@ -15,7 +15,8 @@ use Rattle.ob0_types_fields.specs.Fields.{FieldNames, refielded}
 abbrev pub one_renamed : ℕ → Name → Name → FieldNames
 one_renamed r f new owner x = if same_ordinal owner r && same_name x f then new else x
 
--- the declaring identifier of the field f of the record r, and each selector that selects it, have the name `new`
+-- the declaring identifier of the field f of the record r, and each selector that selects it,
+-- have the name `new`
 abbrev pub field_renamed : Tree Name module_text → ℕ → Name → Name → Tree Name module_text
 field_renamed m r f new = refielded (one_renamed r f new) m
 
@@ -63,7 +64,8 @@ records_in_sections k end = []
 records_in_sections k (more (then_section f) fs) =
     records_in_type k (section_type f) ++ records_in_sections (k + constructors (section_type f)) fs
 
--- the records of a block, of its procedures and of a procedure; k is the ordinal of the first ARRAY or RECORD
+-- the records of a block, of its procedures and of a procedure;
+-- k is the ordinal of the first ARRAY or RECORD
 abbrev mutual
   -- in a block: in its types, its variables and its procedures
   pub records_in_block : ℕ → Tree Name block → List RecordFields

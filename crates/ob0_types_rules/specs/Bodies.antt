@@ -64,7 +64,8 @@ unfoldable mutual
 abbrev pub module_bodies : {N : Type 0} → Naming N → Tree N module_text → List (BodyAt N)
 module_bodies naming m = block_bodies naming (outermost naming) 0 (module_block m)
 
--- in a well-typed module, what a name is bound to where statements are checked is what its declaration is
+-- in a well-typed module, what a name is bound to where statements are checked is what its
+-- declaration is
 abbrev pub NamesAreDeclared : Type 0
 NamesAreDeclared =
     (m : Tree Name module_text) → WellTyped m

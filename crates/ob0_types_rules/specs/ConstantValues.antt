@@ -1,4 +1,5 @@
--- The value of the constants of a module. Of the names around a constant only constants count; other names hide them.
+-- The value of the constants of a module. Of the names around a constant only constants count;
+-- other names hide them.
 -- Rule: docs/LANGUAGE.md, Types 6, 7.
 use Rattle.std.specs.Prelude.{None, Option, Some, if◌then◌else◌, map, nat_lt, option_and_then, suc, ℕ, ◌++◌, ◌==◌, ◌∷◌}
 use Rattle.ob0_tree.specs.Tree.{Tree, block, constant, declares, declares_constant, declares_procedure, end, has_body, item, items, module_text, more, procedure}
@@ -72,7 +73,8 @@ unfoldable mutual
       else value_in_block (bind_names (formal_names (formal_sections fs)) no_constant known) d
       (after_names k (formal_names (formal_sections fs))) b
 
--- the value of the constant of ordinal d, None where d isn't a constant that a CONST section declares
+-- the value of the constant of ordinal d, None where d isn't a constant
+-- that a CONST section declares
 unfoldable pub value_of_constant : Tree Name module_text → ℕ → Option Value
 unfolding value_in_block
 value_of_constant m d =

@@ -1,4 +1,5 @@
--- What declarations bind, in a checked module and in a run alike: constants and types; and how types are numbered.
+-- What declarations bind, in a checked module and in a run alike: constants and types;
+-- and how types are numbered.
 -- Rule: docs/LANGUAGE.md, Scopes 2, Types 1.
 use Rattle.std.specs.Prelude.{ℕ, ◌+◌, ◌∷◌, Some, Option}
 use Rattle.ob0_tree.specs.Tree.{Tree, block, constant, declares, declares_constant, declares_procedure, declares_type, declares_variable, end, further_section, has_body, item, items, more, procedure, then_section, type_name, variable}

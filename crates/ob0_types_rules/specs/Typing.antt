@@ -1,4 +1,5 @@
--- Types: what a type's text denotes, the types of expressions, the values of constant expressions, and which statements fit.
+-- Types: what a type's text denotes, the types of expressions, the values of constant expressions,
+-- and which statements fit.
 -- Rule: docs/LANGUAGE.md, Types 1 to 7, Nesting and limits 2.
 use Rattle.std.specs.Prelude.{ℕ, suc, ◌+◌, ◌*◌, max, ◌&&◌, List, [], ◌∷◌, map, pos, if◌then◌else◌, nat_lt, nat_le, Some, None, Option, option_map, option_and_then}
 use Rattle.ob0_tree.specs.declared.tree.Relation.{Relation}
@@ -241,7 +242,8 @@ abbrev pub with_fields : List Name → Shape → FieldShapes → FieldShapes
 with_fields [] s rest = rest
 with_fields (x ∷ xs) s rest = next_field_shape x s (with_fields xs s rest)
 
--- the type that a type's text denotes; each ARRAY and RECORD makes one of its own, k the ordinal of the text's first
+-- the type that a type's text denotes; each ARRAY and RECORD makes one of its own,
+-- k the ordinal of the text's first
 unfoldable mutual
   unfolding constant_value
 

@@ -80,7 +80,8 @@ signature_of (Some (a_standard writes)) =
 signature_of (Some (a_standard writes_line)) = Some []
 signature_of _ = None
 
--- a parameter requires the same type; a VAR argument is a variable or parameter with its selectors, without parentheses
+-- a parameter requires the same type; a VAR argument is a variable or parameter with its selectors,
+-- without parentheses
 unfoldable pub argument_fits : {N P : Type 0}
     → Meanings N Shape P
     → Formal
@@ -117,8 +118,8 @@ unfoldable pub condition_fits : {N P : Type 0} → Meanings N Shape P → Tree N
 unfolding type_of
 condition_fits meaning e = agree (Some boolean_shape) (type_of meaning e)
 
--- a statement is well-typed: both sides of an assignment have one type, the arguments of a call fit, and
--- conditions are BOOLEAN
+-- a statement is well-typed: both sides of an assignment have one type, the arguments of a call
+-- fit, and conditions are BOOLEAN
 unfoldable mutual
   unfolding condition_fits call_fits
 
@@ -229,8 +230,8 @@ abbrev pub some_and : {A : Type 0} → Option A → (A → Bool) → Bool
 some_and None test = false
 some_and (Some a) test = test a
 
--- a block's declarations bind what they name, its procedures fit one after the other, and its statements
--- fit in the whole environment
+-- a block's declarations bind what they name, its procedures fit one after the other, and its
+-- statements fit in the whole environment
 unfoldable mutual
   unfolding declare_first declare_typed typed_parameters body_fits
 

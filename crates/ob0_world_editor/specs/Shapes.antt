@@ -1,4 +1,5 @@
--- The messages that an editor writes, as JSON values (LSP 3.17). Members are in byte order of their names.
+-- The messages that an editor writes, as JSON values (LSP 3.17).
+-- Members are in byte order of their names.
 -- Rule: LSP 3.17, notifications and requests of a client; docs/PROTOCOL.md, JSON shapes 4.
 use Rattle.std.specs.Prelude.{ℕ, List, true, false, Bool, Option, Some, None, codes, string_bytes}
 use Rattle.serde_json.specs.Data.{Data, boolean, number, array, object, unsigned, no_items, member, no_members}

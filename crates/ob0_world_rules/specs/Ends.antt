@@ -21,7 +21,8 @@ pub record Open : Type 0 where
 abbrev pub EditorDocuments : Type 0
 EditorDocuments = map_of.FinMap (slice_cmp nat_cmp) Open
 
--- a request that was sent: what is requested, the document, and its opening and version at that time
+-- a request that was sent: what is requested, the document,
+-- and its opening and version at that time
 pub record SentAsk : Type 0 where
   pub ask : Ask
   pub uri : List ℕ
@@ -68,7 +69,8 @@ pub data ToServer : Type 0 where
 
 -- a message to the editor
 pub data ToEditor : Type 0 where
-  -- the uri, the version, and whether no diagnostic is in the list; a close sends a list without version
+  -- the uri, the version, and whether no diagnostic is in the list;
+  -- a close sends a list without version
   publishes : List ℕ → Option ℤ → Bool → ToEditor
   -- the ask's number and the edits; a refusal has none
   answers : ℕ → List Replacement → ToEditor
@@ -125,7 +127,8 @@ will_have w = fold after_message w.held w.to_server
 abbrev pub as_open : Open → Document
 as_open d = InStep (pos d.version) d.text
 
--- The mirror: the server's documents, after the messages that wait for it, are the editor's documents.
+-- The mirror: the server's documents, after the messages that wait for it,
+-- are the editor's documents.
 abbrev pub Mirrors : Ends → Type 0
 Mirrors w =
     (uri : List ℕ) → document_at (will_have w) uri ≡ option_map as_open (open_at w.editor uri)
