@@ -21,7 +21,7 @@ use Rattle.ob0_layout.specs.declared.sites.Solid.{Solid}
 use Rattle.ob0_layout.specs.declared.line_role.LineRole.{LineRole}
 use Rattle.ob0_layout.specs.Layout.{next_line, next_role, has_break, comment_role, gap_between, gap_text}
 
--- the gap before a token or comment, and the one after the last: nothing at the text's start
+-- the gap before a token or comment: nothing at the text's start
 abbrev pub gap_before : Option Solid → LexemeKind → LineRole → Gap
 gap_before None kind role = Nothing
 gap_before (Some b) kind role = gap_between b.kind b.role kind role

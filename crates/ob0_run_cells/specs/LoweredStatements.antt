@@ -42,7 +42,7 @@ ProgressRepresents typing (execution.stopped e out) (stopped f written) =
     (end_of e ≡ f) × (map written_of out ≡ written)
 ProgressRepresents typing _ _ = ⊥
 
--- the cells and the addresses that arguments are passed as
+-- the cells of arguments that are passed by value
 abbrev pub argument_cells : List Argument → List ℤ
 argument_cells [] = []
 argument_cells (place_argument p ∷ args) = argument_cells args

@@ -59,7 +59,7 @@ pub record Shows {N : Type 0} (checked : Typed N) (slots : N → Slot) (m : Mome
   pub has_addresses : sizes m.typing < 2 ^ 64
   pub has_numbers : (a : ℕ) → machine.fits (machine.cell_at (cells_in m) a) ≡ true
 
--- how a run ends, by how the lowered one does, and what a step gives
+-- how a run ends, by how the lowered one does
 abbrev pub end_of : machine.Halt → End
 end_of machine.Done = Done
 end_of machine.Overflow = Overflow
@@ -143,7 +143,7 @@ ValueAt {N} checked slots q s value =
     → Shows checked slots m
     → value m ≡ (place m >>= (λ p. or_stuck (read_place m.store p))))
 
--- the values of the parts of an expression, and the place of a designator
+-- the value of an expression at a moment
 abbrev pub value_of_expression : {N : Type 0} → Tree N expression → Evaluated N Value
 value_of_expression e m = evaluate m.active m.store e
 

@@ -27,7 +27,7 @@ pub fn elses_lower()
     ensures { ElsesLower }
 {}
 
-/// WHILE and REPEAT are loops of the same turns.
+/// WHILE and REPEAT are loops of the same iterations.
 pub fn loops_lower()
     ensures { LoopsLower }
 {}

@@ -43,7 +43,7 @@ fn next_site(frame: Frame) -> Site
 }
 
 impl Frame {
-    /// The frame with `size` cells more. None where these cells have no addresses: no allocation has room for them.
+    /// The frame with `size` cells more. None where these cells have no addresses: no allocation is that large.
     fn with(self, size: usize) -> Option<Frame>
         ensures { MatchOption result (2 ^ 64 ≤ self.cells + size)
             (λ f. f ≡ record self { cells = self.cells + size }) }
@@ -76,7 +76,7 @@ impl VisibleSites {
         }
     }
 
-    /// Makes room for an ordinal.
+    /// Makes the list long enough for an ordinal.
     fn reach(&mut self, ordinal: usize) -> Result<(), AllocError>
         ensures same { OnOk result
             ((k : ℕ) → site_at self.new.sites.items k ≡ site_at self.old.sites.items k) }

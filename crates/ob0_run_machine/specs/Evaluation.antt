@@ -60,12 +60,12 @@ fits (negsuc n) = nat_lt n (2 ^ 31)
 abbrev pub in_range : ℤ → StepResult ℤ
 in_range n = if fits n then gives n else ends Overflow
 
--- DIV rounds down and MOD is the rest from 0 on, for a divisor above 0
+-- DIV rounds down, for a divisor above 0
 abbrev pub quotient_of : ℤ → ℕ → ℤ
 quotient_of (pos a) b = pos (a / b)
 quotient_of (negsuc a) b = negsuc (a / b)
 
--- the remainder, which is never negative
+-- MOD, which is never negative for a divisor above 0
 abbrev pub remainder_of : ℤ → ℕ → ℤ
 remainder_of (pos a) b = pos (a % b)
 remainder_of (negsuc a) b = pos (b - suc (a % b))

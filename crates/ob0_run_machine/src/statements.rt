@@ -326,7 +326,7 @@ fn branches<F: Fn(&mut Machine<'_>, usize, &Level<'_>) -> Result<(), Stop>>(
     sequence_if_any(&i.otherwise, level, turns, machine, enter)
 }
 
-/// WHILE: where the condition is TRUE and this execution has made as many turns as it may, it ends with TurnBound.
+/// WHILE: where the condition is TRUE and this execution has made as many iterations as it may, it ends with TurnBound.
 #[inline(never)]
 #[cycle(execution)]
 fn run_loop<F: Fn(&mut Machine<'_>, usize, &Level<'_>) -> Result<(), Stop>>(

@@ -31,7 +31,7 @@ abbrev mutual
       (x ≡ y) × HasShape v s × HaveShapes rest others
   HaveShapes _ _ = ⊥
 
--- the type of a part one step further, and at the end of a path; an index lies below the length
+-- the type of a part one step further; an index is below the length
 abbrev pub part_shape : Shape → Step → Option Shape
 part_shape (array_shape k n s) (at_index i) = if nat_lt i n then Some s else None
 part_shape (record_shape k fs) (at_field x) = shape_of_field fs x

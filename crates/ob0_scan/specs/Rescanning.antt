@@ -26,12 +26,12 @@ last_end tokens comments =
     max (token_end (slice_get tokens (length tokens - 1)))
     (comment_end (slice_get comments (length comments - 1)))
 
--- whether the first token begins at a place, and the first comment
+-- whether the first token begins at a place
 abbrev pub token_begins : ℕ → List Token → Bool
 token_begins place [] = false
 token_begins place (t ∷ tokens) = t.span.start == place
 
--- a comment begins at a place
+-- whether the first comment begins at a place
 abbrev pub comment_begins : ℕ → List Span → Bool
 comment_begins place [] = false
 comment_begins place (c ∷ comments) = c.start == place

@@ -47,7 +47,7 @@ abbrev pub moved_token : ℕ → ℕ → Token → Token
 moved_token removed added token =
     record { kind = token.kind; span = moved removed added token.span }
 
--- the tokens before it that end before a place, and the comments
+-- the tokens that end before a place
 abbrev pub tokens_before_change : ℕ → List Token → List Token
 tokens_before_change place tokens = take (prefix_len (λ t. nat_lt t.span.end place) tokens) tokens
 
@@ -56,11 +56,11 @@ abbrev pub comments_before_change : ℕ → List Span → List Span
 comments_before_change place comments =
     take (prefix_len (λ c. nat_lt c.end place) comments) comments
 
--- the tokens from the first on that doesn't begin before a place, and the comments
+-- the tokens from the first one on that doesn't begin before a place
 abbrev pub back_tokens : ℕ → List Token → List Token
 back_tokens place tokens = drop (prefix_len (λ t. nat_lt t.span.start place) tokens) tokens
 
--- the comments from a place on
+-- the comments from the first one on that doesn't begin before a place
 abbrev pub back_comments : ℕ → List Span → List Span
 back_comments place comments = drop (prefix_len (λ c. nat_lt c.start place) comments) comments
 

@@ -131,7 +131,7 @@ pub record Agrees
   pub types : TypesAgree facts.types shape
   pub tokens : TokensAgree facts shape label meaning (identifiers role.Declaring t)
 
--- what an array's type may be for, and a record's
+-- a type that is an array
 abbrev pub as_array : Shape → Option Shape
 as_array integer_shape = None
 as_array boolean_shape = None

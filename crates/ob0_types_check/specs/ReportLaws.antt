@@ -22,7 +22,7 @@ meaning_here true meaning = constants_only meaning
 meaning_here false meaning = meaning
 
 -- What is known of an operand is so of its expression: its type; its value, where it is made of
--- constants, which is of that type; and where it may be for a place,
+-- constants, which is of that type; and where it may be a place,
 -- it is a variable or parameter with its selectors.
 pub record OperandFits
     {T N P : Type 0} (shape : T → Option Shape) (meaning : Meanings N Shape P) (o : Operand T)

@@ -109,7 +109,7 @@ facts_at p only_constants =
       only_constants = only_constants;
     }
 
--- the same where a declaration is known, and where all of some are
+-- the same where the declaration of an ordinal, if there is one, is known
 abbrev pub with_declared : SoFar → Meaning TypeId → Option ℕ → SoFar
 with_declared p m None = p
 with_declared p m (Some k) =
@@ -129,7 +129,7 @@ abbrev pub define_all : SoFar → Meaning TypeId → List ℕ → SoFar
 define_all p m [] = p
 define_all p m (x ∷ xs) = define_all (define p m x) m xs
 
--- what a type counts: INTEGER and BOOLEAN are one scalar, and what is unknown is nothing
+-- the size of INTEGER and BOOLEAN
 abbrev pub one_scalar : Size
 one_scalar = record { scalars = 1; depth = 0 }
 

@@ -46,7 +46,7 @@ reported_target facts x path = do
   t ← target_meaning facts x
   reported_selectors facts (a_name t x) path
 
--- the right side is required the type of the target
+-- the right side is required to have the type of the target
 abbrev pub reported_assignment : {T : Type 0}
     → Facts T
     → Reported (Operand T)
@@ -54,7 +54,7 @@ abbrev pub reported_assignment : {T : Type 0}
     → List Fault
 reported_assignment facts target e = target.faults ++ reported_required facts target.known.of e
 
--- a VAR parameter requires a variable with its selectors, alone, and each parameter for its type
+-- a VAR parameter requires a variable with its selectors, alone, and each parameter its type
 abbrev pub passed : {T : Type 0} → Facts T → KnownFormal T → Operand T → Reported T
 passed facts f o =
     if f.by_place && not o.is_place

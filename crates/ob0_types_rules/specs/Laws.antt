@@ -26,7 +26,7 @@ WellTypedByShape =
     → IsTrue (declared_once b)
     → WellTyped a ↔ WellTyped b
 
--- a constant expression has the value in a run the value of it to the checker,
+-- a constant expression has in a run the value that the checker computes,
 -- where names mean the same constants
 abbrev pub ConstantsEvaluate : Type 0
 ConstantsEvaluate =

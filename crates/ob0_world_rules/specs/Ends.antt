@@ -96,7 +96,7 @@ pub record Made : Type 0 where
 pub record Ends : Type 0 where
   pub editor : Editor
   pub to_server : List ToServer
-  -- the documents that the server holds
+  -- the documents that are open in the server
   pub held : OpenDocuments
   pub to_editor : List ToEditor
   pub applied : List Applied
