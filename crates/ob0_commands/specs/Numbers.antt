@@ -39,7 +39,7 @@ pub record IsInputOf (ns : List ℤ) (text : List ℕ) : Type 0 where
   pub short : length text ≤ 16777216
   pub writes : WritesNumbers text ns
 
--- the text is none of an input: it is too long, or not a list of numbers
+-- the text isn't that of an input: it is too long, or not a list of numbers
 abbrev pub IsNoInput : List ℕ → Type 0
 IsNoInput text = ¬ ((ns : List ℤ) × IsInputOf ns text)
 

@@ -122,7 +122,7 @@ rename_by None name = None
 abbrev pub rename_of : Data → Option ClientRequest
 rename_of params = rename_by (at_of params) (text_member (codes "newName") params)
 
--- texts; none where an item is no text
+-- texts; none where an item isn't a text
 abbrev pub texts_of : Items → Option (List (List ℕ))
 texts_of no_items = Some []
 texts_of (item d ds) =

@@ -91,7 +91,7 @@ pub fn lower(alloc: Global, checked: &WellTyped<'_>) -> Result<Program, AllocErr
 }
 
 /// Executes a program on an input, with at most `calls` calls open at a time, and at most `turns` iterations of each
-/// execution of a loop. The module's body is no call.
+/// execution of a loop. The module's body isn't a call.
 ///
 /// # Errors
 ///

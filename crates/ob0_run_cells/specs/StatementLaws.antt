@@ -99,7 +99,7 @@ LoopsLower =
     → StatementMeans checked slots targets (lowered.while_loop t body) (while_loop e a)
     × StatementMeans checked slots targets (lowered.repeat_loop body t) (repeat_loop a e)
 
--- statements one after the other; an empty one is none
+-- statements one after the other; an empty one has no code
 abbrev pub SequencesLower : Type 0
 SequencesLower =
     (checked : Typed Label) (slots : Label → Slot) (targets : Label → Target)

@@ -32,7 +32,7 @@ pub fn loops_lower()
     ensures { LoopsLower }
 {}
 
-/// Statements follow one another; an empty one is none.
+/// Statements follow one another; an empty one has no code.
 pub fn sequences_lower()
     ensures { SequencesLower }
 {}

@@ -71,7 +71,7 @@ pub enum Number {
     Chain(Box<Chain>),
 }
 
-/// What operations in a row begin with: a number that is no operation. So no row is nested in the left operand of
+/// What operations in a row begin with: a number that isn't an operation. So no row is nested in the left operand of
 /// another.
 #[cycle(numbers)]
 #[derive(Drop)]

@@ -103,7 +103,7 @@ evaluate_arguments meaning store (m ∷ ms) (e ∷ es) = do
   gives (a ∷ rest)
 evaluate_arguments meaning store _ _ = ends Stuck
 
--- a call, its arguments evaluated; the standard procedures are no calls for the bound c
+-- a call, its arguments evaluated; the standard procedures don't count as calls for the bound c
 abbrev pub perform : Option (Object Place (List Mode))
     → (List Argument → State → Progress)
     → List Argument

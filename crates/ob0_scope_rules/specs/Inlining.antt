@@ -12,7 +12,7 @@ abbrev pub Uses : Type 0
 Uses = ℕ → Bool
 
 -- k is the number of the first occurrence of each part;
--- a name with selectors is no use of a constant
+-- a name with selectors isn't a use of a constant
 abbrev pub inline_in : {s : Sort} → Uses → Tree Name factor → ℕ → Tree Name s → Tree Name s
 inline_in uses v k none = none
 inline_in uses v k (one t) = one (inline_in uses v k t)

@@ -18,7 +18,7 @@ pub enum Scalar {
 /// Why an operation gives nothing.
 #[derive(Clone, Copy, Debug, PartialEq, Eq)]
 pub enum OperatorFault {
-    /// The result is no number of 32 bits.
+    /// The result isn't a number of 32 bits.
     Overflow,
     /// DIV or MOD by a divisor below 1.
     Divisor,
