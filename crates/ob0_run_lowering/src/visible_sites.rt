@@ -16,7 +16,7 @@ pub(crate) struct Hidden {
     pub(crate) before: Site,
 }
 
-/// Where each declaration in scope is, by its ordinal, and what the bindings of this sight have hidden, oldest first.
+/// Where each declaration in scope is, by its ordinal, and what its bindings have hidden, oldest first.
 #[derive(Drop)]
 pub(crate) struct VisibleSites {
     pub(crate) sites: Vec<Site>,
@@ -110,7 +110,7 @@ impl VisibleSites {
         }
     }
 
-    /// Brings a declaration in scope.
+    /// Brings a declaration into scope.
     fn bind_ordinal(&mut self, ordinal: usize, site: Site) -> Result<(), AllocError>
         ensures sites { OnOk result ((k : ℕ)
             → site_at self.new.sites.items k
@@ -124,7 +124,7 @@ impl VisibleSites {
         Ok(())
     }
 
-    /// Brings what a name declares in scope. A name without an ordinal declares nothing.
+    /// Brings what a name declares into scope. A name without an ordinal declares nothing.
     pub(crate) fn bind(&mut self, ordinal: Option<usize>, site: Site) -> Result<(), AllocError>
         ensures sites { OnOk result ((k : ℕ)
             → site_at self.new.sites.items k

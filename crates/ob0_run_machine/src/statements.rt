@@ -1,4 +1,4 @@
-//! Statements. What calls do is handed in.
+//! Statements. What calls do is an argument.
 
 ghost use Rattle.std.specs.Prelude.{◌≡◌, ℕ};
 ghost use Rattle.ob0_run_machine.specs.Answers.{outcome_of_result};

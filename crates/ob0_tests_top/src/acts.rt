@@ -42,7 +42,7 @@ pub enum Sight {
     Answered(u64, bool),
     Applied(u64),
     Dropped(u64),
-    /// Its an allocation failed.
+    /// An allocation of the event failed.
     Refused,
     /// The world had ended before.
     Ended,
@@ -63,7 +63,7 @@ pub struct Published {
     pub empty: bool,
 }
 
-/// What happens where both ends count positions in a unit, and what has come of it in the end.
+/// What happens where client and server count positions in a unit, and what has come of it in the end.
 pub struct Story {
     pub name: &'static str,
     pub unit: Unit,
@@ -77,7 +77,7 @@ pub struct Story {
 #[derive(Clone, Copy, PartialEq, Eq)]
 pub enum Way {
     AsTold,
-    /// As it is reported up to an event whose an allocation fails, and after that the world has ended.
+    /// As it is reported up to an event at which an allocation fails, and after that the world has ended.
     UpToRefusal,
     Otherwise,
 }

@@ -1,4 +1,4 @@
-//! Whole lists of events at both ends, step by step and played, in both units of positions, over both stores.
+//! Whole lists of events of client and server, step by step and played, in both units of positions, over both stores.
 
 use crate::acts::{EventCounts, Story, Way, left, left_by_steps, way_of};
 use crate::stories::stories;

@@ -100,7 +100,7 @@ pub(crate) fn same_type(a: TypeId, b: TypeId) -> bool
     a == b
 }
 
-/// An unknown type is required nothing, and requires nothing.
+/// Nothing is required of an unknown type, and it requires nothing.
 fn fits(of: TypeId, wanted: TypeId) -> bool
     ensures { result ≡ fits (known_types []) of wanted }
 {
