@@ -1,9 +1,9 @@
-//! The one way in which these tests put a question to a text.
+//! The one way in which these tests ask a text.
 
 use ob0_analysis::{Analysis, Diagnosis, Question, ask};
 use std::alloc::{AllocError, Global};
 
-/// What a question about a text gives, or what is wrong with the text.
+/// What a question answers to a text, or what is wrong with it.
 pub fn said<Q: Question<Answer = String>>(
     alloc: Global,
     text: &str,

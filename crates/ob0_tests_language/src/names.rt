@@ -1,4 +1,4 @@
-//! What questions about the names of worked modules give, and their hover texts.
+//! What is answered of the names of worked modules, and what is shown of them.
 
 ghost use Rattle.std.specs.Prelude.{⊤};
 
@@ -22,7 +22,7 @@ impl Question for NameAt {
 
     ghost answers = { λ _ _ _. ⊤ };
 
-    /// What it is a name of, where that is declared, where it is named, and its hover text.
+    /// What it is a name of, where that is declared, where it is named, and what is shown of it.
     fn answer(&self, alloc: Global, module: &WellTyped<'_>) -> Result<String, AllocError> {
         let mut out = String::new(alloc);
         if let Some(found) = at(module, self.offset) {
@@ -57,7 +57,7 @@ fn push_places(
     push_spans(alloc, out, ", at", named.as_slice())
 }
 
-/// Adds the hover text of a name, and where it is displayed.
+/// Adds what is shown of a name, and where.
 fn push_shown(
     alloc: Global,
     out: &mut String,
@@ -166,7 +166,7 @@ fn names_and_fields_are_found(rt: HostRuntime) -> Result<(), Fail> {
     Ok(())
 }
 
-/// The hover texts of a module's names, a line for each identifier that has one.
+/// What is shown of a module's names, a line for each identifier that something is shown of.
 #[derive(Drop)]
 struct Shown;
 
@@ -281,7 +281,7 @@ fn each_kind_of_name_is_shown(rt: HostRuntime) -> Result<(), Fail> {
     Ok(())
 }
 
-// `make faults` runs this with each allocation failing in turn.
+// `make faults` runs this with each allocation refused in turn.
 #[test]
 fn a_refused_allocation_changes_no_answer(rt: HostRuntime) {
     for row in SHOWN {

@@ -119,7 +119,7 @@ const ROWS_OF_ARRAYS: &str = "MODULE M;\n\
     BEGIN i := 2; m[1][i] := 4; m[0] := m[1]; m[1][i] := 5; Write(m[0][i]); Write(m[1][2]); \
     Write(m[1][i + 1]) END M.";
 
-/// A text, its input, how many calls may be open and how many iterations a loop may make, and what is printed.
+/// A text, its input, how many calls may be open and how many turns a loop may make, and what is shown.
 static ROWS: &[(&str, &[i32], u32, u32, &str)] = &[
     (
         "MODULE M; BEGIN Write(-7 DIV 3); Write((-7) DIV 3); Write((-7) MOD 3); \
@@ -235,7 +235,7 @@ fn worked_modules_are_run(rt: HostRuntime) -> Result<(), Fail> {
     Ok(())
 }
 
-// `make faults` runs this with each allocation failing in turn.
+// `make faults` runs this with each allocation refused in turn.
 #[test]
 fn a_refused_allocation_changes_no_run(rt: HostRuntime) {
     for row in ROWS {

@@ -1,4 +1,4 @@
-//! What documents and a text are left as where an allocation of a call fails.
+//! What documents and a text are left as where the memory of a call is refused.
 
 use crate::text::changes_of;
 use ob0_text::{Change, Documents, Held, Lines, Position, Range, TextStore};
@@ -8,7 +8,7 @@ use std::test::Fail;
 
 const OPENED: &str = "a\rb";
 
-/// Three changes of a notification, and what they make of the text that was opened.
+/// Three changes of a note, and what they make of the text that was opened.
 static ROWS: &[((u64, u64), (u64, u64), &str)] = &[
     ((1, 0), (1, 0), "\n"),
     ((1, 1), (1, 1), "\nc"),
@@ -39,7 +39,7 @@ fn is_out_of_step(documents: &Documents<Lines>, uri: &str) -> bool {
     }
 }
 
-/// Opens a document, and once more where that failed; then whether it was as before in between.
+/// Opens a document, and once more where that was refused; then whether it was as before in between.
 fn opens(
     documents: &mut Documents<Lines>,
     uri: &str,
@@ -53,7 +53,7 @@ fn opens(
     Ok(is_as_before && is_in_step(documents, uri, opened))
 }
 
-/// Changes a document by a notification: it is in step where that was taken, and else out of step.
+/// Changes a document by a note: it is in step where the note was taken, and else out of step.
 fn changes(documents: &mut Documents<Lines>, uri: &str, note: &[Change]) -> bool {
     match documents.did_change(uri, 2, note) {
         Ok(()) => is_in_step(documents, uri, (2, CHANGED)),
@@ -68,7 +68,7 @@ fn note_of(alloc: Global) -> Result<Vec<Change>, AllocError> {
     }
 }
 
-/// Whether two documents, of which one is changed, are stored as they are to be.
+/// Whether two documents, of which one is changed, are held as they are to be.
 fn are_held(alloc: Global) -> Result<bool, AllocError> {
     let note = note_of(alloc)?;
     let mut documents: Documents<Lines> = Documents::new(alloc);
@@ -77,7 +77,7 @@ fn are_held(alloc: Global) -> Result<bool, AllocError> {
     Ok(both && changed && is_in_step(&documents, "v", (1, OPENED)))
 }
 
-// `make faults` runs this with each allocation failing in turn.
+// `make faults` runs this with each allocation refused in turn.
 #[test]
 fn a_refused_note_leaves_its_document_alone_out_of_step(rt: HostRuntime) -> Result<(), Fail> {
     assert!(rt; are_held(rt.alloc())?);
@@ -91,7 +91,7 @@ fn store_of(alloc: Global) -> Result<Lines, AllocError> {
     }
 }
 
-/// Whether a text is as it was where a replacement fails.
+/// Whether a text is as it was where a replacement is refused.
 fn is_left(alloc: Global) -> Result<bool, AllocError> {
     let mut store = store_of(alloc)?;
     let here = Position {
