@@ -27,7 +27,7 @@ def replaced(line, column, end, new, version):
 
 
 def in_and_out(text, pattern, letter):
-    """Changes of one letter after a place: it is put in and taken out in turn."""
+    """Changes of one letter after a place: it is put in, and then taken out again."""
     line, column = place_after(text, pattern)
 
     def changes(count):

@@ -1,6 +1,6 @@
 """Programs that do the same in Oberon-0, Lua and Python: for each a name and three texts.
 
-A run allows 64 open calls and 100,000 turns of each execution of a loop, so the work is in nested loops."""
+A run allows 64 open calls and 100,000 iterations of each execution of a loop, so the work is in nested loops."""
 
 PROGRAMS = {
     "nested loops, 2,000,000 turns": (

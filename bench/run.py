@@ -71,8 +71,8 @@ def trace(what, pid=0, given=0):
 
 
 def peak_of(words, given, cwd):
-    """The peak memory of a run, held at its end and looked at there: for runs that are too short to be watched. 0 where this
-    system lets nobody hold a process."""
+    """The peak memory of a run, stopped at its end and looked at there: for runs that are too short to be watched. 0 where
+    this system lets nobody stop a process."""
     given.seek(0)
     how = {"stdin": given, "stdout": subprocess.DEVNULL, "stderr": subprocess.DEVNULL, "cwd": cwd}
     process = subprocess.Popen(words, preexec_fn=lambda: trace(TRACE_ME), **how)
@@ -130,7 +130,7 @@ def letter_at(text, version):
 
 
 def letters_at(text, count):
-    """This many changes in one note: in the middle of a text a blank is put in and taken out in turn."""
+    """This many changes in one notification: in the middle of a text a blank is put in, then taken out, and so on."""
     line, column = place_in_the_middle(text)
     put = {"range": extent(f"{line}:{column}-{line}:{column}"), "text": " "}
     take = {"range": extent(f"{line}:{column}-{line}:{column + 1}"), "text": ""}
@@ -477,7 +477,7 @@ def typed():
 
 @measure("typing: changes that leave a text ill-typed, beside changes that don't")
 def left_ill_typed():
-    """What makes a number a truth value is put in and taken out in turn, and what leaves it a number."""
+    """What makes a number a truth value is put in and taken out again, and so is what leaves it a number."""
     for size in (10_000, 100_000, MIB - 1000):
         text = corpus.module(size)
         at = text.index(" := ", middle_name(text)) + 4

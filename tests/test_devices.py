@@ -16,7 +16,7 @@ TALK = [initialize(), did_open(corpus.module(200000)), did_change("$"), SHUTDOWN
 
 
 def limited(kilobytes):
-    """The talk by a server that may have so much room for its addresses."""
+    """The talk by a server whose addresses are limited to this many kilobytes."""
     words = ["sh", "-c", f'ulimit -v {kilobytes}; exec "$@"', "sh", harness.BINARY, "serve"]
     ran = subprocess.run(words, input=frames(TALK), timeout=harness.SECONDS, capture_output=True, check=False)
     return ran.returncode, ran.stderr, ran.stdout
@@ -31,7 +31,7 @@ def memory():
     for kilobytes in [*range(3000, 9000, 250), *range(9000, 60000, 3000)]:
         status, err, out = limited(kilobytes)
         if status == 127:
-            continue  # (the loader itself had no room)
+            continue  # (the loader itself had too few addresses)
         where = f"under {kilobytes} KB"
         if status == 0:
             same((out, err), (whole.out, b""), where)

@@ -83,7 +83,7 @@ def neovim_scanning():
 
 
 def while_typing():
-    """What is shown after each letter of `; x := 1`."""
+    """What is displayed after each letter of `; x := 1`."""
     typed, at = "; x := 1", TYPED.index(" END")
     wanted_steps = [("opened", [])]
     for count, letter in enumerate(typed, 1):
@@ -187,7 +187,7 @@ def emacs_questions():
     same(in_emacs("questions", CALLS), [*ANSWERED, ("ended", 0)])
 
 
-# places to look at, each with what is shown, the places that are listed, and where its name is declared
+# places to look at, each with its hover text, the places that are listed, and where its name is declared
 CALLS_SEEN = [
     ([3, 6], "PROCEDURE F(n: INTEGER)", [[1, 10], [2, 30], [2, 47], [3, 6]], [1, 10]),
     ([2, 47], "PROCEDURE F(n: INTEGER)", [[1, 10], [2, 30], [2, 47], [3, 6]], [1, 10]),

@@ -89,7 +89,7 @@ def unmarked(text):
 
 
 def patched(text, edits):
-    """A text with the edits of an answer, which stand in text order."""
+    """A text with the edits of an answer, which are in text order."""
     starts = [0]
     for at, it in enumerate(text):
         if it == "\n" or it == "\r" and text[at + 1 : at + 2] != "\n":

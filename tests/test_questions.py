@@ -134,7 +134,7 @@ BEGIN a[c] := d; Q(a[0], p[0][1], on, b); b := TRUE END M.
 
 
 def shows(server, wanted):
-    """Hover shows these texts at both ends of their ranges."""
+    """Hover displays these texts at both ends of their ranges."""
     for span, text in wanted.items():
         at = extent(span)
         for end in ("start", "end"):

@@ -46,7 +46,7 @@ def few_characters():
 
 
 def answers_at(server, found, at, where):
-    """Holds the answers at a place of a text to those of the reference."""
+    """Compares the answers at a place of a text with those of the reference."""
     span, shown, declared, places = questions.at_place(found, at) or (None, None, None, [])
     ranges = lambda it: extent("{}:{}-{}:{}".format(*found.position(it[0]), *found.position(it[1])))
     params = {"position": place(*found.position(at)), "textDocument": {"uri": URI}}

@@ -1,5 +1,5 @@
-"""The analysis after a change is that of the new text: random changes, each held to a server that reads the text for the first time.
-`make faults` does the same 20,000 times."""
+"""The analysis after a change is that of the new text: random changes, each compared with a server that reads the text
+for the first time. `make faults` does the same 20,000 times."""
 import os
 
 import random_changes

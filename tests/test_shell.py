@@ -97,14 +97,14 @@ def in_zsh():
     setup += "zstyle ':completion:*' list-prompt ''; setopt no_auto_menu no_list_beep auto_list; PS1=; LISTMAX=0; echo rea''dy\n"
 
     def all_offered(room):
-        """What zsh shows when Tab is typed after each line, in a terminal."""
+        """What zsh displays when Tab is typed after each line, in a terminal."""
         process, terminal = pty.fork()
         if process == 0:
             os.chdir(room)
             os.execvpe("zsh", ["zsh", "-f", "-i"], environment(room))
 
         def said(until, longest):
-            """What is shown until this word was printed and zsh reads keys again (it switches bracketed paste on then)."""
+            """What is displayed until this word was printed and zsh reads keys again (it switches bracketed paste on then)."""
             found, end = b"", time.monotonic() + longest
             while b"[?2004h" not in found.partition(until)[2] and time.monotonic() < end:
                 if select.select([terminal], [], [], 0.2)[0]:
@@ -115,7 +115,7 @@ def in_zsh():
         said(b"ready", 20)
         shown = []
         for at, (typed, _) in enumerate(OFFERED):
-            # (Tab twice: to the longest common beginning, and then the list; then the line is given up)
+            # (Tab twice: to the longest common beginning, and then the list; then the line is dropped)
             os.write(terminal, f"ob0 {typed}\t\t\x15echo do''ne{at}\n".encode())
             shown.append(said(f"done{at}".encode(), 20))
         os.write(terminal, b"exit\n")

@@ -1,4 +1,4 @@
-"""The statement: the page of all definitions that the headline is made of is of the sources that stand here."""
+"""The statement: the page of all definitions that the headline is made of is of the sources that are here."""
 import os
 import subprocess
 import sys

@@ -1,4 +1,4 @@
-"""Diagnostics of the parser: the first token that can't stand, and what was expected there."""
+"""Diagnostics of the parser: the first token that can't be there, and what was expected instead."""
 from harness import Server, diagnostic, did_open, ends, frames, initialize, on_file, same, serve, test
 
 # text: where, what is expected
@@ -94,7 +94,7 @@ def chains():
     with Server() as server:
         for name, text in texts.items():
             same(server.notify(did_open(text)), [], name)
-        # (selectors are a chain of lexemes and of the tree; no type has so many fields)
+        # (selectors are a chain of lexemes and of the tree; no type has that many fields)
         found = server.notify(did_open("MODULE M; VAR x: INTEGER; BEGIN x" + ".x" * count + " := 1 END M."))
         same([it for it in found if it["code"] in ("Syntax", "TooDeep")], [], "selectors")
 

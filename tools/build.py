@@ -4,7 +4,7 @@
 It says which crate is being proved, how many are left and the time so far. What is proved already is kept in
 crates/*/out and not proved again; a program that is up to date is left as it is.
 
-Two runs of rt in one tree wait for each other where they stand on the same crate. So each crate is proved in a tree of
+Two runs of rt in one tree wait for each other where they depend on the same crate. So each crate is proved in a tree of
 its own, a room: copies of its sources and of those below, with their proved libraries as hard links."""
 import os
 import re
@@ -46,7 +46,7 @@ def link(old, new):
 
 
 def chain(name, named):
-    """How many crates stand one on the other above this one, at most."""
+    """How many crates are one above the other over this one, at most."""
     return max((1 + chain(it, named) for it in named if name in named[it]), default=0)
 
 

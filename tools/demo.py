@@ -115,7 +115,7 @@ def tried(messages):
 
 
 def lines_of(value):
-    """JSON in readable lines: what fits is on one line, texts of several lines are shown as lines."""
+    """JSON in readable lines: what fits is on one line, texts of several lines are printed as lines."""
     flat = json.dumps(value, ensure_ascii=False)
     if isinstance(value, str) and "\n" in value:
         return ['"', *("  | " + it for it in value.rstrip("\n").split("\n")), '"']

@@ -69,7 +69,7 @@ def changed_lines(file, folder):
 
 
 def turned_by(source, lines):
-    """The functions that stand on some lines, or None where one of the lines belongs to no function."""
+    """The functions that are on some lines, or None where one of the lines belongs to no function."""
     found = set()
     for path, number in lines:
         here = [it for it in source.functions if it.file == path and it.first <= number <= it.last]

@@ -1,14 +1,14 @@
 #!/usr/bin/env python3
-"""What is done to the program beyond the end-to-end tests, since it takes long: memory refused at each allocation, of longer
+"""What is done to the program beyond the end-to-end tests, since it takes long: each allocation fails in turn, of longer
 conversations and commands, and of the tests of the crates that are made for it (`a_refused_..`); one long conversation; many
 random changes of documents; many random modules, run by the program and by the reference; one long conversation about several
-documents, each answer held against that of a server that keeps nothing.
+documents, each answer compared with that of a server that keeps nothing.
 
   tools/faults.py [WORD..]   what has one of these words in its name; with no word all of it
 
 It runs bin/ob0 (or the program that the variable OB0 names) and the programs of tests that `make test` or `rt test` left in
 crates/NAME/out. OB0_LONG is how many messages each long conversation has (100,000), OB0_CHANGES how many random changes are
-tried (20,000), OB0_RUNS how many random modules are run (20,000), OB0_WALK about how many allocations of one test are refused
+tried (20,000), OB0_RUNS how many random modules are run (20,000), OB0_WALK about how many allocations of one test fail
 (10,000): of more, each second, third and so on. The last line is 'N passed, M failed'."""
 import os
 import sys

@@ -347,7 +347,7 @@ def roots(statement):
 
 
 def by_file(order, crates):
-    """The blocks by their files, in the order of the crates and in that of the files' needs; types stand before the blocks of
+    """The blocks by their files, in the order of the crates and in that of the files' needs; types are before the blocks of
     their crate."""
     places = {crate: i for i, crate in enumerate(crates)}
     files, types = [], {}

@@ -20,7 +20,7 @@ RESULTS = os.path.join(TOP, "bin", "results")
 
 
 def stream(words, timer, **named):
-    """Runs a command, shows what it says, and returns its status and the counts of its last line that has them. What `rt`
+    """Runs a command, prints what it says, and returns its status and the counts of its last line that has them. What `rt`
     says of a crate has the time before it."""
     counts = None
     how = {"cwd": TOP, "stdin": subprocess.DEVNULL, "stdout": subprocess.PIPE, "stderr": subprocess.STDOUT}

@@ -268,7 +268,7 @@ def main(words):
 
 
 def without_last_line_feed(found, out, status, err=""):
-    """In place of `harness.ends`: `rt try` shows an output that lacks its last line feed with one."""
+    """In place of `harness.ends`: `rt try` prints an output that lacks its last line feed with one."""
     as_bytes = lambda it: it if isinstance(it, bytes) else it.encode()
     plain = lambda it: as_bytes(it).rstrip(b"\n")
     got, wanted = (plain(found.out), found.err, found.status), (plain(out), as_bytes(err), status)

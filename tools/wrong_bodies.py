@@ -4,7 +4,7 @@
   tools/wrong_bodies.py [--jobs N] [--quiet] [CRATE..]   all crates where none is named; with --quiet no refused one is listed
   tools/wrong_bodies.py CRATE/WORD..                     those of a crate with this word in their path
 
-The gate tries its own one by one. Here as many of a crate as can be stand in one check over what is kept of its proofs:
+The gate tries its own one by one. Here as many of a crate as can be are in one check over what is kept of its proofs:
 the checker judges each function for itself. A function that only calls one that isn't proved is judged in a later
 check, and so is the second of two mutants of one function. What isn't refused among others is tried alone.
 
@@ -141,7 +141,7 @@ def prove(name, jobs):
 
 
 def together(left):
-    """Mutants of different functions, of which no two have one proof: as many as can stand in one check."""
+    """Mutants of different functions, of which no two have one proof: as many as can be in one check."""
     chosen, taken = [], set()
     for edit in left:
         proofs = {it.proof for it in edit.turned or ()}

@@ -1,4 +1,4 @@
-"""What is run with memory refused and devices that fail: conversations and commands, each with its input and file."""
+"""What is run with allocations and devices that fail: conversations and commands, each with its input and file."""
 import corpus
 from first_conversation import INPUT
 from harness import EXIT, SHUTDOWN, did_change, did_close, did_open, extent, frames, initialize, notice, place, request
@@ -59,7 +59,7 @@ def several_documents():
     return talk(*opened, *queried, *changed, *again, *closed, about(KEPT[0], query(31, "hover", 3, 15)))
 
 
-BYTE_BY_BYTE = 1 << 40  # (the call that fails: there are never so many)
+BYTE_BY_BYTE = 1 << 40  # (the call that fails: there are never that many)
 
 # name: the words, standard input, the file m.mod; and for a reader of one byte a call, the call that fails
 SHORT = {

@@ -11,7 +11,7 @@ FIRST, LAST = answer(1, {"capabilities": capabilities()}), answer(2, None)
 
 
 def filled(before, middle, after=""):
-    """A text of this many bytes: a middle as often as there is room for it, and blanks."""
+    """A text of this many bytes: a middle as often as the size allows, and blanks."""
     return lambda size: (before + middle * ((size - len(before) - len(after)) // len(middle)) + after).ljust(size)
 
 

@@ -1,5 +1,5 @@
-"""One long conversation: random changes, each valid, and questions. What is published of each text is held against what a new
-`check` prints of it, and the memory of the server is watched."""
+"""One long conversation: random changes, each valid, and questions. What is published of each text is compared with what a
+new `check` prints of it, and the memory of the server is watched."""
 import concurrent.futures
 import random
 import re
@@ -38,7 +38,7 @@ class Talk:
         return self.text, self.server.notify(did_open(self.text, URI, self.version))
 
     def change(self):
-        """One to three changes in one note: other words at a place, or what was there before."""
+        """One to three changes in one notification: other words at a place, or what was there before."""
         changes = []
         for _ in range(self.chance.choice([1, 1, 2, 3])):
             if self.text != self.good and self.chance.random() < 0.4:
@@ -108,7 +108,7 @@ def converse(count, seed=0):
             if number == count // 4:
                 early = resident(server)
         late = resident(server)
-        # (a quarter of the messages has shown what they need)
+        # (after a quarter of the messages it is known what they need)
         holds(late <= early * 1.1 + 256, f"{early} KiB after a quarter of the messages, {late} KiB at the end")
         same(server.end(), 0, "the status")
     holds(published and empty and empty < published, f"{published} publications, {empty} of them empty")

@@ -1,6 +1,6 @@
 """Modules that are nested as deep as wished: of one construct, or of random mixes.
 
-Each step opens one construct that counts for nesting and leads to a place where the next one may stand. A place is of
+Each step opens one construct that counts for nesting and leads to a place where the next one may be. A place is of
 one of five kinds: declarations D, a type T, statements S, an expression E, a factor F."""
 import random
 

@@ -1,5 +1,5 @@
-"""One conversation about several documents: random changes, closes, texts that get lost, and questions between. Each answer is held
-against that of a server that keeps nothing: a new one, which is given the present text alone and then the same question."""
+"""One conversation about several documents: random changes, closes, texts that get lost, and questions between. Each answer is
+compared with that of a server that keeps nothing: a new one, which is given the present text alone and then the same question."""
 import concurrent.futures
 import json
 import random
@@ -76,7 +76,7 @@ class Talk:
         return {"range": there, "text": new}, text[:start] + new + text[end:]
 
     def change(self, document):
-        """One to three changes in one note."""
+        """One to three changes in one notification."""
         changes = []
         for _ in range(self.chance.choice([1, 1, 1, 2, 3])):
             one, document.text = self.one_change(document)

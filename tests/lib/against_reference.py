@@ -1,4 +1,4 @@
-"""The program held to the reference (tests/reference): its diagnostics of a text, and its runs."""
+"""The program compared with the reference (tests/reference): its diagnostics of a text, and its runs."""
 import collections
 import concurrent.futures
 
@@ -35,7 +35,7 @@ MAKERS = {
 
 
 def compare(seeds):
-    """Holds texts to the reference: of each seed one, the kinds in turn. Returns how many had a fault."""
+    """Compares texts with the reference: of each seed one, of one kind after the other. Returns how many had a fault."""
     makers, faulty = list(MAKERS.values()), 0
     with Server() as server:
         for seed in seeds:

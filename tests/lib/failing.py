@@ -1,4 +1,4 @@
-"""The program, and the tests of the crates, with memory that is refused and devices that fail: failing.c is preloaded."""
+"""The program, and the tests of the crates, with allocations and devices that fail: failing.c is preloaded."""
 import concurrent.futures
 import contextlib
 import functools
@@ -38,7 +38,7 @@ def compiled():
 
 
 class Walked(harness.Ended):
-    """Runs that ended alike, one after the other: their numbers, whether anything was refused or failed, and how many calls
+    """Runs that ended alike, one after the other: their numbers, whether an allocation or a device failed, and how many calls
     of each kind the last of them made."""
 
     def __init__(self, out, err, status, numbers, is_touched, calls):
@@ -55,7 +55,7 @@ def walked(words, given, cwd, kind, numbers, ending, **fails):
         stdin.flush()
         span = f"{kind} {numbers[0]}-{numbers[-1]}/{numbers.step}"
         named = {"report": reports.fileno(), "each": span, **fails, kind: f"0{ending}"}
-        # (nothing else of this environment: what a program takes in before main is not to hang on it)
+        # (nothing else of this environment: what a program takes in before main is not to depend on it)
         own = {f"OB0_{name.upper()}": str(value) for name, value in named.items() if value is not None}
         own.update(LD_PRELOAD=library(), PATH=os.environ.get("PATH", ""))
         how = {"stdin": stdin, "stdout": subprocess.DEVNULL, "stderr": subprocess.PIPE, "cwd": cwd, "env": own}
@@ -83,7 +83,7 @@ def walk(words, given, cwd, kind, numbers, ending="", **fails):
 
 
 def undisturbed(words, given=b"", cwd=None, **fails):
-    """A run in which nothing is refused."""
+    """A run in which no allocation fails."""
     return walked(words, given, cwd, "memory", range(1), "", **fails)[0]
 
 
@@ -104,9 +104,9 @@ def beside(text):
 
 
 def refused(name, words, given=b"", text=None, reads=None):
-    """Runs the program with each allocation refused in turn, alone and with all after it. It has to end with the status of
-    refused memory, what it wrote a front of whole messages (of a command: nothing, or all), or as if nothing had been
-    refused. Returns how many runs ended either way."""
+    """Runs the program with each allocation failing in turn, alone and with all after it. It has to end with the status of
+    out of memory, what it wrote a prefix of whole messages (of a command: nothing, or all), or as if no allocation had
+    failed. Returns how many runs ended either way."""
     counts = {"refused": 0, "undisturbed": 0}
     command = [harness.BINARY, *words]
     with beside(text) as room:
@@ -129,7 +129,7 @@ def refused(name, words, given=b"", text=None, reads=None):
 
 def broken(name, words, given=b"", text=None):
     """Runs the program with each of its reads and writes failing in turn, of whatever file. It has to end with the status of
-    a device that fails, what it wrote a front of what it writes else; where the failed call is that on standard error, all
+    a device that fails, what it wrote a prefix of what it writes else; where the failed call is that on standard error, all
     else is as without. Returns how many runs that were."""
     command = [harness.BINARY, *words]
     with beside(text) as room:

@@ -1,4 +1,4 @@
-"""Tests of the crates whose names begin with `a_refused_`: each is run with each of its allocations refused in turn. Their
+"""Tests of the crates whose names begin with `a_refused_`: each is run with each of its allocations failing in turn. Their
 programs are those that `rt ci` and `rt test` leave in crates/NAME/out."""
 import itertools
 import os
@@ -36,7 +36,7 @@ PLAYED, STEPPED = "world::a_refused_event_leaves_what_was_played_before", "world
 
 
 def refusals(crate, test):
-    """What a test prints of what was played, with each of its allocations refused in turn, and at last with none."""
+    """What a test prints of what was played, with each of its allocations failing in turn, and at last with none."""
     words = [program_of(crate), test]
     plain = failing.undisturbed(words)
     numbers = range(1, plain.calls["memory"] + 1)
@@ -46,7 +46,7 @@ def refusals(crate, test):
 
 
 def plays_exactly(crate):
-    """Compares what was played to what was made one by one, with the same allocation refused: it is the same, by the number
+    """Compares what was played to what was made one by one, with the same allocation failing: it is the same, by the number
     of events and what came of them. Returns a line with figures."""
     ones, others = refusals(crate, PLAYED), refusals(crate, STEPPED)
     whole = others[-1]
@@ -59,7 +59,7 @@ def plays_exactly(crate):
 
 
 def walk(crate, test, most):
-    """Runs a test with its allocations refused in turn: all of them, or of more than `most` each second, third and so on.
+    """Runs a test with its allocations failing in turn: all of them, or of more than `most` each second, third and so on.
     Returns a line with figures."""
     words = [program_of(crate), test]
     plain = failing.undisturbed(words)

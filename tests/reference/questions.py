@@ -29,7 +29,7 @@ def on(token, at):
 
 
 def at_place(found, at):
-    """At a place of a well-typed text: the span of the name or field there, what is shown of it, the span of what
+    """At a place of a well-typed text: the span of the name or field there, its hover text, the span of what
     declares it, and all its places, that one too. None where there is none."""
     span = lambda it: (it.start, it.end)
     for token, declared in found.bound.items():

@@ -1,4 +1,4 @@
--- What comes of asking a text.
+-- What a question about a text gives.
 -- Rule: none; for contracts of `ask`.
 use Rattle.std.specs.Prelude.{ℕ, List, None, Option, Some}
 use Rattle.ob0_scan.specs.Scanned.{IsScanOf}

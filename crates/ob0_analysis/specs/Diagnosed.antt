@@ -1,5 +1,6 @@
 -- What is reported of a text: nothing exactly where it is a well-typed module.
--- Rule: docs/PROTOCOL.md, Publishing 3; docs/LANGUAGE.md, Lexemes 7, Syntax faults, Faults of scopes and types 1.
+-- Rule: docs/PROTOCOL.md, Publishing 3; docs/LANGUAGE.md, Lexemes 7, Syntax faults,
+-- Faults of scopes and types 1.
 use Rattle.std.specs.Prelude.{◌≡◌, ◌⊎◌, ◌≤◌, ◌<◌, ◌++◌, ◌∷◌, ℕ, List, [], Option, Some, None, map, length, slice_get, codes, string_bytes}
 use Rattle.ob0_scan.specs.CodeTexts.{code_name, code_message}
 use Rattle.ob0_scan.specs.Refused.{AreFaults}

@@ -20,7 +20,8 @@ text_of (NoLexemes ill) = string_bytes ill.text
 text_of (NoTree ill) = ill.tokens.text
 text_of (Module m) = m.module_read.source.text
 
--- why a changed text has no tokens: its faults, where the old tokens have these procedures, or that memory ran out
+-- why a changed text has no tokens: its faults, where the old tokens have these procedures,
+-- or that memory ran out
 abbrev pub IsRefusalOf : List ℕ → Kept → NotRescanned → Type 0
 IsRefusalOf text kept (rescanned.Faults faults tokens) =
     (IsScannable text → ⊥) × AreFaults text faults.items × AreKept tokens.tokens kept
@@ -41,8 +42,8 @@ abbrev pub HasProcedures : Option LastTokens → Type 0
 HasProcedures None = Unit {0}
 HasProcedures (Some last) = AreKept last.tokens.tokens last.kept
 
--- A text without lexemes has these faults, and one without a tree is refused so. The last tokens before the one, and the
--- tokens of the other, have the procedures that are kept.
+-- A text without lexemes has these faults, and one without a tree is refused so. The last tokens
+-- before the one, and the tokens of the other, have the procedures that are kept.
 abbrev pub IsFound : Findings → Type 0
 IsFound (NoLexemes ill) =
     (IsScannable (string_bytes ill.text) → ⊥)

@@ -1,4 +1,5 @@
--- Where layers meet for which a text is the list of its characters, and others that take it by its bytes.
+-- Where layers meet for which a text is the list of its characters,
+-- and others that take it by its bytes.
 -- Rule: none; for contracts: a text as characters and as bytes.
 use Rattle.std.specs.Prelude.{ℕ, List, encode_utf8_all}
 

@@ -26,7 +26,7 @@ pub trait Question {
         ensures { IfOk result (λ answer. answers self.now module.now answer) };
 }
 
-/// Asks the module of a text. None where the text isn't a well-typed module.
+/// Puts a question to the module of a text. None where the text isn't a well-typed module.
 pub fn ask<Q: Question>(
     alloc: Global,
     analysis: &Analysis,

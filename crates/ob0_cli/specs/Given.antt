@@ -52,7 +52,8 @@ pub record Gives (words : List Text) (line : CommandLine) : Type 0 where
   pub fine : fault_of ob0_app words ≡ []
   pub read : IsReadFrom (subcommand_of ob0_app words) line
 
--- a refusal is of the kind of the first fault that the words have, and never of the kind 'out of memory'
+-- a refusal is of the kind of the first fault that the words have,
+-- and never of the kind 'out of memory'
 abbrev pub RefusesWords : List Text → CommandFault → Type 0
 RefusesWords words (Refused error) =
     IsAmong (kind_of error) (fault_of ob0_app words) × ¬ (kind_of error ≡ OutOfMemory)

@@ -31,7 +31,8 @@ turns_rule = record (new_rule (codes "turns")) {
   defaults = codes "100000" ∷ [];
 }
 
--- LSP 3.17, implementation considerations: the transport, which is standard input and output in any case
+-- LSP 3.17, implementation considerations: the transport,
+-- which is standard input and output in any case
 abbrev pub stdio_rule : Rule
 stdio_rule =
     record (new_rule (codes "stdio")) { long = Some (codes "stdio"); action = Some SetTrue }
@@ -41,7 +42,8 @@ abbrev pub client_rule : Rule
 client_rule =
     record (new_rule (codes "client")) { long = Some (codes "clientProcessId"); value_names = 1 }
 
--- each option of `serve` may be given several times, since clients add them to what their users wrote
+-- each option of `serve` may be given several times,
+-- since clients add them to what their users wrote
 abbrev pub serve_alone : App
 serve_alone =
     record (new_app (codes "serve"))

@@ -116,7 +116,7 @@ pub enum CommandLine<'a> {
 /// Why a command line requests nothing.
 #[derive(Debug, Drop, thiserror::Error)]
 pub enum CommandFault {
-    /// The words are refused, or they ask for help or the version.
+    /// The words are refused, or they request help or the version.
     #[error(transparent)]
     Refused(Error),
     #[error("out of memory")]

@@ -17,7 +17,8 @@ abbrev pub EndsWord : List ℕ → Type 0
 EndsWord [] = ⊤
 EndsWord (b ∷ bs) = IsTrue (is_space b)
 
--- A text writes numbers: each is a word of its own, and between words is white space: space, tab, CR or LF.
+-- A text writes numbers: each is a word of its own, and between words is white space:
+-- space, tab, CR or LF.
 pub data WritesNumbers : List ℕ → List ℤ → Type 0 where
   nothing : WritesNumbers [] []
   space : {b : ℕ} {text : List ℕ} {ns : List ℤ}
@@ -38,7 +39,7 @@ pub record IsInputOf (ns : List ℤ) (text : List ℕ) : Type 0 where
   pub short : length text ≤ 16777216
   pub writes : WritesNumbers text ns
 
--- the text is none of an input: it is too long, or not a list of numbers
+-- the text isn't that of an input: it is too long, or not a list of numbers
 abbrev pub IsNoInput : List ℕ → Type 0
 IsNoInput text = ¬ ((ns : List ℤ) × IsInputOf ns text)
 

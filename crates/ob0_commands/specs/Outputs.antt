@@ -1,4 +1,5 @@
--- A device, whether it has been flushed since something was last written to it, and whether it has failed.
+-- A device, whether it has been flushed since something was last written to it,
+-- and whether it has failed.
 -- Rule: none; for contracts: a writer that remembers failures and flushes.
 use Rattle.std.specs.Prelude.{◌≡◌, ◌⊎◌, Bool, true}
 use Rattle.ob0_commands.specs.declared.printing.Flushed.{Flushed}

@@ -50,8 +50,8 @@ abbrev pub complaint_lines : List ℕ → List Complaint → List ℕ
 complaint_lines text [] = []
 complaint_lines text (c ∷ cs) = complaint_line text c ++ complaint_lines text cs
 
--- Known bytes grow by what is wrong with a file: one line where it has more bytes than a text may have, else a line for
--- each thing that is reported of its text, which isn't a well-typed module.
+-- Known bytes grow by what is wrong with a file: one line where it has more bytes than a text may
+-- have, else a line for each thing that is reported of its text, which isn't a well-typed module.
 abbrev pub PrintsFaults : List ℕ → Option (List ℕ) → Option (List ℕ) → Type 0
 PrintsFaults file before after =
     ((max_text < length file) × Appends before after (codes "0:0: TooLong: text too long\n"))

@@ -37,8 +37,8 @@ abbrev pub IsRefusal : Result (Vec Edit Global) EditRefusal → Type 0
 IsRefusal (Ok edits) = ⊥
 IsRefusal (Err refusal) = ⊤
 
--- Edits write the name in the file's text, in positions that count UTF-16 units, and the text that they make is
--- printed.
+-- Edits write the name in the file's text, in positions that count UTF-16 units, and the text that
+-- they make is printed.
 pub record PrintsRenamed (file : List ℕ) (position : Position) (new : List ℕ)
     (before after : Option (List ℕ)) : Type 0 where
   pub edits : List Edit

@@ -31,7 +31,8 @@ abbrev pub StopsPrintingFaults : List ℕ → FileFault → Type 0
 StopsPrintingFaults file f =
     ((f ≡ fault.Utf8) × HasNoText file) ⊎ (StopsPrinting f × ¬ (HasNoText file))
 
--- why reading fails: for a reason, for which there is one name, or an allocation failed and something else holds
+-- why reading fails: for a reason, for which there is one name,
+-- or an allocation failed and something else holds
 abbrev pub StopsFor : (name : FileFault) → (reason otherwise : Type 0) → FileFault → Type 0
 StopsFor name reason otherwise f = ((f ≡ name) × reason) ⊎ ((f ≡ fault.Memory) × otherwise)
 
@@ -73,8 +74,8 @@ abbrev pub StopsRunning : List ℕ → Option (List ℕ) → (input_failed : Boo
 StopsRunning file given input_failed f =
     ((f ≡ fault.Input) × HasNoInput file given input_failed) ⊎ StopsPrintingFaults file f
 
--- what is wrong where neither a run nor what is wrong with a file is reported: there is no input, or nothing can be
--- reported
+-- what is wrong where neither a run nor what is wrong with a file is reported: there is no input,
+-- or nothing can be reported
 abbrev pub CanNotRun : List ℕ
     → Option (List ℕ)
     → (input_failed output_failed : Bool)

@@ -28,7 +28,8 @@ pub record IsLoweredTo (text : List ℕ) (program : Program) : Type 0 where
   pub well_typed : WellTyped tree
   pub runs : lowered.RunsAs tree program
 
--- known bytes grow by what a run of the file's module outputs, given the numbers that the known bytes of an input write
+-- known bytes grow by what a run of the file's module outputs,
+-- given the numbers that the known bytes of an input write
 pub record PrintsRun (file : List ℕ) (given : Option (List ℕ)) (c t : ℕ)
     (before after : Option (List ℕ)) (r : Run) : Type 0 where
   pub input : List ℤ

@@ -17,7 +17,7 @@ use std::alloc::{AllocError, Global};
 use std::mem::ManuallyDrop;
 
 /// Prints one line `L:C: Code: message` for each diagnostic of a file to `out`, by its start, in lines and UTF-16 units
-/// from 0 on, and a fault to `err` as `fault: NAME`. The file's bytes are all of it, or the first 1,048,577. Answers
+/// from 0 on, and a fault to `err` as `fault: NAME`. The file's bytes are all of it, or the first 1,048,577. Returns
 /// the status with which the program ends: 0 for a module with no diagnostic, 1 for diagnostics, 4 for bytes that are
 /// no UTF-8 or a failed write, 5 where memory runs out.
 pub fn check_text<O: Output, E: Output>(alloc: Global, file: &[u8], out: &mut O, err: &mut E) -> u8

@@ -69,7 +69,7 @@ impl<T: Drop> From<AllocFailed<T>> for FileFault {
     }
 }
 
-/// Prints a fault to `err`, and answers the status with which the program ends. A fault that can't be reported keeps
+/// Prints a fault to `err`, and returns the status with which the program ends. A fault that can't be reported keeps
 /// its status.
 pub fn print_fault<E: Output>(fault: FileFault, err: &mut E) -> u8
     ensures status { result ≡ status_of fault }

@@ -111,7 +111,7 @@ pub fn read_input<R: Input>(alloc: Global, input: &mut R) -> Result<Vec<u8>, Fil
     Ok(bytes)
 }
 
-/// Reads to the end, or the first `most` bytes. A failed read is answered as `fault`.
+/// Reads to the end, or the first `most` bytes. A failed read is reported as `fault`.
 fn read_up_to<R: Input>(
     alloc: Global,
     reader: &mut R,

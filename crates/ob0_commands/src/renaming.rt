@@ -14,7 +14,7 @@ use std::alloc::Global;
 
 /// Prints to `out` a file's text with `new` in place of the name at a position, which counts lines and UTF-16 units
 /// from 0 on. A refused name is reported to `err` as `refused: TEXT`, and a file that isn't a well-typed module as by
-/// `check_text`. Answers the status with which the program ends: 0 for a text, 1 for a refusal or diagnostics, 4 for
+/// `check_text`. Returns the status with which the program ends: 0 for a text, 1 for a refusal or diagnostics, 4 for
 /// bytes that aren't UTF-8 or a failed write, 5 where memory runs out.
 pub fn rename_text<O: Output, E: Output>(
     alloc: Global,
@@ -102,7 +102,7 @@ fn rename_in_text<O: Output, E: Output>(
     }
 }
 
-/// Prints the text that the edits make to `out`, or the refusal to `err` as `refused: TEXT`. Answers the status with
+/// Prints the text that the edits make to `out`, or the refusal to `err` as `refused: TEXT`. Returns the status with
 /// which the program ends: 0 for edits, 1 for a refusal.
 pub fn print_edited<T: TextStore, O: Output, E: Output>(
     alloc: Global,

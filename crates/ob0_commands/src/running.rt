@@ -34,9 +34,10 @@ impl Question for LoweringQuestion {
     }
 }
 
-/// Runs a file's module on the numbers of `input`, with at most `calls` calls open at a time and at most `turns` turns
-/// of each execution of a loop, and prints what it outputs to `out`, an end other than Done to `err` as `fault: NAME`.
-/// A file that isn't a module is reported as by `check_text`, before the input is read. Answers the status with which
+/// Runs a file's module on the numbers of `input`, with at most `calls` calls open at a time and at most `turns`
+/// iterations of each execution of a loop. Prints what it outputs to `out`, an end other than Done to `err` as
+/// `fault: NAME`.
+/// A file that isn't a module is reported as by `check_text`, before the input is read. Returns the status with which
 /// the program ends: 0 for Done, 1 for another end and for diagnostics, 4 and 5 as `check_text`, 4 also for an input
 /// that can't be read, is too long or isn't a list of numbers.
 pub fn run_text<R: Input, O: Output, E: Output>(
@@ -161,7 +162,7 @@ fn line_of(end: End) -> Option<&'static str>
     }
 }
 
-/// Prints what a run output to `out`, and an end other than `Done` to `err`. Answers the status with which the program
+/// Prints what a run output to `out`, and an end other than `Done` to `err`. Returns the status with which the program
 /// ends: 0 for `Done`, else 1.
 pub fn print_outcome<O: Output, E: Output>(
     alloc: Global,

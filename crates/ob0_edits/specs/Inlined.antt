@@ -10,7 +10,8 @@ abbrev pub or_name : {M : Type 0} → M → Option (Tree M factor) → Tree M fa
 or_name name None = designator name end
 or_name name (Some v) = v
 
--- The tree with other names and numbers, and with a factor in place of each name that is as a whole factor and for which there is one.
+-- The tree with other names and numbers, and with a factor in place of each name that is
+-- as a whole factor and for which there is one.
 abbrev pub inlined : {N M : Type 0} {s : Sort}
     → (N → Option (Tree M factor))
     → (N → M)

@@ -11,7 +11,8 @@ use Rattle.ob0_edits.specs.Changed.{words_of, changed_words, at_each, is_among}
 use Rattle.ob0_edits.specs.Replaced.{AreNames}
 use Rattle.ob0_edits.specs.Written.{name_word}
 
--- the words' tokens with the words' numbers in place of names and integers; the first has the number k
+-- the words' tokens with the words' numbers in place of names and integers;
+-- the first has the number k
 abbrev pub numbered_tokens : ℕ → List Word → List (Terminal ℕ)
 numbered_tokens k [] = []
 numbered_tokens k (w ∷ ws) = lexeme_of k w.kind ∷ numbered_tokens (suc k) ws
@@ -36,7 +37,8 @@ renamed_at ws places new k = if is_among k places then new else text_of_word ws 
 abbrev pub factor_at : List ℕ → Tree (List ℕ) factor → ℕ → Option (Tree (List ℕ) factor)
 factor_at places v k = if is_among k places then Some v else None
 
--- Where a tree has the words' numbers for its names, the words with a name at some places are spelled by the tree with that name there.
+-- Where a tree has the words' numbers for its names, the words with a name at some places are
+-- spelled by the tree with that name there.
 abbrev pub RenamedWordsSpell : Type 0
 RenamedWordsSpell =
     (s : Scanned) (sort : Sort) (t : Tree ℕ sort) (places new : List ℕ)

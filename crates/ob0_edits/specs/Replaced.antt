@@ -28,7 +28,8 @@ token_or_empty tokens p =
 abbrev pub span_at : List Token → ℕ → Span
 span_at tokens p = (token_or_empty tokens p).span
 
--- The places are numbers of identifiers among the tokens, each greater than the one before and none below the least.
+-- The places are numbers of identifiers among the tokens,
+-- each greater than the one before and none below the least.
 abbrev pub AreNames : List Token → ℕ → List ℕ → Type 0
 AreNames tokens least [] = Unit {0}
 AreNames tokens least (p ∷ ps) =
@@ -57,8 +58,9 @@ AreApartBefore [] byte = Unit {0}
 AreApartBefore (l ∷ lexemes) byte =
     EndsBefore l (slice_index (joined lexemes ++ (byte ∷ [])) 0) × AreApartBefore lexemes byte
 
--- The text, which is read as these words, may be wherever an identifier is: what ends before a letter ends before
--- its first byte, and its lexemes end before one another and before whatever an identifier ends before.
+-- The text, which is read as these words, may be wherever an identifier is: what ends before a
+-- letter ends before its first byte, and its lexemes end before one another
+-- and before whatever an identifier ends before.
 pub record ReplacesName (new : List ℕ) (ws : List Word) : Type 0 where
   pub lexemes : List Lexeme
   pub whole : joined lexemes ≡ new

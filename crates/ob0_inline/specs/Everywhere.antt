@@ -1,4 +1,5 @@
--- A constant that a place names, what inlining it everywhere makes of the module, and what refuses it.
+-- A constant that a place names, what inlining it everywhere makes of the module,
+-- and what refuses it.
 -- Rule: docs/PROTOCOL.md, Requests on documents 9, Refusals of edits.
 use Rattle.std.specs.Prelude.{◌≡◌, ◌≢◌, ◌⊎◌, ℕ, Bool, not, nat_lt, ◌&&◌, if◌then◌else◌, List, [], ◌∷◌, Option, Some, None, Result, Ok, Err, Vec, drop, length, map}
 use Rattle.std.specs.List.{All, filter, list_any, position_from, range_with_len, zip}
@@ -34,7 +35,8 @@ use Rattle.ob0_inline.specs.Inlined.{LeavesModule}
 use Rattle.ob0_inline.specs.Uses.{is_predeclared_truth}
 use Rattle.ob0_inline.specs.Values.{value_factor, value_text}
 
--- A constant of a CONST section: its ordinal and value, the token that declares it, and the first `;` after that.
+-- A constant of a CONST section: its ordinal and value, the token that declares it,
+-- and the first `;` after that.
 pub record IsConstant (m : Parsed) (c : NamedConstant) : Type 0 where
   pub has_value : value_of_constant (named_tree_of m) c.ordinal ≡ Some (scalar_value c.value)
   pub begins : token_declaring (declaring_only (identifiers role.Declaring (tree_of m))) c.ordinal
@@ -73,7 +75,8 @@ inlined_all m c = inlined_everywhere (named_tree_of m) c.ordinal (value_factor c
 abbrev pub text_without : Parsed → NamedConstant → List ℕ
 text_without m c = without_text m.source c.first c.last (uses_of m c.ordinal) (value_text c.value)
 
--- an occurrence is a use, and TRUE or FALSE, where it would be written, isn't the predeclared one there
+-- an occurrence is a use, and TRUE or FALSE, where it would be written,
+-- isn't the predeclared one there
 abbrev pub is_hidden : Tree Name module_text → NamedConstant → ℕ → Bool
 is_hidden m c k = same_ordinal (binds m k) c.ordinal && not (is_predeclared_truth m k c.value)
 
@@ -94,8 +97,9 @@ refusal_everywhere m c =
     else if has_comment m c then Some CommentInside
     else None
 
--- These edits take the declaration out, from its name to its `;`, write the value in place of each use, and touch no
--- other character. They leave the text of the inlined module, which is well-typed and has the same runs.
+-- These edits take the declaration out, from its name to its `;`, write the value in place of each
+-- use, and touch no other character. They leave the text of the inlined module,
+-- which is well-typed and has the same runs.
 pub record InlinesEverywhere (unit : counting.Unit) (text : List ℕ) (m : Parsed)
     (c : NamedConstant) (edits : List Edit) : Type 0 where
   pub everywhere : map parts edits
@@ -105,7 +109,8 @@ pub record InlinesEverywhere (unit : counting.Unit) (text : List ℕ) (m : Parse
   pub well_typed : WellTyped (inlined_all m c)
   pub same_runs : SameRuns (inlined_all m c) (named_tree_of m)
 
--- The edits where nothing refuses a constant, else the first refusal; out of memory may be answered in place of either.
+-- The edits where nothing refuses a constant, else the first refusal; out of memory may be returned
+-- instead of either.
 abbrev pub AnswersConstant : counting.Unit
     → List ℕ
     → Parsed

@@ -1,4 +1,5 @@
--- A use of a constant that a place is on, what its inlining makes of the module, and what refuses it.
+-- A use of a constant that a place is on, what its inlining makes of the module,
+-- and what refuses it.
 -- Rule: docs/PROTOCOL.md, Requests on documents 9, Refusals of edits.
 use Rattle.std.specs.Prelude.{◌≡◌, ◌⊎◌, ℕ, Bool, true, false, nat_lt, if◌then◌else◌, List, [], ◌∷◌, Option, Some, None, Result, Ok, Err, Vec, length, map, slice_get}
 use Rattle.std.specs.declared.alloc.Global.{Global}
@@ -28,7 +29,8 @@ use Rattle.ob0_inline.specs.declared.uses.Use.{Use}
 use Rattle.ob0_inline.specs.Inlined.{LeavesModule}
 use Rattle.ob0_inline.specs.Values.{value_factor, value_text}
 
--- The place is on this use: its token is that of an occurrence, which is bound to a constant of a CONST section.
+-- The place is on this use: its token is that of an occurrence,
+-- which is bound to a constant of a CONST section.
 pub record IsUseAt (m : Parsed) (offset : ℕ) (u : Use) : Type 0 where
   pub named : name_on m offset ≡ Some (record { token = u.token; ordinal = u.constant })
   pub occurs : slice_get (occurrences (tree_of m)) u.occurrence ≡ Some u.token
@@ -64,8 +66,8 @@ refusal_here m u =
     else if is_predeclared_truth (named_tree_of m) u.occurrence u.value then None
     else Some Shadowed
 
--- These edits write the value in place of the use and touch no other character. They leave the text of the inlined
--- module, which is well-typed and has the same runs.
+-- These edits write the value in place of the use and touch no other character. They leave the text
+-- of the inlined module, which is well-typed and has the same runs.
 pub record InlinesHere (unit : counting.Unit) (text : List ℕ) (m : Parsed) (u : Use)
     (edits : List Edit) : Type 0 where
   pub here : map parts edits ≡ edit_at unit text m.source.tokens (value_text u.value) u.token ∷ []
@@ -73,7 +75,7 @@ pub record InlinesHere (unit : counting.Unit) (text : List ℕ) (m : Parsed) (u 
   pub well_typed : WellTyped (inlined_here m u)
   pub same_runs : SameRuns (inlined_here m u) (named_tree_of m)
 
--- The edits where nothing refuses a use, else the first refusal; out of memory may be for either.
+-- The edits where nothing refuses a use, else the first refusal; out of memory instead of either.
 abbrev pub AnswersUse : counting.Unit
     → List ℕ
     → Parsed

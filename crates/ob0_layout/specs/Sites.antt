@@ -21,7 +21,7 @@ use Rattle.ob0_layout.specs.declared.sites.Solid.{Solid}
 use Rattle.ob0_layout_roles.specs.declared.line_role.LineRole.{LineRole}
 use Rattle.ob0_layout.specs.Layout.{next_line, next_role, has_break, comment_role, gap_between, gap_text}
 
--- the gap before a token or comment, and the one after the last: nothing at the text's start
+-- the gap before a token or comment: nothing at the text's start
 abbrev pub gap_before : Option Solid → LexemeKind → LineRole → Gap
 gap_before None kind role = Nothing
 gap_before (Some b) kind role = gap_between b.kind b.role kind role
@@ -31,8 +31,9 @@ abbrev pub last_gap : Option Solid → Gap
 last_gap None = Nothing
 last_gap (Some b) = Line 0
 
--- The gaps of a text that goes on with these lexemes at a place, each with what is to be there. The first of them began at `from`, after
--- a token or comment or at the text's start; `level`, `broken` and `ss` are those of `placed`.
+-- The gaps of a text that goes on with these lexemes at a place, each with what is to be there. The
+-- first of them began at `from`, after a token or comment or at the text's start;
+-- `level`, `broken` and `ss` are those of `placed`.
 abbrev pub sites : Option Solid → ℕ → Bool → List LineRole → ℕ → ℕ → List Lexeme → List GapSite
 sites before level broken ss from at [] =
     record { start = from; end = at; gap = last_gap before } ∷ []

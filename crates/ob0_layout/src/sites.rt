@@ -201,7 +201,7 @@ fn begins_line(before: Option<Solid>, gap: &[u8]) -> bool
     before.is_none() || has_break(gap)
 }
 
-/// Whether white space holds a line break.
+/// Whether white space has a line break.
 fn has_break(gap: &[u8]) -> bool
     ensures { result ≡ has_break gap.now }
 {

@@ -25,10 +25,11 @@ abbrev pub separated : Bool → List LineRole
 separated true = []
 separated false = Plain ∷ []
 
--- The role of each token that a tree spells, in the order in which it spells them. The level is that of the block, and in a
--- sequence that of its statements. The module has level 0, and a procedure one level more than the block that declares it. The
--- statements of a body have one level more than its block, and those inside a statement one more than that statement. What is
--- within a line has no level: 0 is said there.
+-- The role of each token that a tree spells, in the order in which it spells them. The level is
+-- that of the block, and in a sequence that of its statements. The module has level 0, and a
+-- procedure one level more than the block that declares it. The statements of a body have one level
+-- more than its block, and those inside a statement one more than that statement.
+-- What is within a line has no level: 0 is said there.
 abbrev pub line_roles : {N : Type 0} {s : Sort} → ℕ → Tree N s → List LineRole
 line_roles k none = []
 line_roles k (one t) = line_roles k t

@@ -1,4 +1,4 @@
--- What is answered of a name: where it is, and what it is a name of.
+-- What a question about a name gives: where it is, and what it is a name of.
 -- Rule: docs/PROTOCOL.md, Requests on documents 3, 4.
 use Rattle.std.specs.Prelude.{ℕ, nat_lt, if◌then◌else◌}
 use Rattle.ob0_tree.specs.Parsed.{Parsed}

@@ -23,7 +23,7 @@ abbrev pub capture_span : Parsed → ℕ → Capture → Span
 capture_span m d at_declaration = or_start (declaring_span m d)
 capture_span m d (at_occurrence k) = or_start (occurrence_span m k)
 
--- The identifier that declares d, where another declaration of its block has the new name; else the first occurrence that
--- would be bound to another declaration, if there is one.
+-- The identifier that declares d, where another declaration of its block has the new name; else the
+-- first occurrence that would be bound to another declaration, if there is one.
 abbrev pub captured_span : Parsed → ℕ → Name → Option Span
 captured_span m d new = option_map (capture_span m d) (first_captured (named_tree_of m) d new)

@@ -12,13 +12,16 @@ use Rattle.ob0_refs.specs.Declarations.{names_after}
 
 -- the headings of procedures in text order: each name with the names of the formal parameters
 abbrev mutual
+  -- those of a block's procedures
   pub block_headings : Tree ℕ block → List (ℕ × List ℕ)
   block_headings (has_body (declares cs ts vs ps) statements) = headings ps
 
+  -- those of procedures, each with those in its block after it
   pub headings : Tree ℕ (items procedure) → List (ℕ × List ℕ)
   headings end = []
   headings (more p rest) = procedure_headings p ++ headings rest
 
+  -- that of a procedure, and those in its block
   pub procedure_headings : Tree ℕ (item procedure) → List (ℕ × List ℕ)
   procedure_headings (declares_procedure x fs b closing) =
       (x, formal_names (formal_sections fs)) ∷ block_headings b

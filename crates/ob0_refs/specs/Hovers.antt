@@ -1,4 +1,5 @@
--- The hover text of a name: its declaration, or that it is predeclared. Names and types are given by their texts.
+-- The hover text of a name: its declaration, or that it is predeclared.
+-- Names and types are given by their texts.
 -- Rule: docs/PROTOCOL.md, JSON shapes 3.
 use Rattle.std.specs.Prelude.{ℕ, ◌+◌, Bool, true, false, List, [], ◌∷◌, ◌++◌, codes, decimal}
 use Rattle.std.specs.Fmt.{signed_decimal}

@@ -1,5 +1,5 @@
--- Laws of what is answered at a place that is on a field.
--- Rule: none; laws of what is answered at fields.
+-- Laws of questions about a place that is on a field.
+-- Rule: none; laws of questions about fields.
 use Rattle.std.specs.Prelude.{◌≡◌, ℕ, true, Some, None, map, is_some}
 use Rattle.std.specs.List.{Contains}
 use Rattle.ob0_scan.specs.declared.lexeme.Span.{Span}
@@ -24,8 +24,8 @@ FieldsAreDefined =
     → IsOnField r offset span k index
     → is_some (definition_at r offset) ≡ true
 
--- A field that is answered at a place is the one that renaming finds there: no name is there, and the references with the
--- declaration are the identifiers that its renaming writes.
+-- A field that is found at a place is the one that renaming finds there: no name is there, and the
+-- references with the declaration are the identifiers that its renaming writes.
 pub record IsRenamedThere (r : Resolution) (offset : ℕ) (span : Span) (k : ℕ) : Type 0 where
   pub token : ℕ
   pub no_name : name_on r.module_read offset ≡ None
@@ -35,7 +35,7 @@ pub record IsRenamedThere (r : Resolution) (offset : ℕ) (span : Span) (k : ℕ
       ≡ map (span_at r.module_read.source) (field_tokens r k (text_at r.module_read.source token))
   pub itself : Contains (references_at r offset true) span
 
--- where a field is answered, renaming finds that field, and its references are what renaming writes
+-- where a field is found, renaming finds that field, and its references are what renaming writes
 abbrev pub FieldsAreRenamedThere : Type 0
 FieldsAreRenamedThere =
     (r : Resolution) (offset k index : ℕ) (span : Span)

@@ -1,4 +1,4 @@
--- What is answered of a place: of the name that is there, or else of the field.
+-- Questions about a place: about the name that is there, or else about the field.
 -- Rule: docs/PROTOCOL.md, Requests on documents 3 to 5.
 use Rattle.std.specs.Prelude.{◌≡◌, ◌==◌, ℕ, Bool, true, false, not, List, [], map, Option, Some, None, option_map, option_and_then, unwrap_or}
 use Rattle.std.specs.List.{filter}

@@ -1,4 +1,4 @@
-//! What is answered of a place.
+//! What a question about a place gives.
 
 use ob0_scan::Span;
 

@@ -7,7 +7,7 @@ pub fn fields_are_defined()
     ensures { FieldsAreDefined }
 {}
 
-/// A field that is answered at a place is the one that renaming finds there, and its references are what renaming
+/// A field that is found at a place is the one that renaming finds there, and its references are what renaming
 /// writes.
 pub fn fields_are_renamed_there()
     ensures { FieldsAreRenamedThere }

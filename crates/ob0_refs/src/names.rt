@@ -1,4 +1,4 @@
-//! What is answered of a name: where it is, and what it is a name of.
+//! What a question about a name gives: where it is, and what it is a name of.
 
 ghost use Rattle.std.specs.Prelude.{◌≡◌};
 ghost use Rattle.ob0_refs.specs.Answered.{at_name, of_ordinal};

@@ -1,4 +1,4 @@
-//! What is answered of a place: of the name that is there, or else of the field.
+//! Questions about a place: about the name that is there, or else about the field.
 
 ghost use Rattle.std.specs.Prelude.{◌≡◌, IfOk, Some};
 ghost use Rattle.ob0_refs.specs.Questions.{AreReferencesAt, at_field, definition_at, field_declared, field_named_at, field_references, index_of, identified_at, other_tokens};

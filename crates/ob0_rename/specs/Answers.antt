@@ -1,4 +1,4 @@
--- What is answered where a declaration or a field is to have another name: edits, or a refusal.
+-- What a renaming of a declaration or a field gives: edits, or a refusal.
 -- Rule: docs/PROTOCOL.md, Requests on documents 6, Refusals of edits.
 use Rattle.std.specs.Prelude.{◌≡◌, ◌⊎◌, ℕ, ◌<◌, ◌≤◌, List, Some, Result, Ok, Err, IfErr, Vec, length, map, true}
 use Rattle.std.specs.Str.{chars}
@@ -21,8 +21,8 @@ use Rattle.ob0_edits.specs.Replaced.{edit_at, parts}
 use Rattle.ob0_types_fields.specs.Renaming.{FieldFree, field_renamed, is_duplicate_field}
 use Rattle.ob0_rename.specs.Renaming.{NamesDeclaration, MeansField, Renaming, field_tokens_to_rename, is_declared_as, meant, module_of, nothing, occurrence_range, other_field_range, other_range, predeclared, text_with, tokens_to_rename, named_tree}
 
--- The edits write the new name at these tokens, and nothing else. Made at once they leave a text of this tree, which is
--- well-typed and has the same runs.
+-- The edits write the new name at these tokens, and nothing else. Made at once they leave a text of
+-- this tree, which is well-typed and has the same runs.
 pub record WritesName (r : Renaming) (tokens : List ℕ) (tree : Tree Name module_text)
     (edits : List Edit) : Type 0 where
   pub short : length (text_with r tokens) ≤ max_text
@@ -37,7 +37,8 @@ pub record WritesName (r : Renaming) (tokens : List ℕ) (tree : Tree Name modul
 
 -- ---- for a declaration
 
--- The edits write the new name for the declaration d at the places of its name, and leave the renamed module.
+-- The edits write the new name for the declaration d at the places of its name,
+-- and leave the renamed module.
 pub record Renames (r : Renaming) (d : ℕ) (edits : List Edit) : Type 0 where
   pub identifier : IsIdentifier r.new
   pub free : Free (named_tree r) d r.new
@@ -67,15 +68,15 @@ IsRefusedTo r d refusal.Shadowed = ⊥
 IsRefusedTo r d refusal.CommentInside = ⊥
 IsRefusedTo r d refusal.Memory = ⊥
 
--- edits for the declaration d, or why there are none; out of memory may take the place of either
+-- edits for the declaration d, or why there are none; out of memory instead of either
 abbrev pub AnswersDeclaration : Renaming → ℕ → Result (Vec Edit Global) EditRefusal → Type 0
 AnswersDeclaration r d (Ok edits) = Renames r d edits.items
 AnswersDeclaration r d (Err why) = (why ≡ refusal.Memory) ⊎ IsRefusedTo r d why
 
 -- ---- for a field
 
--- The edits write the new name for the field f of the record k where it is declared and wherever it is selected, and leave
--- the module with that field renamed.
+-- The edits write the new name for the field f of the record k where it is declared and wherever it
+-- is selected, and leave the module with that field renamed.
 pub record RenamesField (r : Renaming) (k : ℕ) (f : Name) (edits : List Edit) : Type 0 where
   pub identifier : IsIdentifier r.new
   pub free : FieldFree (named_tree r) k f r.new
@@ -101,7 +102,7 @@ IsRefusedToField r k f refusal.Shadowed = ⊥
 IsRefusedToField r k f refusal.CommentInside = ⊥
 IsRefusedToField r k f refusal.Memory = ⊥
 
--- edits for the field, or why there are none; out of memory may take the place of either
+-- edits for the field, or why there are none; out of memory instead of either
 abbrev pub AnswersForField : Renaming → ℕ → Name → Result (Vec Edit Global) EditRefusal → Type 0
 AnswersForField r k f (Ok edits) = RenamesField r k f edits.items
 AnswersForField r k f (Err why) = (why ≡ refusal.Memory) ⊎ IsRefusedToField r k f why
@@ -138,7 +139,8 @@ abbrev pub RenameAnswers : Renaming → Result (Vec Edit Global) EditRefusal →
 RenameAnswers r (Ok edits) = AreEdits r edits.items
 RenameAnswers r (Err why) = (why ≡ refusal.Memory) ⊎ IsRefused r why
 
--- Only here is memory allocated: a declaration or a field is named at the place, and the new name is an identifier.
+-- Only here is memory allocated: a declaration or a field is named at the place,
+-- and the new name is an identifier.
 pub record AllocatesOnly (r : Renaming) : Type 0 where
   pub identifier : IsIdentifier r.new
   pub some : ¬ (meant r ≡ nothing)

@@ -26,7 +26,8 @@ abbrev pub Settles : Renaming → Result (Vec Edit Global) EditRefusal → Type 
 Settles r (Ok edits) = AreEdits r edits.items
 Settles r (Err refusal) = IsRefused r refusal
 
--- These edits write the new name. Made at once they leave a text whose module is the renamed one, and runs as before.
+-- These edits write the new name. Made at once they leave a text whose module is the renamed one,
+-- and runs as before.
 pub record RenamesIn (unit : Unit) (text : List ℕ) (place : Position) (new : List ℕ)
     (edits : List Edit) : Type 0 where
   pub names : Resolution

@@ -1,5 +1,5 @@
--- Another name for what is named at a place of a text, a declaration or a record's field: where it is to be written, and what
--- conflicts with it.
+-- Another name for what is named at a place of a text, a declaration or a record's field: where it
+-- is to be written, and what conflicts with it.
 -- Rule: docs/PROTOCOL.md, Requests on documents 6, Refusals of edits.
 use Rattle.std.specs.Prelude.{◌≡◌, ℕ, Bool, true, false, nat_lt, if◌then◌else◌, List, [], Option, Some, None, option_and_then, option_map, slice_get}
 use Rattle.ob0_scan.specs.Scanned.{Scanned}
@@ -21,7 +21,8 @@ use Rattle.ob0_scope.specs.NamesAtPlaces.{name_on, tokens_bound}
 use Rattle.ob0_scope.specs.declared.naming.Named as named
 use Rattle.ob0_types_fields.specs.Identifiers.{declaring_field, field_at, field_tokens}
 
--- A module's text, by characters, whose positions are counted in a unit; a place of it, and the new name.
+-- A module's text, by characters, whose positions are counted in a unit;
+-- a place of it, and the new name.
 pub record Renaming : Type 0 where
   pub unit : counting.Unit
   pub text : List ℕ
@@ -92,11 +93,13 @@ is_declared_as m d new =
     elim (declaring_token m d)
     [ Some token ↦ same_name (text_at m.source token) new | None ↦ false ]
 
--- the tokens of the name, the declaring one and closing names too; none where the new name is the old one
+-- the tokens of the name, the declaring one and closing names too;
+-- none where the new name is the old one
 abbrev pub tokens_to_rename : read.Parsed → ℕ → Name → List ℕ
 tokens_to_rename m d new = if is_declared_as m d new then [] else tokens_bound m d true
 
--- the tokens of the field f of the record k, the one that declares it and all that select it; none where it has the new name
+-- the tokens of the field f of the record k, the one that declares it and all that select it;
+-- none where it has the new name
 abbrev pub field_tokens_to_rename : Resolution → ℕ → Name → Name → List ℕ
 field_tokens_to_rename names k f new = if same_name new f then [] else field_tokens names k f
 

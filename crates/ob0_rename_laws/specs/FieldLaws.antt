@@ -1,4 +1,5 @@
--- Laws of fields: under other names, kept apart in each record, they keep a module's types and runs.
+-- Laws of fields: under other names, kept apart in each record,
+-- they keep a module's types and runs.
 -- Rule: none; laws of fields under other names.
 use Rattle.std.specs.Prelude.{◌≡◌, ℕ, Some}
 use Rattle.ob0_tree.specs.Tree.{Tree, module_text}
@@ -12,7 +13,8 @@ use Rattle.ob0_types_fields.specs.Renaming.{FieldFree, field_renamed}
 abbrev pub KeepsApart : FieldNames → Type 0
 KeepsApart l = (k : ℕ) (x y : Name) → same_name (l (Some k) x) (l (Some k) y) ≡ same_name x y
 
--- fields under other names, those of a record kept apart, keep a module's declarations and statements fitting
+-- fields under other names, those of a record kept apart,
+-- keep a module's declarations and statements fitting
 abbrev pub RefieldingKeepsFitting : Type 0
 RefieldingKeepsFitting =
     (l : FieldNames) (m : Tree Name module_text)
@@ -27,7 +29,8 @@ RefieldingKeepsModules =
     → WellTyped m
     → WellTyped (refielded l m) × SameRuns (refielded l m) m
 
--- where a new name for a field is free, the module with the field renamed is well-typed where the module was, and has its runs
+-- where a new name for a field is free, the module with the field renamed is well-typed
+-- where the module was, and has its runs
 abbrev pub FreeFieldKeepsModules : Type 0
 FreeFieldKeepsModules =
     (m : Tree Name module_text) (r : ℕ) (f new : Name)

@@ -7,8 +7,8 @@ use Rattle.serde_json.specs.Data.{Data, Members, member, no_members, null}
 use Rattle.serde_json.specs.Read.{of_json}
 use Rattle.serde_json.specs.Written.{comma_if, compact_text, outline}
 
--- the value's text reads as the value: its whole numbers are of 64 bits, it has each member once, in order,
--- and its texts are UTF-8
+-- the value's text reads as the value: its whole numbers are of 64 bits, it has each member once,
+-- in order, and its texts are UTF-8
 pub record IsReadBack (value : Data) : Type 0 where
   pub reads : of_json (outline value) ≡ Some value
   pub numbers : HasNumbers (outline value)
@@ -19,7 +19,8 @@ abbrev pub AreReadBack : List Data → Type 0
 AreReadBack [] = ⊤
 AreReadBack (value ∷ values) = IsReadBack value × AreReadBack values
 
--- the texts of values with commas between them, and a comma before the first where something precedes
+-- the texts of values with commas between them,
+-- and a comma before the first where something precedes
 abbrev pub listed : Bool → List Data → List ℕ
 listed later [] = []
 listed later (value ∷ values) = comma_if later ++ (compact_text value ++ listed true values)
@@ -39,7 +40,8 @@ pub record AppendsItem (later : Bool) (value : Data) (old new : List ℕ) : Type
   pub text : new ≡ old ++ (comma_if later ++ compact_text value)
   pub reads : IsReadBack value
 
--- a bracket or a comma, a name between quotes, a colon and the value's text are written after the other
+-- a bracket or a comma, a name between quotes,
+-- a colon and the value's text are written after the other
 pub record AppendsMember (before : ℕ) (name : List ℕ) (value : Data)
     (old new : List ℕ) : Type 0 where
   pub text : new ≡ old ++ before ∷ 34 ∷ (name ++ 34 ∷ 58 ∷ compact_text value)

@@ -1,4 +1,4 @@
--- What requests ask, by their method and params (LSP 3.17).
+-- What requests mean, by their method and params (LSP 3.17).
 -- Rule: docs/PROTOCOL.md, JSON shapes 4, Capabilities; LSP 3.17, requests.
 use Rattle.std.specs.Prelude.{ℕ, List, [], ◌∷◌, Bool, false, Option, Some, None, is_some, if◌then◌else◌, ◌||◌, max, min, option_map, option_and_then, unwrap_or, codes, Result, Ok, Err}
 use Rattle.std.specs.Str.{bytes_eq}
@@ -122,7 +122,7 @@ rename_by None name = None
 abbrev pub rename_of : Data → Option ClientRequest
 rename_of params = rename_by (at_of params) (text_member (codes "newName") params)
 
--- texts; none where an item is no text
+-- texts; none where an item isn't a text
 abbrev pub texts_of : Items → Option (List (List ℕ))
 texts_of no_items = Some []
 texts_of (item d ds) =

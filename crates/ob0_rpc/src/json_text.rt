@@ -9,7 +9,7 @@ ghost use Rattle.ob0_rpc.specs.Appending.{Appends, AppendsEach, AppendsItem, or_
 
 use std::alloc::AllocError;
 
-/// No more room is made at once for the items of a list, in bytes.
+/// No more capacity is reserved at once for the items of a list, in bytes.
 const MOST_ROOM: usize = 1 << 26;
 
 /// What is written as a JSON value.
@@ -106,7 +106,7 @@ fn write_each<W: Written>(out: &mut Vec<u8>, values: &[W]) -> Result<(), AllocEr
     Ok(())
 }
 
-/// Writes an item of a list. After the first there is room for the others, where they are about as long.
+/// Writes an item of a list. After the first there is capacity for the others, where they are about as long.
 fn write_one_of<W: Written>(
     out: &mut Vec<u8>,
     count: usize,
@@ -123,7 +123,7 @@ fn write_one_of<W: Written>(
     Ok(())
 }
 
-/// Room for as many items as there are beside one of this length.
+/// The capacity for the other items of a list, where they are about as long as this one.
 fn room_for(count: usize, len: usize) -> usize
     ensures { result ≤ 2 ^ 26 }
 {

@@ -45,7 +45,7 @@ impl<'a> Written for ResponseError<'a> {
     }
 }
 
-/// The refusal of a request, or of a content that is none.
+/// The refusal of a request, or of a content that isn't a message.
 #[derive(Drop)]
 pub struct ErrorResponse<'a> {
     pub error: ResponseError<'a>,
@@ -120,7 +120,7 @@ pub fn result_of<W: Written>(alloc: Global, id: &Id, value: &W) -> Result<Vec<u8
     content_of(alloc, &Response { id, result: value })
 }
 
-/// The refusal of a request, or of a content that is none.
+/// The refusal of a request, or of a content that isn't a message.
 pub fn error(
     alloc: Global,
     id: Option<&Id>,

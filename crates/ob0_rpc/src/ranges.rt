@@ -64,7 +64,7 @@ fn write_range(out: &mut Vec<u8>, start: Position, end: Position) -> Result<(), 
     write_piece(out, &room[at..])
 }
 
-/// Puts a range's text before a place, and answers where it begins.
+/// Puts a range's text before a place, and returns where it begins.
 pub fn range_before(room: &mut [u8], at: usize, start: Position, end: Position) -> usize
     requires { (160 ≤ at) × (at ≤ length room.old) }
     ensures within { (at ≤ result + 160) × (result ≤ at) }
@@ -79,7 +79,7 @@ pub fn range_before(room: &mut [u8], at: usize, start: Position, end: Position) 
     piece_before(room, at_end, b"{\"end\":")
 }
 
-/// Puts a position's text before a place, and answers where it begins.
+/// Puts a position's text before a place, and returns where it begins.
 fn position_before(room: &mut [u8], at: usize, position: Position) -> usize
     requires { (62 ≤ at) × (at ≤ length room.old) }
     ensures within { (at ≤ result + 62) × (result ≤ at) }
@@ -105,7 +105,7 @@ fn count_before(room: &mut [u8], at: usize, count: u64) -> usize
     write_digits(count, room, at)
 }
 
-/// Puts a piece of text before a place, and answers where it begins.
+/// Puts a piece of text before a place, and returns where it begins.
 #[inline(always)]
 pub fn piece_before(room: &mut [u8], at: usize, piece: &[u8]) -> usize
     requires { (length piece.now ≤ at) × (at ≤ length room.old) }

@@ -259,7 +259,7 @@ fn only_in(alloc: Global, only: Option<&Value>) -> Result<Option<Option<Vec<Stri
     }
 }
 
-/// The texts of a list; None where an item is no text.
+/// The texts of a list; None where an item isn't a text.
 fn texts_of(alloc: Global, items: &[Value]) -> Result<Option<Vec<String>>, AllocError>
     ensures { IfOk result (λ found. option_map (λ texts. map string_bytes texts.items) found
         ≡ texts_in (items_view items.now)) }

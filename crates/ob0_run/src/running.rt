@@ -32,7 +32,7 @@ pub enum End {
     InputEnd,
     /// A call more than may be open.
     CallBound,
-    /// A turn more than an execution of a loop may make.
+    /// An iteration more than an execution of a loop may make.
     TurnBound,
 }
 
@@ -60,7 +60,7 @@ fn end_of(end: ob0_run_machine::Halt) -> End
     }
 }
 
-/// An input is of numbers of 32 bits, as the law of lowered runs asks.
+/// An input is of numbers of 32 bits, as the law of lowered runs requires.
 fn have_numbers(input: &[i32])
     ensures { HaveNumbers input.now }
 {
@@ -91,7 +91,7 @@ pub fn lower(alloc: Global, checked: &WellTyped<'_>) -> Result<Program, AllocErr
 }
 
 /// Executes a program on an input, with at most `calls` calls open at a time, and at most `turns` iterations of each
-/// execution of a loop. The module's body is no call.
+/// execution of a loop. The module's body isn't a call.
 ///
 /// # Errors
 ///

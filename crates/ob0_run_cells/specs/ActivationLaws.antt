@@ -1,4 +1,5 @@
--- Calls of lowered procedures do what calls of the module's do that drop their variables; runs are the same runs.
+-- Calls of lowered procedures do what calls of the module's do that drop their variables;
+-- runs are the same runs.
 -- Rule: none; laws of lowered programs.
 use Rattle.std.specs.Prelude.{◌≡◌, ℕ, suc, ◌+◌, ◌*◌, ◌<◌, ◌^◌, List, map, ℤ}
 use Rattle.ob0_tree.specs.Tree.{Tree, module_text}
@@ -17,8 +18,8 @@ use Rattle.ob0_run_cells.specs.Cells.{sizes}
 use Rattle.ob0_run_cells.specs.LoweredStatements.{CallsRepresent, HaveNumbers, written_of}
 use Rattle.ob0_run_cells.specs.Lowering.{end_of}
 
--- with so many calls left to open, each of at most so many cells, as many as have addresses; a call that returns gives its cells up,
--- as one of the module's that drops its variables
+-- calls do what those of the module do that drop their variables: c more may be open, each with at
+-- most `most` cells, and all these cells have addresses; a call that returns drops its cells
 abbrev pub CallsLowered : Type 0
 CallsLowered =
     (table : List lowered.Routine) (most c t : ℕ) (typing : StoreTyping) (ls : Levels)
@@ -38,8 +39,9 @@ CallsLowered =
 abbrev pub run_of : execution.MachineRun → Run
 run_of r = record { output = map written_of r.output; ending = end_of r.ending }
 
--- the run of a program that is lowered from a well-typed module is the module's run, for each input of numbers of 32 bits and all
--- bounds under which the cells of the module and of all calls that are open have addresses
+-- the run of a program that is lowered from a well-typed module is the module's run, for each input
+-- of numbers of 32 bits and all bounds under which the cells of the module and of all calls
+-- that are open have addresses
 abbrev pub RunsLowered : Type 0
 RunsLowered =
     (m : Tree Name module_text) (program : lowered.LoweredCode) (most c t : ℕ) (input : List ℤ)

@@ -1,4 +1,5 @@
--- Where lowered code finds what names mean, and what it means that a table of procedures is lowered from a module's blocks.
+-- Where lowered code finds what names mean, and what it means that a table
+-- of procedures is lowered from a module's blocks.
 -- Rule: none; for contracts of lowering, against docs/LANGUAGE.md, Runs 6.
 use Rattle.std.specs.Prelude.{◌≡◌, ℕ, suc, ◌+◌, ◌≤◌, true, false, List, [], ◌∷◌, drop, slice_get, Some, Option, option_and_then}
 use Rattle.ob0_tree.specs.Tree.{Tree, begins, block, body, declares, declares_procedure, declares_variable, end, has_body, item, items, maybe, module_text, more, none, one, procedure, variable}
@@ -87,7 +88,7 @@ pub record Placed (N : Type 0) : Type 0 where
   pub cells : ℕ
   pub reference_places : ℕ
 
--- names placed one by one, each with so many cells
+-- names placed one by one, each with n cells
 abbrev pub place_names : {N : Type 0} → (ℕ → Slot) → List N → ℕ → Placed N → Placed N
 place_names at [] n p = p
 place_names at (x ∷ xs) n p =
@@ -153,9 +154,10 @@ BodyMeans naming checked placing code (one (begins statements)) =
     SequenceMeans (meanings naming checked) (slots_in naming placing) (targets_in naming placing)
     code statements
 
--- a table has the code of the procedures of a block, and of those in them; so many cells are those of the block's own variables, and
--- no activation has more than a most
+-- a table has the code of the procedures of a block, and of those in them; `cells` are those of the
+-- block's own variables, and no activation has more than `most`
 abbrev mutual
+  -- a block: its variables are placed after what p has, and `code` means its statements
   pub BlockMeans : {N : Type 0}
       → List lowered.Routine
       → ℕ
@@ -191,6 +193,7 @@ abbrev mutual
       × ProceduresMean table most naming inner q.placing
       (after_variables k (has_body (declares cs ts vs ps) statements)) code statements ps
 
+  -- each procedure has an entry in the table, and `code` means the statements of the block
   pub ProceduresMean : {N : Type 0}
       → List lowered.Routine
       → ℕ
@@ -216,6 +219,7 @@ abbrev mutual
       ((procedure_name p, own_target i) ∷ placing) (k + procedure_constructors p) code statements
       rest
 
+  -- an entry of the table means the block of this procedure
   pub ProcedureMeans : {N : Type 0}
       → List lowered.Routine
       → ℕ
@@ -230,8 +234,8 @@ abbrev mutual
       BlockMeans table most naming (held 0) checked p
       (k + formals_constructors (formal_sections fs)) entry.cells entry.body b
 
--- one binding, over those after it: a variable's slot has its place's address, and a procedure's code means its block, where it is
--- declared
+-- one binding, over those after it: a variable's slot has its place's address, and a procedure's
+-- code means its block, where it is declared
 abbrev pub IsPlaced : {N : Type 0}
     → List lowered.Routine
     → ℕ
@@ -298,7 +302,8 @@ outermost_placing naming =
     ∷ (naming.predeclared 0, nowhere)
     ∷ []
 
--- a program is lowered from a module, and no activation, the module's among them, has more than so many cells
+-- a program is lowered from a module, and no activation, the module's among them,
+-- has more than `most` cells
 abbrev pub ProgramMeans : {N : Type 0}
     → ℕ
     → Naming N

@@ -94,7 +94,8 @@ TruthsAreCells =
     × StoreFits typing after
     × (all_cells after ≡ slice_set (all_cells store) (address typing p) (truth_cell b)))
 
--- a part of what a place holds has its offset after the place's address, and the type at the end of its path
+-- a part of what a place holds has its offset after the place's address,
+-- and the type at the end of its path
 abbrev pub PartsHaveAddresses : Type 0
 PartsHaveAddresses =
     (typing : StoreTyping) (p : Place) (path : List Step) (s t : Shape)
@@ -136,7 +137,8 @@ VariablesAreAdded =
     × PlaceFits (typing ++ s ∷ []) record { variable = length store; path = [] } s
     × (address (typing ++ s ∷ []) record { variable = length store; path = [] } ≡ sizes typing)
 
--- variables given up are cells given up: a store cut back to the variables of an older one has as many cells as that
+-- to drop variables is to drop their cells: a store cut back to the variables of an older one has
+-- as many cells as that
 abbrev pub VariablesAreDropped : Type 0
 VariablesAreDropped =
     (typing others : StoreTyping) (old new : Store)

@@ -1,4 +1,5 @@
--- A store as one list of cells, each a number: a number is its cell, FALSE is 0 and TRUE is 1, and elements and members lie one after the other.
+-- A store as one list of cells, each a number: a number is its cell, FALSE is 0 and TRUE is 1, and
+-- elements and members lie one after the other.
 -- Rule: none; for contracts of lowering: a store of docs/LANGUAGE.md, Runs, as cells.
 use Rattle.std.specs.Prelude.{ℕ, ◌+◌, ◌*◌, Bool, true, false, List, [], ◌∷◌, ◌++◌, length, take, drop, ℤ, pos, if◌then◌else◌, slice_get, option_map, unwrap_or}
 use Rattle.ob0_scope_rules.specs.Names.{Name, same_name}
@@ -12,16 +13,19 @@ truth_cell true = pos 1
 
 -- the cells of a value
 abbrev mutual
+  -- a number or a truth value is one cell; an array or a record has those of its parts
   pub cells_of : Value → List ℤ
   cells_of (number n) = n ∷ []
   cells_of (truth b) = truth_cell b ∷ []
   cells_of (elements vs) = element_cells vs
   cells_of (members k ms) = member_cells ms
 
+  -- those of an array's elements, from index 0 on
   pub element_cells : Values → List ℤ
   element_cells no_value = []
   element_cells (next_value v rest) = cells_of v ++ element_cells rest
 
+  -- those of a record's members, in the order of its fields
   pub member_cells : Members → List ℤ
   member_cells no_member = []
   member_cells (next_member x v rest) = cells_of v ++ member_cells rest
@@ -33,12 +37,14 @@ all_cells (v ∷ store) = cells_of v ++ all_cells store
 
 -- how many cells a value of a type has
 abbrev mutual
+  -- a scalar has one; an array or a record has those of its parts
   pub size : Shape → ℕ
   size integer_shape = 1
   size boolean_shape = 1
   size (array_shape k n s) = n * size s
   size (record_shape k fs) = field_sizes fs
 
+  -- those of the fields of a record
   pub field_sizes : FieldShapes → ℕ
   field_sizes no_field_shape = 0
   field_sizes (next_field_shape x s rest) = size s + field_sizes rest
@@ -72,7 +78,7 @@ address typing p =
     sizes (take p.variable typing)
     + unwrap_or (option_map (offset p.path) (slice_get typing p.variable)) 0
 
--- so many cells from an address on
+-- n cells from an address on
 abbrev pub cells_at : ℕ → ℕ → List ℤ → List ℤ
 cells_at address n cells = take n (drop address cells)
 

@@ -1,4 +1,5 @@
--- What lowered statements mean: they do to cells, input and output what the statements of a module do.
+-- What lowered statements mean: they do to cells, input and output
+-- what the statements of a module do.
 -- Rule: none; for contracts of lowering, against docs/LANGUAGE.md, Runs 5 to 9.
 use Rattle.std.specs.Prelude.{◌≡◌, ℕ, ◌^◌, ◌<◌, true, List, [], ◌∷◌, ◌++◌, length, map, ℤ, Some}
 use Rattle.ob0_tree.specs.Tree.{Tree, else_part, elsif_part, expression, further_statement, items, maybe, selector, sequence, statement}
@@ -41,7 +42,7 @@ ProgressRepresents typing (execution.stopped e out) (stopped f written) =
     (end_of e ≡ f) × (map written_of out ≡ written)
 ProgressRepresents typing _ _ = ⊥
 
--- the cells and the addresses that arguments are passed as
+-- the cells of arguments that are passed by value
 abbrev pub argument_cells : List Argument → List ℤ
 argument_cells [] = []
 argument_cells (place_argument p ∷ args) = argument_cells args
@@ -59,8 +60,8 @@ pub record Target : Type 0 where
   pub procedure : ℕ
   pub up : ℕ
 
--- what stays as it is while the statements of a body run: the types of the store, what names mean, the activations that
--- lowered code sees, and what calls do
+-- what stays as it is while the statements of a body run: the types of the store, what names mean,
+-- the activations that lowered code sees, and what calls do
 pub record Body (N : Type 0) : Type 0 where
   pub typing : StoreTyping
   pub active : Meanings N Place (List Mode)
@@ -83,7 +84,8 @@ CallsRepresent {N} checked targets b =
     (execution.entered b.levels (length low.cells) (targets x).up p) record low
     { cells = p.cells }) (b.enters x args s)
 
--- a body of a module that is checked, whose variables are in their slots and whose procedures have their targets
+-- a body of a module that is checked, whose variables are in their slots
+-- and whose procedures have their targets
 pub record ShowsBody {N : Type 0} (checked : Typed N) (slots : N → Slot) (targets : N → Target)
     (b : Body N) : Type 0 where
   pub names_fit : MeaningsFit b.typing checked b.active
@@ -93,7 +95,7 @@ pub record ShowsBody {N : Type 0} (checked : Typed N) (slots : N → Slot) (targ
   pub has_addresses : sizes b.typing < 2 ^ 64
   pub calls_represent : CallsRepresent checked targets b
 
--- what lowered code does in a body, with so many turns of a loop, and what the module's does
+-- what lowered code does in a body, with t iterations of a loop left, and what the module's does
 abbrev pub Does : {N : Type 0}
     → Typed N
     → (N → Slot)
@@ -187,7 +189,8 @@ IsAt {N} checked slots q s e =
     × (checked.object_for x ≡ Some (a_variable v))
     × PlaceMeans checked slots q s (place_of_designator x path)
 
--- an argument by how its parameter is passed: a place, or a number, a truth or the cells of an array or a record
+-- an argument by how its parameter is passed:
+-- a place, or a number, a truth or the cells of an array or a record
 abbrev pub ArgumentMeans : {N : Type 0}
     → Typed N
     → (N → Slot)

@@ -1,4 +1,5 @@
--- What lowered code means: its places, numbers and truths against the designators and expressions of a module, at the moments of a run.
+-- What lowered code means: its places, numbers and truths against the designators
+-- and expressions of a module, at the moments of a run.
 -- Rule: none; for contracts of lowering, against docs/LANGUAGE.md, Runs 2 to 4.
 use Rattle.std.specs.Prelude.{◌≡◌, ℕ, zero, suc, ◌+◌, ◌^◌, ◌<◌, true, List, ◌++◌, ℤ, slice_index_or, Some}
 use Rattle.ob0_tree.specs.declared.tree.Relation.{Relation}
@@ -13,8 +14,9 @@ use Rattle.ob0_run_machine.specs.Evaluation.{Levels, level_at}
 use Rattle.ob0_run_machine.specs.Lowered as lowered
 use Rattle.ob0_run_cells.specs.Cells.{address, all_cells, sizes}
 
--- where a variable is: at an offset in the cells of the module or of the activation so many levels out, or where a VAR parameter
--- of the activation so many levels out leads, by its index among these parameters
+-- where a variable is: at an offset in the cells of the module or of the activation `up` levels
+-- out, or where a VAR parameter of the activation `up` levels out leads,
+-- by its index among these parameters
 pub data Slot : Type 0 where
   of_module : (offset : ℕ) → Slot
   held : (up offset : ℕ) → Slot
@@ -33,8 +35,8 @@ slot_place (held zero offset) = lowered.here offset
 slot_place (held (suc up) offset) = lowered.outside (suc up) offset
 slot_place (by_reference up index) = lowered.passed up index
 
--- a moment of a run: the store and its types, the cells of the arguments that a call has been passed so far, what names mean,
--- and the activations that lowered code sees
+-- a moment of a run: the store and its types, the cells of the arguments that a call has been
+-- passed so far, what names mean, and the activations that lowered code sees
 pub record Moment (N : Type 0) : Type 0 where
   pub typing : StoreTyping
   pub store : Store
@@ -46,7 +48,8 @@ pub record Moment (N : Type 0) : Type 0 where
 abbrev pub cells_in : {N : Type 0} → Moment N → List ℤ
 cells_in m = all_cells m.store ++ m.passed
 
--- a moment of a module that is checked, whose variables are in their slots: cells are numbers of 32 bits, fewer than addresses
+-- a moment of a module that is checked, whose variables are in their slots:
+-- cells are numbers of 32 bits, fewer than addresses
 pub record Shows {N : Type 0} (checked : Typed N) (slots : N → Slot) (m : Moment N) : Type 0 where
   pub store_fits : StoreFits m.typing m.store
   pub names_fit : MeaningsFit m.typing checked m.active
@@ -56,7 +59,7 @@ pub record Shows {N : Type 0} (checked : Typed N) (slots : N → Slot) (m : Mome
   pub has_addresses : sizes m.typing < 2 ^ 64
   pub has_numbers : (a : ℕ) → machine.fits (machine.cell_at (cells_in m) a) ≡ true
 
--- how a run ends, by how the lowered one does, and what a step gives
+-- how a run ends, by how the lowered one does
 abbrev pub end_of : machine.Halt → End
 end_of machine.Done = Done
 end_of machine.Overflow = Overflow
@@ -110,7 +113,8 @@ abbrev pub GivesPlace : StoreTyping → Shape → Outcome Place → Type 0
 GivesPlace typing s (gives p) = PlaceFits typing p s
 GivesPlace typing s (ends e) = Unit {0}
 
--- a place of lowered code that is the address of the place that is evaluated, which is one for values of a type
+-- a place of lowered code that is the address of the place that is evaluated,
+-- which is one for values of a type
 abbrev pub PlaceMeans : {N : Type 0}
     → Typed N
     → (N → Slot)
@@ -139,7 +143,7 @@ ValueAt {N} checked slots q s value =
     → Shows checked slots m
     → value m ≡ (place m >>= (λ p. or_stuck (read_place m.store p))))
 
--- the values of the parts of an expression, and the place of a designator
+-- the value of an expression at a moment
 abbrev pub value_of_expression : {N : Type 0} → Tree N expression → Evaluated N Value
 value_of_expression e m = evaluate m.active m.store e
 
@@ -181,7 +185,8 @@ selectors_left rest m p =
     or_stuck (read_place m.store p) >>=
     (λ v. follow m.active m.store v rest >>= (λ steps. gives (further p steps)))
 
--- a place, a number or a truth so far, and what is left: together they come to what is evaluated as a whole
+-- a place, a number or a truth so far, and what is left:
+-- together they come to what is evaluated as a whole
 abbrev pub Leads : {N A : Type 0}
     → Typed N
     → (N → Slot)

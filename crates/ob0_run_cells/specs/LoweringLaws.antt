@@ -1,4 +1,5 @@
--- Lowering is right for each production of designators and expressions: what its parts mean makes what the whole means.
+-- Lowering is right for each production of designators and expressions:
+-- what its parts mean makes what the whole means.
 -- Rule: none; laws of lowered expressions.
 use Rattle.std.specs.Prelude.{◌≡◌, ℕ, Bool, true, ℤ, pos, Some, None}
 use Rattle.ob0_tree.specs.declared.tree.Relation.{Relation}
@@ -157,7 +158,8 @@ OperatorsEnd =
     → TruthLeads checked slots t (addends_left end) whole
     → TruthMeans checked slots t whole)
 
--- a sum begins with its first term: after `+` as it is, since it has 32 bits, and after `-` its negative
+-- a sum begins with its first term: after `+` as it is, since it has 32 bits,
+-- and after `-` its negative
 abbrev pub SumsLower : Type 0
 SumsLower =
     (checked : Typed Label) (slots : Label → Slot) (e : Tree Label term)

@@ -1,4 +1,5 @@
--- Lowering is right for each production of statements: what the parts mean makes what the whole means.
+-- Lowering is right for each production of statements:
+-- what the parts mean makes what the whole means.
 -- Rule: none; laws of lowered statements.
 use Rattle.std.specs.Prelude.{◌≡◌, List, [], ◌∷◌, Some}
 use Rattle.ob0_tree.specs.Tree.{Tree, arguments, assigns, branches, calls, else_branch, else_part, elsif_branch, elsif_part, empty, end, expression, further_statement, items, maybe, more, none, one, repeat_loop, runs, selector, sequence, statement, then_statement, while_loop}
@@ -98,7 +99,7 @@ LoopsLower =
     → StatementMeans checked slots targets (lowered.while_loop t body) (while_loop e a)
     × StatementMeans checked slots targets (lowered.repeat_loop body t) (repeat_loop a e)
 
--- statements one after the other; an empty one is none
+-- statements one after the other; an empty one has no code
 abbrev pub SequencesLower : Type 0
 SequencesLower =
     (checked : Typed Label) (slots : Label → Slot) (targets : Label → Target)

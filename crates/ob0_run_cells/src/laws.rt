@@ -67,7 +67,7 @@ pub fn variables_are_added()
     ensures { VariablesAreAdded }
 {}
 
-/// Variables given up are cells given up.
+/// To drop variables is to drop their cells.
 pub fn variables_are_dropped()
     ensures { VariablesAreDropped }
 {}

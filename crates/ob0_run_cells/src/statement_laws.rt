@@ -27,12 +27,12 @@ pub fn elses_lower()
     ensures { ElsesLower }
 {}
 
-/// WHILE and REPEAT are loops of the same turns.
+/// WHILE and REPEAT are loops of the same iterations.
 pub fn loops_lower()
     ensures { LoopsLower }
 {}
 
-/// Statements follow one another; an empty one is none.
+/// Statements follow one another; an empty one has no code.
 pub fn sequences_lower()
     ensures { SequencesLower }
 {}

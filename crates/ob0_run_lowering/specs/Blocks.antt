@@ -27,13 +27,14 @@ Later table n ps =
 abbrev pub Grown : List Routine → List Routine → Type 0
 Grown before now = (i : ℕ) (e : Routine) → slice_get before i ≡ Some e → slice_get now i ≡ Some e
 
--- before some procedures of a block: what names are bound to, where that is, and the ordinal of the next ARRAY or RECORD
+-- before some procedures of a block: what names are bound to, where that is,
+-- and the ordinal of the next ARRAY or RECORD
 pub record BlockState : Type 0 where
   pub env : TypeEnvironment Label
   pub placing : Placing Label
   pub next : ℕ
 
--- the procedures and statements that are left fit there, and all that they see is known and held
+-- the procedures and statements that are left fit there, and all that they see is known and located
 pub record Ready (t : Tables) (sites : List Site) (depth : ℕ) (s : BlockState)
     (statements : Tree Label (maybe body)) (ps : Tree Label (items procedure)) : Type 0 where
   pub declared_there : AreDeclared (declared_in t) s.env
@@ -53,8 +54,8 @@ abbrev pub AllMean : List lowered.Routine
 AllMean table most s code statements ps =
     ProceduresMean table most as_labels s.env s.placing s.next code statements ps
 
--- procedures are lowered, of which some are left: where what is left means what is there, all do, and no activation has more
--- cells than is known of then
+-- procedures are lowered, of which some are left: where what is left means what is there, all do,
+-- and no activation has more cells than is known of then
 pub record Goes (t : Tables) (w v : Lowering) (depth : ℕ) (ps left : Tree Label (items procedure))
     : Type 0 where
   pub on : (s : BlockState) (statements : Tree Label (maybe body))

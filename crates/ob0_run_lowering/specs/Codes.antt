@@ -17,7 +17,8 @@ use Rattle.ob0_run_machine.specs.Lowered as lowered
 use Rattle.ob0_run_cells.specs.Cells.{size, step_offset}
 use Rattle.ob0_run_cells.specs.Lowering.{Evaluated, NumberMeans, Slot, TruthMeans, ValueAt, relation_of}
 
--- a number, a truth, the cells of an array or a record, or nothing that an expression of a well-typed module is
+-- a number, a truth, the cells of an array or a record,
+-- or nothing that an expression of a well-typed module is
 pub data ExpressionCode : Type 0 where
   a_number : lowered.Number → ExpressionCode
   a_truth : lowered.Truth → ExpressionCode
@@ -117,7 +118,7 @@ field_found x f =
     (λ t. record { place = lowered.part f.place (step_offset f.shape (at_field x)); shape = t })
     (field_type f.shape x)
 
--- an element is one of so many, each of so many cells
+-- an element of an array: one of n, each with the cells of its type
 abbrev pub element_found : ExpressionCode → lowered.Place → Shape → Option FoundPlace
 element_found (a_number i) q (array_shape k n s) =
     Some (record { place = lowered.element q i n (size s); shape = s })

@@ -20,8 +20,10 @@ AreDeclared objects [] = Unit {0}
 AreDeclared objects (b ∷ env) =
     ((k : ℕ) × (b.0 ≡ declared k) × (objects k ≡ Some b.1)) × AreDeclared objects env
 
--- so do all bindings where a block's procedures and statements are checked, and those of the blocks in it
+-- so do all bindings where a block's procedures and statements are checked,
+-- and those of the blocks in it
 abbrev mutual
+  -- after a block's constants, types and variables, and in its procedures
   pub BlockDeclared : Objects → TypeEnvironment Label → ℕ → Tree Label block → Type 0
   BlockDeclared objects env k (has_body (declares cs ts vs ps) statements) =
       (inner : TypeEnvironment Label)
@@ -30,6 +32,7 @@ abbrev mutual
       × ProceduresDeclared objects inner
       (after_variables k (has_body (declares cs ts vs ps) statements)) ps
 
+  -- in each procedure, with its parameters, its name and what was bound before it
   pub ProceduresDeclared : Objects
       → TypeEnvironment Label
       → ℕ
@@ -44,6 +47,7 @@ abbrev mutual
       × ProceduresDeclared objects (heading (procedure_name p) ps env)
       (k + procedure_constructors p) rest
 
+  -- in the block of a procedure
   pub ProcedureDeclared : Objects → TypeEnvironment Label → ℕ → Tree Label (item procedure) → Type 0
   ProcedureDeclared objects env k (declares_procedure x fs b closing) =
       BlockDeclared objects env (k + formals_constructors (formal_sections fs)) b

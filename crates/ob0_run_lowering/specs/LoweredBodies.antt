@@ -1,5 +1,5 @@
--- What the lowered code of statements means in a scene: for whatever is checked, and whatever slots and targets, the scene sees,
--- the code of statements that fit does what they do.
+-- What the lowered code of statements means in a scene: for whatever is checked, and whatever slots
+-- and targets, the scene sees, the code of statements that fit does what they do.
 -- Rule: none; for contracts of lowering.
 use Rattle.std.specs.Prelude.{◌≡◌, ◌&&◌, Bool, List, [], IsTrue, Option, Some, None}
 use Rattle.std.specs.declared.alloc.Global.{Global}
@@ -89,7 +89,8 @@ ElsifsLower scene bs cs rest last =
     InScene scene (λ checked. elsifs_fit checked rest && else_fits checked last)
     (λ checked slots targets. ElsifsMean checked slots targets bs cs rest last)
 
--- the code of a body means it where it is: in each environment and at each placing that the scene sees
+-- the code of a body means it where it is: in each environment and at each placing
+-- that the scene sees
 abbrev pub BodyLowers : Scene → lowered.Instructions → Tree Label (maybe body) → Type 0
 BodyLowers scene cs b =
     (env : TypeEnvironment Label) (placing : Placing Label)

@@ -1,4 +1,5 @@
--- Where the code's table has what is placed, and how the names of a block and of a heading are placed one by one.
+-- Where the code's table has what is placed, and how the names of a block and
+-- of a heading are placed one by one.
 -- Rule: none; for contracts of lowering.
 use Rattle.std.specs.Prelude.{◌≡◌, ℕ, zero, suc, ◌+◌, ◌≤◌, List, [], ◌∷◌, ◌++◌, length, if◌then◌else◌, ◌==◌, Some, None, Option}
 use Rattle.ob0_tree.specs.Tree.{Tree, declares_variable, end, further_section, items, more, then_section, variable}

@@ -1,4 +1,5 @@
--- What lowering knows where it is: what declarations are, where each of them is, and how deep the running activation is.
+-- What lowering knows where it is: what declarations are, where each of them is,
+-- and how deep the running activation is.
 -- Rule: none; for contracts of lowering.
 use Rattle.std.specs.Prelude.{◌≡◌, ℕ, ◌-◌, List, slice_index_or, Some, None, Option, true, ℤ, pos}
 use Rattle.ob0_tree.specs.Places.{value_at}
@@ -54,8 +55,8 @@ pub record HasSmall (scene : Scene) : Type 0 where
       → object_at scene.types.now x ≡ Some (a_constant (number n))
       → machine.fits n ≡ true
 
--- A scene is right for what names mean in a body, for the slots of its variables and the targets of its procedures: what is
--- bound there is what its declaration is, and is where the scene has it.
+-- A scene is right for what names mean in a body, for the slots of its variables and the targets of
+-- its procedures: what is bound there is what its declaration is, and is where the scene has it.
 pub record Sees (scene : Scene) (checked : Typed Label) (slots : Label → Slot)
     (targets : Label → Target) : Type 0 where
   pub bound : (x : Label) (o : Object Shape Signature)

@@ -43,27 +43,33 @@ abbrev pub base_found : Scene → Label → Option FoundPlace
 base_found scene x = variable_found (slot_place (slot_at scene x)) (object_at scene.types.now x)
 
 abbrev mutual
+  -- an expression: the code of its one part, or of a relation between two
   pub expression_code : Scene → Tree Label expression → ExpressionCode
   expression_code scene (compares a none) = simple_code scene a
   expression_code scene (compares a (one (relates r b))) =
       related r (simple_code scene a) (simple_code scene b)
 
+  -- a simple expression: its first term with its sign, and the terms after it
   pub simple_code : Scene → Tree Label simple → ExpressionCode
   simple_code scene (sum s t rest) = addends_code scene (signed s (term_code scene t)) rest
 
+  -- an operand with the code c, and the terms after it
   pub addends_code : Scene → ExpressionCode → Tree Label (items addend) → ExpressionCode
   addends_code scene c end = c
   addends_code scene c (more (adds o t) rest) =
       addends_code scene (added o c (term_code scene t)) rest
 
+  -- a term: its first factor, and the factors after it
   pub term_code : Scene → Tree Label term → ExpressionCode
   term_code scene (product f rest) = multipliers_code scene (factor_code scene f) rest
 
+  -- an operand with the code c, and the factors after it
   pub multipliers_code : Scene → ExpressionCode → Tree Label (items multiplier) → ExpressionCode
   multipliers_code scene c end = c
   multipliers_code scene c (more (multiplies o f) rest) =
       multipliers_code scene (multiplied o c (factor_code scene f)) rest
 
+  -- a factor; a designator is a constant, or what is at its place
   pub factor_code : Scene → Tree Label factor → ExpressionCode
   factor_code scene (designator x path) =
       named_code (constant_of (object_at scene.types.now x))

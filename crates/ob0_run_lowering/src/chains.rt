@@ -57,7 +57,7 @@ fn link_after(operator: Operator, variable: Variable) -> Option<Link>
     }
 }
 
-/// One operation on a number that is none itself.
+/// One operation on a number that isn't one itself.
 fn single(alloc: Global, first: FirstOperand, link: Link) -> Result<Number, AllocError>
     ensures { IfOk result (λ n. number_of n ≡ applied link (first_of first)) }
 {

@@ -8,7 +8,7 @@ use ob0_types_table::TypeId;
 pub enum Lowered {
     Number(Number),
     Truth(Truth),
-    /// So many cells of an array or a record.
+    /// The cells of an array or a record: where they begin, and their number.
     Block(Place, usize),
     /// Of what no expression of a well-typed module is.
     Nothing,

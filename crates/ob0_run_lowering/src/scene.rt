@@ -95,7 +95,7 @@ impl<'s, 'k, 't> Scene<'s, 'k, 't> {
     }
 }
 
-/// A place in the cells of the activation so many levels out.
+/// A place in the cells of the activation `up` levels out.
 fn held(up: usize, offset: usize) -> Place
     ensures { place_of result ≡ slot_place (slots.held up offset) }
 {
@@ -106,7 +106,7 @@ fn held(up: usize, offset: usize) -> Place
     }
 }
 
-/// Where a VAR parameter of the activation so many levels out leads.
+/// Where a VAR parameter of the activation `up` levels out leads.
 fn by_reference(up: usize, index: usize) -> Place
     ensures { place_of result ≡ slot_place (slots.by_reference up index) }
 {

@@ -37,7 +37,7 @@ pub struct Types<'k> {
     layouts: Vec<Layout>,
 }
 
-/// A sum of cells. An error exactly where it has no number of 64 bits: no allocation has room for so many.
+/// A sum of cells. An error exactly where it has no number of 64 bits: no allocation is that large.
 fn plus(cells: usize, more: usize) -> Result<usize, AllocError>
     ensures { MatchResult result (λ n. n ≡ cells + more) (λ _. 2 ^ 64 ≤ cells + more) }
 {

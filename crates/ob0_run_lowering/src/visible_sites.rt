@@ -16,7 +16,7 @@ pub(crate) struct Hidden {
     pub(crate) before: Site,
 }
 
-/// Where each declaration in scope is, by its ordinal, and what the bindings of this sight have hidden, oldest first.
+/// Where each declaration in scope is, by its ordinal, and what its bindings have hidden, oldest first.
 #[derive(Drop)]
 pub(crate) struct VisibleSites {
     pub(crate) sites: Vec<Site>,
@@ -43,7 +43,7 @@ fn next_site(frame: Frame) -> Site
 }
 
 impl Frame {
-    /// The frame with `size` cells more. None where these cells have no addresses: no allocation has room for them.
+    /// The frame with `size` cells more. None where these cells have no addresses: no allocation is that large.
     fn with(self, size: usize) -> Option<Frame>
         ensures { MatchOption result (2 ^ 64 ≤ self.cells + size)
             (λ f. f ≡ record self { cells = self.cells + size }) }
@@ -76,7 +76,7 @@ impl VisibleSites {
         }
     }
 
-    /// Makes room for an ordinal.
+    /// Makes the list long enough for an ordinal.
     fn reach(&mut self, ordinal: usize) -> Result<(), AllocError>
         ensures same { OnOk result
             ((k : ℕ) → site_at self.new.sites.items k ≡ site_at self.old.sites.items k) }
@@ -110,7 +110,7 @@ impl VisibleSites {
         }
     }
 
-    /// Brings a declaration in scope.
+    /// Brings a declaration into scope.
     fn bind_ordinal(&mut self, ordinal: usize, site: Site) -> Result<(), AllocError>
         ensures sites { OnOk result ((k : ℕ)
             → site_at self.new.sites.items k
@@ -124,7 +124,7 @@ impl VisibleSites {
         Ok(())
     }
 
-    /// Brings what a name declares in scope. A name without an ordinal declares nothing.
+    /// Brings what a name declares into scope. A name without an ordinal declares nothing.
     pub(crate) fn bind(&mut self, ordinal: Option<usize>, site: Site) -> Result<(), AllocError>
         ensures sites { OnOk result ((k : ℕ)
             → site_at self.new.sites.items k

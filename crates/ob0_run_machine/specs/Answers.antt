@@ -1,4 +1,4 @@
--- What the machine's steps answer.
+-- What the machine's steps return.
 -- Rule: none; for contracts of the machine's steps.
 use Rattle.std.specs.Prelude.{ℤ, List, Option, Some, None, Ok, Err, Result}
 use Rattle.ob0_run_machine.specs.declared.ending.Ending.{Ending}
@@ -32,7 +32,7 @@ end_at stop.CallBound = Some evaluation.CallBound
 end_at stop.TurnBound = Some evaluation.TurnBound
 end_at stop.Memory = None
 
--- an answer is what a step gives or how it ends the run
+-- a result is what a step gives, or how it ends the run
 abbrev pub outcome_of_result : {A : Type 0} → Result A Ending → StepResult A
 outcome_of_result (Ok a) = gives a
 outcome_of_result (Err e) = ends (end_of e)

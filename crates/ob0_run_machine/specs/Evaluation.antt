@@ -1,5 +1,6 @@
 -- The value of places, numbers and truths of lowered code, in activations and over cells.
--- Rule: none; for contracts of the machine: what lowered expressions mean, by the rules of docs/LANGUAGE.md, Runs 2 to 4.
+-- Rule: none; for contracts of the machine: what lowered expressions mean,
+-- by the rules of docs/LANGUAGE.md, Runs 2 to 4.
 use Rattle.std.specs.Prelude.{ℕ, zero, suc, ◌+◌, ◌-◌, ◌*◌, ◌/◌, ◌%◌, ◌^◌, Bool, true, false, not, ◌&&◌, List, [], ◌∷◌, ℤ, pos, negsuc, ◌+ℤ◌, ◌-ℤ◌, ◌*ℤ◌, neg_ℤ, if◌then◌else◌, nat_lt, slice_index_or, int_lt, int_le, drop}
 use Rattle.ob0_run_machine.specs.Lowered.{Place, in_module, here, outside, passed, element, part, Number, literal, cell, negative, operation, Operator, sum, difference, product, quotient, remainder, Comparator, equal, not_equal, less, less_equal, greater, greater_equal, Truth, constant, flag, negation, both, either, related, same, different}
 
@@ -46,7 +47,7 @@ element_at address length stride (pos i) =
     if nat_lt i length then gives (forward address (i * stride)) else ends Index
 element_at address length stride (negsuc i) = ends Index
 
--- the value of isn't there 0
+-- the value of a cell; 0 where there is none
 abbrev pub cell_at : List ℤ → ℕ → ℤ
 cell_at cells address = slice_index_or cells address (pos 0)
 
@@ -59,12 +60,12 @@ fits (negsuc n) = nat_lt n (2 ^ 31)
 abbrev pub in_range : ℤ → StepResult ℤ
 in_range n = if fits n then gives n else ends Overflow
 
--- DIV rounds down and MOD is the rest from 0 on, for a divisor above 0
+-- DIV rounds down, for a divisor above 0
 abbrev pub quotient_of : ℤ → ℕ → ℤ
 quotient_of (pos a) b = pos (a / b)
 quotient_of (negsuc a) b = negsuc (a / b)
 
--- the remainder, which is never negative
+-- MOD, which is never negative for a divisor above 0
 abbrev pub remainder_of : ℤ → ℕ → ℤ
 remainder_of (pos a) b = pos (a % b)
 remainder_of (negsuc a) b = pos (b - suc (a % b))
@@ -84,6 +85,7 @@ operate quotient a b = divided_by quotient_of a b
 operate remainder a b = divided_by remainder_of a b
 
 abbrev mutual
+  -- the address of a place among all cells; Index where an element isn't there
   pub address : Levels → List ℤ → Place → StepResult ℕ
   address ls cells (in_module offset) = gives offset
   address ls cells (here offset) = gives (forward (innermost ls).base offset)
@@ -93,6 +95,7 @@ abbrev mutual
       address ls cells p >>= (λ a. number ls cells i >>= element_at a length stride)
   address ls cells (part p offset) = address ls cells p >>= (λ a. gives (forward a offset))
 
+  -- the value of a number; each operation gives 32 bits or ends the run
   pub number : Levels → List ℤ → Number → StepResult ℤ
   number ls cells (literal n) = gives n
   number ls cells (cell p) = address ls cells p >>= (λ a. gives (cell_at cells a))

@@ -1,6 +1,8 @@
--- Runs of lowered code, by big steps: statements, calls and whole programs, over the activations that are seen, the cells, the
--- rest of the input, and bounds c on open calls and t on the turns of a loop.
--- Rule: none; for contracts of the machine: what lowered statements mean, by the rules of docs/LANGUAGE.md, Runs 5 to 10.
+-- Runs of lowered code, by big steps: statements, calls and whole programs, over the activations
+-- that are seen, the cells, the rest of the input,
+-- and bounds c on open calls and t on the iterations of a loop.
+-- Rule: none; for contracts of the machine: what lowered statements mean,
+-- by the rules of docs/LANGUAGE.md, Runs 5 to 10.
 use Rattle.std.specs.Prelude.{ℕ, zero, suc, ◌+◌, ◌-◌, Bool, true, false, ◌&&◌, List, [], ◌∷◌, ◌++◌, length, take, drop, replicate, ℤ, pos, Some, None, Option, if◌then◌else◌, nat_le, slice_get, slice_set}
 use Rattle.ob0_run_machine.specs.Lowered.{LoweredArgument, by_place, by_number, by_truth, by_block, Instruction, stores_number, stores_truth, copies, reads, writes, writes_line, chooses, while_loop, repeat_loop, calls, Instructions, no_statement, before, Branches, no_branch, branch, Routine, LoweredCode}
 use Rattle.ob0_run_machine.specs.Evaluation.{CallBound, Done, Halt, InputEnd, StepResult, Levels, TurnBound, address, as_cell, ends, gives, innermost, number, truth, ◌>>=◌}
@@ -49,18 +51,18 @@ append_output s i = record s { output = s.output ++ i ∷ [] }
 abbrev pub store_at : MachineState → ℕ → ℤ → MachineState
 store_at s a n = record s { cells = slice_set s.cells a n }
 
--- so many cells from one address go to another, where both are there; else nothing changes
+-- n cells from one address go to another, where both are there; else nothing changes
 abbrev pub copied : List ℤ → (to from n : ℕ) → List ℤ
 copied cells to from n =
     if nat_le (to + n) (length cells) && nat_le (from + n) (length cells)
     then take to cells ++ (take n (drop from cells) ++ drop (to + n) cells)
     else cells
 
--- so many new cells, each 0
+-- n new cells, each 0
 abbrev pub zeros : ℕ → List ℤ
 zeros n = replicate n (pos 0)
 
--- so many cells from an address on, 0 where they aren't there
+-- n cells from an address on; all are 0 where not all of them are there
 abbrev pub block_at : List ℤ → (from n : ℕ) → List ℤ
 block_at cells from n =
     if nat_le (from + n) (length cells) then take n (drop from cells) else zeros n
@@ -70,7 +72,8 @@ abbrev pub read_number : MachineState → ℕ → List ℤ → MachineProgress
 read_number s a [] = stopped InputEnd s.output
 read_number s a (n ∷ rest) = running (store_at (record s { input = rest }) a n)
 
--- what was passed: values are cells at the end, and places are addresses, both in the order of the parameters
+-- what was passed: values are cells at the end, and places are addresses,
+-- both in the order of the parameters
 pub record Passed : Type 0 where
   pub cells : List ℤ
   pub addresses : List ℕ
@@ -94,7 +97,8 @@ abbrev pub pass_all : Levels → List LoweredArgument → Passed → StepResult 
 pass_all ls [] done = gives done
 pass_all ls (a ∷ as_given) done = pass ls a done >>= pass_all ls as_given
 
--- a loop evaluates its condition; where it is TRUE and t turns were made, it ends with TurnBound; else one more turn is made
+-- WHILE evaluates its condition; where it is TRUE and none of t iterations is left, the run ends
+-- with TurnBound; else one more is made
 abbrev pub turns : ℕ → (MachineState → StepResult Bool)
     → (MachineState → MachineProgress)
     → MachineState
@@ -105,8 +109,9 @@ turns (suc t) condition statements s =
     choose s (condition s) (λ s'. continue_with (statements s') (turns t condition statements))
     running
 
--- REPEAT makes a turn and then evaluates its condition: TRUE ends the statement; FALSE ends it with TurnBound where no more
--- turns may be made, t more after this one; else one more turn is made
+-- REPEAT makes an iteration and then evaluates its condition: TRUE ends the statement; FALSE ends
+-- the run with TurnBound where none of the t iterations after the first is left;
+-- else one more is made
 abbrev pub turns_until : ℕ → (MachineState → StepResult Bool)
     → (MachineState → MachineProgress)
     → MachineState
@@ -117,7 +122,8 @@ turns_until zero condition turn s =
 turns_until (suc t) condition turn s =
     continue_with (turn s) (λ s'. choose s' (condition s') running (turns_until t condition turn))
 
--- what a procedure does where it is called: the activations that its body sees, its own first, whose arguments are passed
+-- what a procedure does where it is called: the activations that its body sees, its own first,
+-- whose arguments are passed
 abbrev pub CallEffect : Type 0
 CallEffect = ℕ → Levels → MachineState → MachineProgress
 
@@ -127,6 +133,7 @@ entered ls base up p = record { base = base; addresses = p.addresses } ∷ drop 
 
 -- an assignment finds its place, then evaluates its right side, then stores
 unfoldable mutual
+  -- one statement; `enter` is what a call does, and t bounds the iterations of each loop
   pub execute : CallEffect → ℕ → Levels → Instruction → MachineState → MachineProgress
   execute enter t ls (stores_number p n) s =
       use_in s (address ls s.cells p)
@@ -151,11 +158,13 @@ unfoldable mutual
       use_in s (pass_all ls args record { cells = s.cells; addresses = [] })
       (λ p. enter k (entered ls (length s.cells) up p) record s { cells = p.cells })
 
+  -- statements, one after the other
   pub execute_all : CallEffect → ℕ → Levels → Instructions → MachineState → MachineProgress
   execute_all enter t ls no_statement s = running s
   execute_all enter t ls (before a rest) s =
       continue_with (execute enter t ls a s) (execute_all enter t ls rest)
 
+  -- what the first branch with a TRUE condition executes; `otherwise` where there is none
   pub execute_branches : CallEffect → ℕ → Levels → Branches
       → (MachineState → MachineProgress)
       → MachineState
@@ -170,7 +179,8 @@ abbrev pub drop_variables : ℕ → MachineProgress → MachineProgress
 drop_variables n (running s) = running record s { cells = take n s.cells }
 drop_variables n (stopped e out) = stopped e out
 
--- the body of a procedure runs with its own cells after its arguments; what isn't there does nothing
+-- the body of a procedure runs with its own cells after its arguments;
+-- what isn't there does nothing
 unfoldable pub activate : CallEffect → ℕ → Levels → Option Routine → MachineState → MachineProgress
 unfolding execute_all
 activate enter t ls None s = running s

@@ -8,10 +8,12 @@ use Rattle.ob0_run_machine.specs.declared.level.Level as code
 use Rattle.ob0_run_machine.specs.Evaluation.{Levels}
 
 abbrev mutual
+  -- an activation of the code, and those around it
   pub levels_of : code.Level → Levels
   levels_of (code.Level' base addresses enclosing) =
       record { base = base; addresses = addresses.now } ∷ levels_after enclosing
 
+  -- the activations around one, if there are any
   pub levels_after : code.Held-Level-enclosing → Levels
   levels_after code.None' = []
   levels_after (code.Some' pointer l) = levels_of l

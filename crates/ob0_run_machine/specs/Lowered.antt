@@ -1,5 +1,5 @@
--- Lowered code: a module whose variables are offsets of cells, whose designators are bases, bounds and offsets, and whose calls
--- name their procedure by its index.
+-- Lowered code: a module whose variables are offsets of cells, whose designators are bases, bounds
+-- and offsets, and whose calls name their procedure by its index.
 -- Rule: none; for contracts of the machine: lowered code.
 use Rattle.std.specs.Prelude.{ℕ, Bool, List, ℤ}
 
@@ -14,15 +14,16 @@ mutual
     in_module : (offset : ℕ) → Place
     -- at an offset in the cells of the running activation
     here : (offset : ℕ) → Place
-    -- at an offset in the cells of the activation so many levels out
+    -- at an offset in the cells of the activation `up` levels out
     outside : (up offset : ℕ) → Place
-    -- where a VAR parameter of the activation so many levels out leads, by its index among these parameters
+    -- where a VAR parameter of the activation `up` levels out leads, by its index among them
     passed : (up index : ℕ) → Place
-    -- an element of an array, whose elements have so many cells each
+    -- an element of an array, which has `length` elements of `stride` cells each
     element : Place → Number → (length stride : ℕ) → Place
     -- a part at an offset
     part : Place → (offset : ℕ) → Place
 
+  -- a number: a literal, the cell at a place, or an operation on numbers
   pub data Number : Type 0 where
     literal : ℤ → Number
     cell : Place → Number
@@ -42,7 +43,8 @@ pub data Truth : Type 0 where
   related : Comparator → Number → Number → Truth
   same different : Truth → Truth → Truth
 
--- a place for a VAR parameter, a value for another: a number, a truth, or the cells of an array or a record
+-- a place for a VAR parameter, a value for another:
+-- a number, a truth, or the cells of an array or a record
 pub data LoweredArgument : Type 0 where
   by_place : Place → LoweredArgument
   by_number : Number → LoweredArgument
@@ -50,10 +52,11 @@ pub data LoweredArgument : Type 0 where
   by_block : Place → (cells : ℕ) → LoweredArgument
 
 mutual
+  -- one statement
   pub data Instruction : Type 0 where
     stores_number : Place → Number → Instruction
     stores_truth : Place → Truth → Instruction
-    -- so many cells from the second place go to the first
+    -- this number of cells from the second place go to the first
     copies : Place → Place → (cells : ℕ) → Instruction
     reads : Place → Instruction
     writes : Number → Instruction
@@ -62,23 +65,25 @@ mutual
     chooses : Branches → Instructions → Instruction
     while_loop : Truth → Instructions → Instruction
     repeat_loop : Instructions → Truth → Instruction
-    -- of a procedure that is declared in the activation so many levels out
+    -- of a procedure that is declared in the activation `up` levels out
     calls : (procedure up : ℕ) → List LoweredArgument → Instruction
 
+  -- statements, one before the rest
   pub data Instructions : Type 0 where
     no_statement : Instructions
     before : Instruction → Instructions → Instructions
 
+  -- conditions, each with what is executed where it is the first that is TRUE
   pub data Branches : Type 0 where
     no_branch : Branches
     branch : Truth → Instructions → Branches → Branches
 
--- a procedure has so many cells beside those of its parameters
+-- a procedure, with `cells` cells beside those of its parameters
 pub record Routine : Type 0 where
   pub cells : ℕ
   pub body : Instructions
 
--- a module has so many cells of its own
+-- a module, with `cells` cells of its own
 pub record LoweredCode : Type 0 where
   pub cells : ℕ
   pub body : Instructions

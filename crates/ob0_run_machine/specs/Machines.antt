@@ -33,12 +33,14 @@ abbrev pub state_of : Machine → MachineState
 state_of m =
     record { cells = m.cells.items; input = m.input.now; output = items_out m.output.items }
 
--- a step that takes no memory goes on in the state that it leaves, or ends the run with what was output
+-- a step that takes no memory goes on in the state that it leaves,
+-- or ends the run with what was output
 abbrev pub after_step : Result (Unit {0}) Ending → Machine → MachineProgress
 after_step (Ok done) m = running (state_of m)
 after_step (Err e) m = stopped (end_of e) (items_out m.output.items)
 
--- a step that gives nothing ends the run with what was output; it ends nothing only where an allocation has failed
+-- a step that gives nothing ends the run with what was output;
+-- it ends nothing only where an allocation has failed
 abbrev pub StopsRun : Option Halt → Machine → MachineProgress → Type 0
 StopsRun (Some e) m p = p ≡ stopped e (items_out m.output.items)
 StopsRun None m p = has_failed m.memory ≡ true
@@ -48,7 +50,8 @@ abbrev pub MachineSteps : Result (Unit {0}) Stop → Machine → MachineProgress
 MachineSteps (Ok done) m p = p ≡ running (state_of m)
 MachineSteps (Err s) m p = StopsRun (end_at s) m p
 
--- what a closure that performs calls does: the machine before it, the procedure, the activation, its answer and the machine after it
+-- what a closure that performs calls does: the machine before it, the procedure, the activation,
+-- its answer and the machine after it
 abbrev pub Post : Type 1
 Post = MutBor Machine → ℕ → Bor level.Level → Result (Unit {0}) Stop → MutBor Machine → Type 0
 
@@ -82,7 +85,8 @@ pub record MachineDoes (post : Post) (r : Result (Unit {0}) Stop) (m m' : Machin
 abbrev pub passed_in : List ℤ → List ℕ → Passed
 passed_in cells addresses = record { cells = cells; addresses = addresses }
 
--- a procedure, declared so many levels out, is entered in an activation with this base and these addresses
+-- a procedure, declared `up` levels out, is entered in an activation with this base
+-- and these addresses
 abbrev pub entering : ℕ → ℕ → Levels → ℕ → List ℕ → Doing
 entering k up ls base addresses enters s =
     enters k (entered ls base up (passed_in s.cells addresses)) s

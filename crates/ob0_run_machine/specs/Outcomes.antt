@@ -22,8 +22,8 @@ abbrev pub EndsAs : Option Halt → Result code_end.Halt AllocError → Type 0
 EndsAs (Some e) r = (x : code_end.Halt) × (r ≡ Ok x) × (end_in x ≡ e)
 EndsAs None r = IsErr r
 
--- statements that return have reached the end of the program, a rule that they break ends the run, and nothing else but an
--- allocation that failed leaves it without an end
+-- statements that return have reached the end of the program, a rule that they break ends the run,
+-- and nothing else but an allocation that failed leaves it without an end
 abbrev pub IsEndOf : Result (Unit {0}) Stop → Result code_end.Halt AllocError → Type 0
 IsEndOf (Ok done) r = r ≡ Ok code.Done
 IsEndOf (Err s) r = EndsAs (end_at s) r

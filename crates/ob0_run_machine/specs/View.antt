@@ -56,6 +56,7 @@ row_of r =
     lowered.element (variable_of r.array) (lowered.cell (variable_of r.index)) r.length r.stride
 
 abbrev mutual
+  -- a place of the code
   pub place_of : Place → lowered.Place
   place_of (place.Variable v) = variable_of v
   place_of (place.Row r) = row_of r.value
@@ -65,6 +66,7 @@ abbrev mutual
       lowered.element (place_of array) (number_of index) length stride
   place_of (place.Part' pointer p offset) = lowered.part (place_of p) offset
 
+  -- a number of the code
   pub number_of : Number → lowered.Number
   number_of (number.Literal n) = lowered.literal n
   number_of (number.Variable v) = lowered.cell (variable_of v)
@@ -73,6 +75,7 @@ abbrev mutual
   number_of (number.Operation' pointer begin l) = applied l (first_of begin)
   number_of (number.Chain' pointer begin shape row) = chained_by row (first_of begin)
 
+  -- the first operand of an operation or a chain
   pub first_of : FirstOperand → lowered.Number
   first_of (first.Literal n) = lowered.literal n
   first_of (first.Variable v) = lowered.cell (variable_of v)
@@ -149,6 +152,7 @@ abbrev pub compared_by : Comparator → Variable → lowered.Number → lowered.
 compared_by r v n = lowered.related (relation_of r) (lowered.cell (variable_of v)) n
 
 abbrev mutual
+  -- a truth value of the code
   pub truth_of : Truth → lowered.Truth
   truth_of (truth.Constant b) = lowered.constant b
   truth_of (truth.Flag p) = lowered.flag (place_of p)
@@ -165,10 +169,12 @@ abbrev mutual
   truth_of (truth.Different' pointer left right) =
       lowered.different (truth_of left) (truth_of right)
 
+  -- a chain of `&`, from this left operand on
   pub all_of : {n : _} → truth.Row_of-Truth n → lowered.Truth → lowered.Truth
   all_of truth.end_of-Truth left = left
   all_of (truth.more_of-Truth t row) left = all_of row (lowered.both left (truth_of t))
 
+  -- a chain of OR, from this left operand on
   pub any_of : {n : _} → truth.Row_of-Truth n → lowered.Truth → lowered.Truth
   any_of truth.end_of-Truth left = left
   any_of (truth.more_of-Truth t row) left = any_of row (lowered.either left (truth_of t))
@@ -203,6 +209,7 @@ abbrev pub call_of : call.ProcedureCall → lowered.Instruction
 call_of c = lowered.calls c.procedure c.up (map argument_of c.arguments.items)
 
 abbrev mutual
+  -- a statement of the code
   pub statement_of : Instruction → lowered.Instruction
   statement_of (statement.StoreNumber p n) = lowered.stores_number (place_of p) (number_of n)
   statement_of (statement.StoreVariable v n) = lowered.stores_number (variable_of v) (number_of n)
@@ -219,15 +226,18 @@ abbrev mutual
       lowered.repeat_loop (statements_of row) (truth_of c)
   statement_of (statement.Call c) = call_of c
 
+  -- an IF of the code
   pub if_of : if_statement.Conditional → lowered.Instruction
   if_of (if_statement.Conditional' shape branches shape' otherwise) =
       lowered.chooses (branches_of branches) (statements_of otherwise)
 
+  -- the statements of a row
   pub statements_of : {n : _} → statement.Row_of-Instruction n → lowered.Instructions
   statements_of statement.end_of-Instruction = lowered.no_statement
   statements_of (statement.more_of-Instruction s row) =
       lowered.before (statement_of s) (statements_of row)
 
+  -- the branches of a row
   pub branches_of : {n : _} → if_statement.Row_of-Branch n → lowered.Branches
   branches_of if_statement.end_of-Branch = lowered.no_branch
   branches_of (if_statement.more_of-Branch c shape body row) =

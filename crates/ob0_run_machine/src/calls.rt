@@ -1,4 +1,4 @@
-//! Calls of procedures. The cells of a call are given up at its return.
+//! Calls of procedures. The cells of a call are dropped at its return.
 
 ghost use Rattle.std.specs.Prelude.{◌≡◌, map, option_map, slice_get, take};
 ghost use Rattle.ob0_run_machine.specs.Evaluation.{innermost};
@@ -48,7 +48,7 @@ fn activate<F: Fn(&mut Machine<'_>, usize, &Level<'_>) -> Result<(), Stop>>(
     }
 }
 
-/// Gives up the cells of an activation.
+/// Drops the cells of an activation.
 fn drop_variables(machine: &mut Machine<'_>, level: &Level<'_>)
     ensures { state_of machine.new
         ≡ record (state_of machine.old)
@@ -57,7 +57,7 @@ fn drop_variables(machine: &mut Machine<'_>, level: &Level<'_>)
     machine.cells.truncate(level.base);
 }
 
-/// A call of a procedure, where so many calls more may be open.
+/// A call of a procedure, where `calls` calls more may be open.
 #[inline(never)]
 pub(crate) fn call(
     program: &LoweredCode,

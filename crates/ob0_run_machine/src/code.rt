@@ -25,9 +25,10 @@ pub enum Variable {
 #[derive(Drop)]
 pub enum Place {
     Variable(Variable),
-    /// At an offset, the second number, in the cells of the activation so many levels out.
+    /// In the cells of the activation that is this number of levels out, at an offset, the second number.
     Outside(usize, usize),
-    /// Where a VAR parameter of the activation so many levels out leads, by its index among these parameters.
+    /// Where a VAR parameter of the activation that is this number of levels out leads, by its index among these
+    /// parameters.
     Passed(usize, usize),
     /// An element of an array that is a variable, at an index that is one: an `Element` in one step.
     Row(Box<Row>),
@@ -45,7 +46,7 @@ pub struct Row {
     pub stride: usize,
 }
 
-/// An element of an array, whose elements have so many cells each.
+/// An element of an array, at an index: the array has `length` elements of `stride` cells each.
 #[cycle(numbers)]
 #[derive(Drop)]
 pub struct Element {
@@ -70,7 +71,7 @@ pub enum Number {
     Chain(Box<Chain>),
 }
 
-/// What operations in a row begin with: a number that is no operation. So no row is nested in the left operand of
+/// What operations in a row begin with: a number that isn't an operation. So no row is nested in the left operand of
 /// another.
 #[cycle(numbers)]
 #[derive(Drop)]
@@ -181,7 +182,7 @@ pub enum Argument {
     Place(Place),
     Number(Number),
     Truth(Truth),
-    /// So many cells of an array or a record.
+    /// The cells of an array or a record: where they begin, and their number.
     Block(Place, usize),
 }
 
@@ -195,7 +196,7 @@ pub enum Instruction {
     /// A variable becomes the result of an operation whose left operand it is, as in `x := x + 1`.
     Update(Variable, Link),
     StoreTruth(Place, Truth),
-    /// So many cells from the second place go to the first.
+    /// The cells from the second place on go to the first; the last field is their number.
     Copy(Place, Place, usize),
     Read(Place),
     Write(Number),
@@ -238,7 +239,7 @@ pub struct RepeatLoop {
     pub condition: Truth,
 }
 
-/// A call of a procedure that is declared in the activation so many levels out.
+/// A call of a procedure that is declared in the activation `up` levels out.
 #[derive(Drop)]
 pub struct ProcedureCall {
     pub procedure: usize,
@@ -246,14 +247,14 @@ pub struct ProcedureCall {
     pub arguments: Vec<Argument>,
 }
 
-/// A procedure has so many cells beside those of its parameters.
+/// A procedure. It has `cells` cells beside those of its parameters.
 #[derive(Drop)]
 pub struct Routine {
     pub cells: usize,
     pub body: Vec<Instruction>,
 }
 
-/// A module has so many cells of its own.
+/// A module. It has `cells` cells of its own.
 #[derive(Drop)]
 pub struct LoweredCode {
     pub cells: usize,

@@ -3,7 +3,7 @@
 ghost use Rattle.std.specs.Prelude.{◌≡◌, ◌+◌, ◌≤◌, length};
 ghost use Rattle.ob0_run_machine.specs.Execution.{copied};
 
-/// Copies so many cells to a place after them.
+/// Copies `count` cells to a place after them.
 pub(crate) fn copy_up(cells: &mut [i32], to: usize, from: usize, count: usize)
     requires { (from + count ≤ to) × (to + count ≤ length cells.old) }
     ensures { cells.new ≡ copied cells.old to from count }
@@ -12,7 +12,7 @@ pub(crate) fn copy_up(cells: &mut [i32], to: usize, from: usize, count: usize)
     back[..count].copy_from_slice(&front[from..from + count]);
 }
 
-/// Copies so many cells to a place before them.
+/// Copies `count` cells to a place before them.
 fn copy_down(cells: &mut [i32], to: usize, from: usize, count: usize)
     requires { (to + count ≤ from) × (from + count ≤ length cells.old) }
     ensures { cells.new ≡ copied cells.old to from count }
@@ -21,7 +21,7 @@ fn copy_down(cells: &mut [i32], to: usize, from: usize, count: usize)
     front[to..to + count].copy_from_slice(&back[..count]);
 }
 
-/// Copies so many cells from one address to another.
+/// Copies `count` cells from one address to another.
 pub(crate) fn copy_cells(cells: &mut [i32], to: usize, from: usize, count: usize)
     requires { (to + count ≤ length cells.old) × (from + count ≤ length cells.old) }
     ensures { cells.new ≡ copied cells.old to from count }

@@ -17,7 +17,7 @@ pub enum Ending {
     InputEnd,
     /// A call more than may be open.
     CallBound,
-    /// A turn more than an execution of a loop may make.
+    /// An iteration more than an execution of a loop may make.
     TurnBound,
 }
 

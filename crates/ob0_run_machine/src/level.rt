@@ -13,7 +13,7 @@ pub(crate) struct Level<'l> {
     pub enclosing: Option<&'l Level<'l>>,
 }
 
-/// The activation so many levels out. The running one and the next one are found without a call.
+/// The activation `up` levels out. The running one and the next one are found without a call.
 #[inline(always)]
 pub(crate) fn outside<'l>(level: &'l Level<'l>, up: usize) -> Option<&'l Level<'l>>
     ensures { levels_seen result ≡ drop up (levels_of level.now) }
@@ -45,7 +45,7 @@ fn further_out<'l>(level: &'l Level<'l>, up: usize) -> Option<&'l Level<'l>>
     }
 }
 
-/// Where the cells of the activation so many levels out begin.
+/// Where the cells of the activation `up` levels out begin.
 pub(crate) fn base_at(level: &Level<'_>, up: usize) -> usize
     ensures { result ≡ (level_at (levels_of level.now) up).base }
 {
@@ -66,7 +66,7 @@ pub(crate) fn var_parameter_at(level: &Level<'_>, index: usize) -> usize
     }
 }
 
-/// The same of the activation so many levels out.
+/// The same of the activation `up` levels out.
 pub(crate) fn passed_at(level: &Level<'_>, up: usize, index: usize) -> usize
     ensures { result ≡ slice_index_or (level_at (levels_of level.now) up).addresses index 0 }
 {

@@ -38,7 +38,7 @@ pub(crate) fn store(cells: &mut Vec<i32>, address: usize, number: i32)
     }
 }
 
-/// Copies so many cells from one address to another, where both are there.
+/// Copies `count` cells from one address to another, where both are there.
 pub(crate) fn copy(cells: &mut Vec<i32>, to: usize, from: usize, count: usize)
     ensures { cells.new.items ≡ copied cells.old.items to from count }
 {

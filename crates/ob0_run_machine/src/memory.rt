@@ -47,7 +47,7 @@ impl Memory {
         }
     }
 
-    /// Puts so many new cells at the end. A few, as most procedures have, are put there one by one, without a call.
+    /// Puts `count` new cells at the end. A few, as most procedures have, are put there one by one, without a call.
     #[inline(always)]
     pub(crate) fn push_zeros(
         &mut self,
@@ -80,7 +80,7 @@ impl Memory {
         }
     }
 
-    /// Puts a copy of so many cells at the end, zeros where they aren't there.
+    /// Puts a copy of `count` cells at the end, zeros where they aren't there.
     pub(crate) fn push_block(
         &mut self,
         cells: &mut Vec<i32>,

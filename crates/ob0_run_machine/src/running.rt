@@ -70,7 +70,7 @@ fn end_of(executed: Result<(), Stop>) -> Result<Halt, AllocError>
 }
 
 /// Runs a program on an input, with at most `calls` calls open at a time, and at most `turns` iterations of each
-/// execution of a loop. The program's own statements are no call.
+/// execution of a loop. The program's own statements aren't a call.
 ///
 /// # Errors
 ///

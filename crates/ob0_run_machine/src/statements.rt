@@ -1,4 +1,4 @@
-//! Statements. What calls do is handed in.
+//! Statements. What calls do is an argument.
 
 ghost use Rattle.std.specs.Prelude.{◌≡◌, ℕ};
 ghost use Rattle.ob0_run_machine.specs.Answers.{outcome_of_result};
@@ -326,7 +326,7 @@ fn branches<F: Fn(&mut Machine<'_>, usize, &Level<'_>) -> Result<(), Stop>>(
     sequence_if_any(&i.otherwise, level, turns, machine, enter)
 }
 
-/// WHILE: where the condition is TRUE and this execution has made as many turns as it may, it ends with TurnBound.
+/// WHILE: where the condition is TRUE and this execution has made as many iterations as it may, it ends with TurnBound.
 #[inline(never)]
 #[cycle(execution)]
 fn run_loop<F: Fn(&mut Machine<'_>, usize, &Level<'_>) -> Result<(), Stop>>(
@@ -353,7 +353,7 @@ fn run_loop<F: Fn(&mut Machine<'_>, usize, &Level<'_>) -> Result<(), Stop>>(
     }
 }
 
-/// REPEAT: the first turn is made whatever the bound.
+/// REPEAT: the first iteration is made whatever the bound.
 #[inline(never)]
 #[cycle(execution)]
 fn until<F: Fn(&mut Machine<'_>, usize, &Level<'_>) -> Result<(), Stop>>(

@@ -32,7 +32,8 @@ InliningKeepsModules =
     → WellTyped m
     → WellTyped (inlined m uses v) × SameRuns (inlined m uses v) m
 
--- a constant that no occurrence is bound to may go: the module without its declaration is well-typed and has the same runs
+-- a constant that no occurrence is bound to may go:
+-- the module without its declaration is well-typed and has the same runs
 abbrev pub LeavingOutKeepsModules : Type 0
 LeavingOutKeepsModules =
     (m : Tree Name module_text) (d : ℕ) (w : Value) (v : Tree Name factor)
@@ -41,7 +42,8 @@ LeavingOutKeepsModules =
     → WellTyped m
     → WellTyped (module_without d m) × SameRuns (module_without d m) m
 
--- a constant's literal in place of all its uses, and its declaration gone: the module stays well-typed and has the same runs
+-- a constant's literal in place of all its uses, and its declaration gone:
+-- the module stays well-typed and has the same runs
 abbrev pub InliningEverywhereKeepsModules : Type 0
 InliningEverywhereKeepsModules =
     (m : Tree Name module_text) (d : ℕ) (w : Value) (v : Tree Name factor)

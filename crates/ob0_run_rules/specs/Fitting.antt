@@ -11,6 +11,7 @@ use Rattle.ob0_run_rules.specs.Runs.{Activation, Argument, ProcedureText, passin
 
 -- a value has a type
 abbrev mutual
+  -- an array has the length of its type, a record the RECORD of its type, and parts have theirs
   pub HasShape : Value → Shape → Type 0
   HasShape (number n) integer_shape = Unit {0}
   HasShape (truth b) boolean_shape = Unit {0}
@@ -18,17 +19,19 @@ abbrev mutual
   HasShape (members j ms) (record_shape k fs) = (j ≡ k) × HaveShapes ms fs
   HasShape _ _ = ⊥
 
+  -- each element has this type
   pub EachHasShape : Values → Shape → Type 0
   EachHasShape no_value s = Unit {0}
   EachHasShape (next_value v rest) s = HasShape v s × EachHasShape rest s
 
+  -- each member has the name and the type of its field
   pub HaveShapes : Members → FieldShapes → Type 0
   HaveShapes no_member no_field_shape = Unit {0}
   HaveShapes (next_member x v rest) (next_field_shape y s others) =
       (x ≡ y) × HasShape v s × HaveShapes rest others
   HaveShapes _ _ = ⊥
 
--- the type of a part one step further, and at the end of a path; an index lies below the length
+-- the type of a part one step further; an index is below the length
 abbrev pub part_shape : Shape → Step → Option Shape
 part_shape (array_shape k n s) (at_index i) = if nat_lt i n then Some s else None
 part_shape (record_shape k fs) (at_field x) = shape_of_field fs x

@@ -1,4 +1,5 @@
--- Runs in which a call that returns drops its variables, so that the store has only those of the calls that are open.
+-- Runs in which a call that returns drops its variables,
+-- so that the store has only those of the calls that are open.
 -- Rule: docs/LANGUAGE.md, Runs 6 (that no run can tell whether variables are freed).
 use Rattle.std.specs.Prelude.{ℕ, zero, suc, length, take, List, ℤ}
 use Rattle.ob0_tree.specs.Tree.{Tree, module_text}

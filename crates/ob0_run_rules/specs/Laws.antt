@@ -35,7 +35,8 @@ FreeKeepsRuns =
     → (input : List ℤ) (c t : ℕ)
     → run (renamed m d new) input c t ≡ run m input c t
 
--- dropping a call's variables at its return leaves every run of every tree as it is, whatever distinguishes its names or labels
+-- dropping a call's variables at its return leaves every run of every tree as it is,
+-- whatever distinguishes its names or labels
 abbrev pub GivingUpKeepsRuns : Type 0
 GivingUpKeepsRuns =
     ((naming : Naming Name) (m : Tree Name module_text) (input : List ℤ) (c t : ℕ)
@@ -51,7 +52,8 @@ NeverStuck =
     → (input : List ℤ) (c t : ℕ)
     → (run m input c t).ending ≢ Stuck
 
--- a factor that has a constant's value in every store, in place of uses of that constant, keeps what a statement does
+-- a factor that has a constant's value in every store, in place of uses of that constant,
+-- keeps what a statement does
 abbrev pub InliningKeepsExecution : Type 0
 InliningKeepsExecution =
     (meaning : Meanings Name Place (List Mode)) (enter : Calls Name) (t : ℕ) (uses : Uses)

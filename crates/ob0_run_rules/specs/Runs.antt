@@ -1,4 +1,5 @@
--- Runs, by big steps: statements, calls and whole modules, over names, an environment, a store, the rest of the input, and bounds c on open calls and t on the turns of a loop.
+-- Runs, by big steps: statements, calls and whole modules, over names, an environment, a store, the
+-- rest of the input, and bounds c on open calls and t on the iterations of a loop.
 -- Rule: docs/LANGUAGE.md, Runs 1 to 10.
 use Rattle.std.specs.Prelude.{ℕ, zero, suc, ◌+◌, ◌-◌, true, false, List, [], ◌∷◌, ◌++◌, map, length, ℤ, Some, None, Option, option_map, option_and_then}
 use Rattle.ob0_tree.specs.Tree.{Tree, assigns, begins, block, body, branches, calls, declares_variable, else_branch, else_part, elsif_branch, elsif_part, empty, end, expression, further_section, further_statement, item, items, maybe, module_text, more, none, one, procedure, repeat_loop, runs, sequence, statement, then_section, then_statement, variable, while_loop}
@@ -102,7 +103,7 @@ evaluate_arguments meaning store (m ∷ ms) (e ∷ es) = do
   gives (a ∷ rest)
 evaluate_arguments meaning store _ _ = ends Stuck
 
--- a call, its arguments evaluated; the standard procedures are no calls for the bound c
+-- a call, its arguments evaluated; the standard procedures don't count as calls for the bound c
 abbrev pub perform : Option (Object Place (List Mode))
     → (List Argument → State → Progress)
     → List Argument
@@ -115,8 +116,8 @@ perform (Some (a_standard writes)) enter (value_argument (number n) ∷ []) s =
 perform (Some (a_standard writes_line)) enter [] s = running (append_output s line_out)
 perform _ enter args s = stopped Stuck s.output
 
--- WHILE evaluates its condition; where it is TRUE and none of t turns is left, the run ends with TurnBound; else
--- one more is made
+-- WHILE evaluates its condition; where it is TRUE and none of t iterations is left, the run ends
+-- with TurnBound; else one more is made
 abbrev pub turns : ℕ → (State → Outcome Value) → (State → Progress) → State → Progress
 turns zero condition statements s =
     use_in s (condition s) (λ v. choose s v (λ s'. stopped TurnBound s'.output) running)
@@ -128,8 +129,9 @@ turns (suc t) condition statements s =
 abbrev pub Calls : Type 0 → Type 0
 Calls N = N → List Argument → State → Progress
 
--- REPEAT makes a turn and then evaluates its condition: TRUE ends the statement; FALSE ends it with TurnBound where no more
--- turns may be made, t more after this one; else one more turn is made
+-- REPEAT makes an iteration and then evaluates its condition: TRUE ends the statement; FALSE ends
+-- the run with TurnBound where none of the t iterations after the first is left;
+-- else one more is made
 abbrev pub turns_until : ℕ → (State → Outcome Value) → (State → Progress) → State → Progress
 turns_until zero condition turn s =
     continue_with (turn s) (λ s'. use_in s' (condition s')
@@ -142,6 +144,7 @@ turns_until (suc t) condition turn s =
 unfoldable mutual
   unfolding evaluate designate evaluate_arguments
 
+  -- one statement; `enter` is what a call does, and t bounds the iterations of each loop
   pub execute : {N : Type 0}
       → Meanings N Place (List Mode)
       → Calls N
@@ -167,6 +170,7 @@ unfoldable mutual
       turns_until (t - 1) (λ s'. evaluate meaning s'.store e)
       (execute_all meaning enter t statements) s
 
+  -- a sequence of statements
   pub execute_all : {N : Type 0}
       → Meanings N Place (List Mode)
       → Calls N
@@ -177,6 +181,7 @@ unfoldable mutual
   execute_all meaning enter t (runs a rest) s =
       continue_with (execute meaning enter t a s) (execute_further meaning enter t rest)
 
+  -- the statements after the first
   pub execute_further : {N : Type 0}
       → Meanings N Place (List Mode)
       → Calls N
@@ -202,6 +207,7 @@ unfoldable mutual
       use_in s (evaluate meaning s.store e) (λ v. choose s v
       (execute_all meaning enter t statements) (execute_elsifs meaning enter t rest otherwise))
 
+  -- the statements of the ELSE part; where there is none, nothing happens
   pub execute_else : {N : Type 0}
       → Meanings N Place (List Mode)
       → Calls N
@@ -280,7 +286,8 @@ declare_block naming k b f =
     record { env = env; store = f.store }))
     (declare_first naming f.env k b)
 
--- a parameter of a call: a VAR parameter is its argument's place, another a variable with the argument's value
+-- a parameter of a call: a VAR parameter is its argument's place,
+-- another a variable with the argument's value
 abbrev pub bind_parameter : {N : Type 0} → Mode → N → Argument → Frame N → Option (Frame N)
 bind_parameter by_place x (place_argument p) f =
     Some record { env = (x, a_variable p) ∷ f.env; store = f.store }
@@ -358,8 +365,8 @@ abbrev pub in_frame : {N : Type 0}
 in_frame s None next = stopped Stuck s.output
 in_frame s (Some f) next = next f record s { store = f.store }
 
--- the body of the procedure at the head of an environment runs with its own variables, in the bindings that were
--- visible at its declaration, those of the activation that declared it
+-- the body of the procedure at the head of an environment runs with its own variables, in the
+-- bindings that were visible at its declaration, those of the activation that declared it
 unfoldable pub activate : {N : Type 0}
     → Naming N
     → (Activation N → Calls N)

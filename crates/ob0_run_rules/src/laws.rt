@@ -18,7 +18,7 @@ pub fn free_keeps_runs()
     ensures { FreeKeepsRuns }
 {}
 
-/// A call's variables may be given up when it returns: every run stays as it is.
+/// A call's variables may be dropped when it returns: every run stays as it is.
 pub fn giving_up_keeps_runs()
     ensures { GivingUpKeepsRuns }
 {}

@@ -26,12 +26,12 @@ last_end tokens comments =
     max (token_end (slice_get tokens (length tokens - 1)))
     (comment_end (slice_get comments (length comments - 1)))
 
--- whether the first token begins at a place, and the first comment
+-- whether the first token begins at a place
 abbrev pub token_begins : ℕ → List Token → Bool
 token_begins place [] = false
 token_begins place (t ∷ tokens) = t.span.start == place
 
--- a comment begins at a place
+-- whether the first comment begins at a place
 abbrev pub comment_begins : ℕ → List Span → Bool
 comment_begins place [] = false
 comment_begins place (c ∷ comments) = c.start == place
@@ -59,7 +59,8 @@ pub record ReadsOn (old : Scanned) (from removed added : ℕ) (s t : Scanner) : 
   pub tokens_new : All (λ (t : Token). IsNew old from removed added t.span) tokens
   pub comments_new : All (λ (c : Span). IsNew old from removed added c) comments
 
--- after the change, at the end of the text or where an old token or comment begins again; with the old ones from there on
+-- after the change, at the end of the text or where an old token or comment begins again;
+-- with the old ones from there on
 pub record IsMet (old : Scanned) (end from removed added at : ℕ) (tokens : List Token)
     (comments : List Span) : Type 0 where
   pub following : from + added ≤ at
@@ -69,7 +70,8 @@ pub record IsMet (old : Scanned) (end from removed added at : ℕ) (tokens : Lis
       ⊎ IsTrue
       (token_begins (at + removed - added) tokens || comment_begins (at + removed - added) comments)
 
--- the new text with the old tokens and comments before it, those between, and the old ones after, moved
+-- the new text with the old tokens and comments before it, those between,
+-- and the old ones after, moved
 abbrev pub with_between : Scanned → List ℕ → ℕ → ℕ → Between → Scanned
 with_between old new removed added b = record {
   text = new;

@@ -8,7 +8,8 @@ use Rattle.ob0_scan.specs.declared.lexeme.TokenKind.{TokenKind}
 use Rattle.ob0_scan.specs.declared.lexeme.TokenKind.TheVariants as kind
 use Rattle.ob0_scan.specs.Scanned.{Scanned, spanned}
 
--- So many bytes of the old text from a place on gave way to so many others: the new one is as the old before them and after them.
+-- The new text has `added` bytes instead of the `removed` bytes of the old text from `from` on.
+-- Before and after these the two texts are equal.
 pub record IsReplaced (old new : List ℕ) (from removed added : ℕ) : Type 0 where
   pub inside_old : from + removed ≤ length old
   pub inside_new : from + added ≤ length new
@@ -31,7 +32,8 @@ name_of (kind.Integer value) text = []
 name_of (kind.Reserved word) text = []
 name_of (kind.Symbol symbol) text = []
 
--- how the identifiers among tokens of a text are written, one after the other, with nothing for each other token
+-- how the identifiers among tokens of a text are written, one after the other,
+-- with nothing for each other token
 abbrev pub names_in : List ℕ → List Token → List (List ℕ)
 names_in text tokens = map (λ (t : Token). name_of t.kind (spanned text t.span)) tokens
 
@@ -45,7 +47,7 @@ abbrev pub moved_token : ℕ → ℕ → Token → Token
 moved_token removed added token =
     record { kind = token.kind; span = moved removed added token.span }
 
--- the tokens before it that end before a place, and the comments
+-- the tokens that end before a place
 abbrev pub tokens_before_change : ℕ → List Token → List Token
 tokens_before_change place tokens = take (prefix_len (λ t. nat_lt t.span.end place) tokens) tokens
 
@@ -54,11 +56,11 @@ abbrev pub comments_before_change : ℕ → List Span → List Span
 comments_before_change place comments =
     take (prefix_len (λ c. nat_lt c.end place) comments) comments
 
--- the tokens from the first on that doesn't begin before a place, and the comments
+-- the tokens from the first one on that doesn't begin before a place
 abbrev pub back_tokens : ℕ → List Token → List Token
 back_tokens place tokens = drop (prefix_len (λ t. nat_lt t.span.start place) tokens) tokens
 
--- the comments from a place on
+-- the comments from the first one on that doesn't begin before a place
 abbrev pub back_comments : ℕ → List Span → List Span
 back_comments place comments = drop (prefix_len (λ c. nat_lt c.start place) comments) comments
 
@@ -72,9 +74,10 @@ abbrev pub IsNew : Scanned → ℕ → ℕ → ℕ → Span → Type 0
 IsNew old from removed added span =
     from + added ≤ span.start → NoOldBegins old (span.start + removed - added)
 
--- Of the tokens and comments of a changed text, the first are the old ones that end before the change, and the last are old ones after it,
--- moved. As many as `read` says are between: of these, none after the change begins where an old one began. So the last begin
--- at the first place that the new text's tokens and comments have in common with the old one's.
+-- Of the tokens and comments of a changed text, the first are the old ones that end before the
+-- change, and the last are old ones after it, moved. As many as `read` says are between: of these,
+-- none after the change begins where an old one began. So the last begin at the first place that
+-- the new text's tokens and comments have in common with the old one's.
 pub record Reuses (old new : Scanned) (from removed added read : ℕ) : Type 0 where
   pub place : ℕ
   pub following : from + removed ≤ place

@@ -5,8 +5,8 @@ use Rattle.ob0_scan.specs.declared.lexeme.Token.{Token}
 use Rattle.ob0_scan.specs.declared.tokens.SameTokens.{SameTokens}
 use Rattle.ob0_scan.specs.Reused.{kinds}
 
--- The first tokens of a text are of the kinds of those before, and so are the last: those from `back` on, which were
--- those from `old_back` on.
+-- The first tokens of a text are of the kinds of those before, and so are the last: those from
+-- `back` on, which were those from `old_back` on.
 pub record HasSameTokens (s : SameTokens) (old new : List Token) : Type 0 where
   pub front_inside : s.front ≤ length new
   pub back_inside : s.back ≤ length new

@@ -191,8 +191,8 @@ pub(crate) struct LexemeCounts {
     pub(crate) comments: usize,
 }
 
-/// What comes between the old tokens and comments that a changed text goes on to have: those before it, of which there
-/// are so many, and those from `following` on.
+/// What comes between the old tokens and comments that a changed text goes on to have: those before it, whose numbers
+/// are `front`, and those from `following` on.
 #[derive(Drop)]
 pub(crate) struct Between {
     pub(crate) front: LexemeCounts,
@@ -246,7 +246,7 @@ fn have_same_names(new_text: &[u8], new: &[Token], old_text: &[u8], old: &[Token
     true
 }
 
-/// Whether two tokens are identifiers that are written alike, or both are none.
+/// Whether two tokens are identifiers that are written alike, or neither is an identifier.
 fn is_same_name(new_text: &[u8], new: Token, old_text: &[u8], old: Token) -> bool
     ensures { result ≡ true → name_of new.kind (spanned new_text.now new.span)
         ≡ name_of old.kind (spanned old_text.now old.span) }

@@ -42,16 +42,19 @@ other_among s is = if list_any (is_sought s) is then last_other s None is else N
 
 -- the names that are declared with those of a block, and then the blocks in it
 abbrev mutual
+  -- among `own` (parameters) and the names of a block; else in the blocks in it
   pub found_in_block : BlockSearch → List ℕ → Tree ℕ block → Option ℕ
   found_in_block s own (has_body (declares cs ts vs ps) statements) =
       option_or (other_among s (own ++ block_names (has_body (declares cs ts vs ps) statements)))
       (found_in_procedures s ps)
 
+  -- in the blocks of procedures, the first in which there is one
   pub found_in_procedures : BlockSearch → Tree ℕ (items procedure) → Option ℕ
   found_in_procedures s end = None
   found_in_procedures s (more p rest) =
       option_or (found_in_procedure s p) (found_in_procedures s rest)
 
+  -- in the block of a procedure, with its parameters
   pub found_in_procedure : BlockSearch → Tree ℕ (item procedure) → Option ℕ
   found_in_procedure s (declares_procedure x fs b closing) =
       found_in_block s (formal_names (formal_sections fs)) b

@@ -132,15 +132,18 @@ module _ {M : Type 0} (put : ℕ → Option ℕ → M → M) where
   visit_variable_section (one (declares_variables vs)) v = visit_variables vs v
 
   abbrev mutual
+    -- a block: its sections, its procedures and its statements, in text order
     pub visit_block : Tree ℕ block → Visit M → Visit M
     visit_block (has_body (declares cs ts vs ps) statements) v =
         used statements (visit_procedures ps
         (visit_variable_section vs (visit_type_section ts (visit_constant_section cs v))))
 
+    -- the procedures of a block, in order
     pub visit_procedures : Tree ℕ (items procedure) → Visit M → Visit M
     visit_procedures end v = v
     visit_procedures (more p ps) v = visit_procedures ps (visit_procedure p v)
 
+    -- a procedure: its name, its parameters, its block and its closing name
     pub visit_procedure : Tree ℕ (item procedure) → Visit M → Visit M
     visit_procedure (declares_procedure x fs b closing) v =
         marked closing (Some (7 + length v.declarations))

@@ -27,16 +27,19 @@ groups_fields (more (then_fields g) rest) = group_fields g ++ groups_fields rest
 
 -- in the text of a type each record declares a field once
 abbrev mutual
+  -- in a type as it is written
   pub fields_once : Tree Name written_type → Bool
   fields_once (named_type x) = true
   fields_once (array_type e t) = fields_once t
   fields_once (record_type g rest) =
       are_distinct (group_fields g ++ groups_fields rest) && (group_once g && groups_once rest)
 
+  -- in the type of a group of fields
   pub group_once : Tree Name fields → Bool
   group_once no_fields = true
   group_once (some_fields ns t) = fields_once t
 
+  -- in the types of further groups of fields
   pub groups_once : Tree Name (items further_fields) → Bool
   groups_once end = true
   groups_once (more (then_fields g) rest) = group_once g && groups_once rest
@@ -68,18 +71,22 @@ abbrev pub formals_once : Tree Name (items further_section) → Bool
 formals_once end = true
 formals_once (more (then_section s) fs) = fields_once (section_type s) && formals_once fs
 
--- a block declares a name once, a procedure's parameters and locals are one block, and closing names are their procedures'
+-- a block declares a name once, a procedure's parameters and locals are one block,
+-- and closing names are their procedures'
 abbrev mutual
+  -- a block: its names and `own`, those of its procedure's parameters, are distinct
   pub block_once : List Name → Tree Name block → Bool
   block_once own (has_body (declares cs ts vs ps) statements) =
       are_distinct (own ++ block_names (has_body (declares cs ts vs ps) statements))
       && (types_once (section_types ts)
       && (variables_once (section_variables vs) && procedures_once ps))
 
+  -- all procedures of a block
   pub procedures_once : Tree Name (items procedure) → Bool
   procedures_once end = true
   procedures_once (more p rest) = procedure_once p && procedures_once rest
 
+  -- a procedure: its closing name, its parameters' types, and its block
   pub procedure_once : Tree Name (item procedure) → Bool
   procedure_once (declares_procedure x fs b closing) =
       same_name x closing

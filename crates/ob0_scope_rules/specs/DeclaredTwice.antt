@@ -1,5 +1,5 @@
--- The faults of names that are declared once more, and of closing names that differ, in the order in which they are reported. The names
--- of these trees are tokens.
+-- The faults of names that are declared once more, and of closing names that differ, in the order
+-- in which they are reported. The names of these trees are tokens.
 -- Rule: docs/LANGUAGE.md, Faults of scopes and types, `Duplicate`, `EndName`.
 use Rattle.std.specs.Prelude.{ℕ, Bool, not, List, [], ◌∷◌, ◌++◌, if◌then◌else◌}
 use Rattle.ob0_scan.specs.declared.fault.Code.TheVariants as code
@@ -25,7 +25,8 @@ duplicate_at source token = record { code = code.Duplicate; span = span_at sourc
 abbrev pub end_name_at : Scanned → ℕ → Fault
 end_name_at source token = record { code = code.EndName; span = span_at source token }
 
--- each of some names that precedes it in the list, or among those before the list, is reported where it is once more
+-- each of some names that precedes it in the list, or among those before the list,
+-- is reported where it is once more
 abbrev pub again : Scanned → List Name → List ℕ → List Fault
 again source before [] = []
 again source before (x ∷ xs) =
@@ -39,6 +40,7 @@ closing_other source x closing =
 
 -- the second fields of a record, and then those of the records in it
 abbrev mutual
+  -- in a type as it is written, the outer record first
   pub fields_twice : Scanned → Tree ℕ written_type → List Fault
   fields_twice source (named_type x) = []
   fields_twice source (array_type e t) = fields_twice source t
@@ -46,10 +48,12 @@ abbrev mutual
       again source [] (group_fields g ++ groups_fields rest)
       ++ (group_twice source g ++ groups_twice source rest)
 
+  -- in the type of a group of fields
   pub group_twice : Scanned → Tree ℕ fields → List Fault
   group_twice source no_fields = []
   group_twice source (some_fields ns t) = fields_twice source t
 
+  -- in the types of further groups of fields
   pub groups_twice : Scanned → Tree ℕ (items further_fields) → List Fault
   groups_twice source end = []
   groups_twice source (more (then_fields g) rest) = group_twice source g ++ groups_twice source rest
@@ -71,18 +75,22 @@ formals_twice source end = []
 formals_twice source (more (then_section s) fs) =
     fields_twice source (section_type s) ++ formals_twice source fs
 
--- the names of a block, with those of its procedure's parameters before them; then its types, variables and procedures
+-- the names of a block, with those of its procedure's parameters before them;
+-- then its types, variables and procedures
 abbrev mutual
+  -- a block, with `own`, the names of its procedure's parameters
   pub block_twice : Scanned → List ℕ → Tree ℕ block → List Fault
   block_twice source own (has_body (declares cs ts vs ps) statements) =
       again source [] (own ++ block_names (has_body (declares cs ts vs ps) statements))
       ++ (types_twice source (section_types ts)
       ++ (variables_twice source (section_variables vs) ++ procedures_twice source ps))
 
+  -- all procedures of a block, in order
   pub procedures_twice : Scanned → Tree ℕ (items procedure) → List Fault
   procedures_twice source end = []
   procedures_twice source (more p rest) = procedure_twice source p ++ procedures_twice source rest
 
+  -- a procedure: its closing name, its parameters' types, and its block
   pub procedure_twice : Scanned → Tree ℕ (item procedure) → List Fault
   procedure_twice source (declares_procedure x fs b closing) =
       closing_other source x closing

@@ -11,7 +11,8 @@ use Rattle.ob0_scope_rules.specs.Scopes.{after_names, after_procedure, first_pro
 abbrev pub Uses : Type 0
 Uses = ℕ → Bool
 
--- k is the number of the first occurrence of each part; a name with selectors is no use of a constant
+-- k is the number of the first occurrence of each part;
+-- a name with selectors isn't a use of a constant
 abbrev pub inline_in : {s : Sort} → Uses → Tree Name factor → ℕ → Tree Name s → Tree Name s
 inline_in uses v k none = none
 inline_in uses v k (one t) = one (inline_in uses v k t)
@@ -116,16 +117,19 @@ section_without d k (one (declares_constants cs)) = one (declares_constants (wit
 
 -- a block, its first declaration of ordinal k, without the constant d; the word CONST stays
 abbrev mutual
+  -- a block whose first declaration has ordinal k
   pub block_without : ℕ → ℕ → Tree Name block → Tree Name block
   block_without d k (has_body (declares cs ts vs ps) statements) =
       has_body (declares (section_without d k cs) ts vs (procedures_without d
       (first_procedure k (has_body (declares cs ts vs ps) statements)) ps)) statements
 
+  -- procedures, the first of which has ordinal k
   pub procedures_without : ℕ → ℕ → Tree Name (items procedure) → Tree Name (items procedure)
   procedures_without d k end = end
   procedures_without d k (more p rest) =
       more (procedure_without d (suc k) p) (procedures_without d (after_procedure (suc k) p) rest)
 
+  -- a procedure; k is the ordinal after its own
   pub procedure_without : ℕ → ℕ → Tree Name (item procedure) → Tree Name (item procedure)
   procedure_without d k (declares_procedure x fs b closing) =
       declares_procedure x fs

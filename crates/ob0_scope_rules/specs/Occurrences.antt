@@ -20,18 +20,22 @@ label_ordinal (as_written x) = None
 abbrev pub binds : Tree Name module_text → ℕ → Option ℕ
 binds m occurrence = option_and_then label_ordinal (slice_get (bindings m) occurrence)
 
--- the declarations of each block, with their ordinals; a procedure's parameters and locals are one block
+-- the declarations of each block, with their ordinals;
+-- a procedure's parameters and locals are one block
 abbrev mutual
+  -- a block from ordinal k on, with `own` (its procedure's parameters); then the blocks in it
   pub blocks_in : {N : Type 0} → ℕ → Scope N → Tree N block → List (Scope N)
   blocks_in k own (has_body (declares cs ts vs ps) statements) =
       body_scope k (has_body (declares cs ts vs ps) statements) own
       ∷ blocks_in_procedures (first_procedure k (has_body (declares cs ts vs ps) statements)) ps
 
+  -- the blocks of procedures, the first of which has ordinal k
   pub blocks_in_procedures : {N : Type 0} → ℕ → Tree N (items procedure) → List (Scope N)
   blocks_in_procedures k end = []
   blocks_in_procedures k (more p rest) =
       blocks_in_procedure (suc k) p ++ blocks_in_procedures (after_procedure (suc k) p) rest
 
+  -- the blocks of a procedure; k is the ordinal after its own
   pub blocks_in_procedure : {N : Type 0} → ℕ → Tree N (item procedure) → List (Scope N)
   blocks_in_procedure k (declares_procedure x fs b closing) =
       blocks_in (after_names k (formal_names (formal_sections fs)))
@@ -51,7 +55,8 @@ is_duplicate m d new =
     list_any (λ own. declares_ordinal own d && names_another own d new)
     (blocks_in 7 [] (module_block m))
 
--- a new name is free: no other declaration of d's block has it, and each occurrence stays bound to its declaration
+-- a new name is free: no other declaration of d's block has it,
+-- and each occurrence stays bound to its declaration
 abbrev pub Free : Tree Name module_text → ℕ → Name → Type 0
 Free m d new = (is_duplicate m d new ≡ false) × (bindings (renamed m d new) ≡ bindings m)
 
@@ -71,7 +76,8 @@ pub data Capture : Type 0 where
   at_declaration : Capture
   at_occurrence : ℕ → Capture
 
--- the first place in text order where a new name isn't free; the declaring identifier where the block has the name already
+-- the first place in text order where a new name isn't free;
+-- the declaring identifier where the block has the name already
 abbrev pub first_captured : Tree Name module_text → ℕ → Name → Option Capture
 first_captured m d new =
     if is_duplicate m d new

@@ -7,7 +7,8 @@ use Rattle.ob0_scope_rules.specs.Occurrences.{Free, first_captured}
 use Rattle.ob0_scope_rules.specs.Scopes.{renamed}
 use Rattle.ob0_scope_rules.specs.DeclaredOnce.{declared_once}
 
--- where a new name is free, the renamed module declares names once too, and its closing names are right
+-- where a new name is free, the renamed module declares names once too,
+-- and its closing names are right
 abbrev pub FreeKeepsDeclarations : Type 0
 FreeKeepsDeclarations =
     (m : Tree Name module_text) (d : ℕ) (new : Name)

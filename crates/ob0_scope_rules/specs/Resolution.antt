@@ -1,4 +1,5 @@
--- What is known of a module's names: to which declaration each is bound, and what is wrong with them.
+-- What is known of a module's names: to which declaration each is bound,
+-- and what is wrong with them.
 -- Rule: docs/LANGUAGE.md, Scopes, Faults of scopes and types, `Undeclared`.
 use Rattle.std.specs.Prelude.{◌≡◌, ℕ, ◌-◌, nat_lt, Bool, true, false, not, ◌==◌, List, [], ◌∷◌, ◌++◌, Option, None, slice_get, slice_index_or, if◌then◌else◌, is_some}
 use Rattle.std.specs.List.{filter, list_any}
@@ -68,8 +69,8 @@ undeclared_at source ordinals (token ∷ tokens) =
     else record { code = code.Undeclared; span = span_at source token }
     ∷ undeclared_at source ordinals tokens
 
--- A module with the ordinals of its names by token, the tokens that declare in order of their ordinals, which begin at 7,
--- the tokens of the occurrences in text order, and the faults.
+-- A module with the ordinals of its names by token, the tokens that declare in order of their
+-- ordinals, which begin at 7, the tokens of the occurrences in text order, and the faults.
 pub record Resolution : Type 0 where
   pub module_read : Parsed
   pub ordinals : List (Option ℕ)
@@ -77,12 +78,14 @@ pub record Resolution : Type 0 where
   pub uses : List ℕ
   pub faults : List Fault
 
--- The table of ordinals gives the numbered tree: each identifier of the tree has the ordinal of its declaration.
+-- The table of ordinals gives the numbered tree:
+-- each identifier of the tree has the ordinal of its declaration.
 abbrev pub IsNumbering : Parsed → List (Option ℕ) → Type 0
 IsNumbering m ordinals =
     numbered (named_tree_of m) ≡ mapped (label_at m.source ordinals) (value_at m.source) (tree_of m)
 
--- the label that says all: the ordinal of the declaration, where there is one, and the name as written
+-- the label that says all: the ordinal of the declaration, where there is one,
+-- and the name as written
 abbrev pub with_ordinal : Labels Name (Option ℕ × Name)
 with_ordinal ordinal x = (ordinal, x)
 
@@ -110,9 +113,9 @@ unbound_at source (token ∷ tokens) (label ∷ labels) =
 abbrev pub unbound_in : Parsed → List Fault
 unbound_in m = unbound_at m.source (occurrences (tree_of m)) (bindings (named_tree_of m))
 
--- The faults are those of names that are declared once more and of closing names that differ, and after these one for each
--- occurrence that no declaration binds, in text order. There are some of the first exactly where a name is declared twice or closes
--- what another name opened.
+-- The faults are those of names that are declared once more and of closing names that differ, and
+-- after these one for each occurrence that no declaration binds, in text order. There are some of
+-- the first exactly where a name is declared twice or closes what another name opened.
 pub record AreFaultsOf (m : Parsed) (faults : List Fault) : Type 0 where
   pub by_kind : faults ≡ twice_in m ++ unbound_in m
   pub declared_twice : list_any is_of_declarations faults ≡ not (declared_once (named_tree_of m))

@@ -1,4 +1,5 @@
--- Scopes: which declaration each name is bound to, and trees with their names replaced by what these are bound to.
+-- Scopes: which declaration each name is bound to,
+-- and trees with their names replaced by what these are bound to.
 -- Rule: docs/LANGUAGE.md, Scopes 1 to 6.
 use Rattle.std.specs.Prelude.{ℕ, suc, Bool, true, false, List, [], ◌∷◌, map, if◌then◌else◌, ◌==◌, Some, None, Option}
 use Rattle.ob0_tree.specs.Tree.{Sort, Tree, block, constant, constants, declares, declares_constant, declares_constants, declares_procedure, declares_type, declares_types, declares_variable, declares_variables, end, formals, further_name, further_section, has_body, is_module, item, items, listed, maybe, module_text, more, names, no_formals, none, one, procedure, section, some_formals, then_name, then_section, type_name, type_names, value_section, variable, variable_section, variables}
@@ -6,7 +7,8 @@ use Rattle.ob0_scope_rules.specs.Mapping.{with_names}
 use Rattle.ob0_scope_rules.specs.Names.{Label, Name, Naming, as_names, as_written, declared}
 use Rattle.ob0_scope_rules.specs.Parts.{block_constants, block_procedures, block_types, block_variables, constant_names, formal_names, formal_sections, named_types, names_listed, procedure_name, section_constants, section_names, section_types, section_variables, variable_names}
 
--- the bindings of a place, each name with the ordinal of its declaration: newest first, the predeclared ones last
+-- the bindings of a place, each name with the ordinal of its declaration:
+-- newest first, the predeclared ones last
 abbrev pub Scope : Type 0 → Type 0
 Scope N = List (N × ℕ)
 
@@ -31,23 +33,28 @@ abbrev pub after_names : {N : Type 0} → ℕ → List N → ℕ
 after_names k [] = k
 after_names k (x ∷ xs) = after_names (suc k) xs
 
--- the first ordinal after those of a block, of some procedures, and of a procedure's parameters and block
+-- the first ordinal after those of a block, of some procedures,
+-- and of a procedure's parameters and block
 abbrev mutual
+  -- after a block, whose first declaration has ordinal k
   pub after_block : {N : Type 0} → ℕ → Tree N block → ℕ
   after_block k (has_body (declares cs ts vs ps) statements) =
       after_procedures (after_names (after_names
       (after_names k (constant_names (section_constants cs))) (named_types (section_types ts)))
       (variable_names (section_variables vs))) ps
 
+  -- after procedures, the first of which has ordinal k
   pub after_procedures : {N : Type 0} → ℕ → Tree N (items procedure) → ℕ
   after_procedures k end = k
   after_procedures k (more p rest) = after_procedures (after_procedure (suc k) p) rest
 
+  -- after a procedure's parameters and block; k is the ordinal after its own
   pub after_procedure : {N : Type 0} → ℕ → Tree N (item procedure) → ℕ
   after_procedure k (declares_procedure x fs b closing) =
       after_block (after_names k (formal_names (formal_sections fs))) b
 
--- in a relabelled tree a label represents each name: a function of its declaration's ordinal and of the name
+-- in a relabelled tree a label represents each name:
+-- a function of its declaration's ordinal and of the name
 abbrev pub Labels : Type 0 → Type 0 → Type 0
 Labels N M = Option ℕ → N → M
 
@@ -240,8 +247,10 @@ abbrev pub body_scope : {N : Type 0} → ℕ → Tree N block → Scope N → Sc
 body_scope k b scope =
     declare_procedure_names (first_procedure k b) (block_procedures b) (procedures_scope k b scope)
 
--- a block, its procedures and a procedure with labels, in the scope around them; k is the ordinal of the first declaration
+-- a block, its procedures and a procedure with labels, in the scope around them;
+-- k is the ordinal of the first declaration
 abbrev mutual
+  -- a block, whose first declaration has ordinal k
   pub relabel_block : {N M : Type 0}
       → Naming N
       → Labels N M
@@ -264,6 +273,7 @@ abbrev mutual
       (relabel_uses naming label (body_scope k (has_body (declares cs ts vs ps) statements) scope)
       statements)
 
+  -- procedures, the first of ordinal k, each visible to those after it
   pub relabel_procedures : {N M : Type 0}
       → Naming N
       → Labels N M

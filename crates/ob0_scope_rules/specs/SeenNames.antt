@@ -10,7 +10,8 @@ use Rattle.ob0_scope_rules.specs.Scopes.{as_label, relabelled}
 abbrev pub looking_for : Name → Naming Name
 looking_for y = record { same = λ x. same_name y; written = λ x. x; predeclared = predeclared_name }
 
--- the ordinal of the declaration to which y would be bound in place of an occurrence; None where nothing would bind it
+-- the ordinal of the declaration to which y would be bound in place of an occurrence;
+-- None where nothing would bind it
 abbrev pub sees : Tree Name module_text → ℕ → Name → Option ℕ
 sees m occurrence y =
     option_and_then label_ordinal

@@ -27,8 +27,8 @@ use Rattle.ob0_session_offers.specs.declared.inlining.Inlining.TheVariants.{Here
 
 -- ---- the request
 
--- its id, the client, the document and its version, the range, and the kinds of which the actions must be, where
--- there are such
+-- its id, the client, the document and its version, the range, and the kinds of which the actions
+-- must be, where there are such
 pub record RequestedActions : Type 0 where
   pub id : Data
   pub client : Client
@@ -63,7 +63,8 @@ allows_inlining None = true
 abbrev pub wants_inlining : RequestedActions → Bool
 wants_inlining requested = requested.client.takes_literal_actions && allows_inlining requested.only
 
--- the place in bytes at which actions work: the start of the range, and the end of one that is swapped
+-- the place in bytes at which actions work: the start of the range,
+-- and the end of one that is swapped
 abbrev pub actions_offset : Unit → List ℕ → Range → ℕ
 actions_offset unit text range =
     min (offset_of (width_of unit) text range.start) (offset_of (width_of unit) text range.end)
@@ -112,8 +113,8 @@ actions_value requested here everywhere =
     array (items_of
     (action_values requested Here here ++ action_values requested Everywhere everywhere))
 
--- These actions are offered, as a list; none to a client that wants none, and none of a text that isn't a well-typed
--- module.
+-- These actions are offered, as a list; none to a client that wants none, and none of a text that
+-- isn't a well-typed module.
 abbrev pub ListsActions : Unit → RequestedActions → List ℕ → Data → Type 0
 ListsActions unit requested text value =
     ((here : Option (Vec Edit Global))
@@ -125,7 +126,8 @@ ListsActions unit requested text value =
     ⊎ (((wants_inlining requested ≡ false) ⊎ ¬ IsWellTypedModule (utf8 text))
     × (value ≡ array no_items))
 
--- this message answers the request, where positions are counted in the unit and the document has the text
+-- this message answers the request, where positions are counted in the unit
+-- and the document has the text
 abbrev pub AnswersActions : Unit → RequestedActions → List ℕ → Data → Type 0
 AnswersActions unit requested text message =
     (value : Data)

@@ -8,7 +8,7 @@ use Rattle.ob0_analysis.specs.Diagnosed.{Complaint, Reports}
 use Rattle.ob0_analysis.specs.Texts.{utf8}
 use Rattle.ob0_session_json.specs.Shapes.{Diagnostic}
 
--- a complaint is shown at the positions of its ends
+-- a complaint is displayed at the positions of its ends
 abbrev pub diagnostic_of : Unit → List ℕ → Complaint → Diagnostic
 diagnostic_of unit text c = record {
   code = c.code;

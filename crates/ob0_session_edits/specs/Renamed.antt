@@ -16,7 +16,8 @@ use Rattle.ob0_analysis.specs.Texts.{utf8}
 use Rattle.ob0_session_json.specs.Shapes.{edit_refused, workspace_edit}
 use Rattle.ob0_session_edits.specs.declared.renaming.RenameRequest.{RenameRequest}
 
--- a request for another name: its id, the client, the place in a document, the document's version, and the name
+-- a request for another name: its id, the client, the place in a document,
+-- the document's version, and the name
 pub record RequestedRename : Type 0 where
   pub id : Data
   pub client : Client
@@ -35,12 +36,13 @@ rename_requested r =
       new = r.new.now;
     }
 
--- the edits as they are answered to the client
+-- the edits as they are sent to the client
 abbrev pub edits_for_client : RequestedRename → List Edit → Data
 edits_for_client requested edits =
     workspace_edit requested.client requested.at.uri requested.version edits
 
--- this message answers the request, where positions are counted in the unit and the document has the text
+-- this message answers the request, where positions are counted in the unit
+-- and the document has the text
 abbrev pub AnswersRenaming : Unit → RequestedRename → List ℕ → Data → Type 0
 AnswersRenaming unit requested text message =
     ((edits : List Edit)

@@ -56,7 +56,7 @@ impl<'a, T: TextStore> Question for InlinedAt<'a, T> {
     }
 }
 
-/// The edits of an inliner; none where they are refused. Running out of memory is no refusal.
+/// The edits of an inliner; none where they are refused. Running out of memory isn't a refusal.
 fn offered_edits(answer: Result<Vec<Edit>, EditRefusal>) -> Result<Option<Vec<Edit>>, AllocError>
     ensures { IfOk result (λ edits. IsOffered answer edits) }
 {

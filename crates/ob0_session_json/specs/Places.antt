@@ -1,11 +1,12 @@
--- Room in which the text of a place is put together.
+-- A buffer in which the text of a place is put together.
 -- Rule: none; for private contracts of writers.
 use Rattle.std.specs.Prelude.{◌≡◌, ◌≤◌, ◌++◌, ◌∷◌, [], ℕ, List, codes, drop, length}
 use Rattle.serde_json.specs.Data.{string}
 use Rattle.serde_json.specs.Written.{compact_text}
 use Rattle.ob0_rpc.specs.Appending.{IsReadBack}
 
--- room, and after it what follows the range of a place: its uri, and the bracket that closes it
+-- free space, and after it what follows the range of a place:
+-- its uri, and the bracket that closes it
 pub record EndsInUri (uri room : List ℕ) : Type 0 where
   pub roomy : 192 ≤ length room
   pub ends : drop 192 room

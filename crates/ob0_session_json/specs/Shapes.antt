@@ -37,8 +37,8 @@ last_members client =
     (rename_provider client.prepares_renames)
     (member (codes "textDocumentSync") synchronisation no_members))
 
--- "documentFormattingProvider":true,"hoverProvider":true, and "positionEncoding":"utf-8" for a client that offers
--- that; then those
+-- "documentFormattingProvider":true,"hoverProvider":true, and "positionEncoding":"utf-8" for a
+-- client that offers that; then those
 abbrev pub further_members : Client → Members
 further_members client =
     member (codes "documentFormattingProvider") (boolean true)
@@ -47,8 +47,8 @@ further_members client =
     then member (codes "positionEncoding") (text (codes "utf-8")) (last_members client)
     else last_members client))
 
--- "definitionProvider":true and those, and before them "codeActionProvider":{..} for a client that takes actions
--- that aren't commands
+-- "definitionProvider":true and those, and before them "codeActionProvider":{..} for a client that
+-- takes actions that aren't commands
 abbrev pub server_capabilities : Client → Data
 server_capabilities client =
     let members = member (codes "definitionProvider") (boolean true) (further_members client) in

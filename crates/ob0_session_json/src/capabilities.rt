@@ -95,7 +95,7 @@ impl Written for CodeActionOptions {
     }
 }
 
-/// That names can be changed, and whether a client may ask where.
+/// That names can be changed, and whether a client may request where.
 #[derive(Drop)]
 pub struct RenameProvider {
     pub prepares: bool,

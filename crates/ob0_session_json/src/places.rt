@@ -74,7 +74,8 @@ fn write_locations(out: &mut Vec<u8>, uri: &str, ranges: &[Range]) -> Result<(),
     Ok(())
 }
 
-/// Room in which a place's text is put together: what follows its range is written once, after room for what is before.
+/// A buffer in which a place's text is put together: what follows its range is written once, after free space for
+/// what is before.
 fn room_before_uri(alloc: Global, uri: &str) -> Result<Vec<u8>, AllocError>
     ensures { IfOk result (λ room. EndsInUri uri.now room.items) }
 {
@@ -84,7 +85,7 @@ fn room_before_uri(alloc: Global, uri: &str) -> Result<Vec<u8>, AllocError>
     Ok(room)
 }
 
-/// Puts a place's text, with a comma before it, before what follows its range, and answers where it begins.
+/// Puts a place's text, with a comma before it, before what follows its range, and returns where it begins.
 fn location_before(room: &mut [u8], range: Range) -> usize
     requires { 192 ≤ length room.old }
     ensures within { result < 192 }

@@ -44,7 +44,7 @@ OneAnswer =
     → Answers before content sent after → Answers before content other end
     → (sent ≡ other) × (after ≡ end)
 
--- the same of contents in turn
+-- the same of contents one after the other
 abbrev pub OneConversation : Type 0
 OneConversation =
     (before : ServerState) (contents sent other : List (List ℕ)) (after end : ServerState)

@@ -28,7 +28,7 @@ abbrev pub AnswersInlining : Inlining
 AnswersInlining Here unit text m offset answer = AnswersHere unit text m offset answer
 AnswersInlining Everywhere unit text m offset answer = AnswersEverywhere unit text m offset answer
 
--- the edits that inline, or none where they are refused; running out of memory is no refusal
+-- the edits that inline, or none where they are refused; running out of memory isn't a refusal
 abbrev pub Inlines : Inlining → Unit → List ℕ → Parsed → ℕ → Option (Vec Edit Global) → Type 0
 Inlines how unit text m offset (Some edits) = AnswersInlining how unit text m offset (Ok edits)
 Inlines how unit text m offset None =

@@ -30,8 +30,8 @@ layout_changes unit indent characters m =
     map (edit_of indent (width_of unit) characters) (changed_sites indent source.text
     (all_sites (line_roles 0 m.tree) m.text_of.scan.scan.lexemes))
 
--- These edits lay out a text: one for each gap that changes, which it replaces. Made at once they leave the layout,
--- a text of the same module, which runs as before.
+-- These edits lay out a text: one for each gap that changes, which it replaces. Made at once they
+-- leave the layout, a text of the same module, which runs as before.
 pub record LaysOut (unit : Unit) (indent : Indent) (text : List ℕ)
     (edits : List Edit) : Type 0 where
   pub before : IsWellTypedModule (utf8 text)

@@ -1,4 +1,4 @@
--- Questions about the name or field at a position: what is answered of a document's text.
+-- Questions about the name or field at a position of a document's text, and their answers.
 -- Rule: docs/PROTOCOL.md, Requests on documents 2 to 5.
 use Rattle.std.specs.Prelude.{◌≡◌, ◌⊎◌, ℕ, List, Bool, Option, Some, None, map, option_map, option_and_then}
 use Rattle.serde_json.specs.Data.{Data, null, array, no_items}
@@ -47,7 +47,7 @@ range_at unit text span =
 abbrev pub location_at : Unit → List ℕ → List ℕ → Span → Data
 location_at unit uri text span = location_in uri (range_of (width_of unit) text span)
 
--- what is shown, and where
+-- a hover text, and where it is displayed
 abbrev pub hover_at : Unit → List ℕ → HoverText → Data
 hover_at unit text shown = hover_value shown.text (range_at unit text shown.span)
 

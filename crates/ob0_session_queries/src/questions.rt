@@ -32,7 +32,7 @@ pub enum NameQuestion {
     PrepareRename,
 }
 
-/// What is shown of what is named at this place of the text?
+/// What is the hover text at this place of the text?
 #[derive(Drop)]
 struct HoverAt {
     offset: usize,

@@ -1,5 +1,5 @@
-//! The forms that the parser gives to expressions, which no contract tells apart, and the sizes of nodes and of what a
-//! token is bound to.
+//! The forms that the parser gives to expressions, which no contract distinguishes, and the sizes of nodes and of what
+//! a token is bound to.
 
 use ob0_parse::parse;
 use ob0_scan::scan;

@@ -1,4 +1,4 @@
-//! Messages from outside: what they mean, and which are none; and the bytes of answers.
+//! Messages from outside: what they mean, and which contents aren't messages; and the bytes of answers.
 
 use ob0_rpc::{
     Client, ClientRequest, Id, Incoming, OneMember, RpcFault, error, notify, read, request,

@@ -21,7 +21,7 @@ impl<'a> Read for Source<'a> {
     }
 }
 
-/// How many bytes were written, how many of them are passed on, for how many more there is room, and how many flushes
+/// How many bytes were written, how many of them are passed on, how many more can be written, and how many flushes
 /// are left.
 #[derive(Clone, Copy)]
 pub struct Count {
@@ -43,7 +43,8 @@ impl Count {
     }
 }
 
-/// A writer that only counts. It fails where no room is left, and passes on what was written only where it is flushed.
+/// A writer that only counts. It fails where nothing more can be written, and passes on what was written only where it
+/// is flushed.
 #[derive(Drop)]
 pub struct Counter<'a> {
     pub count: &'a mut Count,

@@ -1,5 +1,5 @@
-//! Tests of the session, of `serve`, of the commands and of command lines. They ask what no contract says, and examples
-//! with known answers; what the built program shows is tested end to end.
+//! Tests of the session, of `serve`, of the commands and of command lines. They check what no contract says, and
+//! examples with known answers; what the built program displays is tested end to end.
 #![tactic(auto)]
 
 #[cfg(test)]

@@ -1,4 +1,4 @@
-//! Conversations over devices that fail, and a writer that hands on what it is given only where it is flushed.
+//! Conversations over devices that fail, and a writer that passes on what it is given only where it is flushed.
 
 use crate::devices::{Count, Counter, Source};
 use ob0_session::{Noted, ServeFault, serve};
@@ -23,7 +23,7 @@ const BAD_HEAD: &[u8] = b"Content-Length: 75\r\n\r\n\
     Content-Length: x\r\n\r\n";
 
 /// How a conversation ends: the first `len` of its bytes are read, in pieces of `given` bytes by `reads` reads at most,
-/// and its writer has room for `room` bytes and takes `flushes` flushes.
+/// and its writer takes `room` bytes and `flushes` flushes.
 struct ServeEnd {
     bytes: &'static [u8],
     len: usize,

@@ -1,5 +1,5 @@
 //! Worlds as tables: what happens and what is seen of it, and what has come of it all. What a world's events take for
-//! themselves is asked for a second time where it is refused, since only one allocation is.
+//! themselves is allocated a second time where that fails, since only one allocation does.
 
 use ob0_text::{Change, Indent, Lines, Position, Range, TextStore, Unit};
 use ob0_world::{Applied, Ask, Event, Made, PlayFault, Played, Seen, World, WorldFault};
@@ -42,7 +42,7 @@ pub enum Sight {
     Answered(u64, bool),
     Applied(u64),
     Dropped(u64),
-    /// Its an allocation failed.
+    /// An allocation of the event failed.
     Refused,
     /// The world had ended before.
     Ended,
@@ -63,7 +63,7 @@ pub struct Published {
     pub empty: bool,
 }
 
-/// What happens where both ends count positions in a unit, and what has come of it in the end.
+/// What happens where client and server count positions in a unit, and what has come of it in the end.
 pub struct Story {
     pub name: &'static str,
     pub unit: Unit,
@@ -77,7 +77,7 @@ pub struct Story {
 #[derive(Clone, Copy, PartialEq, Eq)]
 pub enum Way {
     AsTold,
-    /// As it is reported up to an event whose an allocation fails, and after that the world has ended.
+    /// As it is reported up to an event at which an allocation fails, and after that the world has ended.
     UpToRefusal,
     Otherwise,
 }
@@ -156,7 +156,7 @@ fn event_of(alloc: Global, act: Act) -> Result<Event, AllocError> {
     }
 }
 
-/// What the other acts ask of the server.
+/// What the other acts request of the server.
 fn ask_of(alloc: Global, act: Act) -> Result<Ask, AllocError> {
     match act {
         Act::Rename(line, character, name) => Ok(Ask::Rename {
@@ -198,7 +198,7 @@ fn sight_of(seen: &Seen) -> Sight {
     }
 }
 
-/// What a world shows of an event.
+/// What is seen of an event in a world.
 fn stepped<T: TextStore>(world: &mut World<T>, event: &Event) -> Sight {
     if world.steps() > 1_000_000 {
         return Sight::Unmade;
@@ -210,7 +210,7 @@ fn stepped<T: TextStore>(world: &mut World<T>, event: &Event) -> Sight {
     }
 }
 
-/// What a world shows of an act.
+/// What is seen of an act in a world.
 fn shown<T: TextStore>(alloc: Global, world: &mut World<T>, act: Act) -> Sight {
     match event_again(alloc, act) {
         Ok(event) => stepped(world, &event),

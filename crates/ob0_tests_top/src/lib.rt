@@ -1,4 +1,4 @@
-//! Tests of worlds of an editor and a server. They ask what no contract says, and examples with known answers.
+//! Tests of worlds of an editor and a server. They check what no contract says, and examples with known answers.
 #![tactic(auto)]
 
 #[cfg(test)]

@@ -139,7 +139,7 @@ const REOPENED_MADE: &[Published] = &[
     },
 ];
 
-/// All of them. (What names the table itself is as dear as the table is long.)
+/// All of them. (An expression that names the table itself is as expensive as the table is long.)
 pub fn stories() -> &'static [Story] {
     STORIES
 }

@@ -1,4 +1,4 @@
-//! Whole lists of events at both ends, step by step and played, in both units of positions, over both stores.
+//! Whole lists of events of client and server, step by step and played, in both units of positions, over both stores.
 
 use crate::acts::{EventCounts, Story, Way, left, left_by_steps, way_of};
 use crate::stories::stories;
@@ -66,8 +66,8 @@ const NOTHING: EventCounts = EventCounts {
     made: 0,
 };
 
-// With the same allocation refused this prints what the test below prints: `make test` compares the two, since nothing
-// here knows at which event it was refused.
+// With the same allocation failing this prints what the test below prints: `make test` compares the two, since nothing
+// here knows at which event it failed.
 #[test]
 fn a_refused_event_leaves_what_was_played_before(rt: HostRuntime) {
     let found = first_left(rt.alloc());

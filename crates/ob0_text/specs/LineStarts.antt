@@ -20,8 +20,8 @@ starts_from at (l ∷ ls) = at ∷ starts_from (at + byte_len (with_ending l)) l
 abbrev pub line_starts : List ℕ → List ℕ
 line_starts text = starts_from 0 (lines text)
 
--- The offsets at which a line starts right after one of these bytes. The first byte precedes the offset `at`,
--- and `next` follows on the last
+-- The offsets at which a line starts right after one of these bytes. The first byte precedes the
+-- offset `at`, and `next` follows the last
 unfoldable pub starts_after : ℕ → List ℕ → List ℕ → List ℕ
 starts_after at [] next = []
 starts_after at (b ∷ bs) next =
@@ -29,7 +29,7 @@ starts_after at (b ∷ bs) next =
     then at ∷ starts_after (suc at) bs next
     else starts_after (suc at) bs next
 
--- each number of a list is below a bound, or from it on
+-- each number of a list is below a bound
 abbrev pub AllUnder : ℕ → List ℕ → Type 0
 AllUnder bound ns = (k : ℕ) → k < length ns → slice_index ns k < bound
 

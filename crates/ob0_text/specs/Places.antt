@@ -1,4 +1,5 @@
--- Places in a text that a pass over it has reached, and what the pass knows of all that follows them.
+-- Places in a text that a pass over it has reached,
+-- and what the pass knows of all that follows them.
 -- Rule: none; for private contracts of passes over a text.
 use Rattle.std.specs.Prelude.{◌≡◌, ℕ, ◌+◌, ◌-◌, ◌<◌, ◌≤◌, ◌⊎◌, if◌then◌else◌, ◌==◌, List, ◌++◌, length, drop}
 use Rattle.std.specs.Str.{IsUtf8, chars}
@@ -31,8 +32,8 @@ pub record IsRest (text rest : List ℕ) (offset : ℕ) : Type 0 where
   pub utf8 : IsUtf8 rest
   pub here : length front ≡ offset
 
--- A pass that counts lines and characters has reached an offset. The position of each later one is counted on from
--- there.
+-- A pass that counts lines and characters has reached an offset. The position of each later one is
+-- counted on from there.
 pub record IsCounted (width : ℕ → ℕ) (text rest : List ℕ) (offset line character : ℕ) : Type 0 where
   pub rest_is : IsRest text rest offset
   pub lines_fit : line + length rest ≤ length text
@@ -46,8 +47,8 @@ pub record IsCounted (width : ℕ → ℕ) (text rest : List ℕ) (offset line c
 abbrev pub IsPlace : (ℕ → ℕ) → List ℕ → PassState → Type 0
 IsPlace width text p = IsCounted width text (drop p.offset text) p.offset p.line p.character
 
--- A pass that looks for a position has reached an offset before it. What precedes it and each later one is found in
--- the rest.
+-- A pass that looks for a position has reached an offset before it. What precedes it and each later
+-- one is found in the rest.
 pub record IsSought (width : ℕ → ℕ) (text : List ℕ) (sought : Position) (rest : List ℕ)
     (offset line character : ℕ) : Type 0 where
   pub rest_is : IsRest text rest offset

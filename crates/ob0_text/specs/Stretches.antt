@@ -10,8 +10,8 @@ use Rattle.ob0_text.specs.Texts.{LF, CR}
 abbrev pub EndsNoLine : ℕ → Type 0
 EndsNoLine c = (c == LF || c == CR) ≡ false
 
--- the units of UTF-16 that are counted at a byte: one at the first byte of each character, and another where the
--- character has four
+-- the units of UTF-16 that are counted at a byte: one at the first byte of each character, and
+-- another where the character has four
 abbrev pub utf16_units_at : ℕ → ℕ
 utf16_units_at b =
     (if nat_lt b 0x80 || nat_le 0xC0 b then 1 else 0) + (if nat_le 0xF0 b then 1 else 0)

@@ -19,7 +19,7 @@ pub struct Stretch {
 /// How many bytes are looked at together.
 const BYTES: usize = 64;
 
-/// The stretch after an offset that takes the next bytes, where it has room for as many, and none of them ends a line.
+/// The stretch after an offset that takes the next bytes, where these are at most `room`, and none of them ends a line.
 pub fn next_stretch(text: &str, unit: Unit, from: usize, room: u64) -> Option<Stretch>
     requires { IsCharBoundary text.now from }
     ensures is { IfSome result (λ s. IsStretch (width_of unit) text.now from s) }

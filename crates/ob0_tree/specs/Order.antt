@@ -9,7 +9,8 @@ use Rattle.ob0_tree.specs.declared.tree.Role.{Role}
 use Rattle.ob0_tree.specs.declared.tree.Role.TheVariants as role
 use Rattle.ob0_tree.specs.Tree.{Sort, Tree, identifiers}
 
--- Numbers that ascend: none is less than low or less than one before it or the same, and all are less than high.
+-- Numbers that ascend: none is less than low or less than one before it or the same,
+-- and all are less than high.
 abbrev pub Ascending : ℕ → List ℕ → ℕ → Type 0
 Ascending low [] high = low ≤ high
 Ascending low (x ∷ xs) high = (low ≤ x) × Ascending (x + 1) xs high

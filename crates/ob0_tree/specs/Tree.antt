@@ -37,8 +37,8 @@ pub data Item : Type 0 where
   procedure : Item
   body : Item
 
--- the nonterminals, by which trees are indexed: a part, any number of a part, at most one of it, and the others of
--- the grammar
+-- the nonterminals, by which trees are indexed: a part, any number of a part, at most one of it,
+-- and the others of the grammar
 pub data Sort : Type 0 where
   item : Item → Sort
   items : Item → Sort
@@ -336,8 +336,8 @@ mapped f g (begins s) = begins (mapped f g s)
 mapped f g (has_body ds b) = has_body (mapped f g ds) (mapped f g b)
 mapped f g (is_module name b closing) = is_module (f name) (mapped f g b) (f closing)
 
--- The identifiers of a tree in text order, each with its role. The first argument is the role of the names in
--- a list: they declare variables or parameters, or name a record's fields.
+-- The identifiers of a tree in text order, each with its role. The first argument is the role of
+-- the names in a list: they declare variables or parameters, or name a record's fields.
 abbrev pub identifiers : {N : Type 0} {s : Sort} → Role → Tree N s → List (Role × N)
 identifiers r none = []
 identifiers r (one t) = identifiers r t
@@ -399,7 +399,8 @@ identifiers r (has_body ds b) = identifiers r ds ++ identifiers r b
 identifiers r (is_module name b closing) =
     (role.ModuleName, name) ∷ (identifiers r b ++ ((role.ModuleName, closing) ∷ []))
 
--- The names that are looked up, in text order: no declaring name, no closing name, no field, no module's name.
+-- The names that are looked up, in text order:
+-- no declaring name, no closing name, no field, no module's name.
 abbrev pub occurrences : {N : Type 0} {s : Sort} → Tree N s → List N
 occurrences none = []
 occurrences (one t) = occurrences t

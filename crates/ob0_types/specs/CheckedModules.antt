@@ -22,8 +22,8 @@ pub record CheckedModule : Type 0 where
 abbrev pub IsReported : Bool → List Fault → Type 0
 IsReported right faults = (faults ≡ []) ↔ (right ≡ true)
 
--- No fault is reported exactly where the module is well-typed; then what its declarations are is kept. Faults are reported in order,
--- the first 100.
+-- No fault is reported exactly where the module is well-typed; then what its declarations are is
+-- kept. Faults are reported in order, the first 100.
 pub record IsChecked (c : CheckedModule) : Type 0 where
   pub resolved : IsResolution c.names
   pub reported : (c.faults ≡ []) ↔ WellTyped (named_tree_of c.names.module_read)
@@ -41,7 +41,8 @@ AreCheckedFaults names faults =
 abbrev pub checked_by : Resolution → ModuleTypes → CheckedModule
 checked_by names types = record { names = names; faults = types.faults.items; known = types.known }
 
--- This was found of a module's types: the module is checked by it, and where it has no fault its fields are these.
+-- This was found of a module's types: the module is checked by it,
+-- and where it has no fault its fields are these.
 pub record AreTypesOf (names : Resolution) (types : ModuleTypes) : Type 0 where
   pub checked : IsChecked (checked_by names types)
   pub fields : types.faults.items ≡ [] → AreFields names types.fields

@@ -49,8 +49,9 @@ pub record AreFirstOf (found faults : List Fault) : Type 0 where
   pub in_order : IsSorted fault_cmp all
   pub first : faults ≡ take max_faults all
 
--- The faults of a module, by LANGUAGE.md, Faults of scopes and types: names that nothing binds and faults of types, and names
--- that are declared twice or close what another name opened. The first 100 are reported.
+-- The faults of a module, by LANGUAGE.md, Faults of scopes and types: names that nothing binds and
+-- faults of types, and names that are declared twice or close what another name opened.
+-- The first 100 are reported.
 abbrev pub faults_in : Resolution → List Fault
 faults_in r = reported_module r ++ filter is_of_declarations r.faults
 

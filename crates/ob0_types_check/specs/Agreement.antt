@@ -1,4 +1,5 @@
--- What is known while faults are reported, and what names and types are by the definitions of types: where they agree.
+-- What is known while faults are reported, and what names and types are by the definitions
+-- of types: where they agree.
 -- Rule: none; for laws: what is known against what names and types are.
 use Rattle.std.specs.Prelude.{◌≡◌, ℕ, Bool, true, false, List, [], ◌∷◌, ◌++◌, Option, Some, None, option_map, option_and_then, is_some, slice_get}
 use Rattle.ob0_scope_rules.specs.Names.{Name}
@@ -17,7 +18,8 @@ use Rattle.ob0_values.specs.Values.{FieldShapes, Shape, Value, array_shape, bool
 use Rattle.ob0_types_check.specs.Known.{Facts, Form, KnownFormal, Meaning, Types, a_constant, a_procedure, a_record, a_scalar, a_type, a_variable, an_array, unknown_form}
 use Rattle.ob0_types_check.specs.SoFar.{MadeType, PartTypes, FieldSoFar, of_elements, of_fields}
 
--- What is known of a type's parts is so of the parts of a shape. `shape` gives the shapes of types: None where a type is unknown.
+-- What is known of a type's parts is so of the parts of a shape. `shape` gives the shapes of types:
+-- None where a type is unknown.
 abbrev pub FormAgrees : {T : Type 0} → (T → Option Shape) → Form T → Shape → Type 0
 FormAgrees shape a_scalar s = Unit {0}
 FormAgrees shape (an_array t) s =
@@ -29,7 +31,8 @@ FormAgrees shape (a_record fields) s =
     × ((x : Name) → option_map shape (fields x) ≡ option_map Some (shape_of_field fs x))
 FormAgrees shape unknown_form s = ⊥
 
--- types and their shapes: the same type has the same shape, and a shape's parts are those that are known
+-- types and their shapes: the same type has the same shape,
+-- and a shape's parts are those that are known
 pub record TypesAgree {T : Type 0} (types : Types T) (shape : T → Option Shape) : Type 0 where
   pub integer : shape types.integer ≡ Some integer_shape
   pub boolean : shape types.boolean ≡ Some boolean_shape
@@ -50,8 +53,8 @@ FormalsAgree shape (f ∷ fs) [] = ⊥
 FormalsAgree shape (f ∷ fs) (g ∷ gs) =
     (g.mode ≡ mode_of f.by_place) × (shape f.of ≡ Some g.shape) × FormalsAgree shape fs gs
 
--- what a name means is known: a type and a variable by their shape, a constant by its value, which is a scalar, and a
--- procedure by its parameters
+-- what a name means is known: a type and a variable by their shape, a constant by its value, which
+-- is a scalar, and a procedure by its parameters
 abbrev pub MeaningAgrees : {T : Type 0}
     → (T → Option Shape)
     → Meaning T
@@ -91,8 +94,8 @@ abbrev pub MeansAlike : {T : Type 0}
 MeansAlike shape None o = ⊥
 MeansAlike shape (Some m) o = MeaningAgrees shape m o
 
--- The identifier at a token, which means a name of a tree by its label: one that is looked up is known, and a field is
--- written as it is in the text.
+-- The identifier at a token, which means a name of a tree by its label: one that is looked up is
+-- known, and a field is written as it is in the text.
 abbrev pub TokenAgrees : {T N : Type 0}
     → Facts T
     → (T → Option Shape)
@@ -128,7 +131,7 @@ pub record Agrees
   pub types : TypesAgree facts.types shape
   pub tokens : TokensAgree facts shape label meaning (identifiers role.Declaring t)
 
--- what an array's type may be for, and a record's
+-- a type that is an array
 abbrev pub as_array : Shape → Option Shape
 as_array integer_shape = None
 as_array boolean_shape = None

@@ -1,5 +1,5 @@
--- The faults of a module's declarations and bodies in the order in which they are reported: in text order, each declaration known
--- after its text.
+-- The faults of a module's declarations and bodies in the order in which they are reported: in text
+-- order, each declaration known after its text.
 -- Rule: docs/LANGUAGE.md, Faults of scopes and types 2 to 11.
 use Rattle.std.specs.Prelude.{ℕ, Bool, true, false, List, [], ◌++◌, map}
 use Rattle.std.specs.List.{filter}
@@ -126,12 +126,14 @@ unfoldable mutual
     with_procedures ← reported_procedures with_variables ps
     reported_body with_procedures statements
 
+  -- the faults of procedures; what is known after one is known to the next
   pub reported_procedures : SoFar → Tree ℕ (items procedure) → Reported SoFar
   reported_procedures p end = right p
   reported_procedures p (more d rest) = do
     q ← reported_procedure p d
     reported_procedures q rest
 
+  -- the faults of a procedure: of its parameters, and then of its block
   pub reported_procedure : SoFar → Tree ℕ (item procedure) → Reported SoFar
   reported_procedure p (declares_procedure x fs b closing) = do
     h ← reported_sections (record { formals = []; following = p }) (formal_sections fs)

@@ -1,4 +1,5 @@
--- The laws of what is reported of a module: where nothing is reported, it fits, and what each declaration is is known.
+-- The laws of what is reported of a module: where nothing is reported, it fits,
+-- and each declaration is known.
 -- Rule: none; laws of reported faults.
 use Rattle.std.specs.Prelude.{◌≡◌, ℕ, ◌<◌, ◌≤◌, true, false, List, [], None, length, slice_index_or}
 use Rattle.ob0_scope_rules.specs.Names.{Name, as_labels, as_names}
@@ -23,9 +24,9 @@ ModulesFit =
     → reported_module r ≡ []
     → fits_over as_names (named_tree_of r.module_read) ≡ true
 
--- What is known at the end of a module, and what its declarations are: its arrays and records are types, and of each
--- ordinal that is known which it is declared as. The predeclared names, and so the standard procedures, have ordinals below
--- 7.
+-- What is known at the end of a module, and what its declarations are: its arrays and records are
+-- types, and of each ordinal that is known which it is declared as. The predeclared names, and so
+-- the standard procedures, have ordinals below 7.
 pub record KnowsDeclarations (p : SoFar) (m : Tree Name module_text) : Type 0 where
   pub shapes : List Shape
   pub table : TableAgrees p.made shapes
@@ -39,7 +40,7 @@ pub record KnowsDeclarations (p : SoFar) (m : Tree Name module_text) : Type 0 wh
 abbrev pub HasDeclarations : Tree Name module_text → Tables → Type 0
 HasDeclarations m t = (k : ℕ) → declared_in t k ≡ declared_object m k
 
--- after a module of which nothing is reported, what each declaration is is known
+-- after a module of which nothing is reported, each declaration is known
 abbrev pub DeclarationsKnown : Type 0
 DeclarationsKnown =
     (r : Resolution)

@@ -1,4 +1,5 @@
--- What operations, names and selectors require: the faults that are reported of them, and what is known of what they give.
+-- What operations, names and selectors require:
+-- the faults that are reported of them, and what is known of what they give.
 -- Rule: docs/LANGUAGE.md, Types 2, 3, Faults of scopes and types 3, 5.
 use Rattle.std.specs.Prelude.{◌≡◌, ℕ, ◌+◌, ◌-◌, nat_lt, Bool, true, false, ◌||◌, List, [], ◌∷◌, ◌++◌, length, if◌then◌else◌, Option, Some, None, option_and_then, pos}
 use Rattle.ob0_scan.specs.declared.fault.Code.{Code}
@@ -40,7 +41,7 @@ pub record ReportsAfter
   pub known : x ≡ t.known
   pub reported : after ≡ before ++ t.faults
 
--- a token's neighbours; nothing precedes the first, and nothing after the end of the text
+-- the token before this one; nothing precedes the first
 abbrev pub token_before : ℕ → ℕ
 token_before token = token - 1
 
@@ -48,7 +49,7 @@ token_before token = token - 1
 abbrev pub token_after : Scanned → ℕ → ℕ
 token_after source token = if nat_lt token (length source.tokens) then token + 1 else token
 
--- a fault from one token to another, at one token, and at an operand
+-- a fault from the start of one token to the end of another
 abbrev pub fault_between : Scanned → Code → ℕ → ℕ → Fault
 fault_between source c first last =
     record {
@@ -56,7 +57,7 @@ fault_between source c first last =
       span = record { start = (span_at source first).start; end = (span_at source last).end };
     }
 
--- a fault from one token to another
+-- such a fault, as a list
 abbrev pub at_tokens : {T : Type 0} → Facts T → Code → ℕ → ℕ → List Fault
 at_tokens facts c first last = fault_between facts.source c first last ∷ []
 
@@ -79,7 +80,8 @@ required facts wanted o = record {
   faults = if fits facts.types o.of wanted then [] else at_operand facts code.TypeMismatch o;
 }
 
--- a type is required of two operands: the left one is reported where it is wrong, else the right one
+-- a type is required of two operands: the left one is reported where it is wrong,
+-- else the right one
 abbrev pub required_both : {T : Type 0} → Facts T → T → Operand T → Operand T → Reported T
 required_both facts wanted a b =
     if fits facts.types a.of wanted
@@ -104,7 +106,8 @@ required_by_multiply types multiply_operator.Divide = types.integer
 required_by_multiply types multiply_operator.Modulo = types.integer
 required_by_multiply types multiply_operator.And = types.boolean
 
--- `=` and `#` compare two INTEGER or two BOOLEAN, and require nothing where the left side is unknown
+-- `=` and `#` compare two INTEGER or two BOOLEAN,
+-- and require nothing where the left side is unknown
 abbrev pub required_by_equality : {T : Type 0} → Types T → T → T
 required_by_equality types left =
     if types.same left types.integer then types.integer
@@ -123,7 +126,7 @@ required_by_relation types relation.GreaterEqual left = types.integer
 abbrev pub comparison_type : {T : Type 0} → Types T → T → T
 comparison_type types t = if types.same t types.unknown then types.unknown else types.boolean
 
--- an operation on two operands, of this type and value, and one whose sign precedes its operand
+-- an operation on two operands, of this type and value
 abbrev pub joint_operand : {T : Type 0} → T → Option Value → Operand T → Operand T → Operand T
 joint_operand of value a b =
     record { of = of; value = value; is_place = false; first = a.first; last = b.last }
@@ -167,20 +170,20 @@ relate_operands facts r a b = do
   right (joint_operand (comparison_type facts.types t)
       (both (λ x y. given_value (relate r x y)) a.value b.value) a b)
 
--- a sign requires INTEGER, `~` for BOOLEAN
+-- a sign requires INTEGER
 abbrev pub sign_operand : {T : Type 0} → Facts T → Option Sign → Operand T → Reported (Operand T)
 sign_operand facts None o = right o
 sign_operand facts (Some s) o = do
   t ← required facts facts.types.integer o
   right (after_sign t (option_and_then (λ x. given_value (with_sign (Some s) x)) o.value) o)
 
--- the faults of `~`, and what it gives
+-- `~` requires BOOLEAN
 abbrev pub complement_operand : {T : Type 0} → Facts T → Operand T → Reported (Operand T)
 complement_operand facts o = do
   t ← required facts facts.types.boolean o
   right (after_sign t (option_and_then (λ x. given_value (negated x)) o.value) o)
 
--- a number, and an expression in parentheses
+-- a number at this token
 abbrev pub a_number : {T : Type 0} → Facts T → ℕ → Operand T
 a_number facts token =
     record {
@@ -202,7 +205,7 @@ enclosed facts o =
       last = token_after facts.source o.last;
     }
 
--- a name alone, of this type: a variable's, or one of which nothing is known, and a constant's
+-- a name alone, of this type: a variable's, or one of which nothing is known
 abbrev pub a_name : {T : Type 0} → T → ℕ → Operand T
 a_name of token = record { of = of; value = None; is_place = true; first = token; last = token }
 
@@ -219,8 +222,8 @@ abbrev pub a_constant_name : {T : Type 0} → Types T → Option Value → ℕ �
 a_constant_name types v token =
     record { of = value_type types v; value = v; is_place = false; first = token; last = token }
 
--- A name where a value is required: no type and no procedure, and in a constant expression no variable. Names that nothing
--- binds are reported by themselves.
+-- A name where a value is required: no type and no procedure, and in a constant expression no
+-- variable. Names that nothing binds are reported by themselves.
 abbrev pub named_value : {T : Type 0} → Facts T → ℕ → Option (Meaning T) → Reported (Operand T)
 named_value facts token None = right (a_name facts.types.unknown token)
 named_value facts token (Some (a_constant v)) = right (a_constant_name facts.types v token)

@@ -1,4 +1,5 @@
--- Laws of what is reported: expressions and statements of which nothing is reported fit. N is for names.
+-- Laws of what is reported: expressions and statements of
+-- which nothing is reported fit. N is for names.
 -- Rule: none; laws of reported faults.
 use Rattle.std.specs.Prelude.{◌≡◌, ℕ, Bool, true, false, List, [], Option, Some, is_some}
 use Rattle.ob0_tree.specs.Places.{value_at}
@@ -20,8 +21,9 @@ abbrev pub meaning_here : {N : Type 0} → Bool → Typed N → Typed N
 meaning_here true meaning = constants_only meaning
 meaning_here false meaning = meaning
 
--- What is known of an operand is so of its expression: its type; its value, where it is made of constants, which is of that
--- type; and where it may be for a place, it is a variable or parameter with its selectors.
+-- What is known of an operand is so of its expression: its type; its value, where it is made of
+-- constants, which is of that type; and where it may be a place,
+-- it is a variable or parameter with its selectors.
 pub record OperandFits
     {T N P : Type 0} (shape : T → Option Shape) (meaning : Meanings N Shape P) (o : Operand T)
     (e : Tree N expression) : Type 0 where

@@ -1,5 +1,5 @@
--- What is known at a place of a module while its faults are reported: of the declarations before it, and of the arrays and records
--- before it.
+-- What is known at a place of a module while its faults are reported: of the declarations before
+-- it, and of the arrays and records before it.
 -- Rule: docs/LANGUAGE.md, Scopes 2, Faults of scopes and types 2.
 use Rattle.std.specs.Prelude.{ℕ, nat_le, Bool, true, false, ◌==◌, ◌&&◌, List, [], ◌∷◌, ◌++◌, length, map, slice_get, slice_index_or, slice_set, if◌then◌else◌, Option, Some, None, option_and_then}
 use Rattle.ob0_scan.specs.declared.fault.Code.TheVariants as code
@@ -33,8 +33,8 @@ pub record MadeType : Type 0 where
   pub parts : PartTypes
   pub size : Size
 
--- Declarations go by their ordinals, to which names are bound, and arrays and records by their places in a type. Of a
--- declaration that is still to come, nothing is known.
+-- Declarations go by their ordinals, to which names are bound, and arrays and records by their
+-- places in a type. Of a declaration that is still to come, nothing is known.
 pub record SoFar : Type 0 where
   pub source : Scanned
   pub ordinals : List (Option ℕ)
@@ -109,7 +109,7 @@ facts_at p only_constants =
       only_constants = only_constants;
     }
 
--- the same where a declaration is known, and where all of some are
+-- the same where the declaration of an ordinal, if there is one, is known
 abbrev pub with_declared : SoFar → Meaning TypeId → Option ℕ → SoFar
 with_declared p m None = p
 with_declared p m (Some k) =
@@ -129,7 +129,7 @@ abbrev pub define_all : SoFar → Meaning TypeId → List ℕ → SoFar
 define_all p m [] = p
 define_all p m (x ∷ xs) = define_all (define p m x) m xs
 
--- what a type counts: INTEGER and BOOLEAN are one scalar, and what is unknown is nothing
+-- the size of INTEGER and BOOLEAN
 abbrev pub one_scalar : Size
 one_scalar = record { scalars = 1; depth = 0 }
 
@@ -164,7 +164,8 @@ abbrev pub type_with : PartTypes → ℕ → TypeId
 type_with (of_elements n t) k = type.Array k
 type_with (of_fields fields) k = type.Record k
 
--- An array or record of its own, after the others. One that is too large is reported at its word, and unknown.
+-- An array or record of its own, after the others.
+-- One that is too large is reported at its word, and unknown.
 abbrev pub made : SoFar → ℕ → PartTypes → Size → TypedAfter
 made p ordinal parts size = record {
   of = type_with parts (length p.made);

@@ -1,4 +1,5 @@
--- The faults of statements in the order in which they are reported: those of each part from left to right, statement by statement.
+-- The faults of statements in the order in which they are reported:
+-- those of each part from left to right, statement by statement.
 -- Rule: docs/LANGUAGE.md, Types 2, 5, Faults of scopes and types 5, 7 to 9.
 use Rattle.std.specs.Prelude.{ℕ, nat_eq, ◌&&◌, not, List, [], ◌∷◌, ◌++◌, length, Option, Some, None, if◌then◌else◌}
 use Rattle.ob0_scan.specs.declared.fault.Code.TheVariants as code
@@ -18,8 +19,8 @@ reported_required facts wanted e = (reported_expression facts e >>= required fac
 abbrev pub reported_condition : {T : Type 0} → Facts T → Tree ℕ expression → List Fault
 reported_condition facts e = reported_required facts facts.types.boolean e
 
--- What may be assigned to: variables and parameters. Of anything else the type is unknown, so nothing more is required of its
--- selectors and of the right side.
+-- What may be assigned to: variables and parameters. Of anything else the type is unknown, so
+-- nothing more is required of its selectors and of the right side.
 abbrev pub target_by_meaning : {T : Type 0} → Facts T → ℕ → Option (Meaning T) → Reported T
 target_by_meaning facts token (Some (a_variable t)) = right t
 target_by_meaning facts token (Some (a_constant v)) =
@@ -45,7 +46,7 @@ reported_target facts x path = do
   t ← target_meaning facts x
   reported_selectors facts (a_name t x) path
 
--- the right side is required the type of the target
+-- the right side is required to have the type of the target
 abbrev pub reported_assignment : {T : Type 0}
     → Facts T
     → Reported (Operand T)
@@ -53,7 +54,7 @@ abbrev pub reported_assignment : {T : Type 0}
     → List Fault
 reported_assignment facts target e = target.faults ++ reported_required facts target.known.of e
 
--- a VAR parameter requires a variable with its selectors, alone, and each parameter for its type
+-- a VAR parameter requires a variable with its selectors, alone, and each parameter its type
 abbrev pub passed : {T : Type 0} → Facts T → KnownFormal T → Operand T → Reported T
 passed facts f o =
     if f.by_place && not o.is_place
@@ -85,8 +86,9 @@ abbrev pub reported_parts : {T : Type 0} → Facts T → List (Tree ℕ expressi
 reported_parts facts [] = []
 reported_parts facts (e ∷ es) = (reported_expression facts e).faults ++ reported_parts facts es
 
--- A call of a procedure has as many arguments as the procedure has parameters, else nothing more is reported of them. In a call of
--- anything else the arguments are of any type; a name that nothing binds is reported by itself.
+-- A call of a procedure has as many arguments as the procedure has parameters, else nothing more is
+-- reported of them. In a call of anything else the arguments are of any type;
+-- a name that nothing binds is reported by itself.
 abbrev pub call_by_meaning : {T : Type 0}
     → Facts T
     → ℕ
@@ -112,6 +114,7 @@ reported_call facts p es = call_by_meaning facts p (facts.object_for p) es
 unfoldable mutual
   unfolding reported_required reported_target reported_argument
 
+  -- the faults of a statement, and of the statements in it
   pub reported_statement : {T : Type 0} → Facts T → Tree ℕ statement → List Fault
   reported_statement facts empty = []
   reported_statement facts (assigns x path e) =
@@ -126,21 +129,25 @@ unfoldable mutual
   reported_statement facts (repeat_loop statements e) =
       reported_sequence facts statements ++ reported_condition facts e
 
+  -- the faults of a sequence, statement by statement
   pub reported_sequence : {T : Type 0} → Facts T → Tree ℕ sequence → List Fault
   reported_sequence facts (runs a rest) =
       reported_statement facts a ++ reported_statements facts rest
 
+  -- the faults of the statements after the first
   pub reported_statements : {T : Type 0} → Facts T → Tree ℕ (items further_statement) → List Fault
   reported_statements facts end = []
   reported_statements facts (more (then_statement a) rest) =
       reported_statement facts a ++ reported_statements facts rest
 
+  -- the faults of each ELSIF part: of its condition, and then of its statements
   pub reported_elsifs : {T : Type 0} → Facts T → Tree ℕ (items elsif_part) → List Fault
   reported_elsifs facts end = []
   reported_elsifs facts (more (elsif_branch e statements) rest) =
       reported_condition facts e
       ++ (reported_sequence facts statements ++ reported_elsifs facts rest)
 
+  -- the faults of the ELSE part, if there is one
   pub reported_else : {T : Type 0} → Facts T → Tree ℕ (maybe else_part) → List Fault
   reported_else facts none = []
   reported_else facts (one (else_branch statements)) = reported_sequence facts statements

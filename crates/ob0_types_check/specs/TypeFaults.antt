@@ -24,7 +24,8 @@ type_meant facts token None = right facts.types.unknown
 abbrev pub type_named : {T : Type 0} → Facts T → ℕ → Reported T
 type_named facts token = type_meant facts token (facts.object_for token)
 
--- a constant expression whose evaluation has a fault is reported as a whole; in one that has another fault nothing is evaluated
+-- a constant expression whose evaluation has a fault is reported as a whole;
+-- in one that has another fault nothing is evaluated
 abbrev pub valued : {T : Type 0} → Facts T → Operand T → Option Value → Reported (Option Value)
 valued facts o None = record { known = None; faults = at_operand facts code.ConstFault o }
 valued facts o (Some v) = right (Some v)

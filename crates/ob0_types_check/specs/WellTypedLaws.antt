@@ -1,4 +1,5 @@
--- Laws of what is well-typed, a module and each of its parts: no fault of types is reported of it. N is for names.
+-- Laws of what is well-typed, a module and each of its parts:
+-- no fault of types is reported of it. N is for names.
 -- Rule: docs/LANGUAGE.md, Types 8; laws of reported faults.
 use Rattle.std.specs.Prelude.{◌≡◌, ℕ, Bool, true, false, [], List, Option, Some, None, option_and_then, is_some, slice_get}
 use Rattle.std.specs.List.{filter}

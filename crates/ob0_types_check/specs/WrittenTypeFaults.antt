@@ -1,5 +1,5 @@
--- The faults of types as they are written, in the order in which they are reported: those of the parts from left to right, then
--- that the whole is too large.
+-- The faults of types as they are written, in the order in which they are reported: those of the
+-- parts from left to right, then that the whole is too large.
 -- Rule: docs/LANGUAGE.md, Faults of scopes and types 2, 4, 10, `TypeTooLarge`.
 use Rattle.std.specs.Prelude.{ℕ, suc, ◌+◌, ◌*◌, max, true, false, List, [], ◌∷◌, ◌++◌, length, Option, Some, None}
 use Rattle.ob0_scope_rules.specs.Parts.{names_listed}
@@ -17,13 +17,13 @@ use Rattle.ob0_types_check.specs.TypeFaults.{length_of, type_named}
 abbrev pub array_size : ℕ → Size → Size
 array_size n z = record { scalars = z.scalars * n; depth = z.depth + 1 }
 
--- Each ARRAY and RECORD makes one type, those inside it before it. So where nothing is reported, the ordinal of a word is
--- how many were made before it and how many are around it.
+-- Each ARRAY and RECORD makes one type, those inside it before it. So where nothing is reported,
+-- the ordinal of a word is how many were made before it and how many are around it.
 abbrev pub ordinal_here : ℕ → SoFar → ℕ
 ordinal_here around p = length p.made + around
 
--- An array of a faulty length is unknown as a whole; the type of its elements is looked at all the same. The word ARRAY is
--- before the length.
+-- An array of a faulty length is unknown as a whole; the type of its elements is looked at all the
+-- same. The word ARRAY is before the length.
 abbrev pub array_made : ℕ → Operand TypeId → Option ℕ → TypedAfter → Reported TypedAfter
 array_made ordinal o None element =
     right (record { of = type.Unknown; following = element.following })
@@ -68,8 +68,8 @@ gathered_after g xs t =
 abbrev pub record_size : Size → Size
 record_size z = record { scalars = max z.scalars 1; depth = z.depth + 1 }
 
--- The word RECORD precedes the name of the first field, and before a semicolon for each group without fields before
--- it. A record without any field is never too large.
+-- The word RECORD precedes the name of the first field, and before a semicolon for each group
+-- without fields before it. A record without any field is never too large.
 abbrev pub first_name : Tree ℕ names → ℕ
 first_name (listed x rest) = x
 
@@ -91,6 +91,7 @@ record_made word ordinal g = make g.following word ordinal (of_fields g.fields) 
 unfoldable mutual
   unfolding reported_expression
 
+  -- a name, or an array or a record after its parts
   pub reported_type : ℕ → SoFar → Tree ℕ written_type → Reported TypedAfter
   reported_type around p (named_type x) = do
     t ← type_named (facts_at p false) x
@@ -105,12 +106,14 @@ unfoldable mutual
     all ← reported_groups (suc around) first rest
     record_made (word_before g (record_word rest)) (ordinal_here around p) all
 
+  -- a group of fields, added to those so far
   pub reported_fields : ℕ → Gathered → Tree ℕ fields → Reported Gathered
   reported_fields around so_far no_fields = right so_far
   reported_fields around so_far (some_fields ns t) = do
     u ← reported_type around so_far.following t
     right (gathered_after so_far (names_listed ns) u)
 
+  -- further groups, added one after the other
   pub reported_groups : ℕ → Gathered → Tree ℕ (items further_fields) → Reported Gathered
   reported_groups around so_far end = right so_far
   reported_groups around so_far (more (then_fields g) rest) = do

@@ -35,7 +35,7 @@ pub fn modules_fit()
     ensures { ModulesFit }
 {}
 
-/// After a module of which nothing is reported, what each of its declarations is is known.
+/// After a module of which nothing is reported, each of its declarations is known.
 pub fn declarations_known()
     ensures { DeclarationsKnown }
 {}

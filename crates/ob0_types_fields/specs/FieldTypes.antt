@@ -1,5 +1,7 @@
--- The type of each ARRAY and RECORD of a module, and the field that an identifier is of, with its type.
--- Rule: docs/LANGUAGE.md, Types 1 (each ARRAY and RECORD is a type of its own); docs/PROTOCOL.md, Requests on documents 4.
+-- The type of each ARRAY and RECORD of a module,
+-- and the field that an identifier is of, with its type.
+-- Rule: docs/LANGUAGE.md, Types 1 (each ARRAY and RECORD is a type of its own);
+-- docs/PROTOCOL.md, Requests on documents 4.
 use Rattle.std.specs.Prelude.{◌≡◌, ℕ, true, is_some, List, [], ◌∷◌, ◌++◌, get_or, Option, None, option_and_then, option_map}
 use Rattle.std.specs.List.{All}
 use Rattle.ob0_tree.specs.Tree.{Sort, Tree, names, array_type, declares, declares_procedure, declares_type, declares_types, declares_variable, declares_variables, end, has_body, is_module, listed, more, none, one, record_type, some_fields, some_formals, then_fields, then_section, value_section, variable_section}
@@ -21,8 +23,8 @@ use Rattle.ob0_types_fields.specs.Owned.{token_objects}
 abbrev pub first_listed : {N : Type 0} → Tree N names → N
 first_listed (listed x rest) = x
 
--- The types that the ARRAY and RECORD of a tree construct, in text order. `t` is the type that the tree denotes, or that it
--- is a part of; names that are declared together have one type.
+-- The types that the ARRAY and RECORD of a tree construct, in text order. `t` is the type that the
+-- tree denotes, or that it is a part of; names that are declared together have one type.
 abbrev pub constructed : {N P : Type 0} {s : Sort}
     → Meanings N Shape P
     → Option Shape
@@ -75,7 +77,8 @@ typed_field_named s x =
     option_and_then (λ f. option_map (λ t. record { field = f; shape = t }) (field_type s x))
     (field_selected s x)
 
--- the field that an identifier is of, by what declarations are: as the RECORD has it that declares it
+-- the field that an identifier is of, by what declarations are:
+-- as the RECORD has it that declares it
 abbrev pub typed_field_by : (ℕ → Option (Object Shape Signature))
     → Resolution
     → ℕ × ℕ
@@ -88,7 +91,8 @@ typed_field_by objects r x =
 abbrev pub typed_field : Resolution → ℕ × ℕ → Option TypedField
 typed_field r x = typed_field_by (declared_object (named_tree_of r.module_read)) r x
 
--- In a well-typed module each identifier that declares or selects a field is of a field that has a type.
+-- In a well-typed module each identifier that declares or selects a field is
+-- of a field that has a type.
 abbrev pub FieldsTyped : Type 0
 FieldsTyped =
     (r : Resolution) → IsResolution r → WellTyped (named_tree_of r.module_read)

@@ -1,4 +1,5 @@
--- The fields of records under other names: where they are declared, and where selectors select them.
+-- The fields of records under other names: where they are declared,
+-- and where selectors select them.
 -- Rule: docs/LANGUAGE.md, Scopes 7.
 use Rattle.std.specs.Prelude.{ℕ, suc, ◌+◌, List, [], Some, None, Option, option_and_then, unwrap_or}
 use Rattle.ob0_tree.specs.Tree.{Item, Sort, Tree, adds, array_type, assigns, begins, block, branches, calls, compares, declares, declares_procedure, declares_type, declares_types, declares_variable, declares_variables, designator, else_branch, elsif_branch, end, field, fields, formals, further_fields, further_section, has_body, index, is_module, item, items, maybe, module_text, more, multiplies, named_type, negation, no_fields, no_formals, none, one, parenthesised, procedure, product, record_type, relates, repeat_loop, runs, section, some_arguments, some_fields, some_formals, sum, then_argument, then_fields, then_section, then_statement, type_name, type_names, value_section, variable, variable_section, variables, while_loop, written_type}
@@ -11,7 +12,8 @@ use Rattle.ob0_types_rules.specs.Typing.{constructors, element_type, field_type,
 use Rattle.ob0_types_rules.specs.WellTyped.{TypeEnvironment, Typed, TypedParameter, bind_typed, declare_typed, heading, typed_parameters}
 use Rattle.ob0_values.specs.Values.{Shape, array_shape, boolean_shape, integer_shape, record_shape}
 
--- how a field is written: a function of the ordinal of its record, None where no record is known, and of its name
+-- how a field is written: a function of the ordinal of its record,
+-- None where no record is known, and of its name
 abbrev pub FieldNames : Type 0
 FieldNames = Option ℕ → Name → Name
 
@@ -29,8 +31,8 @@ type_after s (field x) = option_and_then (λ t. field_type t x) s
 type_after s (index e) = option_and_then (λ t. element_type t integer_shape) s
 type_after s _ = s
 
--- a part of a statement with its fields under other names, each by the record that the type before its selector is; s is the type
--- before the first of the selectors
+-- a part of a statement with its fields under other names, each by the record that the type before
+-- its selector is; s is the type before the first of the selectors
 abbrev pub refield : {s : Sort} → FieldNames → Typed Name → Option Shape → Tree Name s → Tree Name s
 refield l meaning s (more t ts) =
     more (refield l meaning s t) (refield l meaning (type_after s t) ts)
@@ -73,9 +75,10 @@ refield l meaning s (else_branch a) = else_branch (refield l meaning None a)
 refield l meaning s (begins a) = begins (refield l meaning None a)
 refield l meaning s t = t
 
--- the fields that a type's text declares; k is the ordinal of the text's first ARRAY or RECORD, and r that of the group's record.
--- An array's length is a constant expression and has no selectors
+-- the fields that a type's text declares; k is the ordinal of the text's first ARRAY or RECORD, and
+-- r that of the group's record. An array's length is a constant expression and has no selectors
 abbrev mutual
+  -- the type as it is written, from ordinal k on
   pub refield_type : FieldNames → ℕ → Tree Name written_type → Tree Name written_type
   refield_type l k (named_type x) = named_type x
   refield_type l k (array_type e t) = array_type e (refield_type l (suc k) t)
@@ -83,11 +86,13 @@ abbrev mutual
       record_type (refield_group l k (suc k) g)
       (refield_groups l k (suc k + group_constructors g) rest)
 
+  -- a group of fields of the record r, its type from ordinal k on
   pub refield_group : FieldNames → ℕ → ℕ → Tree Name fields → Tree Name fields
   refield_group l r k no_fields = no_fields
   refield_group l r k (some_fields ns t) =
       some_fields (with_names (λ x. x) (l (Some r)) ns) (refield_type l k t)
 
+  -- further groups of fields of the record r, their types from ordinal k on
   pub refield_groups : FieldNames
       → ℕ
       → ℕ
@@ -156,7 +161,8 @@ refield_formals l k (one (some_formals f fs)) =
     one (some_formals (refield_section l k f)
     (refield_sections l (k + constructors (section_type f)) fs))
 
--- what names mean after the constants, types and variables of a block; where these don't fit, the module isn't well-typed
+-- what names mean after the constants, types and variables of a block;
+-- where these don't fit, the module isn't well-typed
 abbrev pub types_after_variables : TypeEnvironment Name → ℕ → Tree Name block → TypeEnvironment Name
 types_after_variables env k b =
     unwrap_or (option_and_then (declare_typed as_names (after_types k b) (block_variables b))
@@ -187,6 +193,7 @@ types_after_procedures env k (more p rest) =
 
 -- a block in an environment, the first ARRAY or RECORD in it of ordinal k; constants have no fields
 abbrev mutual
+  -- a block: its types, its variables, its procedures and its statements
   pub refield_block : FieldNames → TypeEnvironment Name → ℕ → Tree Name block → Tree Name block
   refield_block l env k (has_body (declares cs ts vs ps) statements) =
       has_body
@@ -199,6 +206,7 @@ abbrev mutual
       (types_after_variables env k (has_body (declares cs ts vs ps) statements))
       (after_variables k (has_body (declares cs ts vs ps) statements)) ps)) None statements)
 
+  -- procedures, each of which is known to those after it
   pub refield_procedures : FieldNames
       → TypeEnvironment Name
       → ℕ

@@ -1,4 +1,5 @@
--- The identifiers of one field: the one that declares it, and those that select it. The names of these trees are tokens.
+-- The identifiers of one field: the one that declares it, and those that select it.
+-- The names of these trees are tokens.
 -- Rule: docs/PROTOCOL.md, Requests on documents 4 to 6.
 use Rattle.std.specs.Prelude.{◌≡◌, ℕ, ◌+◌, ◌==◌, ◌&&◌, Bool, true, not, is_some, List, [], ◌∷◌, ◌++◌, length, map, Option, Some, None, if◌then◌else◌}
 use Rattle.std.specs.List.{All, list_any, position_from}
@@ -59,7 +60,8 @@ field_at r offset = field_on r.module_read.source offset (field_identifiers r)
 -- ---- those that declare
 
 abbrev mutual
-  -- the fields that the declarations of a block declare, each with its record; k is the ordinal of the first ARRAY or RECORD
+  -- the fields that the declarations of a block declare, each with its record;
+  -- k is the ordinal of the first ARRAY or RECORD
   pub declared_in_block : ℕ → Tree ℕ block → List (ℕ × ℕ)
   declared_in_block k (has_body (declares cs ts vs ps) statements) =
       marked_types k (section_types ts)
@@ -67,11 +69,13 @@ abbrev mutual
       (section_variables vs)
       ++ declared_in_procedures (after_variables k (has_body (declares cs ts vs ps) statements)) ps)
 
+  -- those that procedures declare, in text order
   pub declared_in_procedures : ℕ → Tree ℕ (items procedure) → List (ℕ × ℕ)
   declared_in_procedures k end = []
   declared_in_procedures k (more p rest) =
       declared_in_procedure k p ++ declared_in_procedures (k + procedure_constructors p) rest
 
+  -- those that a procedure declares: with its parameters, and in its block
   pub declared_in_procedure : ℕ → Tree ℕ (item procedure) → List (ℕ × ℕ)
   declared_in_procedure k (declares_procedure x fs b closing) =
       marked_sections k (formal_sections fs)
@@ -104,7 +108,8 @@ field_place m k x =
 
 -- ---- laws
 
--- In a well-typed module the field f of the record k is called `new` where the new name is at the tokens of that field.
+-- In a well-typed module the field f of the record k is called `new` where the new name is
+-- at the tokens of that field.
 abbrev pub RenamedAtTokens : Type 0
 RenamedAtTokens =
     (r : Resolution) (k : ℕ) (f new : Name)
@@ -115,14 +120,16 @@ RenamedAtTokens =
     then new
     else text_at r.module_read.source i) (value_at r.module_read.source) (tree_of r.module_read)
 
--- Another field of a record has the name where that is another name, and a token declares a field of it.
+-- Another field of a record has the name where that is another name,
+-- and a token declares a field of it.
 abbrev pub DuplicateByToken : Type 0
 DuplicateByToken =
     (m : Parsed) (k : ℕ) (f new : Name)
     → is_duplicate_field (named_tree_of m) k f new
     ≡ (not (same_name new f) && is_some (declaring_field m k new))
 
--- In a well-typed module each identifier that declares or selects a field is of a field that its record declares.
+-- In a well-typed module each identifier that declares or selects a field is of a field
+-- that its record declares.
 abbrev pub FieldsDeclared : Type 0
 FieldsDeclared =
     (r : Resolution) → IsResolution r → WellTyped (named_tree_of r.module_read)
@@ -130,7 +137,8 @@ FieldsDeclared =
     (λ x. is_some (declaring_field r.module_read x.1 (text_at r.module_read.source x.0)) ≡ true)
     (field_identifiers r)
 
--- the tokens of the identifiers that are written as fields, where a record is declared or a field is selected
+-- the tokens of the identifiers that are written as fields,
+-- where a record is declared or a field is selected
 abbrev pub written_fields : List (Role × ℕ) → List ℕ
 written_fields [] = []
 written_fields ((role.FieldName, token) ∷ rest) = token ∷ written_fields rest
@@ -139,7 +147,8 @@ written_fields ((role.LookedUp, token) ∷ rest) = written_fields rest
 written_fields ((role.ClosingName, token) ∷ rest) = written_fields rest
 written_fields ((role.ModuleName, token) ∷ rest) = written_fields rest
 
--- In a well-typed module the fields are all identifiers that are written as fields, in text order, and no others.
+-- In a well-typed module the fields are all identifiers that are written as fields,
+-- in text order, and no others.
 abbrev pub FieldsListed : Type 0
 FieldsListed =
     (r : Resolution) → IsResolution r → WellTyped (named_tree_of r.module_read)

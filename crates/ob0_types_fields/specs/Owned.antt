@@ -1,4 +1,5 @@
--- Each identifier of a text with the ordinal of the record whose field it is, in text order. The names of these trees are tokens.
+-- Each identifier of a text with the ordinal of the record whose field it is, in text order.
+-- The names of these trees are tokens.
 -- Rule: docs/LANGUAGE.md, Scopes 7.
 use Rattle.std.specs.Prelude.{◌≡◌, ℕ, suc, ◌+◌, List, [], ◌∷◌, ◌++◌, map, Some, None, Option, option_and_then, option_map, length, replicate, set}
 use Rattle.ob0_tree.specs.declared.tree.Role.{Role}
@@ -81,18 +82,22 @@ owned m s (else_branch a) = owned m None a
 owned m s (begins a) = owned m None a
 owned m s t = unowned t
 
--- the identifiers of a type; k is the ordinal of its first ARRAY or RECORD, and r that of the group's record
+-- the identifiers of a type; k is the ordinal of its first ARRAY or RECORD,
+-- and r that of the group's record
 abbrev mutual
+  -- a type's name; of an array those of its length and its elements; of a record its groups
   pub owned_type : ℕ → Tree ℕ written_type → List (ℕ × Option ℕ)
   owned_type k (named_type x) = (x, None) ∷ []
   owned_type k (array_type e t) = unowned e ++ owned_type (suc k) t
   owned_type k (record_type g rest) =
       owned_group k (suc k) g ++ owned_groups k (suc k + group_constructors g) rest
 
+  -- the fields of a group, which are of the record r, and the identifiers of their type
   pub owned_group : ℕ → ℕ → Tree ℕ fields → List (ℕ × Option ℕ)
   owned_group r k no_fields = []
   owned_group r k (some_fields ns t) = map (λ x. (x, Some r)) (names_listed ns) ++ owned_type k t
 
+  -- further groups of fields of the record r
   pub owned_groups : ℕ → ℕ → Tree ℕ (items further_fields) → List (ℕ × Option ℕ)
   owned_groups r k end = []
   owned_groups r k (more (then_fields g) rest) =
@@ -138,8 +143,10 @@ owned_formals k (one no_formals) = []
 owned_formals k (one (some_formals f fs)) =
     owned_section k f ++ owned_sections (k + constructors (section_type f)) fs
 
--- the identifiers of a block, of its procedures and of a procedure; k is the ordinal of the first ARRAY or RECORD
+-- the identifiers of a block, of its procedures and of a procedure;
+-- k is the ordinal of the first ARRAY or RECORD
 abbrev mutual
+  -- a block: its declarations, and then its statements
   pub owned_block : {P : Type 0} → Meanings ℕ Shape P → ℕ → Tree ℕ block → List (ℕ × Option ℕ)
   owned_block m k (has_body (declares cs ts vs ps) statements) =
       (unowned cs ++ (owned_type_section k ts
@@ -147,6 +154,7 @@ abbrev mutual
       ++ owned_procedures m (after_variables k (has_body (declares cs ts vs ps) statements)) ps)))
       ++ owned m None statements
 
+  -- the procedures of a block, in order
   pub owned_procedures : {P : Type 0}
       → Meanings ℕ Shape P
       → ℕ
@@ -156,6 +164,7 @@ abbrev mutual
   owned_procedures m k (more p rest) =
       owned_procedure m k p ++ owned_procedures m (k + procedure_constructors p) rest
 
+  -- a procedure: its name, its parameters, its block and its closing name
   pub owned_procedure : {P : Type 0}
       → Meanings ℕ Shape P
       → ℕ
@@ -196,8 +205,8 @@ abbrev pub HasOwners : (ℕ → Option ℕ) → List (ℕ × Option ℕ) → Typ
 HasOwners table [] = Unit {0}
 HasOwners table (x ∷ xs) = (table x.0 ≡ x.1) × HasOwners table xs
 
--- In a well-typed module a table that has the listed owners at its tokens is a table of owners: what names mean in the
--- environment at each place is what their declarations are.
+-- In a well-typed module a table that has the listed owners at its tokens is a table of owners:
+-- what names mean in the environment at each place is what their declarations are.
 abbrev pub OwnersByDeclaration : Type 0
 OwnersByDeclaration =
     (r : Resolution) (owners : List (Option ℕ))
@@ -217,7 +226,8 @@ abbrev pub with_fields_at : List (Option ℕ) → List (ℕ × ℕ) → List (Op
 with_fields_at table [] = table
 with_fields_at table (f ∷ fs) = with_fields_at (set table f.0 (Some f.1)) fs
 
--- In a well-typed module the empty table, one entry a token, with its fields written into it is a table of owners.
+-- In a well-typed module the empty table, one entry a token,
+-- with its fields written into it is a table of owners.
 abbrev pub OwnersOfFields : Type 0
 OwnersOfFields =
     (r : Resolution)
@@ -235,6 +245,7 @@ marked_field x (Some k) = (x, k) ∷ []
 
 -- the fields that statements select
 abbrev mutual
+  -- in a statement or a part of one, in text order
   pub marked_tree : {P : Type 0} {s : Sort} → Meanings ℕ Shape P → Tree ℕ s → List (ℕ × ℕ)
   marked_tree m none = []
   marked_tree m (one a) = marked_tree m a
@@ -269,7 +280,7 @@ abbrev mutual
   marked_tree m (begins a) = marked_tree m a
   marked_tree m t = []
 
-  -- those of a designator's selectors, of a value of a type and its parts in turn
+  -- those of a designator's selectors, from a value of this type on, part after part
   pub marked_path : {P : Type 0}
       → Meanings ℕ Shape P
       → Option Shape
@@ -282,18 +293,22 @@ abbrev mutual
   marked_path m s (more (index e) rest) =
       marked_tree m e ++ marked_path m (option_and_then (λ t. element_type t integer_shape) s) rest
 
--- the fields that a type's text declares; k is the ordinal of its first ARRAY or RECORD, and r that of the group's record
+-- the fields that a type's text declares; k is the ordinal of its first ARRAY or RECORD,
+-- and r that of the group's record
 abbrev mutual
+  -- in a type as it is written; a length declares none
   pub marked_type : ℕ → Tree ℕ written_type → List (ℕ × ℕ)
   marked_type k (named_type x) = []
   marked_type k (array_type e t) = marked_type (suc k) t
   marked_type k (record_type g rest) =
       marked_group k (suc k) g ++ marked_groups k (suc k + group_constructors g) rest
 
+  -- the fields of a group, which are of the record r, and those that their type declares
   pub marked_group : ℕ → ℕ → Tree ℕ fields → List (ℕ × ℕ)
   marked_group r k no_fields = []
   marked_group r k (some_fields ns t) = map (λ x. (x, r)) (names_listed ns) ++ marked_type k t
 
+  -- further groups of fields of the record r
   pub marked_groups : ℕ → ℕ → Tree ℕ (items further_fields) → List (ℕ × ℕ)
   marked_groups r k end = []
   marked_groups r k (more (then_fields g) rest) =
@@ -318,6 +333,7 @@ marked_sections k (more (then_section f) fs) =
     marked_type k (section_type f) ++ marked_sections (k + constructors (section_type f)) fs
 
 abbrev mutual
+  -- the fields that a block declares and selects; k is the ordinal of the first ARRAY or RECORD
   pub marked_block : {P : Type 0} → Meanings ℕ Shape P → ℕ → Tree ℕ block → List (ℕ × ℕ)
   marked_block m k (has_body (declares cs ts vs ps) statements) =
       (marked_types k (section_types ts)
@@ -326,6 +342,7 @@ abbrev mutual
       ++ marked_procedures m (after_variables k (has_body (declares cs ts vs ps) statements)) ps))
       ++ marked_tree m statements
 
+  -- the fields that procedures declare and select, in text order
   pub marked_procedures : {P : Type 0}
       → Meanings ℕ Shape P
       → ℕ
@@ -335,6 +352,7 @@ abbrev mutual
   marked_procedures m k (more p rest) =
       marked_procedure m k p ++ marked_procedures m (k + procedure_constructors p) rest
 
+  -- those of a procedure: declared with its parameters, and then those of its block
   pub marked_procedure : {P : Type 0}
       → Meanings ℕ Shape P
       → ℕ

@@ -16,8 +16,9 @@ abbrev pub of_records : (ℕ → Name → Name) → FieldNames
 of_records l None x = x
 of_records l (Some k) x = l k x
 
--- A table that has at each token that is a field's name, declared or selected, the ordinal of the field's record: in whatever way fields are
--- rewritten, the module so written is the tree with each token written by the table.
+-- A table that has at each token that is a field's name, declared or selected, the ordinal of the
+-- field's record: in whatever way fields are rewritten,
+-- the module so written is the tree with each token written by the table.
 abbrev pub AreOwners : Parsed → List (Option ℕ) → Type 0
 AreOwners m owners =
     (l : ℕ → Name → Name)

@@ -15,7 +15,8 @@ use Rattle.ob0_types_fields.specs.Fields.{FieldNames, refielded}
 abbrev pub one_renamed : ℕ → Name → Name → FieldNames
 one_renamed r f new owner x = if same_ordinal owner r && same_name x f then new else x
 
--- the declaring identifier of the field f of the record r, and each selector that selects it, have the name `new`
+-- the declaring identifier of the field f of the record r, and each selector that selects it,
+-- have the name `new`
 abbrev pub field_renamed : Tree Name module_text → ℕ → Name → Name → Tree Name module_text
 field_renamed m r f new = refielded (one_renamed r f new) m
 
@@ -26,6 +27,7 @@ pub record RecordFields : Type 0 where
 
 -- the records in the text of a type; k is the ordinal of its first ARRAY or RECORD
 abbrev mutual
+  -- in a type as it is written, an outer record before those in it
   pub records_in_type : ℕ → Tree Name written_type → List RecordFields
   records_in_type k (named_type x) = []
   records_in_type k (array_type e t) = records_in_type (suc k) t
@@ -33,10 +35,12 @@ abbrev mutual
       record { ordinal = k; declared = group_fields g ++ groups_fields rest }
       ∷ (records_in_group (suc k) g ++ records_in_groups (suc k + group_constructors g) rest)
 
+  -- in the type of a group of fields
   pub records_in_group : ℕ → Tree Name fields → List RecordFields
   records_in_group k no_fields = []
   records_in_group k (some_fields ns t) = records_in_type k t
 
+  -- in the types of further groups of fields
   pub records_in_groups : ℕ → Tree Name (items further_fields) → List RecordFields
   records_in_groups k end = []
   records_in_groups k (more (then_fields g) rest) =
@@ -60,8 +64,10 @@ records_in_sections k end = []
 records_in_sections k (more (then_section f) fs) =
     records_in_type k (section_type f) ++ records_in_sections (k + constructors (section_type f)) fs
 
--- the records of a block, of its procedures and of a procedure; k is the ordinal of the first ARRAY or RECORD
+-- the records of a block, of its procedures and of a procedure;
+-- k is the ordinal of the first ARRAY or RECORD
 abbrev mutual
+  -- in a block: in its types, its variables and its procedures
   pub records_in_block : ℕ → Tree Name block → List RecordFields
   records_in_block k (has_body (declares cs ts vs ps) statements) =
       records_in_types k (section_types ts)
@@ -69,11 +75,13 @@ abbrev mutual
       (section_variables vs)
       ++ records_in_procedures (after_variables k (has_body (declares cs ts vs ps) statements)) ps)
 
+  -- in procedures, in text order
   pub records_in_procedures : ℕ → Tree Name (items procedure) → List RecordFields
   records_in_procedures k end = []
   records_in_procedures k (more p rest) =
       records_in_procedure k p ++ records_in_procedures (k + procedure_constructors p) rest
 
+  -- in a procedure: in its parameters and its block
   pub records_in_procedure : ℕ → Tree Name (item procedure) → List RecordFields
   records_in_procedure k (declares_procedure x fs b closing) =
       records_in_sections k (formal_sections fs)

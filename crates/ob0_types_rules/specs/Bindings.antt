@@ -1,4 +1,5 @@
--- All that the declarations of a module bind, each in the environment in which it is checked: the latest first.
+-- All that the declarations of a module bind,
+-- each in the environment in which it is checked: the latest first.
 -- Rule: docs/LANGUAGE.md, Scopes 2 to 4.
 use Rattle.std.specs.Prelude.{ℕ, ◌+◌, ◌-◌, List, [], ◌++◌, length, take, Some, None, Option}
 use Rattle.ob0_tree.specs.Tree.{Tree, block, declares, declares_procedure, end, has_body, item, items, module_text, more, procedure}
@@ -12,7 +13,8 @@ use Rattle.ob0_types_rules.specs.Expressions.{Object, a_variable}
 use Rattle.ob0_types_rules.specs.WellTyped.{Signature, TypeEnvironment, bind_typed, heading, typed_parameters}
 use Rattle.ob0_values.specs.Values.{Shape}
 
--- what an environment binds that an earlier one didn't: its first bindings, since the newest come first
+-- what an environment binds that an earlier one didn't:
+-- its first bindings, since the newest come first
 abbrev pub since : {A : Type 0} → List A → List A → List A
 since before now = take (length now - length before) now
 
@@ -25,6 +27,7 @@ for_some (Some a) list = list a
 unfoldable mutual
   unfolding declare_procedure typed_parameters
 
+  -- what a block binds; k is the ordinal of its first ARRAY or RECORD
   pub block_bindings : {N : Type 0}
       → Naming N
       → TypeEnvironment N
@@ -37,6 +40,7 @@ unfoldable mutual
       (after_variables k (has_body (declares cs ts vs ps) statements)) ps
       ++ since env inner)
 
+  -- what procedures bind, that of the last one first
   pub procedures_bindings : {N : Type 0}
       → Naming N
       → TypeEnvironment N
@@ -71,7 +75,8 @@ module_bindings naming m =
 abbrev pub object_bound : TypeEnvironment Label → ℕ → Option (Object Shape Signature)
 object_bound bindings k = newest (from_binding as_labels bindings (declared k))
 
--- what the declaration of an ordinal is: in the numbered tree its name is the ordinal, and this is what it is bound to
+-- what the declaration of an ordinal is: in the numbered tree its name is the ordinal,
+-- and this is what it is bound to
 abbrev pub declared_object : Tree Name module_text → ℕ → Option (Object Shape Signature)
 declared_object m k = object_bound (module_bindings as_labels (numbered m)) k
 

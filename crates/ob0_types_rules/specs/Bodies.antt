@@ -22,6 +22,7 @@ pub record BodyAt (N : Type 0) : Type 0 where
 unfoldable mutual
   unfolding typed_parameters
 
+  -- those of a block's procedures, and then its own; none where a declaration denotes nothing
   pub block_bodies : {N : Type 0}
       → Naming N
       → TypeEnvironment N
@@ -33,6 +34,7 @@ unfoldable mutual
       (λ inner. procedures_bodies naming inner
       (after_variables k (has_body (declares cs ts vs ps) statements)) statements ps)
 
+  -- those of procedures, in order, and then the statements of the block
   pub procedures_bodies : {N : Type 0}
       → Naming N
       → TypeEnvironment N
@@ -48,6 +50,7 @@ unfoldable mutual
       ++ procedures_bodies naming (heading (procedure_name p) ps env)
       (k + procedure_constructors p) statements rest)
 
+  -- those of a procedure's block, in an environment with its name and parameters
   pub procedure_bodies : {N : Type 0}
       → Naming N
       → TypeEnvironment N
@@ -61,7 +64,8 @@ unfoldable mutual
 abbrev pub module_bodies : {N : Type 0} → Naming N → Tree N module_text → List (BodyAt N)
 module_bodies naming m = block_bodies naming (outermost naming) 0 (module_block m)
 
--- in a well-typed module, what a name is bound to where statements are checked is what its declaration is
+-- in a well-typed module, what a name is bound to where statements are checked is what its
+-- declaration is
 abbrev pub NamesAreDeclared : Type 0
 NamesAreDeclared =
     (m : Tree Name module_text) → WellTyped m

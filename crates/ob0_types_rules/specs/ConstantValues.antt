@@ -1,4 +1,5 @@
--- The value of the constants of a module. Of the names around a constant only constants count; other names hide them.
+-- The value of the constants of a module. Of the names around a constant only constants count;
+-- other names hide them.
 -- Rule: docs/LANGUAGE.md, Types 6, 7.
 use Rattle.std.specs.Prelude.{None, Option, Some, if◌then◌else◌, map, nat_lt, option_and_then, suc, ℕ, ◌++◌, ◌==◌, ◌∷◌}
 use Rattle.ob0_tree.specs.Tree.{Tree, block, constant, declares, declares_constant, declares_procedure, end, has_body, item, items, module_text, more, procedure}
@@ -45,6 +46,7 @@ value_among known d k (more (declares_constant x e) cs) = do
 unfoldable mutual
   unfolding value_among declare_constants
 
+  -- among the constants of a block, or in its procedures
   pub value_in_block : Known → ℕ → ℕ → Tree Name block → Option Value
   value_in_block known d k (has_body (declares cs ts vs ps) statements) =
       if nat_lt d (first_type k (has_body (declares cs ts vs ps) statements))
@@ -55,6 +57,7 @@ unfoldable mutual
       inner) d (first_procedure k (has_body (declares cs ts vs ps) statements)) ps)
       (declare_constants as_names known (section_constants cs))
 
+  -- in the procedure whose ordinals d is among; the first procedure has ordinal k
   pub value_in_procedures : Known → ℕ → ℕ → Tree Name (items procedure) → Option Value
   value_in_procedures known d k end = None
   value_in_procedures known d k (more p rest) =
@@ -63,13 +66,15 @@ unfoldable mutual
       else value_in_procedures ((procedure_name p, no_constant) ∷ known) d
       (after_procedure (suc k) p) rest
 
+  -- in a procedure's block; its parameters, from ordinal k on, aren't constants
   pub value_in_procedure : Known → ℕ → ℕ → Tree Name (item procedure) → Option Value
   value_in_procedure known d k (declares_procedure x fs b closing) =
       if nat_lt d (after_names k (formal_names (formal_sections fs))) then None
       else value_in_block (bind_names (formal_names (formal_sections fs)) no_constant known) d
       (after_names k (formal_names (formal_sections fs))) b
 
--- the value of the constant of ordinal d, None where d isn't a constant that a CONST section declares
+-- the value of the constant of ordinal d, None where d isn't a constant
+-- that a CONST section declares
 unfoldable pub value_of_constant : Tree Name module_text → ℕ → Option Value
 unfolding value_in_block
 value_of_constant m d =

@@ -1,4 +1,5 @@
--- What declarations bind, in a checked module and in a run alike: constants and types; and how types are numbered.
+-- What declarations bind, in a checked module and in a run alike: constants and types;
+-- and how types are numbered.
 -- Rule: docs/LANGUAGE.md, Scopes 2, Types 1.
 use Rattle.std.specs.Prelude.{ℕ, ◌+◌, ◌∷◌, Some, Option}
 use Rattle.ob0_tree.specs.Tree.{Tree, block, constant, declares, declares_constant, declares_procedure, declares_type, declares_variable, end, further_section, has_body, item, items, more, procedure, then_section, type_name, variable}
@@ -64,15 +65,18 @@ formals_constructors (more (then_section f) fs) =
 
 -- how many ARRAY and RECORD are in a block, those of its procedures too
 abbrev mutual
+  -- in a block: in its types, its variables and its procedures
   pub block_constructors : {N : Type 0} → Tree N block → ℕ
   block_constructors (has_body (declares cs ts vs ps) statements) =
       types_constructors (section_types ts)
       + (variables_constructors (section_variables vs) + procedures_constructors ps)
 
+  -- in procedures
   pub procedures_constructors : {N : Type 0} → Tree N (items procedure) → ℕ
   procedures_constructors end = 0
   procedures_constructors (more p rest) = procedure_constructors p + procedures_constructors rest
 
+  -- in a procedure: in its parameters and its block
   pub procedure_constructors : {N : Type 0} → Tree N (item procedure) → ℕ
   procedure_constructors (declares_procedure x fs b closing) =
       formals_constructors (formal_sections fs) + block_constructors b

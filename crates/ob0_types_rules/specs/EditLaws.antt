@@ -28,7 +28,8 @@ IsScalar (truth b) = Unit {0}
 IsScalar (elements vs) = ⊥
 IsScalar (members k ms) = ⊥
 
--- where TRUE or FALSE would be written for a value in place of an occurrence, it is the predeclared one
+-- where TRUE or FALSE would be written for a value in place of an occurrence,
+-- it is the predeclared one
 abbrev pub IsPredeclaredTruth : Tree Name module_text → ℕ → Value → Type 0
 IsPredeclaredTruth m occurrence (truth true) = sees m occurrence (codes "TRUE") ≡ Some 2
 IsPredeclaredTruth m occurrence (truth false) = sees m occurrence (codes "FALSE") ≡ Some 3
@@ -52,7 +53,8 @@ InliningKeepsWellTyped =
     (m : Tree Name module_text) (d : ℕ) (w : Value) (v : Tree Name factor) (uses : Uses)
     → IsConstantWritten m d w v → AreUsesOf m d w uses → WellTyped m → WellTyped (inlined m uses v)
 
--- a constant that no occurrence is bound to may go: the module without its declaration is well-typed
+-- a constant that no occurrence is bound to may go:
+-- the module without its declaration is well-typed
 abbrev pub LeavingOutKeepsWellTyped : Type 0
 LeavingOutKeepsWellTyped =
     (m : Tree Name module_text) (d : ℕ) (w : Value) (v : Tree Name factor)
@@ -61,7 +63,8 @@ LeavingOutKeepsWellTyped =
     → WellTyped m
     → WellTyped (module_without d m)
 
--- a constant's literal in place of all its uses, and its declaration gone: the module stays well-typed
+-- a constant's literal in place of all its uses, and its declaration gone:
+-- the module stays well-typed
 abbrev pub InliningEverywhereKeepsWellTyped : Type 0
 InliningEverywhereKeepsWellTyped =
     (m : Tree Name module_text) (d : ℕ) (w : Value) (v : Tree Name factor)
@@ -70,7 +73,8 @@ InliningEverywhereKeepsWellTyped =
     → WellTyped m
     → WellTyped (inlined_everywhere m d v)
 
--- in a well-typed module a constant's names are alone as factors: none is a type's, a procedure's or an assigned variable's, and none has selectors
+-- in a well-typed module a constant's names are alone as factors: none is a type's, a procedure's
+-- or an assigned variable's, and none has selectors
 abbrev pub ConstantsAreAlone : Type 0
 ConstantsAreAlone =
     (m : Tree Name module_text) (d : ℕ) (w : Value) (v : Tree Name factor)

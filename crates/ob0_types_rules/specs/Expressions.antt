@@ -42,6 +42,7 @@ object_value store _ = ends Stuck
 
 -- expressions are evaluated from left to right
 unfoldable mutual
+  -- the value of its one part, or that of a relation between two
   pub evaluate : {N P : Type 0} → Meanings N Place P → Store → Tree N expression → Outcome Value
   evaluate meaning store (compares a none) = evaluate_simple meaning store a
   evaluate meaning store (compares a (one (relates r b))) = do
@@ -49,6 +50,7 @@ unfoldable mutual
     y ← evaluate_simple meaning store b
     relate r x y
 
+  -- a simple expression: its first term with its sign, and the terms after it
   pub evaluate_simple : {N P : Type 0} → Meanings N Place P → Store → Tree N simple → Outcome Value
   evaluate_simple meaning store (sum s t rest) = do
     x ← evaluate_term meaning store t
@@ -68,11 +70,13 @@ unfoldable mutual
         [ true ↦ gives x | false ↦ evaluate_term meaning store t >>= add o x ]
     evaluate_addends meaning store y rest
 
+  -- a term: its first factor, and the factors after it
   pub evaluate_term : {N P : Type 0} → Meanings N Place P → Store → Tree N term → Outcome Value
   evaluate_term meaning store (product f rest) = do
     x ← evaluate_factor meaning store f
     evaluate_multipliers meaning store x rest
 
+  -- an operand x, and the factors after it; where x settles `&`, the next isn't evaluated
   pub evaluate_multipliers : {N P : Type 0}
       → Meanings N Place P
       → Store
@@ -85,6 +89,7 @@ unfoldable mutual
         [ true ↦ gives x | false ↦ evaluate_factor meaning store f >>= multiply o x ]
     evaluate_multipliers meaning store y rest
 
+  -- a factor: a designator, an integer, an expression in parentheses or a negation
   pub evaluate_factor : {N P : Type 0} → Meanings N Place P → Store → Tree N factor → Outcome Value
   evaluate_factor meaning store (designator x path) = do
     v ← object_value store (meaning.object_for x)

@@ -16,7 +16,8 @@ abbrev pub FitsByOrdinal : Type 0
 FitsByOrdinal =
     (m : Tree Name module_text) → fits_over as_names m ≡ fits_over as_labels (numbered m)
 
--- of two modules with one numbered tree, in which no block declares a name twice and closing names are right, both are well-typed or neither is
+-- of two modules with one numbered tree, in which no block declares a name twice and closing names
+-- are right, both are well-typed or neither is
 abbrev pub WellTypedByShape : Type 0
 WellTypedByShape =
     (a b : Tree Name module_text)
@@ -25,7 +26,8 @@ WellTypedByShape =
     → IsTrue (declared_once b)
     → WellTyped a ↔ WellTyped b
 
--- a constant expression has the value in a run the value of it to the checker, where names mean the same constants
+-- a constant expression has in a run the value that the checker computes,
+-- where names mean the same constants
 abbrev pub ConstantsEvaluate : Type 0
 ConstantsEvaluate =
     (checked : Typed Name) (active : Meanings Name Place (List Mode)) (store : Store)

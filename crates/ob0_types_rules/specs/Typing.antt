@@ -1,4 +1,5 @@
--- Types: what a type's text denotes, the types of expressions, the values of constant expressions, and which statements fit.
+-- Types: what a type's text denotes, the types of expressions, the values of constant expressions,
+-- and which statements fit.
 -- Rule: docs/LANGUAGE.md, Types 1 to 7, Nesting and limits 2.
 use Rattle.std.specs.Prelude.{ℕ, suc, ◌+◌, ◌*◌, max, ◌&&◌, List, [], ◌∷◌, map, pos, if◌then◌else◌, nat_lt, nat_le, Some, None, Option, option_map, option_and_then}
 use Rattle.ob0_tree.specs.declared.tree.Relation.{Relation}
@@ -85,6 +86,7 @@ field_type _ x = None
 
 -- the type of an expression, where it has one
 unfoldable mutual
+  -- the type of its one part, or that of a relation between two
   pub type_of : {N P : Type 0} → Meanings N Shape P → Tree N expression → Option Shape
   type_of meaning (compares a none) = type_of_simple meaning a
   type_of meaning (compares a (one (relates r b))) = do
@@ -92,12 +94,14 @@ unfoldable mutual
     y ← type_of_simple meaning b
     relation_type r x y
 
+  -- a simple expression: its first term with its sign, and the terms after it
   pub type_of_simple : {N P : Type 0} → Meanings N Shape P → Tree N simple → Option Shape
   type_of_simple meaning (sum s t rest) = do
     x ← type_of_term meaning t
     y ← sign_type s x
     type_of_addends meaning y rest
 
+  -- an operand of type x, and the terms after it
   pub type_of_addends : {N P : Type 0}
       → Meanings N Shape P
       → Shape
@@ -109,11 +113,13 @@ unfoldable mutual
     z ← add_type o x y
     type_of_addends meaning z rest
 
+  -- a term: its first factor, and the factors after it
   pub type_of_term : {N P : Type 0} → Meanings N Shape P → Tree N term → Option Shape
   type_of_term meaning (product f rest) = do
     x ← type_of_factor meaning f
     type_of_multipliers meaning x rest
 
+  -- an operand of type x, and the factors after it
   pub type_of_multipliers : {N P : Type 0}
       → Meanings N Shape P
       → Shape
@@ -125,6 +131,7 @@ unfoldable mutual
     z ← multiply_type o x y
     type_of_multipliers meaning z rest
 
+  -- a factor: a designator, an integer, an expression in parentheses or a negation
   pub type_of_factor : {N P : Type 0} → Meanings N Shape P → Tree N factor → Option Shape
   type_of_factor meaning (designator x path) = do
     s ← object_type (meaning.object_for x)
@@ -177,24 +184,28 @@ array_length _ = None
 
 -- how many scalars a type has; an empty record counts as one
 abbrev mutual
+  -- an array has those of its elements, a record those of its fields
   pub scalars : Shape → ℕ
   scalars integer_shape = 1
   scalars boolean_shape = 1
   scalars (array_shape k n s) = n * scalars s
   scalars (record_shape k fs) = max 1 (field_scalars fs)
 
+  -- those of some fields together
   pub field_scalars : FieldShapes → ℕ
   field_scalars no_field_shape = 0
   field_scalars (next_field_shape x s rest) = scalars s + field_scalars rest
 
 -- how many arrays and records are inside one another, named types followed
 abbrev mutual
+  -- an array or a record is one level more than the deepest of its parts
   pub depth : Shape → ℕ
   depth integer_shape = 0
   depth boolean_shape = 0
   depth (array_shape k n s) = suc (depth s)
   depth (record_shape k fs) = suc (field_depth fs)
 
+  -- that of the deepest of some fields
   pub field_depth : FieldShapes → ℕ
   field_depth no_field_shape = 0
   field_depth (next_field_shape x s rest) = max (depth s) (field_depth rest)
@@ -205,15 +216,18 @@ within_limits s = if nat_le (scalars s) 65536 && nat_le (depth s) 100 then Some 
 
 -- how many ARRAY and RECORD are in a type's text
 abbrev mutual
+  -- a type's name has none, also where it means an array or a record
   pub constructors : {N : Type 0} → Tree N written_type → ℕ
   constructors (named_type x) = 0
   constructors (array_type e t) = suc (constructors t)
   constructors (record_type g rest) = suc (group_constructors g + groups_constructors rest)
 
+  -- in a group of fields, whose type is written once for all its names
   pub group_constructors : {N : Type 0} → Tree N fields → ℕ
   group_constructors no_fields = 0
   group_constructors (some_fields ns t) = constructors t
 
+  -- in further groups of fields
   pub groups_constructors : {N : Type 0} → Tree N (items further_fields) → ℕ
   groups_constructors end = 0
   groups_constructors (more (then_fields g) rest) = group_constructors g + groups_constructors rest
@@ -228,10 +242,12 @@ abbrev pub with_fields : List Name → Shape → FieldShapes → FieldShapes
 with_fields [] s rest = rest
 with_fields (x ∷ xs) s rest = next_field_shape x s (with_fields xs s rest)
 
--- the type that a type's text denotes; each ARRAY and RECORD makes one of its own, k the ordinal of the text's first
+-- the type that a type's text denotes; each ARRAY and RECORD makes one of its own,
+-- k the ordinal of the text's first
 unfoldable mutual
   unfolding constant_value
 
+  -- what a name means, or an array or a record of ordinal k, within the limits
   pub denoted : {N V P : Type 0} → Meanings N V P → ℕ → Tree N written_type → Option Shape
   denoted meaning k (named_type x) = type_of_name (meaning.object_for x)
   denoted meaning k (array_type e t) = do
@@ -256,6 +272,7 @@ unfoldable mutual
     s ← denoted meaning k t
     Some (with_fields (map meaning.written (names_listed ns)) s later)
 
+  -- the fields of further groups, in text order
   pub denoted_groups : {N V P : Type 0}
       → Meanings N V P
       → ℕ

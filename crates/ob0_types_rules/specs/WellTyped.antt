@@ -14,6 +14,7 @@ use Rattle.ob0_values.specs.Values.{FieldShapes, Shape, array_shape, boolean_sha
 
 -- two types are the same where they are equal
 abbrev mutual
+  -- both scalars of one type, or made by one ARRAY or RECORD of the text, with equal parts
   pub same_shape : Shape → Shape → Bool
   same_shape integer_shape integer_shape = true
   same_shape boolean_shape boolean_shape = true
@@ -21,6 +22,7 @@ abbrev mutual
   same_shape (record_shape k fs) (record_shape j gs) = (k == j) && same_fields fs gs
   same_shape _ _ = false
 
+  -- the same number of fields, in order with the same names and types
   pub same_fields : FieldShapes → FieldShapes → Bool
   same_fields no_field_shape no_field_shape = true
   same_fields (next_field_shape x s rest) (next_field_shape y t others) =
@@ -78,7 +80,8 @@ signature_of (Some (a_standard writes)) =
 signature_of (Some (a_standard writes_line)) = Some []
 signature_of _ = None
 
--- a parameter requires the same type; a VAR argument is a variable or parameter with its selectors, without parentheses
+-- a parameter requires the same type; a VAR argument is a variable or parameter with its selectors,
+-- without parentheses
 unfoldable pub argument_fits : {N P : Type 0}
     → Meanings N Shape P
     → Formal
@@ -115,11 +118,12 @@ unfoldable pub condition_fits : {N P : Type 0} → Meanings N Shape P → Tree N
 unfolding type_of
 condition_fits meaning e = agree (Some boolean_shape) (type_of meaning e)
 
--- a statement is well-typed: both sides of an assignment have one type, the arguments of a call fit, and
--- conditions are BOOLEAN
+-- a statement is well-typed: both sides of an assignment have one type, the arguments of a call
+-- fit, and conditions are BOOLEAN
 unfoldable mutual
   unfolding condition_fits call_fits
 
+  -- a statement, and the statements in it
   pub statement_fits : {N : Type 0} → Typed N → Tree N statement → Bool
   statement_fits meaning empty = true
   statement_fits meaning (assigns x path e) =
@@ -134,19 +138,23 @@ unfoldable mutual
   statement_fits meaning (repeat_loop statements e) =
       sequence_fits meaning statements && condition_fits meaning e
 
+  -- each statement of a sequence
   pub sequence_fits : {N : Type 0} → Typed N → Tree N sequence → Bool
   sequence_fits meaning (runs a rest) = statement_fits meaning a && statements_fit meaning rest
 
+  -- the statements after the first
   pub statements_fit : {N : Type 0} → Typed N → Tree N (items further_statement) → Bool
   statements_fit meaning end = true
   statements_fit meaning (more (then_statement a) rest) =
       statement_fits meaning a && statements_fit meaning rest
 
+  -- the condition and the statements of each ELSIF part
   pub elsifs_fit : {N : Type 0} → Typed N → Tree N (items elsif_part) → Bool
   elsifs_fit meaning end = true
   elsifs_fit meaning (more (elsif_branch e statements) rest) =
       condition_fits meaning e && (sequence_fits meaning statements && elsifs_fit meaning rest)
 
+  -- the statements of the ELSE part, if there is one
   pub else_fits : {N : Type 0} → Typed N → Tree N (maybe else_part) → Bool
   else_fits meaning none = true
   else_fits meaning (one (else_branch statements)) = sequence_fits meaning statements
@@ -222,10 +230,12 @@ abbrev pub some_and : {A : Type 0} → Option A → (A → Bool) → Bool
 some_and None test = false
 some_and (Some a) test = test a
 
--- a block's declarations bind what they name, its procedures fit in turn, and its statements fit in the whole environment
+-- a block's declarations bind what they name, its procedures fit one after the other, and its
+-- statements fit in the whole environment
 unfoldable mutual
   unfolding declare_first declare_typed typed_parameters body_fits
 
+  -- a block; k is the ordinal of its first ARRAY or RECORD
   pub block_fits : {N : Type 0} → Naming N → TypeEnvironment N → ℕ → Tree N block → Bool
   block_fits naming env k (has_body (declares cs ts vs ps) statements) =
       some_and (do
@@ -250,6 +260,7 @@ unfoldable mutual
       && procedures_fit naming (heading (procedure_name p) ps env) (k + procedure_constructors p)
       statements rest)
 
+  -- a procedure's block, in an environment with its name and parameters
   pub procedure_fits : {N : Type 0}
       → Naming N
       → TypeEnvironment N

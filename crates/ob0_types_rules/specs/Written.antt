@@ -7,7 +7,8 @@ use Rattle.ob0_tree.specs.Tree.{Tree, adds, compares, designator, end, factor, i
 use Rattle.ob0_scope_rules.specs.Names.{Name}
 use Rattle.ob0_values.specs.Values.{Value, number, truth}
 
--- a number as its digits, or in parentheses where it is negative; the least number has no digits of its own
+-- a number as its digits, or in parentheses where it is negative;
+-- the least number has no digits of its own
 abbrev pub written_number : ℤ → Tree Name factor
 written_number (pos n) = integer n
 written_number (negsuc n) =

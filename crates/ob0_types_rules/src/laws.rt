@@ -14,7 +14,7 @@ pub fn well_typed_by_shape()
     ensures { WellTypedByShape }
 {}
 
-/// A constant expression has the value in a run the value of it to the checker.
+/// A constant expression has in a run the value that the checker computes.
 pub fn constants_evaluate()
     ensures { ConstantsEvaluate }
 {}

@@ -11,7 +11,8 @@ place_of_field no_field_shape x = None
 place_of_field (next_field_shape y s rest) x =
     if same_name x y then Some 0 else option_map suc (place_of_field rest x)
 
--- the field that a name selects of a value of a type: the ordinal of its record, and its place there
+-- the field that a name selects of a value of a type:
+-- the ordinal of its record, and its place there
 abbrev pub field_selected : Shape → Name → Option FieldOf
 field_selected (record_shape k fs) x =
     option_map (λ i. record { ordinal = k; index = i }) (place_of_field fs x)

@@ -6,7 +6,7 @@ use Rattle.ob0_tree.specs.declared.tree.MultiplyOperator.{MultiplyOperator}
 use Rattle.ob0_types_rules.specs.Typing.{given_value}
 use Rattle.ob0_values.specs.Values.{Value, add, add_is_settled, multiply, multiply_is_settled}
 
--- an operation, which needs no right operand where the left one settles it
+-- the value of a sum, where a left operand that settles it is enough
 abbrev pub sum_value : AddOperator → Option Value → Value → Option Value
 sum_value o right x =
     cond (add_is_settled o x) (Some x) (option_and_then (λ y. given_value (add o x y)) right)

@@ -82,7 +82,7 @@ AreEntriesInOrder known [] = Unit {0}
 AreEntriesInOrder known (m ∷ ms) =
     IsEntry known m × AreEntriesInOrder (known ++ made_shape known m ∷ []) ms
 
--- what a declaration is
+-- how a parameter is passed
 abbrev pub mode_of : Bool → Mode
 mode_of true = by_place
 mode_of false = by_value

@@ -1,5 +1,5 @@
 //! Operations on the values of constants, where an operand may have none. An operand that settles an operation alone
-//! decides it, whatever the other has the value.
+//! decides it, whatever the value of the other.
 
 ghost use Rattle.std.specs.Prelude.{◌≡◌, Some, option_and_then, option_map};
 ghost use Rattle.ob0_values.specs.Scalars.{scalar_value};

@@ -18,7 +18,7 @@ pub enum Scalar {
 /// Why an operation gives nothing.
 #[derive(Clone, Copy, Debug, PartialEq, Eq)]
 pub enum OperatorFault {
-    /// The result is no number of 32 bits.
+    /// The result isn't a number of 32 bits.
     Overflow,
     /// DIV or MOD by a divisor below 1.
     Divisor,
@@ -144,7 +144,7 @@ fn multiply_truths(operator: MultiplyOperator, a: bool, b: bool) -> Result<Scala
     }
 }
 
-/// True where `left OR right` is TRUE whatever the right side has the value, so that it isn't evaluated.
+/// True where `left OR right` is TRUE whatever the value of the right side, so that it isn't evaluated.
 pub fn add_is_settled(operator: AddOperator, left: Scalar) -> bool
     ensures { result ≡ add_is_settled operator (scalar_value left) }
 {
@@ -158,7 +158,7 @@ pub fn add_is_settled(operator: AddOperator, left: Scalar) -> bool
     }
 }
 
-/// True where `left & right` is FALSE whatever the right side has the value, so that it isn't evaluated.
+/// True where `left & right` is FALSE whatever the value of the right side, so that it isn't evaluated.
 pub fn multiply_is_settled(operator: MultiplyOperator, left: Scalar) -> bool
     ensures { result ≡ multiply_is_settled operator (scalar_value left) }
 {

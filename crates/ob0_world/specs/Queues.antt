@@ -1,5 +1,6 @@
--- What the code stores of client and server, and what it means: the view of the code, what it keeps from step to step,
--- and the clauses of private functions. No promise of a public function names these.
+-- What the code stores of client and server, and what it means: the view of the code, what it keeps
+-- from step to step, and the clauses of private functions.
+-- No promise of a public function names these.
 -- Rule: none; for contracts: contents that wait, and what they say.
 use Rattle.std.specs.Prelude.{◌≡◌, ◌≤◌, ⊤, ℕ, ℤ, List, [], ◌∷◌, ◌++◌, map, length, All, Bool, true, Option, Some, None, Vec, option_and_then, filter_map}
 use Rattle.std.specs.declared.alloc.Global.{Global}
@@ -47,8 +48,8 @@ IsUnderstood requested content = (m : ToEditor) × (understood requested content
 
 -- ---- the session
 
--- A session that has begun with this editor and isn't at its end: it writes the edits of a workspace with the versions
--- of their documents, and offers code actions as literals.
+-- A session that has begun with this editor and isn't at its end: it writes the edits of a
+-- workspace with the versions of their documents, and offers code actions as literals.
 abbrev pub IsRunning : ServerState → Type 0
 IsRunning s =
     (s.phase ≡ Running)
@@ -140,7 +141,7 @@ pub record Within (n : ℕ) (e : Editor) : Type 0 where
 abbrev pub IsReached : Ends → Type 0
 IsReached w = (unit : Unit) × (events : List Event) × Course (start unit) events w
 
--- ---- the steps of the server's turn
+-- ---- the steps of the server's event
 
 -- the publication with a version that the first of these contents is
 abbrev pub made_sent : OpenDocuments → List SentAsk → Contents → Option Made

@@ -18,7 +18,8 @@ use Rattle.ob0_world.specs.declared.faults.WorldFault.{WorldFault}
 use Rattle.ob0_world.specs.declared.faults.WorldFault.TheVariants.{Memory, Ended}
 use Rattle.ob0_world.specs.declared.played.Played as played
 
--- Client and server with the messages between them, the session that is the server, and the contents of those messages.
+-- Client and server with the messages between them, the session that is the server,
+-- and the contents of those messages.
 pub record Both : Type 0 where
   pub ends : Ends
   pub session : SessionState
@@ -68,7 +69,7 @@ TakesFirst (content ∷ rest) old new =
     × (new.to_server ≡ rest)
     × (new.to_editor ≡ old.to_editor ++ sent)
 
--- only its own turn moves it
+-- only its own event moves it
 abbrev pub MovesServer : Event → Both → Both → Type 0
 MovesServer serve old new = TakesFirst old.to_server old new
 MovesServer (open_document uri text) old new = new.session ≡ old.session
@@ -87,8 +88,8 @@ AllSay requested (m ∷ messages) (content ∷ contents) =
 AllSay requested [] (content ∷ contents) = ⊥
 AllSay requested (m ∷ messages) [] = ⊥
 
--- The messages are those that the contents say, in both directions, and the server's documents are those of the
--- session.
+-- The messages are those that the contents say, in both directions, and the server's documents are
+-- those of the session.
 pub record IsTied (w : Both) : Type 0 where
   pub says : AllSay w.ends.editor.requested w.ends.to_server w.to_server
   pub means : map (understood w.ends.editor.requested) w.to_editor ≡ map Some w.ends.to_editor
@@ -114,8 +115,8 @@ pub record SameHistory (old new : Ends) : Type 0 where
   pub applied : new.applied ≡ old.applied
   pub made : new.made ≡ old.made
 
--- A step whose allocation fails isn't made and not counted, and ends the world: what has come so far stays. A world
--- that has ended says so at each step, and stays as it is.
+-- A step whose allocation fails isn't made and not counted, and ends the world: what has come so
+-- far stays. A world that has ended says so at each step, and stays as it is.
 abbrev pub FailsFrom : Bool → World → WorldFault → World → Type 0
 FailsFrom false old Memory new =
     SameHistory old.both.ends new.both.ends × (new.steps ≡ old.steps) × (new.ended ≡ true)
@@ -137,8 +138,8 @@ HasCome w p = (all_applied p ≡ w.applied) × (all_made p ≡ w.made)
 abbrev pub Plays : Unit → List event.Event → played.Played → Type 0
 Plays unit events p = Headline unit (map event_of events) (all_applied p) (all_made p)
 
--- An allocation failed: the fault says how many events were made before that, fewer than there are (or none), and the
--- headline holds of these events and what came of them.
+-- An allocation failed: the fault says how many events were made before that, fewer than there are
+-- (or none), and the headline holds of these events and what came of them.
 abbrev pub PlaysBefore : Unit → List event.Event → PlayFault → Type 0
 PlaysBefore unit events fault =
     ((fault.steps < length events) ⊎ (fault.steps ≡ 0))

@@ -1,4 +1,4 @@
-//! What may happen to the two ends, and what is seen of it.
+//! What may happen to client and server, and what is seen of it.
 
 use ob0_text::Change;
 use ob0_world_editor::Ask;
@@ -17,9 +17,9 @@ pub enum Event {
     Serve,
     /// The editor takes one message.
     Take,
-    /// The editor applies the answer to ask `k`, if it holds one.
+    /// The editor applies the answer to ask `k`, if it has one.
     Apply { k: u64 },
-    /// The editor drops the answer to ask `k`, if it holds one.
+    /// The editor drops the answer to ask `k`, if it has one.
     Discard { k: u64 },
 }
 

@@ -67,14 +67,14 @@ impl<T: TextStore> World<T> {
         }
     }
 
-    /// How many steps were answered Ok.
+    /// How many steps returned Ok.
     pub fn steps(&self) -> u64
         ensures { result ≡ self.now.steps }
     {
         self.steps
     }
 
-    /// Makes one event happen. The server is a session: its turn is one `Session::step` on the first content that
+    /// Makes one event happen. The server is a session: its event is one `Session::step` on the first content that
     /// waits.
     pub fn step(&mut self, event: &Event) -> Result<Seen, WorldFault>
         requires few { self.old.steps < 2 ^ 63 - 1 }

@@ -30,7 +30,8 @@ utf8_offered =
     object
     (member (codes "positionEncodings") (array (item (string (codes "utf-8")) no_items)) no_members)
 
--- {"general":{..},"textDocument":{..},"workspace":{..}}, without `general` where UTF-16 units are counted
+-- {"general":{..},"textDocument":{..},"workspace":{..}},
+-- without `general` where UTF-16 units are counted
 abbrev pub capabilities_for : Unit → Members
 capabilities_for Utf16 =
     member (codes "textDocument") actions_taken

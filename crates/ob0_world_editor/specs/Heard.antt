@@ -80,7 +80,7 @@ HasVersion (Changed uri version all) = as_i64 (of_integer version) ≡ Some vers
 HasVersion (Lost uri) = ⊤
 HasVersion (Closed uri) = ⊤
 
--- the content is the notification of a notification
+-- the content is a notification that reports this of a document
 pub record IsNote (note : DocumentEvent) (content : List ℕ) : Type 0 where
   pub json : Data
   pub reads : ReadsContent content (Some json)

@@ -1,4 +1,5 @@
--- The messages that an editor writes, as JSON values (LSP 3.17). Members are in byte order of their names.
+-- The messages that an editor writes, as JSON values (LSP 3.17).
+-- Members are in byte order of their names.
 -- Rule: LSP 3.17, notifications and requests of a client; docs/PROTOCOL.md, JSON shapes 4.
 use Rattle.std.specs.Prelude.{ℕ, List, true, false, Bool, Option, Some, None, codes, string_bytes}
 use Rattle.serde_json.specs.Data.{Data, boolean, number, array, object, unsigned, no_items, member, no_members}
@@ -17,7 +18,7 @@ request_message k method params =
     object (member (codes "id") (number (unsigned k)) (member (codes "jsonrpc") json_rpc
     (member (codes "method") (text method) (member (codes "params") params no_members))))
 
--- ---- notes
+-- ---- notifications
 
 -- {"languageId":"oberon-0","text":t,"uri":u,"version":v}
 abbrev pub opened_value : List ℕ → ℕ → List ℕ → Data
@@ -103,7 +104,7 @@ formatting_params uri indent =
     object (member (codes "options") (options_value indent)
     (member (codes "textDocument") (document_value uri) no_members))
 
--- the method of an ask; both ways of inlining ask for the actions at their place
+-- the method of an ask; both ways of inlining request the actions at their place
 abbrev pub method_of : Ask → List ℕ
 method_of (rename position name) = codes "textDocument/rename"
 method_of (inline_here position) = codes "textDocument/codeAction"

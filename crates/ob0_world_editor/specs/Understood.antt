@@ -1,4 +1,5 @@
--- What a content says to the editor: a publication, or the answer to a request, which is read as the request needs it.
+-- What a content says to the editor: a publication, or the answer to a request,
+-- which is read as the request needs it.
 -- Rule: docs/PROTOCOL.md, JSON shapes 2.
 use Rattle.std.specs.Prelude.{ℕ, ℤ, List, [], ◌∷◌, Bool, true, false, Option, Some, None, is_some, option_and_then, option_map, unwrap_or, if◌then◌else◌, codes}
 use Rattle.std.specs.Str.{bytes_eq, chars, is_utf8}
@@ -73,8 +74,8 @@ action_items title value =
     option_and_then workspace_items
     (option_and_then (get (codes "edit")) (option_and_then (titled_action title) (as_array value)))
 
--- a rename is answered with a WorkspaceEdit, an inlining with actions, of which that with its title is meant, and
--- formatting with a list of edits
+-- a rename is answered with a WorkspaceEdit, an inlining with actions, of which that with its title
+-- is meant, and formatting with a list of edits
 abbrev pub items_for : Ask → Data → Option Items
 items_for (rename position name) value = workspace_items value
 items_for (inline_here position) value = action_items (codes "Inline here") value

@@ -10,7 +10,7 @@ use ob0_text::Unit;
 use std::alloc::{AllocError, Global};
 
 /// The request that begins a conversation, of an editor that takes edits of versioned documents and code actions that
-/// are no commands, and offers bytes of UTF-8 where it counts them.
+/// aren't commands, and offers bytes of UTF-8 where it counts them.
 pub fn initialize(alloc: Global, unit: Unit) -> Result<Vec<u8>, AllocError>
     ensures { IfOk result (λ content. ReadsContent content.items (Some (initialize_message unit))) }
 {
@@ -76,7 +76,7 @@ impl Written for GeneralSupport {
     }
 }
 
-/// It takes code actions that are no commands.
+/// It takes code actions that aren't commands.
 #[derive(Drop)]
 struct DocumentSupport {}
 
@@ -89,7 +89,7 @@ impl Written for DocumentSupport {
     }
 }
 
-/// It takes code actions that are no commands, of whatever kind.
+/// It takes code actions that aren't commands, of whatever kind.
 #[derive(Drop)]
 struct CodeActionSupport {}
 

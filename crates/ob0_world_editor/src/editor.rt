@@ -28,7 +28,7 @@ pub struct SentAsk {
     pub version: u64,
 }
 
-/// An answer that the editor holds.
+/// An answer that the editor has.
 #[derive(Drop)]
 pub struct HeldAnswer {
     pub number: u64,

@@ -29,7 +29,8 @@ InlinesAt how unit text position edits =
     × InlinesIn how unit text (place_at unit text position) found
     × (edits ≡ found.items)
 
--- These edits are the ones requested: they write the new name, inline here or everywhere, or format the text.
+-- These edits are the ones requested: they write the new name, inline here or everywhere,
+-- or format the text.
 abbrev pub GivesEdits : Unit → List ℕ → Ask → List Edit → Type 0
 GivesEdits unit text (rename position name) edits = RenamesIn unit text position name edits
 GivesEdits unit text (inline_here position) edits = InlinesAt Here unit text position edits
@@ -46,7 +47,8 @@ Refuses unit text (inline_all position) =
     IsNotInlinedIn Everywhere unit text (place_at unit text position)
 Refuses unit text (format indent) = IsTooLongLaidOut (indent_read indent) text
 
--- the answer about a text: the requested edits; none when they are refused, or the text isn't a well-typed module
+-- the answer about a text: the requested edits;
+-- none when they are refused, or the text isn't a well-typed module
 abbrev pub AnswersFor : Unit → List ℕ → Ask → List Replacement → Type 0
 AnswersFor unit text ask given =
     ((edits : List Edit) × GivesEdits unit text ask edits × (given ≡ replacements edits))

@@ -30,7 +30,8 @@ rewritten d text = record { version = d.version + 1; text = text; opening = d.op
 abbrev pub rewrites : Editor → List ℕ → Open → List ℕ → Editor
 rewrites e uri d text = record e { documents = map_of.insert e.documents uri (rewritten d text) }
 
--- the change that makes this text is sent (one change alone overlaps no other, so there is always a text)
+-- the change that makes this text is sent (one change alone overlaps no other,
+-- so there is always a text)
 abbrev pub changes_text : Editor → List ℕ → Open → List TextChange → Option (List ℕ) → Move
 changes_text e uri d how (Some text) =
     sends (rewrites e uri d text) (notifies (Changed uri (pos (d.version + 1)) how))
@@ -80,7 +81,7 @@ abbrev pub all_but : ℕ → List Answer → List Answer
 all_but k [] = []
 all_but k (a ∷ rest) = if a.number == k then rest else a ∷ all_but k rest
 
--- the editor once answer k is held no more
+-- the editor without answer k
 abbrev pub without_answer : Editor → ℕ → Editor
 without_answer e k = record e { answers = all_but k e.answers }
 
@@ -123,8 +124,8 @@ applies_requested e edits (Some requested) =
     applies_edits e edits requested.uri (if_same requested (open_at e requested.uri))
 applies_requested e edits None = drops_answer e
 
--- the edits of answer k are made of the document, where that is the same as when it was requested; else the answer is
--- dropped
+-- the edits of answer k are made of the document, where that is the same as when it was requested;
+-- else the answer is dropped
 abbrev pub applies_answer : Editor → ℕ → Option (List Replacement) → ApplyOutcome
 applies_answer e k (Some edits) =
     applies_requested (without_answer e k) edits (request_numbered e.requested k)

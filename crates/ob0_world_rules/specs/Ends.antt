@@ -21,14 +21,15 @@ pub record Open : Type 0 where
 abbrev pub EditorDocuments : Type 0
 EditorDocuments = map_of.FinMap (slice_cmp nat_cmp) Open
 
--- a request that was sent: what is requested, the document, and its opening and version at that time
+-- a request that was sent: what is requested, the document,
+-- and its opening and version at that time
 pub record SentAsk : Type 0 where
   pub ask : Ask
   pub uri : List ℕ
   pub opening : ℕ
   pub version : ℕ
 
--- an answer that the editor holds
+-- an answer that the editor has
 pub record Answer : Type 0 where
   pub number : ℕ
   pub edits : List Replacement
@@ -68,7 +69,8 @@ pub data ToServer : Type 0 where
 
 -- a message to the editor
 pub data ToEditor : Type 0 where
-  -- the uri, the version, and whether no diagnostic is in the list; a close sends a list without version
+  -- the uri, the version, and whether no diagnostic is in the list;
+  -- a close sends a list without version
   publishes : List ℕ → Option ℤ → Bool → ToEditor
   -- the ask's number and the edits; a refusal has none
   answers : ℕ → List Replacement → ToEditor
@@ -94,7 +96,7 @@ pub record Made : Type 0 where
 pub record Ends : Type 0 where
   pub editor : Editor
   pub to_server : List ToServer
-  -- the documents that the server holds
+  -- the documents that are open in the server
   pub held : OpenDocuments
   pub to_editor : List ToEditor
   pub applied : List Applied
@@ -112,7 +114,7 @@ start unit =
       made = [];
     }
 
--- the documents that the server will hold once it has taken the messages that wait for it
+-- the documents that the server will have once it has taken the messages that wait for it
 abbrev pub after_message : OpenDocuments → ToServer → OpenDocuments
 after_message held (notifies note) = after_event held note
 after_message held (requests number uri ask) = held
@@ -121,11 +123,12 @@ after_message held (requests number uri ask) = held
 abbrev pub will_have : Ends → OpenDocuments
 will_have w = fold after_message w.held w.to_server
 
--- a document of the editor, as the server holds it
+-- a document of the editor, as the server has it
 abbrev pub as_open : Open → Document
 as_open d = InStep (pos d.version) d.text
 
--- The mirror: what is held, followed by the messages that wait for the server, is the editor's documents.
+-- The mirror: the server's documents, after the messages that wait for it,
+-- are the editor's documents.
 abbrev pub Mirrors : Ends → Type 0
 Mirrors w =
     (uri : List ℕ) → document_at (will_have w) uri ≡ option_map as_open (open_at w.editor uri)

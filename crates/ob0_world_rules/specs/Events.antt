@@ -1,4 +1,5 @@
--- What may happen at client and server, what is seen of it, and what the editor's part of it leaves.
+-- What may happen at client and server, what is seen of it,
+-- and what the editor's part of it leaves.
 -- Rule: LSP 3.17: a model of client and server.
 use Rattle.std.specs.Prelude.{◌≡◌, ℕ, List, [], ◌∷◌, ◌++◌, Bool}
 use Rattle.ob0_text.specs.OpenDocuments.{TextChange}
@@ -17,7 +18,7 @@ pub data Event : Type 0 where
   serve : Event
   -- the editor takes one message
   take_message : Event
-  -- the editor applies an answer that it holds, or drops it
+  -- the editor applies an answer that it has, or drops it
   apply : ℕ → Event
   discard : ℕ → Event
 

@@ -22,7 +22,7 @@ ServerTakes w (message ∷ rest) seen new =
       made = w.made ++ made;
     })
 
--- At w this event shows what is seen, and leaves what is new.
+-- At w this event happens: `seen` is what is seen of it, and `new` what it leaves.
 abbrev pub Happens : Ends → Event → Seen → Ends → Type 0
 Happens w (open_document uri text) seen new =
     Is (after_move w (opens_document w.editor uri text (open_at w.editor uri))) seen new

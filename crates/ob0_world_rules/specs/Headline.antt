@@ -23,8 +23,8 @@ pub record KeepsTheRun (a : Applied) : Type 0 where
 abbrev pub IsRight : Made → Type 0
 IsRight m = IsEmptyIfCorrect m.text m.empty
 
--- at some moment, when the first of the events have happened and the others haven't, the editor has this document open,
--- with this version and this text
+-- at some moment, when the first of the events have happened and the others haven't, the editor has
+-- this document open, with this version and this text
 pub record WasOpen (unit : Unit) (events : List Event) (uri : List ℕ) (version : ℤ)
     (text : List ℕ) : Type 0 where
   pub before : List Event
@@ -74,11 +74,12 @@ pub record Holds (w : Ends) : Type 0 where
   pub made : All IsRight w.made
   -- the server's documents, once it has taken all messages that wait for it, are the editor's
   pub mirror : Mirrors w
-  -- when no message waits for it, the latest diagnostics of each open document are those of its present text
+  -- when no message waits for it, the latest diagnostics of each open document are those
+  -- of its present text
   pub latest_made : w.to_server ≡ [] → AreUpToDate w.editor w.made
 
--- What a list of events leaves, from the beginning on: these edits were applied and these publications made, in this
--- order.
+-- What a list of events leaves, from the beginning on: these edits were applied and these
+-- publications made, in this order.
 pub record Headline (unit : Unit) (events : List Event) (applied : List Applied)
     (made : List Made) : Type 0 where
   pub end : Ends

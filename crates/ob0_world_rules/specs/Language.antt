@@ -13,8 +13,8 @@ use Rattle.ob0_session_offers.specs.Texts.{utf8}
 abbrev pub WellTypedText : List ℕ → Type 0
 WellTypedText text = IsWellTypedModule (utf8 text)
 
--- The modules of these texts output the same and end alike, for every input and all bounds on calls and loop turns
--- (LANGUAGE.md, Runs).
+-- The modules of these texts output the same and end alike, for every input and all bounds on calls
+-- and on the iterations of a loop (LANGUAGE.md, Runs).
 abbrev pub SameRun : List ℕ → List ℕ → Type 0
 SameRun a b =
     (before after : Tree Name module_text)

@@ -1,4 +1,5 @@
--- The order of publications: each is made for the next document that the editor announced to the server.
+-- The order of publications: each is made for the next document
+-- that the editor announced to the server.
 -- Rule: docs/PROTOCOL.md, Publishing 1.
 use Rattle.std.specs.Prelude.{◌≡◌, ⊤, ℕ, ℤ, pos, List, [], ◌∷◌, ◌++◌, map, Option, Some, None}
 use Rattle.ob0_text.specs.declared.position_types.Unit.{Unit}
@@ -97,8 +98,9 @@ named_in (message ∷ queue) = versions_announced message ++ named_in queue
 abbrev pub versioned_uri : Announced → List ℕ × ℤ
 versioned_uri t = (t.uri, pos t.document.version)
 
--- The documents that the editor announced are those that the publications were made for, one for each and in this
--- order, and after them those of the messages that still wait for the server, one for each that announces a document.
+-- The documents that the editor announced are those that the publications were made for, one for
+-- each and in this order, and after them those of the messages that still wait for the server,
+-- one for each that announces a document.
 pub record AreMadeInOrder (unit : Unit) (events : List Event) (made : List Made) : Type 0 where
   pub announced : List Announced
   pub waiting : List Announced

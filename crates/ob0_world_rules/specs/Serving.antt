@@ -1,4 +1,5 @@
--- What the server sends for each message that it takes. It has no choice: for each message there is one list.
+-- What the server sends for each message that it takes. It has no choice:
+-- for each message there is one list.
 -- Rule: docs/PROTOCOL.md, Documents, Publishing, Requests on documents.
 use Rattle.std.specs.Prelude.{◌≡◌, ℕ, List, [], ◌∷◌, Bool, true, false, Option, Some, None, is_some}
 use Rattle.ob0_text.specs.OpenDocuments.{OpenDocuments, Document, InStep, OutOfStep, DocumentEvent, Opened, Changed, Lost, Closed, document_at, after_event}
@@ -19,7 +20,8 @@ abbrev pub cleared : List ℕ → Bool → List ToEditor
 cleared uri true = publishes uri None true ∷ []
 cleared uri false = []
 
--- what is sent for a notification, and the publications with a version among it, when these documents were open before
+-- what is sent for a notification, and the publications with a version among it,
+-- when these documents were open before
 abbrev pub RepliesToNotification : OpenDocuments
     → DocumentEvent
     → List ToEditor

@@ -17,7 +17,7 @@ pub fn answers_are_one()
     ensures { AnswersAreOne }
 {}
 
-/// What an event shows and what it leaves are determined.
+/// What is seen of an event and what it leaves are determined.
 pub fn one_step()
     ensures { OneStep }
 {}

@@ -25,7 +25,7 @@ use std::alloc::AllocError;
 #[derive(Clone, Copy)]
 pub(crate) struct Operand {
     pub(crate) of: TypeId,
-    /// The value of it. None where it has a fault, and where that is known only when it runs.
+    /// Its value. None where it has a fault, and where that is known only when it runs.
     pub(crate) value: Option<Scalar>,
     /// Whether it is a name with selectors alone, and the name no constant's.
     pub(crate) is_place: bool,
@@ -100,7 +100,7 @@ pub(crate) fn same_type(a: TypeId, b: TypeId) -> bool
     a == b
 }
 
-/// An unknown type is required nothing, and requires nothing.
+/// Nothing is required of an unknown type, and it requires nothing.
 fn fits(of: TypeId, wanted: TypeId) -> bool
     ensures { result ≡ fits (known_types []) of wanted }
 {
