@@ -1,11 +1,10 @@
 //! Faults of worked texts: code, start and end of each, in the order of their places. Which faults a module has, and
 //! where, no contract says.
 
-use crate::asking::reported_faults;
+use crate::asking::faults_of;
 use ob0_analysis::Analysis;
 use std::alloc::{AllocError, Global};
 use std::process::Abort;
-use std::test::Fail;
 
 static ROWS: &[(&str, &str)] = &[
     ("MODULE M; END M.", ""),
@@ -166,16 +165,25 @@ static ROWS: &[(&str, &str)] = &[
     ),
 ];
 
-#[test]
-fn the_faults_of_worked_texts_are_reported(rt: HostRuntime) -> Result<(), Fail> {
-    for row in ROWS {
-        let (text, wanted) = *row;
-        let analysis = Analysis::of(rt.alloc(), text)?;
-        let faults = analysis.diagnoses(rt.alloc())?;
-        let found = reported_faults(rt.alloc(), faults.as_slice())?;
-        assert!(rt; found.as_str() == wanted, "{found} in {text}");
+/// What is wrong with a text.
+fn faults_in(alloc: Global, text: &str) -> Result<String, AllocError> {
+    let analysis = Analysis::of(alloc, text)?;
+    faults_of(alloc, &analysis)
+}
+
+/// Whether this is what is wrong with a text.
+fn has_faults(alloc: Global, text: &str, wanted: &str) -> bool {
+    match faults_in(alloc, text) {
+        Ok(found) => found.as_str() == wanted,
+        Err(_refused) => false,
     }
-    Ok(())
+}
+
+#[test]
+fn the_faults_of_worked_texts_are_reported(rt: HostRuntime) {
+    for row in ROWS {
+        assert!(rt; has_faults(rt.alloc(), row.0, row.1), "{}", row.0);
+    }
 }
 
 /// Texts that are changed where no identifier is, and where one is.
@@ -219,23 +227,24 @@ static CHANGES: &[(&str, &str)] = &[
     ),
 ];
 
-/// Whether a changed text has the faults that an analysis of it from nothing finds.
-fn is_as_new(alloc: Global, old: &str, new: &str) -> Result<bool, AllocError> {
+/// What is wrong with a text, by an analysis that is made from that of the text before.
+fn faults_after(alloc: Global, old: &str, new: &str) -> Result<String, AllocError> {
     let analysis = Analysis::of(alloc, old)?.after(alloc, new)?;
-    let faults = analysis.diagnoses(alloc)?;
-    let found = reported_faults(alloc, faults.as_slice())?;
-    let analysis = Analysis::of(alloc, new)?;
-    let faults = analysis.diagnoses(alloc)?;
-    let wanted = reported_faults(alloc, faults.as_slice())?;
-    Ok(found.as_str() == wanted.as_str())
+    faults_of(alloc, &analysis)
+}
+
+/// Whether a changed text has the faults that an analysis of it from nothing finds.
+fn is_as_new(alloc: Global, old: &str, new: &str) -> bool {
+    match faults_after(alloc, old, new) {
+        Ok(found) => has_faults(alloc, new, found.as_str()),
+        Err(_refused) => false,
+    }
 }
 
 #[test]
-fn a_changed_text_has_the_faults_of_a_new_one(rt: HostRuntime) -> Result<(), Fail> {
+fn a_changed_text_has_the_faults_of_a_new_one(rt: HostRuntime) {
     for row in CHANGES {
-        let (a, b) = *row;
-        assert!(rt; is_as_new(rt.alloc(), a, b)?, "{b}");
-        assert!(rt; is_as_new(rt.alloc(), b, a)?, "{a}");
+        assert!(rt; is_as_new(rt.alloc(), row.0, row.1), "{}", row.1);
+        assert!(rt; is_as_new(rt.alloc(), row.1, row.0), "{}", row.0);
     }
-    Ok(())
 }
