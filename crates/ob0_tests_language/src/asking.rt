@@ -4,7 +4,8 @@ use ob0_analysis::{Analysis, Diagnosis, Question, ask};
 use ob0_scan::Span;
 use std::alloc::{AllocError, Global};
 
-/// What a question answers to a text, or what is wrong with it.
+/// What a question answers to a text, or what is wrong with it. (What owns an analysis is expensive to prove, at each of
+/// its steps: so it only passes it on.)
 fn said<Q: Question<Answer = String>>(
     alloc: Global,
     text: &str,
@@ -13,9 +14,19 @@ fn said<Q: Question<Answer = String>>(
     requires { Q.is_about question.now text.now }
 {
     let analysis = Analysis::of(alloc, text)?;
-    match ask(alloc, &analysis, question)? {
+    answered(alloc, &analysis, question)
+}
+
+fn answered<Q: Question<Answer = String>>(
+    alloc: Global,
+    analysis: &Analysis,
+    question: &Q,
+) -> Result<String, AllocError>
+    requires { Q.is_about question.now analysis.now }
+{
+    match ask(alloc, analysis, question)? {
         Some(answer) => Ok(answer),
-        None => faults_of(alloc, &analysis),
+        None => faults_of(alloc, analysis),
     }
 }
 
@@ -49,7 +60,7 @@ pub fn is_said_or_refused<Q: Question<Answer = String>>(
     }
 }
 
-/// What is wrong with a text.
+/// What is wrong with an analysed text.
 pub fn faults_of(alloc: Global, analysis: &Analysis) -> Result<String, AllocError> {
     let faults = analysis.diagnoses(alloc)?;
     reported_faults(alloc, faults.as_slice())

@@ -197,11 +197,20 @@ fn rename_text(
     place: Position,
     new: &str,
 ) -> Result<String, AllocError> {
-    let store = Whole::from_str(alloc, text)?;
     let analysis = Analysis::of(alloc, text)?;
-    match rename_in(alloc, &store, &analysis, place, new)? {
+    renamed_in(alloc, &analysis, place, new)
+}
+
+fn renamed_in(
+    alloc: Global,
+    analysis: &Analysis,
+    place: Position,
+    new: &str,
+) -> Result<String, AllocError> {
+    let store = Whole::from_str(alloc, analysis.text())?;
+    match rename_in(alloc, &store, analysis, place, new)? {
         Some(edits) => made(alloc, &store, edits),
-        None => faults_of(alloc, &analysis),
+        None => faults_of(alloc, analysis),
     }
 }
 

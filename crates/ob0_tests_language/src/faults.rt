@@ -1,8 +1,11 @@
 //! Faults of worked texts: code, start and end of each, in the order of their places. Which faults a module has, and
 //! where, no contract says.
 
-use crate::asking::faults_of;
-use ob0_analysis::Analysis;
+ghost use Rattle.std.specs.Prelude.{⊤};
+
+use crate::asking::{faults_of, is_said};
+use ob0_analysis::{Analysis, Question};
+use ob0_types::WellTyped;
 use std::alloc::{AllocError, Global};
 use std::process::Abort;
 
@@ -165,18 +168,23 @@ static ROWS: &[(&str, &str)] = &[
     ),
 ];
 
-/// What is wrong with a text.
-fn faults_in(alloc: Global, text: &str) -> Result<String, AllocError> {
-    let analysis = Analysis::of(alloc, text)?;
-    faults_of(alloc, &analysis)
+/// A question whose answer is the empty text: so a text that is no module is answered by its faults alone.
+#[derive(Drop)]
+struct Nothing;
+
+impl Question for Nothing {
+    type Answer = String;
+
+    ghost answers = { λ _ _ _. ⊤ };
+
+    fn answer(&self, alloc: Global, _module: &WellTyped<'_>) -> Result<String, AllocError> {
+        Ok(String::new(alloc))
+    }
 }
 
 /// Whether this is what is wrong with a text.
 fn has_faults(alloc: Global, text: &str, wanted: &str) -> bool {
-    match faults_in(alloc, text) {
-        Ok(found) => found.as_str() == wanted,
-        Err(_refused) => false,
-    }
+    is_said(alloc, text, &Nothing, wanted)
 }
 
 #[test]
