@@ -2,15 +2,15 @@
 
 ghost use Rattle.std.specs.Prelude.{⊤};
 
-use crate::asking::said;
+use crate::asking::{is_said, push_number, push_span};
 use ob0_analysis::Question;
 use ob0_refs::captures;
-use ob0_scope::{Resolved, resolve_renamed};
+use ob0_scan::Span;
+use ob0_scope::resolve_renamed;
 use ob0_types::{Shape, WellTyped};
-use ob0_types_table::Parts;
+use ob0_types_table::{ArrayShape, Parts, RecordShape};
 use std::alloc::{AllocError, Global};
 use std::process::Abort;
-use std::test::Fail;
 
 /// The type of what has an ordinal.
 #[derive(Drop)]
@@ -24,41 +24,54 @@ impl Question for TypeOf {
     ghost answers = { λ _ _ _. ⊤ };
 
     fn answer(&self, alloc: Global, module: &WellTyped<'_>) -> Result<String, AllocError> {
-        match module.shape(self.declaration) {
-            None => String::from_str(alloc, "none"),
-            Some(shape) => shown(alloc, shape),
-        }
+        let mut out = String::new(alloc);
+        push_declared(&mut out, module, self.declaration)?;
+        Ok(out)
     }
 }
 
-/// A type, with at most two levels of arrays.
-fn shown(alloc: Global, shape: Shape<'_>) -> Result<String, AllocError> {
-    let mut out = String::new(alloc);
+fn push_declared(
+    out: &mut String,
+    module: &WellTyped<'_>,
+    declaration: usize,
+) -> Result<(), AllocError> {
+    match module.shape(declaration) {
+        None => out.push_str("none"),
+        Some(shape) => push_shape(out, shape),
+    }
+}
+
+/// Adds a type, with at most two levels of arrays.
+fn push_shape(out: &mut String, shape: Shape<'_>) -> Result<(), AllocError> {
     let mut level = shape;
     for _ in 0..3 {
         match level.parts() {
-            Parts::Integer => out.push_str("INTEGER")?,
-            Parts::Boolean => out.push_str("BOOLEAN")?,
+            Parts::Integer => return out.push_str("INTEGER"),
+            Parts::Boolean => return out.push_str("BOOLEAN"),
+            Parts::Faulty => return out.push_str("faulty"),
+            Parts::Record(record) => {
+                return push_record(out, record);
+            }
             Parts::Array(array) => {
-                let (ordinal, length) = (array.ordinal, array.length);
-                let text = format!(in alloc; "ARRAY {ordinal} {length} OF ")?;
-                out.push_str(text.as_str())?;
+                push_array(out, &array)?;
                 level = Shape {
                     known: level.known,
                     of: array.element,
                 };
-                continue;
             }
-            Parts::Record(record) => {
-                let (ordinal, fields) = (record.ordinal, record.fields.as_slice().len());
-                let text = format!(in alloc; "RECORD {ordinal} with {fields}")?;
-                out.push_str(text.as_str())?;
-            }
-            Parts::Faulty => out.push_str("faulty")?,
         }
-        return Ok(out);
     }
-    Ok(out)
+    Ok(())
+}
+
+fn push_array(out: &mut String, array: &ArrayShape) -> Result<(), AllocError> {
+    let (ordinal, length) = (array.ordinal, array.length);
+    write!(out, "ARRAY {ordinal} {length} OF ")
+}
+
+fn push_record(out: &mut String, record: &RecordShape) -> Result<(), AllocError> {
+    let (ordinal, fields) = (record.ordinal, record.fields.as_slice().len());
+    write!(out, "RECORD {ordinal} with {fields}")
 }
 
 const TYPES: &str =
@@ -76,14 +89,15 @@ static TYPE_ROWS: &[(usize, &str)] = &[
     (12, "none"),
 ];
 
+fn is_of_type(alloc: Global, declaration: usize, wanted: &str) -> bool {
+    is_said(alloc, TYPES, &TypeOf { declaration }, wanted)
+}
+
 #[test]
-fn types_of_declarations_are_known(rt: HostRuntime) -> Result<(), Fail> {
+fn types_of_declarations_are_known(rt: HostRuntime) {
     for row in TYPE_ROWS {
-        let (declaration, wanted) = *row;
-        let found = said(rt.alloc(), TYPES, &TypeOf { declaration })?;
-        assert!(rt; found.as_str() == wanted, "{found} of {declaration}");
+        assert!(rt; is_of_type(rt.alloc(), row.0, row.1), "{}", row.0);
     }
-    Ok(())
 }
 
 /// Where another name for what has an ordinal isn't free.
@@ -101,12 +115,15 @@ impl Question for Free {
     fn answer(&self, alloc: Global, module: &WellTyped<'_>) -> Result<String, AllocError> {
         match captures(alloc, module.resolved(), self.declaration, self.new)? {
             None => String::from_str(alloc, "free"),
-            Some(capture) => {
-                let (start, end) = (capture.span.start, capture.span.end);
-                format!(in alloc; "{start}-{end}")
-            }
+            Some(capture) => text_of(alloc, capture.span),
         }
     }
+}
+
+fn text_of(alloc: Global, span: Span) -> Result<String, AllocError> {
+    let mut out = String::new(alloc);
+    push_span(&mut out, "", span)?;
+    Ok(out)
 }
 
 const NAMES: &str = "MODULE M;\n\
@@ -114,7 +131,10 @@ const NAMES: &str = "MODULE M;\n\
     PROCEDURE P; VAR z: INTEGER; BEGIN z := x END P;\n\
     BEGIN P END M.";
 
-static NAME_ROWS: &[(usize, &str, &str)] = &[
+/// The ordinal of a declaration, another name for it, and what is said of that.
+type NameRow = (usize, &'static str, &'static str);
+
+static NAME_ROWS: &[NameRow] = &[
     (7, "y", "14-15"),
     (7, "z", "78-79"),
     (7, "w", "free"),
@@ -122,14 +142,16 @@ static NAME_ROWS: &[(usize, &str, &str)] = &[
     (10, "y", "free"),
 ];
 
+fn is_captured(alloc: Global, row: &NameRow) -> bool {
+    let (declaration, new, wanted) = *row;
+    is_said(alloc, NAMES, &Free { declaration, new }, wanted)
+}
+
 #[test]
-fn captures_are_found(rt: HostRuntime) -> Result<(), Fail> {
+fn captures_are_found(rt: HostRuntime) {
     for row in NAME_ROWS {
-        let (declaration, new, wanted) = *row;
-        let found = said(rt.alloc(), NAMES, &Free { declaration, new })?;
-        assert!(rt; found.as_str() == wanted, "{found} for {new}");
+        assert!(rt; is_captured(rt.alloc(), row), "{} as {}", row.0, row.1);
     }
-    Ok(())
 }
 
 /// What the occurrences are bound to where the declaration with an ordinal has another name.
@@ -145,37 +167,46 @@ impl Question for BoundAfterRename {
     ghost answers = { λ _ _ _. ⊤ };
 
     fn answer(&self, alloc: Global, module: &WellTyped<'_>) -> Result<String, AllocError> {
-        let names: &Resolved = module.resolved();
-        let mut out = String::new(alloc);
-        for ordinal in &resolve_renamed(alloc, names, self.declaration, self.new)? {
-            match ordinal {
-                Some(ordinal) => {
-                    let text = format!(in alloc; " {ordinal}")?;
-                    out.push_str(text.as_str())?;
-                }
-                None => out.push_str(" none")?,
-            }
-        }
-        Ok(out)
+        let bound = resolve_renamed(alloc, module.resolved(), self.declaration, self.new)?;
+        ordinals_text(alloc, bound.as_slice())
     }
 }
 
-static RENAMED_ROWS: &[(usize, &str, &str)] = &[
+fn ordinals_text(alloc: Global, ordinals: &[Option<usize>]) -> Result<String, AllocError> {
+    let mut out = String::new(alloc);
+    for ordinal in ordinals {
+        push_ordinal(&mut out, *ordinal)?;
+    }
+    Ok(out)
+}
+
+fn push_ordinal(out: &mut String, ordinal: Option<usize>) -> Result<(), AllocError> {
+    match ordinal {
+        Some(ordinal) => push_number(out, " ", ordinal),
+        None => out.push_str(" none"),
+    }
+}
+
+static RENAMED_ROWS: &[NameRow] = &[
     (7, "w", " 0 0 0 10 7 9"),
     (7, "z", " 0 0 0 10 10 9"),
     (10, "x", " 0 0 0 10 10 9"),
     (9, "INTEGER", " 0 0 9 10 7 9"),
 ];
 
+fn is_bound_after_rename(alloc: Global, row: &NameRow) -> bool {
+    let (declaration, new, wanted) = *row;
+    is_said(alloc, NAMES, &BoundAfterRename { declaration, new }, wanted)
+}
+
 #[test]
-fn occurrences_are_bound_with_another_name(rt: HostRuntime) -> Result<(), Fail> {
+fn occurrences_are_bound_with_another_name(rt: HostRuntime) {
     for row in RENAMED_ROWS {
-        let (declaration, new, wanted) = *row;
-        let found = said(rt.alloc(), NAMES, &BoundAfterRename { declaration, new })?;
         assert!(rt;
-            found.as_str() == wanted,
-            "{found} of {declaration} as {new}"
+            is_bound_after_rename(rt.alloc(), row),
+            "{} as {}",
+            row.0,
+            row.1
         );
     }
-    Ok(())
 }

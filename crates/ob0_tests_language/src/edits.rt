@@ -2,7 +2,7 @@
 
 ghost use Rattle.std.specs.Prelude.{⊤};
 
-use crate::asking::{reported_faults, said};
+use crate::asking::{faults_of, is_said};
 use ob0_analysis::{Analysis, Question};
 use ob0_inline::{inline_all, inline_here};
 use ob0_layout::format;
@@ -11,7 +11,6 @@ use ob0_text::{Edit, EditRefusal, Indent, PatchFault, Position, TextStore, Whole
 use ob0_types::WellTyped;
 use std::alloc::{AllocError, Global};
 use std::process::Abort;
-use std::test::Fail;
 
 /// What edits make of a text, or why there are none.
 fn made(
@@ -69,7 +68,9 @@ const LOCAL: &str = "MODULE M;\n\
     BEGIN r.a := 1 END M.";
 
 /// A text, a place, a new name, and the text then.
-static RENAMED: &[(&str, u64, u64, &str, &str)] = &[
+type RenameRow = (&'static str, u64, u64, &'static str, &'static str);
+
+static RENAMED: &[RenameRow] = &[
     (
         RECURSIVE,
         2,
@@ -196,11 +197,20 @@ fn rename_text(
     place: Position,
     new: &str,
 ) -> Result<String, AllocError> {
-    let store = Whole::from_str(alloc, text)?;
     let analysis = Analysis::of(alloc, text)?;
-    match rename_in(alloc, &store, &analysis, place, new)? {
+    renamed_in(alloc, &analysis, place, new)
+}
+
+fn renamed_in(
+    alloc: Global,
+    analysis: &Analysis,
+    place: Position,
+    new: &str,
+) -> Result<String, AllocError> {
+    let store = Whole::from_str(alloc, analysis.text())?;
+    match rename_in(alloc, &store, analysis, place, new)? {
         Some(edits) => made(alloc, &store, edits),
-        None => reported_faults(alloc, analysis.diagnoses(alloc)?.as_slice()),
+        None => faults_of(alloc, analysis),
     }
 }
 
@@ -223,31 +233,36 @@ impl Question for RenamedText {
     }
 }
 
-#[test]
-fn a_well_typed_module_is_renamed_alike(rt: HostRuntime) -> Result<(), Fail> {
-    for row in RENAMED {
-        let (text, line, character, new, wanted) = *row;
-        let place = Position { line, character };
-        let found = said(rt.alloc(), text, &RenamedText { place, new })?;
-        assert!(rt;
-            found.as_str() == wanted,
-            "{found} by {new} at {line}:{character}"
-        );
-    }
-    Ok(())
+fn renamed() -> &'static [RenameRow] {
+    RENAMED
+}
+
+fn is_renamed_alike(alloc: Global, row: &RenameRow) -> bool {
+    let (text, line, character, new, wanted) = *row;
+    let place = Position { line, character };
+    is_said(alloc, text, &RenamedText { place, new }, wanted)
 }
 
 #[test]
-fn names_and_fields_are_renamed(rt: HostRuntime) -> Result<(), Fail> {
-    for row in RENAMED {
-        let (text, line, character, new, wanted) = *row;
-        let found = rename_text(rt.alloc(), text, Position { line, character }, new)?;
-        assert!(rt;
-            found.as_str() == wanted,
-            "{found} by {new} at {line}:{character}"
-        );
+fn a_well_typed_module_is_renamed_alike(rt: HostRuntime) {
+    for row in renamed() {
+        assert!(rt; is_renamed_alike(rt.alloc(), row), "{} in {}", row.3, row.0);
     }
-    Ok(())
+}
+
+fn is_renamed(alloc: Global, row: &RenameRow) -> bool {
+    let (text, line, character, new, wanted) = *row;
+    match rename_text(alloc, text, Position { line, character }, new) {
+        Ok(found) => found.as_str() == wanted,
+        Err(_refused) => false,
+    }
+}
+
+#[test]
+fn names_and_fields_are_renamed(rt: HostRuntime) {
+    for row in renamed() {
+        assert!(rt; is_renamed(rt.alloc(), row), "{} in {}", row.3, row.0);
+    }
 }
 
 /// The text with a constant inlined, or why it isn't.
@@ -294,7 +309,9 @@ const DEEP: &str = "MODULE M; CONST c = -1; VAR x: INTEGER; BEGIN x := \
     )))))))))))))))))))))))))))))))))))))))))))))))))) END M.";
 
 /// A text, a place, whether everywhere, and the text then.
-static INLINED: &[(&str, u64, u64, bool, &str)] = &[
+type InlineRow = (&'static str, u64, u64, bool, &'static str);
+
+static INLINED: &[InlineRow] = &[
     (
         LEAST,
         3,
@@ -389,15 +406,17 @@ static INLINED: &[(&str, u64, u64, bool, &str)] = &[
     ),
 ];
 
+fn is_inlined(alloc: Global, row: &InlineRow) -> bool {
+    let (text, line, character, everywhere, wanted) = *row;
+    let place = Position { line, character };
+    is_said(alloc, text, &Inlined { place, everywhere }, wanted)
+}
+
 #[test]
-fn constants_are_inlined(rt: HostRuntime) -> Result<(), Fail> {
+fn constants_are_inlined(rt: HostRuntime) {
     for row in INLINED {
-        let (text, line, character, everywhere, wanted) = *row;
-        let place = Position { line, character };
-        let found = said(rt.alloc(), text, &Inlined { place, everywhere })?;
-        assert!(rt; found.as_str() == wanted, "{found} at {line}:{character}");
+        assert!(rt; is_inlined(rt.alloc(), row), "{}", row.0);
     }
-    Ok(())
 }
 
 /// The text laid out.
@@ -418,7 +437,10 @@ impl Question for LaidOut {
     }
 }
 
-static LAID_OUT: &[(&str, Indent, &str)] = &[
+/// A text, an indentation, and the text laid out.
+type LayoutRow = (&'static str, Indent, &'static str);
+
+static LAID_OUT: &[LayoutRow] = &[
     (
         "MODULE M;VAR x:INTEGER;BEGIN x:=-1;IF x<0 THEN Write(x)(* a (* b *) c *)END;\
          WriteLn END M.(* end *)",
@@ -524,14 +546,16 @@ END M.
     ),
 ];
 
+/// Whether a text is laid out so, and stays so where it is laid out again.
+fn is_laid_out_once(alloc: Global, row: &LayoutRow) -> bool {
+    let (text, indent, wanted) = *row;
+    let question = LaidOut { indent };
+    is_said(alloc, text, &question, wanted) && is_said(alloc, wanted, &question, wanted)
+}
+
 #[test]
-fn texts_are_laid_out_once(rt: HostRuntime) -> Result<(), Fail> {
+fn texts_are_laid_out_once(rt: HostRuntime) {
     for row in LAID_OUT {
-        let (text, indent, wanted) = *row;
-        let found = said(rt.alloc(), text, &LaidOut { indent })?;
-        assert!(rt; found.as_str() == wanted, "{found}");
-        let again = said(rt.alloc(), wanted, &LaidOut { indent })?;
-        assert!(rt; again.as_str() == wanted, "{again}");
+        assert!(rt; is_laid_out_once(rt.alloc(), row), "{}", row.0);
     }
-    Ok(())
 }

@@ -2,9 +2,9 @@
 //! a token is bound to.
 
 use ob0_parse::parse;
-use ob0_scan::scan;
+use ob0_scan::{Tokens, scan};
 use ob0_scope_rules::OrdinalEntry;
-use ob0_tree::{Expression, Fields, Statement};
+use ob0_tree::{Expression, Fields, Module, Statement};
 use std::alloc::Global;
 use std::mem::size_of;
 
@@ -36,23 +36,36 @@ fn assigns(s: &Statement, factor: bool) -> bool {
     }
 }
 
-/// Whether the body of a text has this many assignments, all of a value of this form.
-fn all_assign(alloc: Global, text: &str, count: usize, factor: bool) -> bool {
-    let Ok(tokens) = scan(alloc, text) else {
-        return false;
-    };
-    let Ok(module) = parse(alloc, &tokens) else {
-        return false;
-    };
-    let Some(body) = &module.block().body else {
-        return false;
-    };
-    for s in body {
+/// Whether statements are this many assignments, all of a value of this form.
+fn are_assignments(statements: &[Statement], count: usize, factor: bool) -> bool {
+    for s in statements {
         if !assigns(s, factor) {
             return false;
         }
     }
-    body.len() == count
+    statements.len() == count
+}
+
+fn has_assignments(module: &Module<'_>, count: usize, factor: bool) -> bool {
+    match &module.block().body {
+        Some(body) => are_assignments(body.as_slice(), count, factor),
+        None => false,
+    }
+}
+
+fn are_parsed(alloc: Global, tokens: &Tokens, count: usize, factor: bool) -> bool {
+    match parse(alloc, tokens) {
+        Ok(module) => has_assignments(&module, count, factor),
+        Err(_refusal) => false,
+    }
+}
+
+/// Whether the body of a text has this many assignments, all of a value of this form.
+fn all_assign(alloc: Global, text: &str, count: usize, factor: bool) -> bool {
+    match scan(alloc, text) {
+        Ok(tokens) => are_parsed(alloc, &tokens, count, factor),
+        Err(_refusal) => false,
+    }
 }
 
 #[test]

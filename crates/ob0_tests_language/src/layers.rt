@@ -4,10 +4,10 @@ use ob0_parse::parse;
 use ob0_run::laws::{
     free_field_keeps_modules, never_stuck, runs_by_ordinal, runs_by_shape, well_typed_by_shape,
 };
-use ob0_scan::scan;
-use ob0_scope::resolve;
+use ob0_scan::{Tokens, scan};
+use ob0_scope::{Resolved, resolve};
 use ob0_tree::Module;
-use ob0_types::check;
+use ob0_types::{Checked, WellTyped, check};
 use ob0_values::Scalar;
 use std::alloc::Global;
 use std::process::Abort;
@@ -28,10 +28,7 @@ static BOUND: &[Option<usize>] = &[
 ];
 
 /// Whether the names of the module are bound to their declarations.
-fn is_bound(alloc: Global, module: &Module<'_>) -> bool {
-    let Ok(names) = resolve(alloc, module) else {
-        return false;
-    };
+fn is_bound(names: &Resolved<'_>) -> bool {
     for occurrence in 0..BOUND.len() {
         if names.declaration_of(occurrence) != BOUND[occurrence] {
             return false;
@@ -40,24 +37,36 @@ fn is_bound(alloc: Global, module: &Module<'_>) -> bool {
     names.faults().is_empty() && names.tokens().text() == names.module().tokens().text()
 }
 
-/// Whether the module is well-typed, with the value of its constant and a type for its variable alone.
-fn is_well_typed(alloc: Global, module: &Module<'_>) -> bool {
-    let Ok(names) = resolve(alloc, module) else {
+/// Whether the module's constant has its value, and its variable alone has a type.
+fn has_types(typed: &WellTyped<'_>) -> bool {
+    typed.constant(7) == Some(Scalar::Number(3))
+        && typed.constant(8) == None
+        && typed.shape(8).is_some()
+        && typed.shape(9).is_none()
+}
+
+fn is_typed(checked: &Checked<'_>) -> bool {
+    if !checked.faults().is_empty() || !checked.resolved().faults().is_empty() {
         return false;
-    };
-    let Ok(checked) = check(alloc, &names) else {
-        return false;
-    };
-    let is_clean = checked.faults().is_empty() && checked.resolved().faults().is_empty();
-    match checked.well_typed() {
-        Some(typed) => {
-            is_clean
-                && typed.constant(7) == Some(Scalar::Number(3))
-                && typed.constant(8) == None
-                && typed.shape(8).is_some()
-                && typed.shape(9).is_none()
-        }
+    }
+    match &checked.well_typed() {
+        Some(typed) => has_types(typed),
         None => false,
+    }
+}
+
+/// Whether the module is well-typed, with the value of its constant and a type for its variable alone.
+fn is_well_typed(alloc: Global, names: &Resolved<'_>) -> bool {
+    match check(alloc, names) {
+        Ok(checked) => is_typed(&checked),
+        Err(_refused) => false,
+    }
+}
+
+fn is_resolved(alloc: Global, module: &Module<'_>) -> bool {
+    match resolve(alloc, module) {
+        Ok(names) => is_bound(&names) && is_well_typed(alloc, &names),
+        Err(_refused) => false,
     }
 }
 
@@ -69,16 +78,16 @@ fn is_shaped(alloc: Global, module: &Module<'_>, nesting: u32, count: usize) -> 
     }
 }
 
+fn is_parsed(alloc: Global, tokens: &Tokens) -> bool {
+    match parse(alloc, tokens) {
+        Ok(module) => is_shaped(alloc, &module, 1, 11) && is_resolved(alloc, &module),
+        Err(_refusal) => false,
+    }
+}
+
 fn goes_through(alloc: Global) -> bool {
-    let Ok(tokens) = scan(alloc, TEXT) else {
-        return false;
-    };
-    match parse(alloc, &tokens) {
-        Ok(module) => {
-            is_shaped(alloc, &module, 1, 11)
-                && is_bound(alloc, &module)
-                && is_well_typed(alloc, &module)
-        }
+    match scan(alloc, TEXT) {
+        Ok(tokens) => is_parsed(alloc, &tokens),
         Err(_refusal) => false,
     }
 }

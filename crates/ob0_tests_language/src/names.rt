@@ -2,14 +2,13 @@
 
 ghost use Rattle.std.specs.Prelude.{⊤};
 
-use crate::asking::said;
+use crate::asking::{is_said, is_said_or_refused, push_number, push_span};
 use ob0_analysis::Question;
-use ob0_refs::{Of, at, definition, hover, references};
+use ob0_refs::{Hover, Of, at, definition, hover, references};
 use ob0_scan::Span;
 use ob0_types::WellTyped;
 use std::alloc::{AllocError, Global};
 use std::process::Abort;
-use std::test::Fail;
 
 /// What is said of the name at a place, by its byte.
 #[derive(Drop)]
@@ -25,68 +24,82 @@ impl Question for NameAt {
     /// What it is a name of, where that is declared, where it is named, and what is shown of it.
     fn answer(&self, alloc: Global, module: &WellTyped<'_>) -> Result<String, AllocError> {
         let mut out = String::new(alloc);
-        if let Some(found) = at(module, self.offset) {
-            push_of(alloc, &mut out, found.of)?;
-            push_places(alloc, &mut out, module, self.offset)?;
-            push_shown(alloc, &mut out, module, self.offset)?;
-        }
+        push_name(alloc, &mut out, module, self.offset)?;
         Ok(out)
     }
 }
 
-fn push_of(alloc: Global, out: &mut String, of: Of) -> Result<(), AllocError> {
-    let word = match of {
-        Of::Declared(ordinal) => format!(in alloc; "{ordinal}")?,
-        Of::Predeclared => String::from_str(alloc, "predeclared")?,
-        Of::Field { ordinal, index } => format!(in alloc; "{ordinal}.{index}")?,
-    };
-    out.push_str(word.as_str())
-}
-
-/// Adds where a name is declared, and where else it is named.
-fn push_places(
+fn push_name(
     alloc: Global,
     out: &mut String,
     module: &WellTyped<'_>,
     offset: usize,
 ) -> Result<(), AllocError> {
-    if let Some(declared) = definition(module, offset) {
-        push_spans(alloc, out, " from", &[declared])?;
-    }
-    let named = references(alloc, module, offset, false)?;
-    push_spans(alloc, out, ", at", named.as_slice())
+    let Some(found) = at(module, offset) else {
+        return Ok(());
+    };
+    push_of(out, found.of)?;
+    push_declared(out, module, offset)?;
+    push_named(alloc, out, module, offset)?;
+    push_shown(alloc, out, module, offset)
 }
 
-/// Adds what is shown of a name, and where.
+fn push_of(out: &mut String, of: Of) -> Result<(), AllocError> {
+    match of {
+        Of::Declared(ordinal) => push_number(out, "", ordinal),
+        Of::Predeclared => out.push_str("predeclared"),
+        Of::Field { ordinal, index } => write!(out, "{ordinal}.{index}"),
+    }
+}
+
+/// Adds where a name is declared.
+fn push_declared(
+    out: &mut String,
+    module: &WellTyped<'_>,
+    offset: usize,
+) -> Result<(), AllocError> {
+    match definition(module, offset) {
+        Some(declared) => push_span(out, " from ", declared),
+        None => Ok(()),
+    }
+}
+
+/// Adds where else it is named.
+fn push_named(
+    alloc: Global,
+    out: &mut String,
+    module: &WellTyped<'_>,
+    offset: usize,
+) -> Result<(), AllocError> {
+    let named = references(alloc, module, offset, false)?;
+    push_spans(out, named.as_slice())
+}
+
+fn push_spans(out: &mut String, spans: &[Span]) -> Result<(), AllocError> {
+    out.push_str(", at")?;
+    for span in spans {
+        push_span(out, " ", *span)?;
+    }
+    Ok(())
+}
+
+/// Adds what is shown of it, and where.
 fn push_shown(
     alloc: Global,
     out: &mut String,
     module: &WellTyped<'_>,
     offset: usize,
 ) -> Result<(), AllocError> {
-    if let Some(shown) = hover(alloc, module, offset)? {
-        push_spans(alloc, out, ", shown at", &[shown.span])?;
-        let text = shown.text.as_str();
-        let text = format!(in alloc; ": {text}")?;
-        out.push_str(text.as_str())?;
+    match hover(alloc, module, offset)? {
+        Some(shown) => push_hover(out, &shown),
+        None => Ok(()),
     }
-    Ok(())
 }
 
-/// Adds where spans are.
-fn push_spans(
-    alloc: Global,
-    out: &mut String,
-    before: &str,
-    spans: &[Span],
-) -> Result<(), AllocError> {
-    out.push_str(before)?;
-    for span in spans {
-        let (start, end) = (span.start, span.end);
-        let span = format!(in alloc; " {start}-{end}")?;
-        out.push_str(span.as_str())?;
-    }
-    Ok(())
+fn push_hover(out: &mut String, shown: &Hover) -> Result<(), AllocError> {
+    push_span(out, ", shown at ", shown.span)?;
+    out.push_str(": ")?;
+    out.push_str(shown.text.as_str())
 }
 
 const RECURSIVE: &str = "MODULE M;\n\
@@ -99,7 +112,10 @@ const FIELDS: &str = "MODULE M;\n\
     VAR r: R; s: RECORD a: INTEGER END; a: INTEGER;\n\
     BEGIN r.a := 1; s.a := 2; a := r.a + s.a; Write(a) END M.";
 
-static ROWS: &[(&str, usize, &str)] = &[
+/// A text, a place in it, and what is said of the name there.
+type NameRow = (&'static str, usize, &'static str);
+
+static ROWS: &[NameRow] = &[
     (
         RECURSIVE,
         20,
@@ -156,14 +172,16 @@ static ROWS: &[(&str, usize, &str)] = &[
     ),
 ];
 
+fn is_found(alloc: Global, row: &NameRow) -> bool {
+    let (text, offset, wanted) = *row;
+    is_said(alloc, text, &NameAt { offset }, wanted)
+}
+
 #[test]
-fn names_and_fields_are_found(rt: HostRuntime) -> Result<(), Fail> {
+fn names_and_fields_are_found(rt: HostRuntime) {
     for row in ROWS {
-        let (text, offset, wanted) = *row;
-        let found = said(rt.alloc(), text, &NameAt { offset })?;
-        assert!(rt; found.as_str() == wanted, "{found} at {offset}");
+        assert!(rt; is_found(rt.alloc(), row), "{} at {}", row.2, row.1);
     }
-    Ok(())
 }
 
 /// What is shown of a module's names, a line for each identifier that something is shown of.
@@ -177,18 +195,38 @@ impl Question for Shown {
 
     fn answer(&self, alloc: Global, module: &WellTyped<'_>) -> Result<String, AllocError> {
         let mut lines = String::new(alloc);
-        let mut end = 0;
-        for token in module.resolved().tokens().tokens() {
-            if token.span.start == end {
-                continue;
-            }
-            if let Some(found) = hover(alloc, module, token.span.start as usize)? {
-                end = token.span.end;
-                lines.push_str(found.text.as_str())?;
-                lines.push('\n')?;
+        push_lines(alloc, &mut lines, module)?;
+        Ok(lines)
+    }
+}
+
+fn push_lines(alloc: Global, lines: &mut String, module: &WellTyped<'_>) -> Result<(), AllocError> {
+    let mut end = 0;
+    for token in module.resolved().tokens().tokens() {
+        let span = token.span;
+        if span.start != end && push_line(alloc, lines, module, span)? {
+            end = span.end;
+        }
+    }
+    Ok(())
+}
+
+/// Adds what is shown of the name at a place, and says whether something is.
+fn push_line(
+    alloc: Global,
+    lines: &mut String,
+    module: &WellTyped<'_>,
+    span: Span,
+) -> Result<bool, AllocError> {
+    match hover(alloc, module, span.start as usize)? {
+        Some(shown) => {
+            let text = shown.text.as_str();
+            match writeln!(lines, "{text}") {
+                Ok(()) => Ok(true),
+                Err(AllocError) => Err(AllocError),
             }
         }
-        Ok(lines)
+        None => Ok(false),
     }
 }
 
@@ -271,24 +309,25 @@ PROCEDURE P(VAR p: RECORD with 3 fields; VAR q: RECORD with 3 fields)
 
 static SHOWN: &[(&str, &str)] = &[(KINDS, KINDS_SHOWN), (PARTS, PARTS_SHOWN)];
 
+fn shown_rows() -> &'static [(&'static str, &'static str)] {
+    SHOWN
+}
+
 #[test]
-fn each_kind_of_name_is_shown(rt: HostRuntime) -> Result<(), Fail> {
-    for row in SHOWN {
-        let (text, wanted) = *row;
-        let found = said(rt.alloc(), text, &Shown)?;
-        assert!(rt; found.as_str() == wanted, "{found}");
+fn each_kind_of_name_is_shown(rt: HostRuntime) {
+    for row in shown_rows() {
+        assert!(rt; is_said(rt.alloc(), row.0, &Shown, row.1), "{}", row.0);
     }
-    Ok(())
 }
 
 // `make faults` runs this with each allocation refused in turn.
 #[test]
 fn a_refused_allocation_changes_no_answer(rt: HostRuntime) {
-    for row in SHOWN {
-        let (text, wanted) = *row;
-        match said(rt.alloc(), text, &Shown) {
-            Ok(found) => assert!(rt; found.as_str() == wanted, "{found}"),
-            Err(_refused) => {}
-        }
+    for row in shown_rows() {
+        assert!(rt;
+            is_said_or_refused(rt.alloc(), row.0, &Shown, row.1),
+            "{}",
+            row.0
+        );
     }
 }

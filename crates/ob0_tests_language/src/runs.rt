@@ -2,13 +2,12 @@
 
 ghost use Rattle.std.specs.Prelude.{⊤};
 
-use crate::asking::said;
+use crate::asking::{is_said, is_said_or_refused};
 use ob0_analysis::Question;
 use ob0_run::{End, Item, run};
 use ob0_types::WellTyped;
 use std::alloc::{AllocError, Global};
 use std::process::Abort;
-use std::test::Fail;
 
 /// What a run outputs, a line as `/`, and how it ends.
 #[derive(Drop)]
@@ -31,20 +30,21 @@ impl<'a> Question for RunOf<'a> {
 
 fn shown(alloc: Global, output: &[Item], end: End) -> Result<String, AllocError> {
     let mut out = String::new(alloc);
-    for item in output {
-        push_item(alloc, &mut out, *item)?;
-    }
-    out.push_str("; ")?;
-    out.push_str(name_of(end))?;
+    push_run(&mut out, output, end)?;
     Ok(out)
 }
 
-fn push_item(alloc: Global, out: &mut String, item: Item) -> Result<(), AllocError> {
+fn push_run(out: &mut String, output: &[Item], end: End) -> Result<(), AllocError> {
+    for item in output {
+        push_item(out, *item)?;
+    }
+    out.push_str("; ")?;
+    out.push_str(name_of(end))
+}
+
+fn push_item(out: &mut String, item: Item) -> Result<(), AllocError> {
     match item {
-        Item::Number(number) => {
-            let digits = format!(in alloc; " {number}")?;
-            out.push_str(digits.as_str())
-        }
+        Item::Number(number) => write!(out, " {number}"),
         Item::Line => out.push('/'),
     }
 }
@@ -120,7 +120,9 @@ const ROWS_OF_ARRAYS: &str = "MODULE M;\n\
     Write(m[1][i + 1]) END M.";
 
 /// A text, its input, how many calls may be open and how many turns a loop may make, and what is shown.
-static ROWS: &[(&str, &[i32], u32, u32, &str)] = &[
+type RunRow = (&'static str, &'static [i32], u32, u32, &'static str);
+
+static ROWS: &[RunRow] = &[
     (
         "MODULE M; BEGIN Write(-7 DIV 3); Write((-7) DIV 3); Write((-7) MOD 3); \
          Write(1 MOD 0) END M.",
@@ -220,34 +222,41 @@ static ROWS: &[(&str, &[i32], u32, u32, &str)] = &[
     ),
 ];
 
+fn rows() -> &'static [RunRow] {
+    ROWS
+}
+
+fn is_run(alloc: Global, row: &RunRow) -> bool {
+    let (text, input, calls, turns, wanted) = *row;
+    let question = RunOf {
+        input,
+        calls,
+        turns,
+    };
+    is_said(alloc, text, &question, wanted)
+}
+
 #[test]
-fn worked_modules_are_run(rt: HostRuntime) -> Result<(), Fail> {
-    for row in ROWS {
-        let (text, input, calls, turns, wanted) = *row;
-        let question = RunOf {
-            input,
-            calls,
-            turns,
-        };
-        let found = said(rt.alloc(), text, &question)?;
-        assert!(rt; found.as_str() == wanted, "{found} by {text}");
+fn worked_modules_are_run(rt: HostRuntime) {
+    for row in rows() {
+        assert!(rt; is_run(rt.alloc(), row), "{}", row.0);
     }
-    Ok(())
+}
+
+fn is_run_or_refused(alloc: Global, row: &RunRow) -> bool {
+    let (text, input, calls, turns, wanted) = *row;
+    let question = RunOf {
+        input,
+        calls,
+        turns,
+    };
+    is_said_or_refused(alloc, text, &question, wanted)
 }
 
 // `make faults` runs this with each allocation refused in turn.
 #[test]
 fn a_refused_allocation_changes_no_run(rt: HostRuntime) {
-    for row in ROWS {
-        let (text, input, calls, turns, wanted) = *row;
-        let question = RunOf {
-            input,
-            calls,
-            turns,
-        };
-        match said(rt.alloc(), text, &question) {
-            Ok(found) => assert!(rt; found.as_str() == wanted, "{found} by {text}"),
-            Err(_refused) => {}
-        }
+    for row in rows() {
+        assert!(rt; is_run_or_refused(rt.alloc(), row), "{}", row.0);
     }
 }

@@ -1,10 +1,8 @@
-//! Stores of lines beside whole texts: the worked texts, and each change of short ones.
+//! Stores of lines beside whole texts: each change of short texts, and long lines.
 
-use crate::text::{PLACES, are_places};
 use ob0_text::{Lines, Position, Range, TextStore, Unit, Whole};
 use std::alloc::{AllocError, Global};
 use std::process::Abort;
-use std::test::Fail;
 
 fn at(line: u64, character: u64) -> Position {
     Position { line, character }
@@ -51,65 +49,82 @@ fn have_same_places(a: &Lines, b: &Whole) -> bool {
     a.as_str() == b.as_str()
 }
 
-/// Whether one change leaves the same text and places in both stores, with the lines of a store made again.
-fn agree(
+/// A store of a text in which a range gives way to another text.
+fn replaced<T: TextStore>(
     alloc: Global,
     text: &str,
     unit: Unit,
     range: Range,
     new: &str,
-) -> Result<bool, AllocError> {
-    let mut lines = Lines::from_str_in(alloc, text, unit)?;
-    let mut whole = Whole::from_str_in(alloc, text, unit)?;
-    lines.replace(range, new)?;
-    whole.replace(range, new)?;
-    let again = Lines::from_str_in(alloc, lines.as_str(), unit)?;
-    Ok(have_same_lines(&lines, &again) && have_same_places(&lines, &whole))
+) -> Result<T, AllocError> {
+    let mut store = T::from_str_in(alloc, text, unit)?;
+    store.replace(range, new)?;
+    Ok(store)
+}
+
+/// Whether a store has the lines of one that is made again of its text.
+fn is_as_new(alloc: Global, lines: &Lines, unit: Unit) -> bool {
+    match Lines::from_str_in(alloc, lines.as_str(), unit) {
+        Ok(again) => have_same_lines(lines, &again),
+        Err(_refused) => false,
+    }
+}
+
+/// Whether one change leaves the same text and places in both stores, with the lines of a store made again.
+fn agree(alloc: Global, text: &str, unit: Unit, range: Range, new: &str) -> bool {
+    let Ok(lines) = replaced::<Lines>(alloc, text, unit, range, new) else {
+        return false;
+    };
+    if !is_as_new(alloc, &lines, unit) {
+        return false;
+    }
+    match replaced::<Whole>(alloc, text, unit, range, new) {
+        Ok(whole) => have_same_places(&lines, &whole),
+        Err(_refused) => false,
+    }
+}
+
+fn range_of(start: Position, end: Position) -> Range {
+    Range { start, end }
+}
+
+/// Whether they agree after a change that begins in a line and ends so many lines further, in one unit, and after one
+/// that begins and ends in the line, in the other.
+fn agree_from(alloc: Global, text: &str, new: &str, line: u64, further: u64) -> bool {
+    let range = range_of(at(line, 1), at(line.saturating_add(further), further));
+    if !agree(alloc, text, Unit::Utf16, range, new) {
+        return false;
+    }
+    let range = range_of(at(line, 0), at(line, further));
+    agree(alloc, text, Unit::Utf8, range, new)
 }
 
 /// Whether they agree after each change that begins in one of the first lines and ends there or in one of the next two.
-fn agree_after_changes(alloc: Global, text: &str, new: &str) -> Result<bool, AllocError> {
+fn agree_after_changes(alloc: Global, text: &str, new: &str) -> bool {
     for line in 0..4 {
         for further in 0..3 {
-            let start = at(line, 1);
-            let end = at(line + further, further);
-            if !agree(alloc, text, Unit::Utf16, Range { start, end }, new)? {
-                return Ok(false);
-            }
-            let start = at(line, 0);
-            let end = at(line, further);
-            if !agree(alloc, text, Unit::Utf8, Range { start, end }, new)? {
-                return Ok(false);
+            if !agree_from(alloc, text, new, line, further) {
+                return false;
             }
         }
     }
-    Ok(true)
+    true
+}
+
+fn agree_after_each(alloc: Global, text: &str) -> bool {
+    for new in PUT {
+        if !agree_after_changes(alloc, text, new) {
+            return false;
+        }
+    }
+    true
 }
 
 #[test]
-fn lines_are_mended_around_a_change(rt: HostRuntime) -> Result<(), Fail> {
+fn lines_are_mended_around_a_change(rt: HostRuntime) {
     for text in TEXTS {
-        for new in PUT {
-            assert!(rt;
-                agree_after_changes(rt.alloc(), text, new)?,
-                "{text:?} {new:?}"
-            );
-        }
+        assert!(rt; agree_after_each(rt.alloc(), text), "{text:?}");
     }
-    Ok(())
-}
-
-#[test]
-fn places_are_counted_alike_in_lines(rt: HostRuntime) -> Result<(), Fail> {
-    for row in PLACES {
-        let (text, unit, places, offsets, positions) = *row;
-        let lines = Lines::from_str_in(rt.alloc(), text, unit)?;
-        assert!(rt;
-            are_places(rt.alloc(), &lines, places, offsets, positions)?,
-            "{text}"
-        );
-    }
-    Ok(())
 }
 
 /// Long lines: of ASCII alone, with other characters far in, and with a tab.
@@ -124,31 +139,39 @@ static LONG: &[&str] = &[
     0123456789 0123456789 0123456789 0123456789 0123456789",
 ];
 
-/// Whether the positions far in the lines of a text have the same offsets in both stores.
-fn are_alike_far_in(alloc: Global, text: &str, unit: Unit) -> Result<bool, AllocError> {
-    let lines = Lines::from_str_in(alloc, text, unit)?;
-    let whole = Whole::from_str_in(alloc, text, unit)?;
+/// Whether the positions far in the lines have the same offsets in both stores.
+fn have_same_offsets(lines: &Lines, whole: &Whole) -> bool {
     for line in 0..4 {
         for character in 0..160 {
             let place = at(line, character);
             if lines.offset(place) != whole.offset(place) {
-                return Ok(false);
+                return false;
             }
         }
     }
-    Ok(true)
+    true
+}
+
+/// Whether the two stores of a text are alike far in its lines.
+fn are_alike_far_in(alloc: Global, text: &str, unit: Unit) -> bool {
+    let Ok(lines) = Lines::from_str_in(alloc, text, unit) else {
+        return false;
+    };
+    match Whole::from_str_in(alloc, text, unit) {
+        Ok(whole) => have_same_offsets(&lines, &whole),
+        Err(_refused) => false,
+    }
+}
+
+fn are_alike_in_units(alloc: Global, text: &str) -> bool {
+    are_alike_far_in(alloc, text, Unit::Utf16) && are_alike_far_in(alloc, text, Unit::Utf8)
 }
 
 #[test]
-fn places_are_counted_alike_in_long_lines(rt: HostRuntime) -> Result<(), Fail> {
+fn places_are_counted_alike_in_long_lines(rt: HostRuntime) {
     for text in LONG {
-        assert!(rt;
-            are_alike_far_in(rt.alloc(), text, Unit::Utf16)?,
-            "{text:?}"
-        );
-        assert!(rt; are_alike_far_in(rt.alloc(), text, Unit::Utf8)?, "{text:?}");
+        assert!(rt; are_alike_in_units(rt.alloc(), text), "{text:?}");
     }
-    Ok(())
 }
 
 /// Texts, and their lines with the endings.
@@ -168,12 +191,16 @@ fn has_lines(lines: &Lines, wanted: &[&str]) -> bool {
     lines.line(wanted.len()).is_none()
 }
 
-#[test]
-fn lines_have_their_endings(rt: HostRuntime) -> Result<(), Fail> {
-    for row in LINES {
-        let (text, wanted) = *row;
-        let lines = Lines::from_str(rt.alloc(), text)?;
-        assert!(rt; has_lines(&lines, wanted), "{text:?}");
+fn is_cut_into(alloc: Global, text: &str, wanted: &[&str]) -> bool {
+    match Lines::from_str(alloc, text) {
+        Ok(lines) => has_lines(&lines, wanted),
+        Err(_refused) => false,
     }
-    Ok(())
+}
+
+#[test]
+fn lines_have_their_endings(rt: HostRuntime) {
+    for row in LINES {
+        assert!(rt; is_cut_into(rt.alloc(), row.0, row.1), "{:?}", row.0);
+    }
 }

@@ -1,15 +1,14 @@
 //! What documents and a text are left as where the memory of a call is refused.
 
-use crate::text::changes_of;
+use crate::text::{ChangeRow, changes_of};
 use ob0_text::{Change, Documents, Held, Lines, Position, Range, TextStore};
 use std::alloc::{AllocError, Global};
 use std::process::Abort;
-use std::test::Fail;
 
 const OPENED: &str = "a\rb";
 
 /// Three changes of a note, and what they make of the text that was opened.
-static ROWS: &[((u64, u64), (u64, u64), &str)] = &[
+static ROWS: &[ChangeRow] = &[
     ((1, 0), (1, 0), "\n"),
     ((1, 1), (1, 1), "\nc"),
     ((2, 0), (2, 1), "d"),
@@ -39,18 +38,14 @@ fn is_out_of_step(documents: &Documents<Lines>, uri: &str) -> bool {
     }
 }
 
-/// Opens a document, and once more where that was refused; then whether it was as before in between.
-fn opens(
-    documents: &mut Documents<Lines>,
-    uri: &str,
-    opened: (i64, &str),
-) -> Result<bool, AllocError> {
-    if documents.did_open(uri, opened.0, opened.1).is_ok() {
-        return Ok(is_in_step(documents, uri, opened));
+/// Opens a document, and once more where an allocation failed; then whether it was as before in between.
+fn opens(documents: &mut Documents<Lines>, uri: &str) -> bool {
+    if documents.did_open(uri, 1, OPENED).is_err() {
+        if documents.get(uri).is_some() || documents.did_open(uri, 1, OPENED).is_err() {
+            return false;
+        }
     }
-    let is_as_before = documents.get(uri).is_none();
-    documents.did_open(uri, opened.0, opened.1)?;
-    Ok(is_as_before && is_in_step(documents, uri, opened))
+    is_in_step(documents, uri, (1, OPENED))
 }
 
 /// Changes a document by a note: it is in step where the note was taken, and else out of step.
@@ -68,20 +63,26 @@ fn note_of(alloc: Global) -> Result<Vec<Change>, AllocError> {
     }
 }
 
-/// Whether two documents, of which one is changed, are held as they are to be.
-fn are_held(alloc: Global) -> Result<bool, AllocError> {
-    let note = note_of(alloc)?;
+/// Opens two documents and changes one of them. Whether they are held as they are to be.
+fn hold(documents: &mut Documents<Lines>, note: &[Change]) -> bool {
+    opens(documents, "u")
+        && opens(documents, "v")
+        && changes(documents, "u", note)
+        && is_in_step(documents, "v", (1, OPENED))
+}
+
+fn are_held(alloc: Global) -> bool {
     let mut documents: Documents<Lines> = Documents::new(alloc);
-    let both = opens(&mut documents, "u", (1, OPENED))? && opens(&mut documents, "v", (1, OPENED))?;
-    let changed = changes(&mut documents, "u", note.as_slice());
-    Ok(both && changed && is_in_step(&documents, "v", (1, OPENED)))
+    match note_of(alloc) {
+        Ok(note) => hold(&mut documents, note.as_slice()),
+        Err(AllocError) => false,
+    }
 }
 
 // `make faults` runs this with each allocation refused in turn.
 #[test]
-fn a_refused_note_leaves_its_document_alone_out_of_step(rt: HostRuntime) -> Result<(), Fail> {
-    assert!(rt; are_held(rt.alloc())?);
-    Ok(())
+fn a_refused_note_leaves_its_document_alone_out_of_step(rt: HostRuntime) {
+    assert!(rt; are_held(rt.alloc()));
 }
 
 fn store_of(alloc: Global) -> Result<Lines, AllocError> {
@@ -92,8 +93,7 @@ fn store_of(alloc: Global) -> Result<Lines, AllocError> {
 }
 
 /// Whether a text is as it was where a replacement is refused.
-fn is_left(alloc: Global) -> Result<bool, AllocError> {
-    let mut store = store_of(alloc)?;
+fn is_left(store: &mut Lines) -> bool {
     let here = Position {
         line: 1,
         character: 0,
@@ -102,18 +102,26 @@ fn is_left(alloc: Global) -> Result<bool, AllocError> {
         start: here,
         end: here,
     };
-    if store
+    let wanted = if store
         .replace(range, "\nmore than there was room for")
         .is_ok()
     {
-        return Ok(store.as_str() == "a\r\nmore than there was room forb");
+        "a\r\nmore than there was room forb"
+    } else {
+        OPENED
+    };
+    store.as_str() == wanted
+}
+
+fn is_text_left(alloc: Global) -> bool {
+    match store_of(alloc) {
+        Ok(mut store) => is_left(&mut store),
+        Err(AllocError) => false,
     }
-    Ok(store.as_str() == OPENED)
 }
 
 // In the same way.
 #[test]
-fn a_refused_replacement_leaves_the_text(rt: HostRuntime) -> Result<(), Fail> {
-    assert!(rt; is_left(rt.alloc())?);
-    Ok(())
+fn a_refused_replacement_leaves_the_text(rt: HostRuntime) {
+    assert!(rt; is_text_left(rt.alloc()));
 }

@@ -2,20 +2,20 @@
 //! nothing.
 
 ghost use Rattle.std.specs.Prelude.{◌≡◌, ◌++◌, IfOk, string_bytes};
+ghost use Rattle.ob0_scan.specs.Reused.{IsReplaced};
 
 use ob0_scan::laws::middle_is_replaced;
 use ob0_scan::{
-    NotRescanned, Rescan, RescanInPlace, ScanRefusal, Tokens, rescan, rescan_in_place, scan,
+    Fault, NotRescanned, Rescan, RescanInPlace, ScanRefusal, Tokens, rescan, rescan_in_place, scan,
 };
 use std::alloc::{AllocError, Global};
 use std::process::Abort;
-use std::test::Fail;
 
 /// What comes of scanning a changed text again, beside a scan of it from nothing.
-#[derive(Clone, Copy, Debug, Drop, PartialEq, Eq)]
+#[derive(Clone, Copy, PartialEq, Eq)]
 enum RescanOutcome {
-    /// Both give the same, and this many tokens and comments are read again.
-    Read(usize),
+    /// Both give the same, and this many tokens and comments are read again. Whether the tokens stay of the same kinds.
+    Read { count: usize, alike: bool },
     /// Both refuse it for the same faults.
     Refused,
     /// The text before the change has faults.
@@ -37,33 +37,63 @@ fn are_same(a: &Tokens, b: &Tokens) -> bool {
     a.text() == b.text() && a.tokens() == b.tokens() && a.comments() == b.comments()
 }
 
-/// What is found again, and what from nothing.
+/// What is found again, and what from nothing, of which the tokens stay alike or not.
 fn compare(
-    again: Result<Rescan, ScanRefusal>,
-    scanned: Result<Tokens, ScanRefusal>,
+    again: &Result<Rescan, ScanRefusal>,
+    scanned: &Result<Tokens, ScanRefusal>,
+    alike: bool,
 ) -> RescanOutcome {
     match again {
-        Ok(found) => match scanned {
-            Ok(tokens) => {
-                if are_same(&found.tokens, &tokens) {
-                    RescanOutcome::Read(found.read)
-                } else {
-                    RescanOutcome::Different
-                }
+        Ok(found) => compare_tokens(found, scanned, alike),
+        Err(refusal) => compare_faults(refusal, scanned),
+    }
+}
+
+fn compare_tokens(
+    found: &Rescan,
+    scanned: &Result<Tokens, ScanRefusal>,
+    alike: bool,
+) -> RescanOutcome {
+    match scanned {
+        Ok(tokens) => if are_same(&found.tokens, tokens) {
+            RescanOutcome::Read {
+                count: found.read,
+                alike,
             }
-            Err(_refusal) => RescanOutcome::Different,
+        } else {
+            RescanOutcome::Different
         },
-        Err(ScanRefusal::Faults(found)) => match scanned {
-            Err(ScanRefusal::Faults(faults)) => {
-                if found.as_slice() == faults.as_slice() {
-                    RescanOutcome::Refused
-                } else {
-                    RescanOutcome::Different
-                }
-            }
-            _ => RescanOutcome::Different,
+        Err(_refusal) => RescanOutcome::Different,
+    }
+}
+
+/// The faults for which a text is refused. None where an allocation failed.
+fn faults_in(refusal: &ScanRefusal) -> Option<&[Fault]> {
+    match refusal {
+        ScanRefusal::Faults(faults) => Some(faults.as_slice()),
+        ScanRefusal::Memory => None,
+    }
+}
+
+fn compare_faults(refusal: &ScanRefusal, scanned: &Result<Tokens, ScanRefusal>) -> RescanOutcome {
+    match scanned {
+        Ok(_tokens) => RescanOutcome::Different,
+        Err(other) => if refuse_alike(refusal, other) {
+            RescanOutcome::Refused
+        } else {
+            RescanOutcome::Different
         },
-        Err(ScanRefusal::Memory) => RescanOutcome::Different,
+    }
+}
+
+/// Whether both refuse a text, for the same faults.
+fn refuse_alike(a: &ScanRefusal, b: &ScanRefusal) -> bool {
+    match faults_in(a) {
+        Some(faults) => match faults_in(b) {
+            Some(others) => faults == others,
+            None => false,
+        },
+        None => false,
     }
 }
 
@@ -85,7 +115,55 @@ fn in_place(
     }
 }
 
-/// Scans a text again in which `other` comes in place of `middle`: beside the old tokens, and in their place.
+fn is_alike(found: &Result<RescanInPlace, NotRescanned>) -> bool {
+    match found {
+        Ok(found) => found.alike,
+        Err(_refusal) => false,
+    }
+}
+
+/// Where a text is changed: the bytes before, those that are removed and those that are added.
+#[derive(Clone, Copy)]
+struct ChangedRange {
+    from: usize,
+    removed: usize,
+    added: usize,
+}
+
+/// Scans a changed text again: beside the old tokens, and in their place.
+fn rescan_both(
+    alloc: Global,
+    old: Tokens,
+    old_text: &str,
+    text: &str,
+    range: ChangedRange,
+) -> RescanOutcome
+    requires { IsReplaced old.text text.now range.from range.removed range.added }
+{
+    let (from, removed, added) = (range.from, range.removed, range.added);
+    let beside = rescan(alloc, &old, text, from, removed, added);
+    let placed = rescan_in_place(alloc, old, text, from, removed, added);
+    let alike = is_alike(&placed);
+    compare_both(alloc, text, &beside, &in_place(placed, old_text), alike)
+}
+
+fn compare_both(
+    alloc: Global,
+    text: &str,
+    beside: &Result<Rescan, ScanRefusal>,
+    placed: &Result<Rescan, ScanRefusal>,
+    alike: bool,
+) -> RescanOutcome {
+    let scanned = scan(alloc, text);
+    let outcome = compare(beside, &scanned, alike);
+    if compare(placed, &scanned, alike) == outcome {
+        outcome
+    } else {
+        RescanOutcome::Different
+    }
+}
+
+/// Scans a text again in which `other` comes in place of `middle`.
 fn change(
     alloc: Global,
     front: &str,
@@ -95,21 +173,30 @@ fn change(
 ) -> Result<RescanOutcome, AllocError> {
     middle_is_replaced();
     let old_text = joined(alloc, front, middle, following)?;
-    let new_text = joined(alloc, front, other, following)?;
-    let text = new_text.as_str();
-    let Ok(old) = scan(alloc, old_text.as_str()) else {
-        return Ok(RescanOutcome::Unscanned);
+    let text = joined(alloc, front, other, following)?;
+    let range = ChangedRange {
+        from: front.len(),
+        removed: middle.len(),
+        added: other.len(),
     };
-    let (from, removed, added) = (front.len(), middle.len(), other.len());
-    let beside = rescan(alloc, &old, text, from, removed, added);
-    let placed = rescan_in_place(alloc, old, text, from, removed, added);
-    let outcome = compare(beside, scan(alloc, text));
-    let placed = compare(in_place(placed, old_text.as_str()), scan(alloc, text));
-    Ok(if placed == outcome {
-        outcome
-    } else {
-        RescanOutcome::Different
-    })
+    match scan(alloc, old_text.as_str()) {
+        Ok(old) => Ok(rescan_both(alloc, old, old_text.as_str(), text.as_str(), range)),
+        Err(_refusal) => Ok(RescanOutcome::Unscanned),
+    }
+}
+
+/// The outcome of a change, `Different` where an allocation fails.
+fn outcome_of(
+    alloc: Global,
+    front: &str,
+    middle: &str,
+    other: &str,
+    following: &str,
+) -> RescanOutcome {
+    match change(alloc, front, middle, other, following) {
+        Ok(outcome) => outcome,
+        Err(AllocError) => RescanOutcome::Different,
+    }
 }
 
 /// 5,000 statements.
@@ -121,70 +208,82 @@ fn statements(alloc: Global) -> Result<String, AllocError> {
     Ok(text)
 }
 
-/// What comes of another text in place of the digit between 5,000 statements and 5,000 more.
-fn change_in_the_middle(alloc: Global, other: &str) -> Result<RescanOutcome, AllocError> {
-    let some = statements(alloc)?;
+/// What comes of another text in place of the digit between these statements and as many more.
+fn change_between(
+    alloc: Global,
+    statements: &str,
+    other: &str,
+) -> Result<RescanOutcome, AllocError> {
     let front = joined(
         alloc,
         "MODULE M; VAR x: INTEGER; BEGIN ",
-        some.as_str(),
+        statements,
         "x := ",
     )?;
-    let following = joined(alloc, "; ", some.as_str(), "END M.")?;
+    let following = joined(alloc, "; ", statements, "END M.")?;
     change(alloc, front.as_str(), "1", other, following.as_str())
+}
+
+/// Whether at most so many tokens and comments are read again where another text comes in place of the digit between
+/// 5,000 statements and 5,000 more.
+fn is_little_read(alloc: Global, other: &str, most: usize) -> bool {
+    let Ok(statements) = statements(alloc) else {
+        return false;
+    };
+    match change_between(alloc, statements.as_str(), other) {
+        Ok(
+            RescanOutcome::Read {
+                count,
+                alike: _alike,
+            },
+        ) => count <= most,
+        _ => false,
+    }
 }
 
 /// What comes in place of the digit, and how many tokens and comments are read again at most.
 static IN_THE_MIDDLE: &[(&str, usize)] = &[("2", 8), ("(* one *) 1", 8), ("1 + 1", 8), ("", 8)];
 
 #[test]
-fn little_is_read_again_in_a_long_text(rt: HostRuntime) -> Result<(), Fail> {
+fn little_is_read_again_in_a_long_text(rt: HostRuntime) {
     for row in IN_THE_MIDDLE {
-        let (other, most) = *row;
-        match change_in_the_middle(rt.alloc(), other)? {
-            RescanOutcome::Read(read) => assert!(rt; read <= most, "{other} {read}"),
-            _ => assert!(rt; false, "{other}"),
-        }
+        assert!(rt; is_little_read(rt.alloc(), row.0, row.1), "{}", row.0);
     }
-    Ok(())
 }
 
 /// Texts before which `(*` is put, and what comes of it.
 static OPENED: &[(&str, RescanOutcome)] = &[
     ("MODULE M; END M.", RescanOutcome::Refused),
-    ("x *)", RescanOutcome::Read(1)),
+    (
+        "x *)",
+        RescanOutcome::Read {
+            count: 1,
+            alike: false,
+        },
+    ),
     ("$", RescanOutcome::Unscanned),
 ];
 
 #[test]
-fn a_comment_is_opened_in_front(rt: HostRuntime) -> Result<(), Fail> {
+fn a_comment_is_opened_in_front(rt: HostRuntime) {
     for row in OPENED {
-        let (text, wanted) = *row;
-        assert!(rt; change(rt.alloc(), "", "", "(*", text)? == wanted, "{text}");
+        assert!(rt;
+            outcome_of(rt.alloc(), "", "", "(*", row.0) == row.1,
+            "{}",
+            row.0
+        );
     }
-    Ok(())
 }
 
-/// Whether the tokens stay of the same kinds where `other` comes in place of `middle`. None where one of the texts has
-/// faults.
-fn kinds_stay(
-    alloc: Global,
-    front: &str,
-    middle: &str,
-    other: &str,
-    following: &str,
-) -> Result<Option<bool>, AllocError> {
-    middle_is_replaced();
-    let old_text = joined(alloc, front, middle, following)?;
-    let new_text = joined(alloc, front, other, following)?;
-    let text = new_text.as_str();
-    let Ok(old) = scan(alloc, old_text.as_str()) else {
-        return Ok(None);
-    };
-    let (from, removed, added) = (front.len(), middle.len(), other.len());
-    match rescan_in_place(alloc, old, text, from, removed, added) {
-        Ok(found) => Ok(Some(found.alike)),
-        Err(_refusal) => Ok(None),
+/// Whether the tokens of `x := 1 + y` are read again where `other` comes in place of the number, and stay of the same
+/// kinds or don't, as is wanted.
+fn is_alike_with(alloc: Global, other: &str, wanted: bool) -> bool {
+    match outcome_of(alloc, "x := ", "1", other, " + y") {
+        RescanOutcome::Read {
+            count: _count,
+            alike,
+        } => alike == wanted,
+        _ => false,
     }
 }
 
@@ -198,13 +297,10 @@ static ALIKE: &[(&str, bool)] = &[
 ];
 
 #[test]
-fn tokens_are_alike_where_their_kinds_stay(rt: HostRuntime) -> Result<(), Fail> {
+fn tokens_are_alike_where_their_kinds_stay(rt: HostRuntime) {
     for row in ALIKE {
-        let (other, wanted) = *row;
-        let found = kinds_stay(rt.alloc(), "x := ", "1", other, " + y")?;
-        assert!(rt; found == Some(wanted), "{other}");
+        assert!(rt; is_alike_with(rt.alloc(), row.0, row.1), "{}", row.0);
     }
-    Ok(())
 }
 
 /// A row of numbers that look random.
@@ -229,52 +325,68 @@ static PIECES: &[&str] = &[
     "(* a *)", "(**)", "1a", "$", "  ", "7", "é", "a1", ".",
 ];
 
-fn random_text(alloc: Global, numbers: &mut Numbers, most: usize) -> Result<String, AllocError> {
-    let mut text = String::new(alloc);
+fn push_pieces(text: &mut String, numbers: &mut Numbers, most: usize) -> Result<(), AllocError> {
     for _i in 0..numbers.below(most) {
         if let Some(piece) = PIECES.get(numbers.below(25)) {
             text.push_str(piece)?;
         }
     }
+    Ok(())
+}
+
+fn random_text(alloc: Global, numbers: &mut Numbers, most: usize) -> Result<String, AllocError> {
+    let mut text = String::new(alloc);
+    push_pieces(&mut text, numbers, most)?;
     Ok(text)
 }
 
-fn random_change(alloc: Global, numbers: &mut Numbers) -> Result<RescanOutcome, AllocError> {
-    let front = random_text(alloc, numbers, 6)?;
-    let middle = random_text(alloc, numbers, 3)?;
-    let other = random_text(alloc, numbers, 3)?;
-    let following = random_text(alloc, numbers, 6)?;
-    change(
-        alloc,
-        front.as_str(),
-        middle.as_str(),
-        other.as_str(),
-        following.as_str(),
-    )
+/// How many pieces four texts have, at most.
+static MOST: &[usize] = &[6, 3, 3, 6];
+
+fn random_texts(alloc: Global, numbers: &mut Numbers) -> Result<Vec<String>, AllocError> {
+    let mut texts = Vec::new(alloc);
+    for most in MOST {
+        texts.push(random_text(alloc, numbers, *most)?)?;
+    }
+    Ok(texts)
 }
 
-/// How many of some random changes are read, and how many are refused. None where one of them is read differently from
-/// nothing.
-fn random_changes(alloc: Global, count: usize) -> Result<Option<(usize, usize)>, AllocError> {
+fn random_change(alloc: Global, numbers: &mut Numbers) -> RescanOutcome {
+    let Ok(texts) = random_texts(alloc, numbers) else {
+        return RescanOutcome::Different;
+    };
+    match texts.as_slice() {
+        [front, middle, other, following] => outcome_of(
+            alloc,
+            front.as_str(),
+            middle.as_str(),
+            other.as_str(),
+            following.as_str(),
+        ),
+        _ => RescanOutcome::Different,
+    }
+}
+
+/// Whether random changes are read as from nothing, and enough of them are read and refused.
+fn are_random_changes_read(alloc: Global) -> bool {
     let mut numbers = Numbers { seed: 1 };
     let mut read: usize = 0;
     let mut refused: usize = 0;
-    for _i in 0..count {
-        match random_change(alloc, &mut numbers)? {
-            RescanOutcome::Read(_count) => read = read.saturating_add(1),
+    for _i in 0..10000 {
+        match random_change(alloc, &mut numbers) {
+            RescanOutcome::Read {
+                count: _count,
+                alike: _alike,
+            } => read = read.saturating_add(1),
             RescanOutcome::Refused => refused = refused.saturating_add(1),
             RescanOutcome::Unscanned => {}
-            RescanOutcome::Different => return Ok(None),
+            RescanOutcome::Different => return false,
         }
     }
-    Ok(Some((read, refused)))
+    read >= 3000 && refused >= 500
 }
 
 #[test]
-fn random_changes_are_read_as_from_nothing(rt: HostRuntime) -> Result<(), Fail> {
-    match random_changes(rt.alloc(), 10000)? {
-        Some((read, refused)) => assert!(rt; read >= 3000 && refused >= 500, "{read} {refused}"),
-        None => assert!(rt; false),
-    }
-    Ok(())
+fn random_changes_are_read_as_from_nothing(rt: HostRuntime) {
+    assert!(rt; are_random_changes_read(rt.alloc()));
 }

@@ -1,21 +1,40 @@
 //! Messages from outside: what they mean, and which contents aren't messages; and the bytes of answers.
 
 use ob0_rpc::{
-    Client, ClientRequest, Id, Incoming, OneMember, RpcFault, error, notify, read, request,
-    result_of,
+    Client, ClientRequest, Id, Incoming, OneMember, RpcFault, Written, error, notify, read,
+    request, result_of,
 };
 use ob0_text::{Indent, Position, Range};
 use serde_json::Value;
 use std::alloc::{AllocError, Global};
 use std::process::Abort;
 
+/// Whether a request has the greatest id, and params that are null.
+fn is_greatest(id: &Id, params: &Value) -> bool {
+    match id {
+        Id::Unsigned(number) => *number == u64::MAX && matches!(params, Value::Null),
+        Id::Signed(_number) => false,
+        Id::Text(_text) => false,
+    }
+}
+
+/// In a word what a message is.
+fn word_of_message(message: &Incoming) -> &'static str {
+    match message {
+        Incoming::Request(id, _method, params) => if is_greatest(id, params) {
+            "greatest request"
+        } else {
+            "request"
+        },
+        Incoming::Notice(_method, _params) => "notice",
+        Incoming::Ignored => "ignored",
+    }
+}
+
 /// In a word what a content is.
 fn kind_of(alloc: Global, content: &str) -> &'static str {
     match read(alloc, content.as_bytes()) {
-        Ok(Incoming::Request(Id::Unsigned(u64::MAX), _, Value::Null)) => "greatest request",
-        Ok(Incoming::Request(_, _, _)) => "request",
-        Ok(Incoming::Notice(_, _)) => "notice",
-        Ok(Incoming::Ignored) => "ignored",
+        Ok(message) => word_of_message(&message),
         Err(fault) => fault.text(),
     }
 }
@@ -46,8 +65,7 @@ static CONTENTS: &[(&str, &str)] = &[
 #[test]
 fn contents_are_distinguished(rt: HostRuntime) {
     for row in CONTENTS {
-        let (content, kind) = *row;
-        assert!(rt; kind_of(rt.alloc(), content) == kind, "{content}");
+        assert!(rt; kind_of(rt.alloc(), row.0) == row.1, "{}", row.0);
     }
 }
 
@@ -125,14 +143,18 @@ fn word_of(call: &ClientRequest) -> &'static str {
     }
 }
 
+fn word_requested(alloc: Global, method: &str, params: &Value) -> &'static str {
+    match request(alloc, method, params) {
+        Ok(call) => word_of(&call),
+        Err(fault) => fault.text(),
+    }
+}
+
 /// What a message requests, in a word.
 fn method_word(alloc: Global, method: &str, params: &str) -> &'static str {
     match Value::from_str(alloc, params) {
-        Ok(params) => match request(alloc, method, &params) {
-            Ok(call) => word_of(&call),
-            Err(fault) => fault.text(),
-        },
-        Err(_) => "no value",
+        Ok(params) => word_requested(alloc, method, &params),
+        Err(_fault) => "no value",
     }
 }
 
@@ -257,10 +279,11 @@ static REQUESTS: &[(&str, &str, &str)] = &[
 #[test]
 fn requests_are_distinguished(rt: HostRuntime) {
     for row in REQUESTS {
-        let (method, params, word) = *row;
         assert!(rt;
-            method_word(rt.alloc(), method, params) == word,
-            "{method} {params}"
+            method_word(rt.alloc(), row.0, row.1) == row.2,
+            "{} {}",
+            row.0,
+            row.1
         );
     }
 }
@@ -272,73 +295,82 @@ fn is_written(written: Result<Vec<u8>, AllocError>, wanted: &str) -> bool {
     }
 }
 
+/// Whether the answer to a request with this id and value is written so.
+fn is_answer<W: Written>(alloc: Global, id: &Id, value: &W, wanted: &str) -> bool {
+    is_written(result_of(alloc, id, value), wanted)
+}
+
+fn is_error(alloc: Global, fault: RpcFault, wanted: &str) -> bool {
+    is_written(error(alloc, None, fault.code(), fault.text()), wanted)
+}
+
+fn is_note(alloc: Global, method: &str, wanted: &str) -> bool {
+    is_written(notify(alloc, method, &()), wanted)
+}
+
 #[test]
 fn answers_are_written(rt: HostRuntime) {
-    let answer = result_of(rt.alloc(), &Id::Signed(-7), &());
     let wanted = "{\"id\":-7,\"jsonrpc\":\"2.0\",\"result\":null}";
-    assert!(rt; is_written(answer, wanted));
-    let refusal = error(
-        rt.alloc(),
-        None,
-        RpcFault::NotJson.code(),
-        RpcFault::NotJson.text(),
-    );
+    assert!(rt; is_answer(rt.alloc(), &Id::Signed(-7), &(), wanted));
     let wanted =
         "{\"error\":{\"code\":-32700,\"message\":\"not JSON\"},\"id\":null,\"jsonrpc\":\"2.0\"}";
-    assert!(rt; is_written(refusal, wanted));
-    let note = notify(rt.alloc(), "m", &());
+    assert!(rt; is_error(rt.alloc(), RpcFault::NotJson, wanted));
     let wanted = "{\"jsonrpc\":\"2.0\",\"method\":\"m\",\"params\":null}";
-    assert!(rt; is_written(note, wanted));
+    assert!(rt; is_note(rt.alloc(), "m", wanted));
 }
 
 fn position(line: u64, character: u64) -> Position {
     Position { line, character }
 }
 
+fn is_range(alloc: Global, start: Position, end: Position, wanted: &str) -> bool {
+    is_answer(alloc, &Id::Signed(1), &Range { start, end }, wanted)
+}
+
 #[test]
 fn ranges_are_written_as_text(rt: HostRuntime) {
-    let reached = Range {
-        start: position(0, 9),
-        end: position(10, 12345),
-    };
-    let answer = result_of(rt.alloc(), &Id::Signed(1), &reached);
     let wanted =
         "{\"id\":1,\"jsonrpc\":\"2.0\",\"result\":{\"end\":{\"character\":12345,\"line\":10},\
          \"start\":{\"character\":9,\"line\":0}}}";
-    assert!(rt; is_written(answer, wanted));
+    assert!(rt; is_range(rt.alloc(), position(0, 9), position(10, 12345), wanted));
     let most = position(u64::MAX, u64::MAX);
-    let reached = Range {
-        start: most,
-        end: most,
-    };
-    let answer = result_of(rt.alloc(), &Id::Signed(1), &reached);
     let wanted =
         "{\"id\":1,\"jsonrpc\":\"2.0\",\"result\":{\"end\":{\"character\":18446744073709551615,\
          \"line\":18446744073709551615},\"start\":{\"character\":18446744073709551615,\
          \"line\":18446744073709551615}}}";
-    assert!(rt; is_written(answer, wanted));
+    assert!(rt; is_range(rt.alloc(), most, most, wanted));
+}
+
+fn is_number<W: Written + Copy>(alloc: Global, id: u64, number: W, wanted: &str) -> bool {
+    is_answer(alloc, &Id::Unsigned(id), &number, wanted)
+}
+
+#[test]
+fn numbers_are_written_as_text(rt: HostRuntime) {
+    let wanted = "{\"id\":0,\"jsonrpc\":\"2.0\",\"result\":18446744073709551615}";
+    assert!(rt; is_number(rt.alloc(), 0, u64::MAX, wanted));
+    let wanted =
+        "{\"id\":18446744073709551615,\"jsonrpc\":\"2.0\",\"result\":-9223372036854775808}";
+    assert!(rt; is_number(rt.alloc(), u64::MAX, i64::MIN, wanted));
 }
 
 #[test]
 fn values_are_written_as_text(rt: HostRuntime) {
-    let answer = result_of(rt.alloc(), &Id::Signed(-7), &"a\"\n\u{1}");
     let wanted = "{\"id\":-7,\"jsonrpc\":\"2.0\",\"result\":\"a\\\"\\n\\u0001\"}";
-    assert!(rt; is_written(answer, wanted));
-    let answer = result_of(rt.alloc(), &Id::Unsigned(0), &u64::MAX);
-    let wanted = "{\"id\":0,\"jsonrpc\":\"2.0\",\"result\":18446744073709551615}";
-    assert!(rt; is_written(answer, wanted));
-    let answer = result_of(rt.alloc(), &Id::Unsigned(u64::MAX), &i64::MIN);
-    let wanted =
-        "{\"id\":18446744073709551615,\"jsonrpc\":\"2.0\",\"result\":-9223372036854775808}";
-    assert!(rt; is_written(answer, wanted));
-    let answer = result_of(rt.alloc(), &Id::Signed(0), &[true, false].as_slice());
+    assert!(rt; is_answer(rt.alloc(), &Id::Signed(-7), &"a\"\n\u{1}", wanted));
     let wanted = "{\"id\":0,\"jsonrpc\":\"2.0\",\"result\":[true,false]}";
-    assert!(rt; is_written(answer, wanted));
+    assert!(rt;
+        is_answer(
+            rt.alloc(),
+            &Id::Signed(0),
+            &[true, false].as_slice(),
+            wanted
+        )
+    );
     let entry = OneMember {
         key: "a b",
         value: Some(position(1, 2)),
     };
-    let answer = result_of(rt.alloc(), &Id::Signed(0), &entry);
     let wanted = "{\"id\":0,\"jsonrpc\":\"2.0\",\"result\":{\"a b\":{\"character\":2,\"line\":1}}}";
-    assert!(rt; is_written(answer, wanted));
+    assert!(rt; is_answer(rt.alloc(), &Id::Signed(0), &entry, wanted));
 }

@@ -7,8 +7,49 @@ use ob0_text::Position;
 use std::alloc::Global;
 use std::process::Abort;
 
-/// How an empty file is checked where `flushes` flushes succeed, and how many bytes are passed on.
-fn checked(alloc: Global, flushes: u32) -> (u8, usize) {
+const READS: &[u8] = b"MODULE M; VAR x: INTEGER; BEGIN Read(x); Write(x) END M.";
+
+/// A check of an empty file, a run of a module on an input, and a rename in it at a column of its line.
+#[derive(Clone, Copy)]
+enum Called {
+    Check,
+    Run(&'static [u8]),
+    Rename(u64),
+}
+
+/// The status of a run on this input.
+fn ran(
+    alloc: Global,
+    input: &[u8],
+    out: &mut Flushed<Counter<'_>>,
+    err: &mut Flushed<Counter<'_>>,
+) -> u8 {
+    let mut input = Watched::new(Source {
+        bytes: input,
+        most: 1,
+        calls_left: 16,
+    });
+    run_text(alloc, READS, &mut input, 0, 0, out, err)
+}
+
+fn status_of(
+    alloc: Global,
+    called: Called,
+    out: &mut Flushed<Counter<'_>>,
+    err: &mut Flushed<Counter<'_>>,
+) -> u8 {
+    match called {
+        Called::Check => check_text(alloc, b"", out, err),
+        Called::Run(input) => ran(alloc, input, out, err),
+        Called::Rename(character) => {
+            let place = Position { line: 0, character };
+            rename_text(alloc, READS, place, "abc", out, err)
+        }
+    }
+}
+
+/// The status of a call where `flushes` flushes succeed, and how many bytes are passed on.
+fn outcome_of(alloc: Global, called: Called, flushes: u32) -> (u8, usize) {
     let (mut printed, mut reported) = (Count::new(512, flushes), Count::new(512, 1));
     let mut out = Flushed::new(Counter {
         count: &mut printed,
@@ -16,12 +57,19 @@ fn checked(alloc: Global, flushes: u32) -> (u8, usize) {
     let mut err = Flushed::new(Counter {
         count: &mut reported,
     });
-    let status = check_text(alloc, b"", &mut out, &mut err);
+    let status = status_of(alloc, called, &mut out, &mut err);
     (status, printed.handed_on)
 }
 
+/// Whether a call ends with this status and passes on this many bytes.
+fn ends(alloc: Global, called: Called, flushes: u32, status: u8, printed: usize) -> bool {
+    let (found, count) = outcome_of(alloc, called, flushes);
+    found == status && count == printed
+}
+
 fn flushes(alloc: Global) -> bool {
-    checked(alloc, 1) == (1, "0:0: Syntax: expected MODULE\n".len()) && checked(alloc, 0) == (4, 0)
+    let printed = "0:0: Syntax: expected MODULE\n".len();
+    ends(alloc, Called::Check, 1, 1, printed) && ends(alloc, Called::Check, 0, 4, 0)
 }
 
 #[test]
@@ -29,69 +77,62 @@ fn what_is_printed_is_flushed(rt: HostRuntime) {
     assert!(rt; flushes(rt.alloc()));
 }
 
-const READS: &[u8] = b"MODULE M; VAR x: INTEGER; BEGIN Read(x); Write(x) END M.";
-
-/// The status of a run on this input, and how many bytes are printed.
-fn ran(alloc: Global, input: &[u8]) -> (u8, usize) {
-    let (mut printed, mut reported) = (Count::new(512, 1), Count::new(512, 1));
-    let mut input = Watched::new(Source {
-        bytes: input,
-        most: 1,
-        calls_left: 16,
-    });
-    let mut out = Flushed::new(Counter {
-        count: &mut printed,
-    });
-    let mut err = Flushed::new(Counter {
-        count: &mut reported,
-    });
-    let status = run_text(alloc, READS, &mut input, 0, 0, &mut out, &mut err);
-    (status, printed.handed_on)
+fn runs(alloc: Global) -> bool {
+    ends(alloc, Called::Run(b"-17"), 1, 0, " -17".len())
+        && ends(alloc, Called::Run(b""), 1, 1, 0)
+        && ends(alloc, Called::Run(b"x"), 1, 4, 0)
 }
 
-/// The status of a rename at a column of the first line, and how many bytes are printed.
-fn renamed(alloc: Global, character: u64) -> (u8, usize) {
-    let (mut printed, mut reported) = (Count::new(512, 1), Count::new(512, 1));
-    let mut out = Flushed::new(Counter {
-        count: &mut printed,
-    });
-    let mut err = Flushed::new(Counter {
-        count: &mut reported,
-    });
-    let place = Position { line: 0, character };
-    let status = rename_text(alloc, READS, place, "abc", &mut out, &mut err);
-    (status, printed.handed_on)
+fn renames(alloc: Global) -> bool {
+    let printed = READS.len().saturating_add(6);
+    ends(alloc, Called::Rename(14), 1, 0, printed) && ends(alloc, Called::Rename(0), 1, 1, 0)
 }
 
 #[test]
 fn a_module_is_run_and_renamed(rt: HostRuntime) {
-    assert!(rt; ran(rt.alloc(), b"-17") == (0, " -17".len()));
-    assert!(rt; ran(rt.alloc(), b"") == (1, 0));
-    assert!(rt; ran(rt.alloc(), b"x") == (4, 0));
-    assert!(rt; renamed(rt.alloc(), 14) == (0, READS.len().saturating_add(6)));
-    assert!(rt; renamed(rt.alloc(), 0) == (1, 0));
+    assert!(rt; runs(rt.alloc()));
+    assert!(rt; renames(rt.alloc()));
+}
+
+fn is_run_of_m(file: &str, calls: u32, turns: u32) -> bool {
+    file == "m" && calls == 64 && turns == 100_000
 }
 
 /// What a command line requests, in a word.
+fn word_of(line: &CommandLine<'_>) -> &'static str {
+    match line {
+        CommandLine::Serve => "serve",
+        CommandLine::Check { file: _file } => "another",
+        CommandLine::Run { file, calls, turns } => if is_run_of_m(file, *calls, *turns) {
+            "run m"
+        } else {
+            "another"
+        },
+        CommandLine::Rename {
+            file: _file,
+            position: _position,
+            name: _name,
+        } => "another",
+    }
+}
+
 fn line_of(alloc: Global, words: &[&str]) -> &'static str {
     match command(alloc, words) {
-        Ok(CommandLine::Serve) => "serve",
-        Ok(
-            CommandLine::Run {
-                file: "m",
-                calls: 64,
-                turns: 100_000,
-            },
-        ) => "run m",
-        Ok(_other) => "another",
+        Ok(line) => word_of(&line),
         Err(_fault) => "refused",
     }
 }
 
+static LINES: &[(&[&str], &str)] = &[
+    (&["ob0", "serve"], "serve"),
+    (&["ob0", "run", "m"], "run m"),
+    (&["ob0", "check", "m"], "another"),
+    (&["ob0", "serve", "m"], "refused"),
+];
+
 #[test]
 fn command_lines_are_read(rt: HostRuntime) {
-    assert!(rt; line_of(rt.alloc(), &["ob0", "serve"]) == "serve");
-    assert!(rt; line_of(rt.alloc(), &["ob0", "run", "m"]) == "run m");
-    assert!(rt; line_of(rt.alloc(), &["ob0", "check", "m"]) == "another");
-    assert!(rt; line_of(rt.alloc(), &["ob0", "serve", "m"]) == "refused");
+    for row in LINES {
+        assert!(rt; line_of(rt.alloc(), row.0) == row.1, "{}", row.1);
+    }
 }

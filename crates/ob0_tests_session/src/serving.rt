@@ -3,6 +3,7 @@
 use crate::devices::{Count, Counter, Source};
 use ob0_session::{Noted, ServeFault, serve};
 use std::alloc::Global;
+use std::io;
 use std::process::Abort;
 
 /// The first conversation.
@@ -109,9 +110,17 @@ static ENDS: &[ServeEnd] = &[
     },
 ];
 
-/// How a conversation ends over this writer, and whether the devices know afterwards that all was flushed and which of
-/// them failed.
-fn conversed(alloc: Global, end: &ServeEnd, count: &mut Count) -> (Result<u8, ServeFault>, bool) {
+/// How a conversation ended, which of its devices know that they failed, and whether all was flushed.
+#[derive(Clone, Copy)]
+struct Found {
+    result: Result<u8, ServeFault>,
+    read_failed: bool,
+    write_failed: bool,
+    flushed: bool,
+}
+
+/// How a conversation ends over this writer.
+fn conversed(alloc: Global, end: &ServeEnd, count: &mut Count) -> Found {
     let mut reader = Noted::new(Source {
         bytes: &end.bytes[..end.len.min(end.bytes.len())],
         most: end.given,
@@ -119,23 +128,40 @@ fn conversed(alloc: Global, end: &ServeEnd, count: &mut Count) -> (Result<u8, Se
     });
     let mut writer = Noted::new(Counter { count });
     let result = serve(alloc, &mut reader, &mut writer);
-    let is_reported = reader.failed() == (result == Err(ServeFault::Read))
-        && writer.failed() == (result == Err(ServeFault::Write));
-    (result, is_reported && writer.flushed())
+    Found {
+        result,
+        read_failed: reader.failed(),
+        write_failed: writer.failed(),
+        flushed: writer.flushed(),
+    }
+}
+
+fn broke_by(result: Result<u8, ServeFault>, fault: ServeFault) -> bool {
+    match result {
+        Ok(_status) => false,
+        Err(found) => found == fault,
+    }
 }
 
 /// Whether a conversation ends by a write that failed, where only `flushes` flushes succeed.
 fn breaks_off(alloc: Global, end: &ServeEnd, flushes: u32) -> bool {
     let mut count = Count::new(end.room, flushes);
-    let (result, _flushed) = conversed(alloc, end, &mut count);
-    result == Err(ServeFault::Write)
+    broke_by(conversed(alloc, end, &mut count).result, ServeFault::Write)
+}
+
+/// Whether the devices know afterwards that all was flushed and which of them failed.
+fn is_reported(found: Found) -> bool {
+    found.read_failed == broke_by(found.result, ServeFault::Read)
+        && found.write_failed == broke_by(found.result, ServeFault::Write)
+        && found.flushed
 }
 
 /// Whether a conversation ends as it is to end, with all that was written passed on, where just its number of flushes
 /// succeed.
 fn ends_flushed(alloc: Global, end: &ServeEnd) -> bool {
     let mut count = Count::new(end.room, end.flushes);
-    conversed(alloc, end, &mut count) == (end.result, true) && count.handed_on == count.written
+    let found = conversed(alloc, end, &mut count);
+    found.result == end.result && is_reported(found) && count.handed_on == count.written
 }
 
 /// Whether a conversation needs each of its flushes.
@@ -166,23 +192,35 @@ fn each_piece_is_flushed_at_its_end(rt: HostRuntime) {
     assert!(rt; count == ENDS.len(), "conversation {count}");
 }
 
-/// Whether a reader and a writer are passed on as they are, and the failure of either is kept.
-fn are_noted() -> bool {
-    let mut count = Count::new(1, 1);
+fn is_one(count: io::Result<usize>) -> bool {
+    match count {
+        Ok(count) => count == 1,
+        Err(_fault) => false,
+    }
+}
+
+/// Whether a reader is passed on as it is, and its failure is kept.
+fn is_reader_noted() -> bool {
     let mut reader = Noted::new(Source {
         bytes: b"ab",
         most: 1,
         calls_left: 1,
     });
-    let mut writer = Noted::new(Counter { count: &mut count });
     let mut piece = [0; 4];
-    let is_read = reader.read(&mut piece) == Ok(1) && piece[0] == b'a' && !reader.failed();
-    let is_written = writer.write(b"ab") == Ok(1) && writer.flush() == Ok(()) && !writer.failed();
-    let fails = reader.read(&mut piece).is_err() && writer.write(b"b").is_err();
-    is_read && is_written && fails && reader.failed() && writer.failed()
+    let is_read = is_one(reader.read(&mut piece)) && piece[0] == b'a' && !reader.failed();
+    is_read && reader.read(&mut piece).is_err() && reader.failed()
+}
+
+/// The same of a writer.
+fn is_writer_noted() -> bool {
+    let mut count = Count::new(1, 1);
+    let mut writer = Noted::new(Counter { count: &mut count });
+    let is_written = is_one(writer.write(b"ab")) && writer.flush().is_ok() && !writer.failed();
+    is_written && writer.write(b"b").is_err() && writer.failed()
 }
 
 #[test]
 fn a_device_that_failed_is_noted(rt: HostRuntime) {
-    assert!(rt; are_noted());
+    assert!(rt; is_reader_noted());
+    assert!(rt; is_writer_noted());
 }
