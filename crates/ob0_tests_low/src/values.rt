@@ -34,20 +34,41 @@ const YES: Scalar = Scalar::Truth(true);
 
 const NO: Scalar = Scalar::Truth(false);
 
-#[test]
-fn numbers_and_truth_values_are_reckoned_with(rt: HostRuntime) {
+fn are_products_known() -> bool {
     for row in PRODUCTS {
         let (operator, left, right, wanted) = *row;
-        let found = multiply(operator, number(left), number(right));
-        assert!(rt; found == wanted, "{left} and {right}");
+        if multiply(operator, number(left), number(right)) != wanted {
+            return false;
+        }
     }
+    true
+}
+
+fn are_sums_known() -> bool {
     for row in SUMS {
         let (operator, left, right, wanted) = *row;
-        let found = add(operator, number(left), number(right));
-        assert!(rt; found == wanted, "{left} and {right}");
+        if add(operator, number(left), number(right)) != wanted {
+            return false;
+        }
     }
-    assert!(rt; signed(Some(Sign::Minus), number(i32::MIN)) == Err(OperatorFault::Overflow));
-    assert!(rt; add(AddOperator::Or, NO, YES) == Ok(YES) && negated(YES) == Ok(NO));
-    assert!(rt; relate(Relation::NotEqual, YES, NO) == Ok(YES));
-    assert!(rt; relate(Relation::Less, YES, NO) == Err(OperatorFault::Operand));
+    true
+}
+
+fn is_negated() -> bool {
+    signed(Some(Sign::Minus), number(i32::MIN)) == Err(OperatorFault::Overflow)
+        && negated(YES) == Ok(NO)
+}
+
+fn are_related() -> bool {
+    add(AddOperator::Or, NO, YES) == Ok(YES)
+        && relate(Relation::NotEqual, YES, NO) == Ok(YES)
+        && relate(Relation::Less, YES, NO) == Err(OperatorFault::Operand)
+}
+
+#[test]
+fn numbers_and_truth_values_are_reckoned_with(rt: HostRuntime) {
+    assert!(rt; are_products_known());
+    assert!(rt; are_sums_known());
+    assert!(rt; is_negated());
+    assert!(rt; are_related());
 }
