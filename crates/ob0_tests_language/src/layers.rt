@@ -1,6 +1,6 @@
 //! A module through the layers one by one, each call by its own path.
 
-use ob0_parse::parse;
+use ob0_parse::{ParseRefusal, parse};
 use ob0_run::laws::{
     free_field_keeps_modules, never_stuck, runs_by_ordinal, runs_by_shape, well_typed_by_shape,
 };
@@ -56,6 +56,7 @@ fn is_well_typed(alloc: Global, module: &Module<'_>) -> bool {
                 && typed.constant(8) == None
                 && typed.shape(8).is_some()
                 && typed.shape(9).is_none()
+                && typed.checked().faults().is_empty()
         }
         None => false,
     }
@@ -79,7 +80,9 @@ fn goes_through(alloc: Global) -> bool {
                 && is_bound(alloc, &module)
                 && is_well_typed(alloc, &module)
         }
-        Err(_refusal) => false,
+        Err(ParseRefusal::Syntax { .. }) => false,
+        Err(ParseRefusal::TooDeep { .. }) => false,
+        Err(ParseRefusal::Memory) => false,
     }
 }
 
