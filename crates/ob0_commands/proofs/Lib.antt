@@ -3,5 +3,6 @@ mod Lines
 mod Pieces
 mod Renames
 mod RunsPrinted
+mod Taken
 mod Words
 mod Wrong

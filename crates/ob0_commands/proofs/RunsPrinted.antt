@@ -1,16 +1,20 @@
 -- What is printed of a text's run is printed of the file's run.
-use Rattle.std.proofs.Common.{◌≡◌, ◌≢◌, ℕ, ℤ, List, Option, Result, Ok, Err, IfOk, IfSome, OnOk, inl, inr, refl, subst, arith}
+use Rattle.std.proofs.Common.{◌≡◌, ◌≢◌, ℕ, ℤ, Bool, List, Option, Result, Ok, Err, IfOk, IfSome, OnOk, inl, inr, refl, subst, arith}
 use Rattle.std.specs.Io.KnownBytes.{Appends}
+use Rattle.ob0_analysis.specs.Diagnosed.{IsWellTypedModule}
+use Rattle.ob0_run_lowering.specs.declared.programs.Program.{Program}
 use Rattle.ob0_run_machine.specs.declared.machine.Item.{Item}
 use Rattle.ob0_run.specs.declared.running.End.{End}
 use Rattle.ob0_run.specs.declared.running.End.TheVariants as end
 use Rattle.ob0_run.specs.declared.running.Outcome.{Outcome}
 use Rattle.ob0_run.specs.Outcomes.{end_in, run_of}
 use Rattle.ob0_run.specs.States.{items_out}
-use Rattle.ob0_commands.specs.Numbers.{IsInputOf}
+use Rattle.ob0_commands.specs.declared.faults.FileFault.{FileFault}
+use Rattle.ob0_commands.specs.declared.faults.FileFault.TheVariants as fault
+use Rattle.ob0_commands.specs.Numbers.{HasNoNumbers, IsInputOf}
 use Rattle.ob0_commands.specs.Printed.{PrintsFaults, output_text}
-use Rattle.ob0_commands.specs.Statuses.{status_at}
-use Rattle.ob0_commands.specs.TextRuns.{PrintsDone, PrintsOther, PrintsRun, TextRunsAs}
+use Rattle.ob0_commands.specs.Statuses.{HasNoText, StopsFor, StopsRunning, status_at}
+use Rattle.ob0_commands.specs.TextRuns.{IsLoweredTo, PrintsDone, PrintsOther, PrintsRun, TextRunsAs}
 
 -- the run reached the end of the module's body
 done : (e : End) (n : ℕ) → n ≡ status_at e → n ≡ 0 → end_in e ≡ end_in end.Done
@@ -53,6 +57,14 @@ prints_other file given c t n before after o printed is one = inr (run_of o, pri
 pub prints_wrong : (file text : List ℕ) (given : Option (List ℕ)) (c t : ℕ) (before mid after : Option (List ℕ)) → text ≡ file → mid ≡ before → PrintsFaults text mid after → PrintsOther file given c t before after
 prints_wrong file text given c t before mid after same kept wrong =
     inl (subst (λ (b : Option (List ℕ)). PrintsFaults file b after) kept (subst (λ (f : List ℕ). PrintsFaults f mid after) same wrong))
+
+-- there is no input for a run
+pub stops_reading : (file text : List ℕ) (program : Program) (given : Option (List ℕ)) (failed : Bool) (Otherwise : Type 0) (f : FileFault) → text ≡ file → IsLoweredTo text program → ¬ (HasNoText file)
+    → StopsFor fault.Input (HasNoNumbers given failed) Otherwise f → StopsRunning file given failed f
+stops_reading file text program given failed Otherwise f same lowered readable (inl none) =
+    let module_there : IsWellTypedModule text = record { tree = lowered.tree; text_of = lowered.text_of; well_typed = lowered.well_typed } in
+    inl (none.0, (subst IsWellTypedModule same module_there, none.1))
+stops_reading file text program given failed Otherwise f same lowered readable (inr memory) = inr (inr (inr memory.0, readable))
 
 -- what follows from two facts of a value
 pub from_both : {X E A : Type 0} {P Q : X → Type 0} (r : Result X E) → ((x : X) → P x → A → Q x) → IfOk r P → OnOk r A → IfOk r Q

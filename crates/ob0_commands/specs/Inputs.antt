@@ -1,6 +1,7 @@
--- A device that is read, and whether it has failed.
+-- A device that is read, whether it has failed, and how much is read of it.
 -- Rule: none; for contracts: a reader that remembers failures.
-use Rattle.std.specs.Prelude.{Bool}
+use Rattle.std.specs.Prelude.{◌≤◌, ℕ, List, Option, Bool, length}
+use Rattle.std.specs.Io.KnownBytes.{Consumes}
 use Rattle.ob0_commands.specs.declared.reading.Watched.{Watched}
 
 -- the device
@@ -10,3 +11,9 @@ input_device input = input.device
 -- whether a read has failed
 abbrev pub input_failed : {R : Type 0} → Watched R → Bool
 input_failed input = input.has_failed
+
+-- at most n of the known bytes of a reader were read
+pub record TakesAtMost (n : ℕ) (before after : Option (List ℕ)) : Type 0 where
+  pub bytes : List ℕ
+  pub taken : Consumes before after bytes
+  pub few : length bytes ≤ n

@@ -3,7 +3,7 @@
 ghost use Rattle.std.specs.Prelude.{◌≡◌, ◌≤◌, ◌<◌, ◌||◌, ◌⊎◌, Bool, true, false, is_err, IfOk, OnOk, IfErr, IfSome, length};
 ghost use Rattle.std.specs.Io.{ReadsAtMost};
 ghost use Rattle.std.specs.Io.KnownBytes.{Consumes, IsAtEnd, ReadConsumes};
-ghost use Rattle.ob0_commands.specs.Inputs.{input_device, input_failed};
+ghost use Rattle.ob0_commands.specs.Inputs.{TakesAtMost, input_device, input_failed};
 ghost use Rattle.ob0_commands.specs.Statuses.{StopsFor};
 ghost use Rattle.ob0_commands.specs.declared.faults.FileFault.TheVariants as faults;
 
@@ -86,6 +86,7 @@ pub fn read_file<R: Input>(alloc: Global, file: &mut R) -> Result<Vec<u8>, FileF
         (λ bytes. Consumes (R.remaining file.old) (R.remaining file.new) bytes.items) }
     ensures end { IfOk result
         (λ bytes. length bytes.items < 1048577 → IsAtEnd (R.remaining file.new)) }
+    ensures limit { TakesAtMost 1048577 (R.remaining file.old) (R.remaining file.new) }
     ensures unfailed { OnOk result (R.has_failed file.new ≡ R.has_failed file.old) }
     ensures fault { IfErr result (StopsFor faults.File (R.has_failed file.new ≡ true)
         (R.has_failed file.new ≡ R.has_failed file.old)) }
@@ -93,12 +94,13 @@ pub fn read_file<R: Input>(alloc: Global, file: &mut R) -> Result<Vec<u8>, FileF
     read_up_to(alloc, file, MAX_FILE, FileFault::File)
 }
 
-/// Reads the input's bytes, which are at most 16,777,216.
+/// Reads the input's bytes, which are at most 16,777,216. Of a longer input one more is read.
 pub fn read_input<R: Input>(alloc: Global, input: &mut R) -> Result<Vec<u8>, FileFault>
     ensures bound { IfOk result (λ bytes. length bytes.items ≤ 16777216) }
     ensures taken { IfOk result
         (λ bytes. Consumes (R.remaining input.old) (R.remaining input.new) bytes.items) }
     ensures end { IfOk result (λ bytes. IsAtEnd (R.remaining input.new)) }
+    ensures limit { TakesAtMost 16777217 (R.remaining input.old) (R.remaining input.new) }
     ensures unfailed { OnOk result (R.has_failed input.new ≡ R.has_failed input.old) }
     ensures fault { IfErr result (StopsFor faults.Input ((R.has_failed input.new ≡ true)
         ⊎ IfSome (R.remaining input.old) (λ text. 16777216 < length text))
@@ -123,6 +125,7 @@ fn read_up_to<R: Input>(
         (λ bytes. Consumes (R.remaining reader.old) (R.remaining reader.new) bytes.items) }
     ensures end { IfOk result
         (λ bytes. length bytes.items < most → IsAtEnd (R.remaining reader.new)) }
+    ensures limit { TakesAtMost most (R.remaining reader.old) (R.remaining reader.new) }
     ensures unfailed { OnOk result (R.has_failed reader.new ≡ R.has_failed reader.old) }
     ensures stops { IfErr result (StopsFor fault (R.has_failed reader.new ≡ true)
         (R.has_failed reader.new ≡ R.has_failed reader.old)) }

@@ -6,6 +6,7 @@ ghost use Rattle.ob0_tree.specs.Parsed.{named_tree_of};
 ghost use Rattle.ob0_run.specs.Outcomes.{run_of};
 ghost use Rattle.ob0_run.specs.Programs as lowered;
 ghost use Rattle.ob0_run.specs.States.{item_of, items_out};
+ghost use Rattle.ob0_commands.specs.Inputs.{TakesAtMost};
 ghost use Rattle.ob0_commands.specs.Printed.{IsWrittenBut, PrintsFaults, end_line, output_text, written_text};
 ghost use Rattle.ob0_commands.specs.Statuses.{CanNotRun, HasNoText, IsOfInput, IsOfOutput, IsStatus, StopsPrinting, StopsRunning, status_at};
 ghost use Rattle.ob0_commands.specs.TextRuns.{IsLoweredTo, PrintsDone, PrintsOther, TextRunsAs};
@@ -58,6 +59,7 @@ pub fn run_text<R: Input, O: Output, E: Output>(
     ensures flushed { result ≤ 1 → O.is_flushed out.new ≡ true }
     ensures statuses { IsStatus result }
     ensures readable { result ≢ 4 → ¬ HasNoText file.now }
+    ensures limit { TakesAtMost 16777217 (R.remaining input.old) (R.remaining input.new) }
     ensures read { result ≢ 4 → R.has_failed input.new ≡ R.has_failed input.old }
     ensures unfailed { result ≢ 4 → O.has_failed out.new ≡ O.has_failed out.old }
     ensures unreported { result ≡ 4 → CanNotRun file.now (R.remaining input.old)
@@ -87,6 +89,7 @@ fn run_file<R: Input, O: Output, E: Output>(
     ensures flushed { OnOk result (O.is_flushed out.new ≡ true) }
     ensures ends { IfOk result (λ status. status ≤ 1) }
     ensures readable { OnOk result (¬ HasNoText file.now) }
+    ensures limit { TakesAtMost 16777217 (R.remaining input.old) (R.remaining input.new) }
     ensures read { MatchResult result (λ _. R.has_failed input.new ≡ R.has_failed input.old)
         (IsOfInput (R.has_failed input.old) (R.has_failed input.new)) }
     ensures unfailed { OnOk result (O.has_failed out.new ≡ O.has_failed out.old) }

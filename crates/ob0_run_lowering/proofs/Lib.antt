@@ -4,6 +4,7 @@ pub mod LaidOut
 pub mod CodeChains
 pub mod Lowerings
 pub mod Longer
+pub mod Rows
 pub mod InScene
 pub mod Made
 pub mod Assigned

@@ -1,6 +1,7 @@
 pub mod Layouts
 pub mod Scenes
 pub mod Codes
+pub mod Rows
 pub mod Trees
 pub mod Means
 pub mod Parts

@@ -1,8 +1,10 @@
 //! Operations in a row: a few are one inside the other, many in a list.
 
-ghost use Rattle.std.specs.Prelude.{◌≡◌, IfOk, IfSome};
+ghost use Rattle.std.specs.Prelude.{◌≡◌, ◌≤◌, IfOk, IfSome, max, suc};
 ghost use Rattle.ob0_run_machine.specs.Lowered as machine;
 ghost use Rattle.ob0_run_machine.specs.View.{all_in, any_in, applied, chained_in, first_of, number_of, operation_of, operator_of, truth_of, variable_of};
+ghost use Rattle.ob0_run_lowering.specs.Rows.{and_depth, or_depth};
+ghost use Rattle.ob0_run_machine.specs.declared.code.Several.{out-Several};
 
 use ob0_run_machine::code::{
     Chain, FirstOperand, Link, Number, Operation, Operator, Several, Truth, Truths, Variable,
@@ -148,7 +150,9 @@ pub(crate) fn operation(
 
 /// A conjunction with one truth more.
 fn all_of(alloc: Global, several: Several, right: Truth) -> Result<Truth, AllocError>
-    ensures { IfOk result (λ t. truth_of t ≡ machine.both (all_in several) (truth_of right)) }
+    ensures meaning { IfOk result
+        (λ t. truth_of t ≡ machine.both (all_in several) (truth_of right)) }
+    ensures depth { IfOk result (λ t. and_depth t ≡ suc (and_depth (out-Several several).first)) }
 {
     let Several { first, mut rest } = several;
     rest.push(right)?;
@@ -158,12 +162,46 @@ fn all_of(alloc: Global, several: Several, right: Truth) -> Result<Truth, AllocE
 
 /// A disjunction with one truth more.
 fn any_of(alloc: Global, several: Several, right: Truth) -> Result<Truth, AllocError>
-    ensures { IfOk result (λ t. truth_of t ≡ machine.either (any_in several) (truth_of right)) }
+    ensures meaning { IfOk result
+        (λ t. truth_of t ≡ machine.either (any_in several) (truth_of right)) }
+    ensures depth { IfOk result (λ t. or_depth t ≡ suc (or_depth (out-Several several).first)) }
 {
     let Several { first, mut rest } = several;
     rest.push(right)?;
     let several = Box::new(alloc, Several { first, rest })?;
     Ok(Truth::Any(several))
+}
+
+/// A conjunction of three truths in a row.
+fn three_in_all(
+    alloc: Global,
+    first: Truth,
+    second: Truth,
+    third: Truth,
+) -> Result<Truth, AllocError>
+    ensures meaning { IfOk result (λ t. truth_of t
+        ≡ machine.both (machine.both (truth_of first) (truth_of second)) (truth_of third)) }
+    ensures depth { IfOk result (λ t. and_depth t ≡ suc (and_depth first)) }
+{
+    let mut rest = Vec::new(alloc);
+    rest.push(second)?;
+    all_of(alloc, Several { first, rest }, third)
+}
+
+/// A disjunction of three truths in a row.
+fn three_in_any(
+    alloc: Global,
+    first: Truth,
+    second: Truth,
+    third: Truth,
+) -> Result<Truth, AllocError>
+    ensures meaning { IfOk result (λ t. truth_of t
+        ≡ machine.either (machine.either (truth_of first) (truth_of second)) (truth_of third)) }
+    ensures depth { IfOk result (λ t. or_depth t ≡ suc (or_depth first)) }
+{
+    let mut rest = Vec::new(alloc);
+    rest.push(second)?;
+    any_of(alloc, Several { first, rest }, third)
 }
 
 /// The negation of a truth: of a flag it is one node.
@@ -177,47 +215,99 @@ pub(crate) fn negation(alloc: Global, truth: Truth) -> Result<Truth, AllocError>
 }
 
 fn pair_of_both(alloc: Global, left: Truth, right: Truth) -> Result<Truth, AllocError>
-    ensures { IfOk result (λ t. truth_of t ≡ machine.both (truth_of left) (truth_of right)) }
+    ensures meaning { IfOk result
+        (λ t. truth_of t ≡ machine.both (truth_of left) (truth_of right)) }
+    ensures depth { IfOk result (λ t. and_depth t ≡ suc (and_depth left)) }
 {
     Ok(Truth::Both(Box::new(alloc, Truths { left, right })?))
 }
 
 fn pair_of_either(alloc: Global, left: Truth, right: Truth) -> Result<Truth, AllocError>
-    ensures { IfOk result (λ t. truth_of t ≡ machine.either (truth_of left) (truth_of right)) }
+    ensures meaning { IfOk result
+        (λ t. truth_of t ≡ machine.either (truth_of left) (truth_of right)) }
+    ensures depth { IfOk result (λ t. or_depth t ≡ suc (or_depth left)) }
 {
     Ok(Truth::Either(Box::new(alloc, Truths { left, right })?))
 }
 
 /// `left & right`.
 pub(crate) fn both(alloc: Global, left: Truth, right: Truth) -> Result<Truth, AllocError>
-    ensures { IfOk result (λ t. truth_of t ≡ machine.both (truth_of left) (truth_of right)) }
+    ensures meaning { IfOk result
+        (λ t. truth_of t ≡ machine.both (truth_of left) (truth_of right)) }
+    ensures flat { IfOk result (λ t. and_depth t ≤ max 1 (and_depth left)) }
 {
     match left {
         Truth::All(several) => all_of(alloc, Box::into_inner(several), right),
         Truth::Both(truths) => {
-            let several = Several {
-                first: Truth::Both(truths),
-                rest: Vec::new(alloc),
-            };
-            all_of(alloc, several, right)
+            let Truths {
+                left,
+                right: second,
+            } = Box::into_inner(truths);
+            three_in_all(alloc, left, second, right)
         }
-        other => pair_of_both(alloc, other, right),
+        Truth::Constant(b) => pair_of_both(alloc, Truth::Constant(b), right),
+        Truth::Flag(place) => pair_of_both(alloc, Truth::Flag(place), right),
+        Truth::Unset(place) => pair_of_both(alloc, Truth::Unset(place), right),
+        Truth::Negation(truth) => pair_of_both(alloc, Truth::Negation(truth), right),
+        Truth::Either(truths) => pair_of_both(alloc, Truth::Either(truths), right),
+        Truth::Any(several) => pair_of_both(alloc, Truth::Any(several), right),
+        Truth::Related(relation, operands) => pair_of_both(
+            alloc,
+            Truth::Related(relation, operands),
+            right,
+        ),
+        Truth::ComparedToLiteral(relation, variable, n) => pair_of_both(
+            alloc,
+            Truth::ComparedToLiteral(relation, variable, n),
+            right,
+        ),
+        Truth::ComparedToVariable(relation, variable, other) => pair_of_both(
+            alloc,
+            Truth::ComparedToVariable(relation, variable, other),
+            right,
+        ),
+        Truth::Same(truths) => pair_of_both(alloc, Truth::Same(truths), right),
+        Truth::Different(truths) => pair_of_both(alloc, Truth::Different(truths), right),
     }
 }
 
 /// `left OR right`.
 pub(crate) fn either(alloc: Global, left: Truth, right: Truth) -> Result<Truth, AllocError>
-    ensures { IfOk result (λ t. truth_of t ≡ machine.either (truth_of left) (truth_of right)) }
+    ensures meaning { IfOk result
+        (λ t. truth_of t ≡ machine.either (truth_of left) (truth_of right)) }
+    ensures flat { IfOk result (λ t. or_depth t ≤ max 1 (or_depth left)) }
 {
     match left {
         Truth::Any(several) => any_of(alloc, Box::into_inner(several), right),
         Truth::Either(truths) => {
-            let several = Several {
-                first: Truth::Either(truths),
-                rest: Vec::new(alloc),
-            };
-            any_of(alloc, several, right)
+            let Truths {
+                left,
+                right: second,
+            } = Box::into_inner(truths);
+            three_in_any(alloc, left, second, right)
         }
-        other => pair_of_either(alloc, other, right),
+        Truth::Constant(b) => pair_of_either(alloc, Truth::Constant(b), right),
+        Truth::Flag(place) => pair_of_either(alloc, Truth::Flag(place), right),
+        Truth::Unset(place) => pair_of_either(alloc, Truth::Unset(place), right),
+        Truth::Negation(truth) => pair_of_either(alloc, Truth::Negation(truth), right),
+        Truth::Both(truths) => pair_of_either(alloc, Truth::Both(truths), right),
+        Truth::All(several) => pair_of_either(alloc, Truth::All(several), right),
+        Truth::Related(relation, operands) => pair_of_either(
+            alloc,
+            Truth::Related(relation, operands),
+            right,
+        ),
+        Truth::ComparedToLiteral(relation, variable, n) => pair_of_either(
+            alloc,
+            Truth::ComparedToLiteral(relation, variable, n),
+            right,
+        ),
+        Truth::ComparedToVariable(relation, variable, other) => pair_of_either(
+            alloc,
+            Truth::ComparedToVariable(relation, variable, other),
+            right,
+        ),
+        Truth::Same(truths) => pair_of_either(alloc, Truth::Same(truths), right),
+        Truth::Different(truths) => pair_of_either(alloc, Truth::Different(truths), right),
     }
 }

@@ -1,6 +1,6 @@
 //! A module through the layers one by one, each call by its own path.
 
-use ob0_parse::parse;
+use ob0_parse::{ParseRefusal, parse};
 use ob0_run::laws::{
     free_field_keeps_modules, never_stuck, runs_by_ordinal, runs_by_shape, well_typed_by_shape,
 };
@@ -43,6 +43,7 @@ fn has_types(typed: &WellTyped<'_>) -> bool {
         && typed.constant(8) == None
         && typed.shape(8).is_some()
         && typed.shape(9).is_none()
+        && typed.checked().faults().is_empty()
 }
 
 fn is_typed(checked: &Checked<'_>) -> bool {
@@ -81,7 +82,9 @@ fn is_shaped(alloc: Global, module: &Module<'_>, nesting: u32, count: usize) -> 
 fn is_parsed(alloc: Global, tokens: &Tokens) -> bool {
     match parse(alloc, tokens) {
         Ok(module) => is_shaped(alloc, &module, 1, 11) && is_resolved(alloc, &module),
-        Err(_refusal) => false,
+        Err(ParseRefusal::Syntax { .. }) => false,
+        Err(ParseRefusal::TooDeep { .. }) => false,
+        Err(ParseRefusal::Memory) => false,
     }
 }
 

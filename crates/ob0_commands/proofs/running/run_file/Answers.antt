@@ -1,5 +1,6 @@
 use Rattle.std.proofs.Common.{◌∙◌, ap}
-use Rattle.ob0_commands.proofs.RunsPrinted.{from_both, prints_done, prints_other, prints_run, prints_wrong}
+use Rattle.std.proofs.lemmas.Result.{err_from_is_err_and}
+use Rattle.ob0_commands.proofs.RunsPrinted.{from_both, prints_done, prints_other, prints_run, prints_wrong, stops_reading}
 use Rattle.ob0_commands.proofs.running.run_file.Goals as goal
 
 pub returns-in_default-2-clause-other : goal.returns-in_default-2-clause-other
@@ -8,6 +9,13 @@ returns-in_default-2-clause-other g c =
     let wrong = rw c.in_default-2.is at c.in_ok-program.ensures.found in
     λ one. prints_wrong c.args.file.now c.in-Some.text.now (g.R.Read.remaining c.args.input.now) c.args.calls c.args.turns (g.O.Write.contents c.args.out.now) (g.O.Write.contents c.text_of.new.out) (g.O.Write.contents c.lower_text.new.out)
     here.0 (ap g.O.Write.contents here.1) wrong
+
+pub returns-in_err-numbers-clause-fault : goal.returns-in_err-numbers-clause-fault
+returns-in_err-numbers-clause-fault g c =
+    let here = rw c.in-Some.is at c.in_ok-text.ensures.found in
+    let lowered = rw c.in-Some-2.is at c.in_ok-program.ensures.found in
+    let p = err_from_is_err_and c.from_residual-in_err-numbers.result c.from_residual-in_err-numbers.ensures.1 in
+    rw (p.1, p.2) (stops_reading _ _ _ _ _ _ _ here.0 lowered.0 c.in_ok-text.ensures.readable c.in_err-numbers.ensures.fault)
 
 pub returns-clause-done : goal.returns-clause-done
 returns-clause-done g c =

@@ -1,0 +1,15 @@
+-- How deeply rows of `&` and OR are nested.
+use Rattle.std.proofs.Common.{◌≡◌, ℕ, ◌≤◌, suc, refl, max, subst, sym}
+use Rattle.std.proofs.Math.Nat.{le-max_right}
+use Rattle.ob0_run_machine.specs.declared.code.Several.{out-Several}
+use Rattle.ob0_run_machine.specs.declared.code.Truth.{All, Any}
+use Rattle.ob0_run_lowering.specs.Rows.{and_depth, or_depth}
+
+pub all_deep : (c : _) → and_depth (All c) ≡ suc (and_depth (out-Several c.value).first)
+all_deep c = refl
+
+pub any_deep : (c : _) → or_depth (Any c) ≡ suc (or_depth (out-Several c.value).first)
+any_deep c = refl
+
+pub as_deep : (n m : ℕ) → n ≡ m → n ≤ max 1 m
+as_deep n m h = subst (λ k. k ≤ max 1 m) (sym h) (le-max_right 1 m)

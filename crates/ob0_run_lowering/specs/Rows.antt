@@ -1,0 +1,37 @@
+-- How deeply conjunctions, and disjunctions, are nested on the left of a truth of the code.
+-- Rule: none; for contracts of lowering.
+use Rattle.std.specs.Prelude.{ℕ, suc}
+use Rattle.ob0_run_machine.specs.declared.code.Truth as truth
+use Rattle.ob0_run_machine.specs.declared.code.Truth.{Truth}
+
+-- how many conjunctions are nested: the truth, its first operand, the first operand of that, and so on
+abbrev pub and_depth : Truth → ℕ
+and_depth (truth.Constant b) = 0
+and_depth (truth.Flag p) = 0
+and_depth (truth.Unset p) = 0
+and_depth (truth.Negation' pointer t) = 0
+and_depth (truth.Both' pointer left right) = suc (and_depth left)
+and_depth (truth.Either' pointer left right) = 0
+and_depth (truth.All' pointer first shape row) = suc (and_depth first)
+and_depth (truth.Any' pointer first shape row) = 0
+and_depth (truth.Related r o) = 0
+and_depth (truth.ComparedToLiteral r v n) = 0
+and_depth (truth.ComparedToVariable r v w) = 0
+and_depth (truth.Same' pointer left right) = 0
+and_depth (truth.Different' pointer left right) = 0
+
+-- the same of disjunctions
+abbrev pub or_depth : Truth → ℕ
+or_depth (truth.Constant b) = 0
+or_depth (truth.Flag p) = 0
+or_depth (truth.Unset p) = 0
+or_depth (truth.Negation' pointer t) = 0
+or_depth (truth.Both' pointer left right) = 0
+or_depth (truth.Either' pointer left right) = suc (or_depth left)
+or_depth (truth.All' pointer first shape row) = 0
+or_depth (truth.Any' pointer first shape row) = suc (or_depth first)
+or_depth (truth.Related r o) = 0
+or_depth (truth.ComparedToLiteral r v n) = 0
+or_depth (truth.ComparedToVariable r v w) = 0
+or_depth (truth.Same' pointer left right) = 0
+or_depth (truth.Different' pointer left right) = 0
