@@ -1,12 +1,12 @@
 -- The parser's refusal of a text, and what is reported of it, is one.
 use Rattle.std.proofs.Common.{◌≡◌, ℕ, [], ◌∷◌, sym, ◌∙◌, ap, subst}
 use Rattle.ob0_scan.specs.Scanned.{Scanned}
-use Rattle.ob0_parse.specs.Descent.{OneStop, Expects, Deep}
-use Rattle.ob0_parse.specs.ExpectedText.{expected_text}
+use Rattle.ob0_parse_descent.specs.Descent.{OneStop, Expects, Deep}
+use Rattle.ob0_parse_descent.specs.ExpectedText.{expected_text}
 use Rattle.ob0_parse.specs.RefusedBy.{RefusedBy}
-use Rattle.ob0_parse.specs.declared.refusal.Expected.{Expected}
-use Rattle.ob0_parse.specs.declared.refusal.ParseRefusal.{ParseRefusal}
-use Rattle.ob0_parse.specs.declared.refusal.ParseRefusal.TheVariants.{Syntax, TooDeep, Memory}
+use Rattle.ob0_parse_descent.specs.declared.refusal.Expected.{Expected}
+use Rattle.ob0_parse_descent.specs.declared.refusal.ParseRefusal.{ParseRefusal}
+use Rattle.ob0_parse_descent.specs.declared.refusal.ParseRefusal.TheVariants.{Syntax, TooDeep, Memory}
 use Rattle.ob0_analysis.specs.Diagnosed.{Complaint, IsRefusalAt, OneRefusal, expects, too_deep, place_of}
 use Rattle.ob0_analysis.proofs.Scanning.{OneScan}
 

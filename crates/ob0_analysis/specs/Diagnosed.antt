@@ -15,10 +15,10 @@ use Rattle.ob0_scope_rules.specs.Names.{Name}
 use Rattle.ob0_scope_rules.specs.Resolution.{IsResolution, Resolution}
 use Rattle.ob0_types_rules.specs.WellTyped.{WellTyped}
 use Rattle.ob0_types.specs.FaultOrder.{AreFirstFaults}
-use Rattle.ob0_parse.specs.ExpectedText.{expected_text}
+use Rattle.ob0_parse_descent.specs.ExpectedText.{expected_text}
 use Rattle.ob0_parse.specs.RefusedBy.{RefusedBy}
-use Rattle.ob0_parse.specs.declared.refusal.ParseRefusal.{ParseRefusal}
-use Rattle.ob0_parse.specs.declared.refusal.ParseRefusal.TheVariants.{Syntax, TooDeep, Memory}
+use Rattle.ob0_parse_descent.specs.declared.refusal.ParseRefusal.{ParseRefusal}
+use Rattle.ob0_parse_descent.specs.declared.refusal.ParseRefusal.TheVariants.{Syntax, TooDeep, Memory}
 use Rattle.ob0_analysis.specs.declared.diagnoses.Diagnosis.{Diagnosis}
 
 -- The text is here the list of its bytes in UTF-8, and spans count these.

@@ -3,7 +3,7 @@
 ghost use Rattle.std.specs.Prelude.{◌≡◌, IfOk, map};
 ghost use Rattle.ob0_analysis.specs.Diagnosed.{IsRefusalAt, complaint_in, complaint_of, expects as expected_at, too_deep as too_deep_at, place_of as place_in};
 
-use ob0_parse::ParseRefusal;
+use ob0_parse_descent::ParseRefusal;
 use ob0_scan::{Fault, Span, Tokens};
 use std::alloc::{AllocError, Global};
 

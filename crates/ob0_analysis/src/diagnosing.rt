@@ -7,7 +7,8 @@ ghost use Rattle.ob0_analysis.specs.Found.{IsDecided};
 
 use crate::diagnoses::{Diagnosis, of_faults, of_refusal};
 use crate::parts::ModuleParts;
-use ob0_parse::{ParseRefusal, one_tree};
+use ob0_parse::one_tree;
+use ob0_parse_descent::ParseRefusal;
 use ob0_scan::Tokens;
 use ob0_scan::laws::one_scan;
 use std::alloc::{AllocError, Global};

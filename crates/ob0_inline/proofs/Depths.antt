@@ -13,7 +13,7 @@ use Rattle.ob0_tree.specs.Module.{text_lexemes}
 use Rattle.ob0_tree.specs.Parsed.{Parsed, IsParsed, named_tree_of}
 use Rattle.ob0_tree.specs.Tree.{Tree, module_text, nesting, spell}
 use Rattle.ob0_parse.specs.RefusedBy.{NoneBegins}
-use Rattle.ob0_parse.proofs.Unique.{same}
+use Rattle.ob0_parse_descent.proofs.Unique.{same}
 
 -- a module with these tokens has this tree
 pub shallow_where_parsed : (s : Scanned) (t : Tree (List ℕ) module_text) → text_lexemes s ≡ spell t → (m : Parsed) → m.source ≡ s → IsParsed m → nesting t ≤ 100

@@ -9,7 +9,8 @@ ghost use Rattle.ob0_tree.specs.Module.{max_nesting, text_lexemes};
 ghost use Rattle.ob0_tree.specs.Parsed.{tree_of};
 ghost use Rattle.ob0_tree.specs.Tree.{Tree, module_text, nesting, spell};
 
-use ob0_parse::{ParseRefusal, parse};
+use ob0_parse::parse;
+use ob0_parse_descent::ParseRefusal;
 use ob0_scan::{ScanRefusal, Tokens, scan};
 use ob0_text::{Edit, EditRefusal, PatchFault, TextStore, patch};
 use ob0_tree::{MAX_NESTING, Module};

@@ -4,13 +4,14 @@ use Rattle.ob0_scan.specs.declared.lexeme.Token.{Token}
 use Rattle.ob0_tree.specs.declared.tree.Procedure.{Procedure}
 use Rattle.ob0_tree.specs.Module.{max_nesting}
 use Rattle.ob0_tree.specs.View.{procedure_of}
-use Rattle.ob0_parse.specs.Reading.{Taken}
-use Rattle.ob0_parse.specs.KeptTokens.{AreKept, Each, IsMade, IsTakenAt, StayKept, StayRefused}
-use Rattle.ob0_parse.specs.declared.kept.Kept.{Kept}
-use Rattle.ob0_parse.specs.declared.refusal.ParseRefusal.{ParseRefusal}
-use Rattle.ob0_parse.specs.declared.refusal.ParseRefusal.TheVariants.{Syntax, TooDeep, Memory}
-use Rattle.ob0_parse.proofs.Keeping.{taken_kept, kept_there}
-use Rattle.ob0_parse.proofs.Carried.{each_joined}
+use Rattle.ob0_parse_descent.specs.Reading.{Taken}
+use Rattle.ob0_parse_kept.specs.KeptTokens.{AreKept, Each, IsMade, IsTakenAt}
+use Rattle.ob0_parse.specs.StayKept.{StayKept, StayRefused}
+use Rattle.ob0_parse_kept.specs.declared.kept.Kept.{Kept}
+use Rattle.ob0_parse_descent.specs.declared.refusal.ParseRefusal.{ParseRefusal}
+use Rattle.ob0_parse_descent.specs.declared.refusal.ParseRefusal.TheVariants.{Syntax, TooDeep, Memory}
+use Rattle.ob0_parse.proofs.TakenOver.{taken_kept, taken_is_there}
+use Rattle.ob0_parse_kept.proofs.Carried.{each_joined}
 
 stays_refused : {ts : List Token} {k : Kept} → AreKept ts k → (e : ParseRefusal) → StayRefused ts k e
 stays_refused h (Syntax i expected) = h
@@ -25,4 +26,4 @@ pub taken_over : (ts : List Token) (at : ℕ) (x : Procedure × ℕ) → IsTaken
 taken_over ts at x t = (taken_kept ts at x.1 (procedure_of x.0) t.there t.first, t.there.forward)
 
 pub more_made : (ts : List Token) (m n : ℕ) (ps : List Procedure) (p : Procedure) → Each (IsMade ts) ps → Taken (procedure_of p) max_nesting ts m n → m < n → Each (IsMade ts) (ps ++ (p ∷ []))
-more_made ts m n ps p made t forward = each_joined (IsMade ts) ps (p ∷ []) made (kept_there ts m n (procedure_of p) t.spelled t.shallow forward t.within, tt)
+more_made ts m n ps p made t forward = each_joined (IsMade ts) ps (p ∷ []) made (taken_is_there ts m n (procedure_of p) t forward, tt)

@@ -14,10 +14,10 @@ use Rattle.ob0_tree.specs.Parsed.{Parsed, IsParsed, tree_of}
 use Rattle.ob0_tree.specs.Places.{lexeme_of, lexemes_from, lexemes, text_at, value_at}
 use Rattle.ob0_tree.proofs.Mapped.{nesting_mapped, spell_mapped}
 use Rattle.ob0_tree.proofs.Indexed.{reindexed, reindexed-append, indexed, spell_indexed, nesting_indexed}
-use Rattle.ob0_parse.specs.Descent.{DescendsText, Expects, Deep}
+use Rattle.ob0_parse_descent.specs.Descent.{DescendsText, Expects, Deep}
 use Rattle.ob0_parse.specs.RefusedBy.{NoneBegins, RefusedBy}
-use Rattle.ob0_parse.specs.declared.refusal.ParseRefusal.{ParseRefusal}
-use Rattle.ob0_parse.specs.declared.refusal.ParseRefusal.TheVariants.{Syntax, TooDeep, Memory}
+use Rattle.ob0_parse_descent.specs.declared.refusal.ParseRefusal.{ParseRefusal}
+use Rattle.ob0_parse_descent.specs.declared.refusal.ParseRefusal.TheVariants.{Syntax, TooDeep, Memory}
 use Rattle.ob0_parse.proofs.Whole.{module_spelled, texts, indexes_again, reindexed-take}
 
 -- a token by its index is the same whatever its value

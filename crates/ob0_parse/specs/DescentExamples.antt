@@ -9,8 +9,8 @@ use Rattle.ob0_scan.specs.declared.lexeme.Symbol.{Symbol}
 use Rattle.ob0_scan.specs.declared.lexeme.Symbol.TheVariants as symbol
 use Rattle.ob0_tree.specs.Lexeme.{Terminal, EndOfText}
 use Rattle.ob0_tree.specs.Places.{lexeme_of}
-use Rattle.ob0_parse.specs.Descent.{Stop, Done, Expects, Deep, DescendsText}
-use Rattle.ob0_parse.specs.declared.refusal.Expected.TheVariants as expected
+use Rattle.ob0_parse_descent.specs.Descent.{Stop, Done, Expects, Deep, DescendsText}
+use Rattle.ob0_parse_descent.specs.declared.refusal.Expected.TheVariants as expected
 
 -- the tokens of these kinds, and the end of the text
 abbrev pub tokens_from : ℕ → List TokenKind → List (Terminal ℕ)

@@ -1,14 +1,15 @@
--- What the parser promises of the block of a module, whose procedures it leaves with those that are kept.
+-- What the parser promises of a module, and of its block, whose procedures it leaves with those that are kept.
 -- Rule: none; for private contracts of the parser.
-use Rattle.std.specs.Prelude.{ℕ, List, [], ◌∷◌, Result, Ok, Err}
+use Rattle.std.specs.Prelude.{ℕ, List, [], ◌∷◌, Result, Ok, Err, length}
 use Rattle.ob0_scan.specs.declared.lexeme.Token.{Token}
+use Rattle.ob0_tree.specs.declared.tree.Block.{Block}
 use Rattle.ob0_tree.specs.declared.tree.Procedure.{Procedure}
 use Rattle.ob0_tree.specs.Module.{max_nesting}
-use Rattle.ob0_tree.specs.Tree.{procedure, items, block, Tree, declares, has_body}
-use Rattle.ob0_tree.specs.View.{constants_of, types_of, variables_of, items_of, procedure_of, body_of}
-use Rattle.ob0_parse.specs.Reading.{node, Taken, FailsToRead}
-use Rattle.ob0_parse.specs.declared.declarations.OwnParts.{OwnParts}
-use Rattle.ob0_parse.specs.declared.refusal.ParseRefusal.{ParseRefusal}
+use Rattle.ob0_tree.specs.Tree.{procedure, items, block, module_text, Tree, declares, has_body, is_module}
+use Rattle.ob0_tree.specs.View.{constants_of, types_of, variables_of, items_of, procedure_of, body_of, block_of}
+use Rattle.ob0_parse_descent.specs.Reading.{node, finish, Taken, FailsToRead}
+use Rattle.ob0_parse.specs.declared.own_block.OwnParts.{OwnParts}
+use Rattle.ob0_parse_descent.specs.declared.refusal.ParseRefusal.{ParseRefusal}
 
 -- the block of these procedures and other parts
 abbrev pub own_block_of : List Procedure → OwnParts → Tree ℕ block
@@ -22,3 +23,8 @@ own_block_of ps parts =
 abbrev pub ReadsOwn : List Procedure → List Token → ℕ → Result ℕ ParseRefusal → Type 0
 ReadsOwn ps ts at (Ok next) = Taken (items_of procedure_of ps) max_nesting ts at next
 ReadsOwn ps ts at (Err e) = FailsToRead (node (items procedure) max_nesting ∷ []) ts at e
+
+-- a module from the first token to the last
+abbrev pub ReadsModule : List Token → Result (ℕ × Block × ℕ) ParseRefusal → Type 0
+ReadsModule ts (Ok x) = Taken (is_module x.0 (block_of x.1) x.2) max_nesting ts 0 (length ts)
+ReadsModule ts (Err e) = FailsToRead (node module_text max_nesting ∷ finish ∷ []) ts 0 e

@@ -5,7 +5,7 @@ ghost use Rattle.ob0_scan.specs.Scanned.{Scanned};
 ghost use Rattle.ob0_tree.specs.Module.{ModuleOf};
 ghost use Rattle.ob0_tree.specs.Places.{lexemes};
 ghost use Rattle.ob0_tree.specs.Tree.{Tree, module_text};
-ghost use Rattle.ob0_parse.specs.Descent.{DescendsText, Done, OneStop};
+ghost use Rattle.ob0_parse_descent.specs.Descent.{DescendsText, Done, OneStop};
 ghost use Rattle.ob0_parse.specs.DescentExamples.{DeepRows, ExpectedRows};
 
 /// The tokens determine where the descent stops, and what it expects there.

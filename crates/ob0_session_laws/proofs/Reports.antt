@@ -23,8 +23,8 @@ use Rattle.ob0_tree.specs.Parsed.{tree_of, named_tree_of}
 use Rattle.ob0_tree.specs.Places.{named}
 use Rattle.ob0_tree.specs.Tree.{Tree, module_text, occurrences}
 use Rattle.ob0_parse.specs.RefusedBy.{NoneBegins, RefusedBy}
-use Rattle.ob0_parse.specs.declared.refusal.ParseRefusal.{ParseRefusal}
-use Rattle.ob0_parse.specs.declared.refusal.ParseRefusal.TheVariants.{Syntax, TooDeep, Memory}
+use Rattle.ob0_parse_descent.specs.declared.refusal.ParseRefusal.{ParseRefusal}
+use Rattle.ob0_parse_descent.specs.declared.refusal.ParseRefusal.TheVariants.{Syntax, TooDeep, Memory}
 use Rattle.ob0_scope_rules.specs.DeclaredTwice.{module_twice}
 use Rattle.ob0_scope_rules.specs.Occurrences.{bindings}
 use Rattle.ob0_scope_rules.specs.Parts.{module_block}

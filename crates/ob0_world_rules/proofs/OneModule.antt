@@ -17,7 +17,7 @@ use Rattle.ob0_tree.specs.Places.{lexemes, named}
 use Rattle.ob0_tree.specs.Tree.{Tree, module_text, identifiers}
 use Rattle.ob0_scope_rules.specs.Resolution.{span_at}
 use Rattle.ob0_scope_rules.specs.Scopes.{numbered}
-use Rattle.ob0_parse.proofs.Unique.{same}
+use Rattle.ob0_parse_descent.proofs.Unique.{same}
 use Rattle.ob0_edits.specs.Replaced.{parts}
 use Rattle.ob0_scope_rules.specs.Spans.{is_on}
 use Rattle.ob0_scope.specs.NamesAtPlaces.{BoundIdentifier, name_on, named_by}

@@ -6,7 +6,7 @@ use Rattle.ob0_tree.specs.Module.{ModuleOf}
 use Rattle.ob0_tree.specs.Tree.{Tree, module_text, spell}
 use Rattle.ob0_scope_rules.specs.Names.{Name}
 use Rattle.ob0_run_rules.specs.EditLaws.{SameRuns}
-use Rattle.ob0_parse.proofs.Unique.{same}
+use Rattle.ob0_parse_descent.proofs.Unique.{same}
 use Rattle.ob0_session_offers.specs.Diagnosed.{IsTextOf}
 use Rattle.ob0_session_offers.specs.RunsKept.{RunsAsBefore}
 use Rattle.ob0_session_offers.specs.Texts.{utf8}

@@ -1,4 +1,4 @@
-use Rattle.ob0_parse.proofs.Descent.{same_stop}
+use Rattle.ob0_parse_descent.proofs.Descent.{same_stop}
 use Rattle.ob0_parse.proofs.laws.one_stop.Goals as goal
 
 pub returns : goal.returns

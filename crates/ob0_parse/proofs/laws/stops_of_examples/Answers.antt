@@ -1,5 +1,5 @@
 use Rattle.std.proofs.Common.{refl}
-use Rattle.ob0_parse.proofs.Computed.{computed}
+use Rattle.ob0_parse_descent.proofs.Computed.{computed}
 use Rattle.ob0_parse.proofs.laws.stops_of_examples.Goals as goal
 
 pub returns-clause-expected : goal.returns-clause-expected

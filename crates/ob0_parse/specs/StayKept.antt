@@ -1,0 +1,19 @@
+-- What is kept after a parse.
+-- Rule: none; for contracts of `tree_after`.
+use Rattle.std.specs.Prelude.{ℕ, List, Result, Ok, Err}
+use Rattle.ob0_scan.specs.declared.lexeme.Token.{Token}
+use Rattle.ob0_parse_descent.specs.declared.refusal.ParseRefusal.{ParseRefusal}
+use Rattle.ob0_parse_descent.specs.declared.refusal.ParseRefusal.TheVariants.{Syntax, TooDeep, Memory}
+use Rattle.ob0_parse_kept.specs.KeptTokens.{AreKept}
+use Rattle.ob0_parse_kept.specs.declared.kept.Kept.{Kept}
+
+-- after this refusal all procedures that are kept are there, unless memory ran out
+abbrev pub StayRefused : List Token → Kept → ParseRefusal → Type 0
+StayRefused ts k (Syntax i expected) = AreKept ts k
+StayRefused ts k (TooDeep i) = AreKept ts k
+StayRefused ts k Memory = Unit {0}
+
+-- after a parse all procedures that are kept are there, unless memory ran out
+abbrev pub StayKept : {A : Type 0} → List Token → Kept → Result A ParseRefusal → Type 0
+StayKept ts k (Ok x) = AreKept ts k
+StayKept ts k (Err e) = StayRefused ts k e

@@ -1,0 +1,121 @@
+//! The module: its name, its own block, whose procedures may be kept ones, and its closing name.
+
+ghost use Rattle.std.specs.Prelude.{◌≡◌, ◌≤◌, length};
+ghost use Rattle.ob0_tree.specs.View.{block_of, procedure_of};
+ghost use Rattle.ob0_tree.specs.Module.{max_nesting};
+ghost use Rattle.ob0_parse_descent.specs.Reading.{Reads, ReadsItem};
+ghost use Rattle.ob0_parse_kept.specs.KeptTokens.{AreKept, Each, IsWaiting};
+ghost use Rattle.ob0_parse.specs.OwnBlock.{own_block_of, ReadsModule, ReadsOwn};
+ghost use Rattle.ob0_parse.specs.StayKept.{StayKept};
+
+use ob0_parse_descent::{Expected, ParseRefusal, Parsed, ParsedItem, Parser, add, missing};
+use ob0_parse_kept::{Kept, KeptProcedure, kept_at};
+use ob0_scan::{Reserved, Symbol};
+use ob0_tree::{Block, Constant, MAX_NESTING, Procedure, Statement, TypeDeclaration, Variables};
+use std::mem;
+
+/// The declarations and the body of a module. Its procedures are left with those that are kept.
+fn own_block(parser: &Parser<'_>, at: usize, kept: &mut Kept) -> Parsed<OwnParts>
+    requires at { at ≤ length parser.now.tokens.now }
+    requires kept { AreKept parser.now.tokens.now kept.old }
+    ensures read { Reads (own_block_of kept.new.made.items) max_nesting parser.now.tokens.now at
+        result }
+    ensures stay { StayKept parser.now.tokens.now kept.new result }
+{
+    let (constants, next) = parser.constants(at, MAX_NESTING)?;
+    let (types, next) = parser.types(next, MAX_NESTING)?;
+    let (variables, next) = parser.variables(next, MAX_NESTING)?;
+    let next = own_procedures(parser, next, kept)?;
+    let (body, next) = parser.body(next, MAX_NESTING)?;
+    Ok((
+        OwnParts {
+            constants,
+            types,
+            variables,
+            body,
+        },
+        next,
+    ))
+}
+
+/// `{procedure ";"}` of a module's own block. They are left with those that are kept.
+fn own_procedures(parser: &Parser<'_>, at: usize, kept: &mut Kept) -> Result<usize, ParseRefusal>
+    requires at { at ≤ length parser.now.tokens.now }
+    requires kept { AreKept parser.now.tokens.now kept.old }
+    ensures read { ReadsOwn kept.new.made.items parser.now.tokens.now at result }
+    ensures stay { StayKept parser.now.tokens.now kept.new result }
+{
+    kept.made.clear();
+    let mut next = at;
+    while let Some((procedure, end)) = own_procedure(parser, next, &mut kept.waiting)? {
+        add(&mut kept.made, procedure)?;
+        next = end;
+    }
+    Ok(next)
+}
+
+/// A procedure of a module's own block: the one that is kept, where one begins here, or else the one that is read.
+fn own_procedure(
+    parser: &Parser<'_>,
+    at: usize,
+    waiting: &mut Vec<KeptProcedure>,
+) -> ParsedItem<Procedure>
+    requires at { at ≤ length parser.now.tokens.now }
+    requires waiting { Each (IsWaiting parser.now.tokens.now) waiting.old.items }
+    ensures read { ReadsItem procedure_of max_nesting parser.now.tokens.now at result }
+    ensures waiting { Each (IsWaiting parser.now.tokens.now) waiting.new.items }
+{
+    match kept_at(waiting, at) {
+        Some(taken) => Ok(Some(taken)),
+        None => parser.procedure(at, MAX_NESTING),
+    }
+}
+
+/// The whole module: its name, its block and its closing name.
+pub(crate) fn module(
+    parser: &Parser<'_>,
+    kept: &mut Kept,
+) -> Result<(usize, Block, usize), ParseRefusal>
+    requires { AreKept parser.now.tokens.now kept.old }
+    ensures read { ReadsModule parser.now.tokens.now result }
+    ensures stay { StayKept parser.now.tokens.now kept.new result }
+{
+    let start = parser.expect_word(0, Reserved::Module)?;
+    let (name, next) = parser.identifier(start)?;
+    let inside = parser.expect_symbol(next, Symbol::Semicolon)?;
+    let (parts, next) = own_block(parser, inside, kept)?;
+    let last = parser.expect_word(next, Reserved::End)?;
+    let (closing, next) = parser.identifier(last)?;
+    let end = parser.expect_symbol(next, Symbol::Dot)?;
+    match parser.kind(end) {
+        Some(_) => missing(end, Expected::EndOfText),
+        None => {
+            let made = mem::replace(&mut kept.made, Vec::new(parser.alloc));
+            Ok((name, parts.with(made), closing))
+        }
+    }
+}
+
+/// The parts of a module's block apart from its procedures.
+#[derive(Drop)]
+struct OwnParts {
+    constants: Option<Vec<Constant>>,
+    types: Option<Vec<TypeDeclaration>>,
+    variables: Option<Vec<Variables>>,
+    body: Option<Vec<Statement>>,
+}
+
+impl OwnParts {
+    /// The block with these procedures.
+    fn with(self, procedures: Vec<Procedure>) -> Block
+        ensures { block_of result ≡ own_block_of procedures.items self }
+    {
+        Block {
+            constants: self.constants,
+            types: self.types,
+            variables: self.variables,
+            procedures,
+            body: self.body,
+        }
+    }
+}

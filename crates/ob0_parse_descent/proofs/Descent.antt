@@ -1,0 +1,149 @@
+-- The descent: one stop, and how it is read on.
+use Rattle.std.proofs.Common.{◌≡◌, ℕ, suc, ◌+◌, ◌<◌, Bool, true, false, Option, Some, None, List, [], ◌∷◌, ◌++◌, length, refl, sym, ◌∙◌, ap, subst, arith, eqb-true, eq-eqb, if◌then◌else◌}
+use Rattle.ob0_scan.specs.declared.lexeme.TokenKind.{TokenKind}
+use Rattle.ob0_scan.specs.declared.lexeme.Token.{Token}
+use Rattle.ob0_tree.specs.Lexeme.{Terminal, Name, Number, Mark}
+use Rattle.ob0_tree.specs.Tree.{Item, item, items, maybe, Sort}
+use Rattle.ob0_parse_descent.specs.Follow.{rank, item_rank, Starts}
+use Rattle.ob0_parse_descent.specs.Descent.{Part, token, name, number, node, parts, missing, too_deep, nested, is_next, chosen, IsPart, Stop, Expects, Descends, done, taken, other, made, absent, deep}
+use Rattle.ob0_parse_descent.specs.Reading.{rest, ReadAs}
+use Rattle.ob0_parse_descent.specs.declared.refusal.Expected.{Expected}
+
+-- one stop
+
+same_parts : {a b : List Part} → parts a ≡ parts b → a ≡ b
+same_parts e = cc
+
+same_missing : {a b : Expected} → missing a ≡ missing b → a ≡ b
+same_missing e = cc
+
+same_some : {a b : Expected} → Some a ≡ Some b → a ≡ b
+same_some e = cc
+
+none_some : {a : Expected} → ◌≡◌ {A = Option Expected} None (Some a) → ⊥
+none_some e = cc
+
+parts_missing : {a : List Part} {b : Expected} → parts a ≡ missing b → ⊥
+parts_missing e = cc
+
+parts_deep : {a : List Part} → parts a ≡ too_deep → ⊥
+parts_deep e = cc
+
+missing_deep : {a : Expected} → missing a ≡ too_deep → ⊥
+missing_deep e = cc
+
+pub same_stop : {ps : List Part} {i : ℕ} {tokens : List (Terminal ℕ)} {a b : Stop} → Descends ps i tokens a → Descends ps i tokens b → a ≡ b
+same_stop done done = refl
+same_stop (taken is p) (taken again q) = same_stop p q
+same_stop (taken is p) (other differs e) = absurd (differs is)
+same_stop (taken is p) (made qs c q) = absurd is
+same_stop (taken is p) (absent c) = absurd is
+same_stop (taken is p) (deep c) = absurd is
+same_stop (other differs e) (taken is q) = absurd (differs is)
+same_stop {i = i} (other differs e) (other again f) = ap (Expects i) (same_some (sym e ∙ f))
+same_stop (other differs e) (made qs c q) = absurd (none_some e)
+same_stop (other differs e) (absent c) = absurd (none_some e)
+same_stop (other differs e) (deep c) = absurd (none_some e)
+same_stop (made qs c p) (taken is q) = absurd is
+same_stop (made qs c p) (other differs e) = absurd (none_some e)
+same_stop {i = i} {tokens = tokens} {b = b} (made {ps = ps} qs c p) (made rs d q) = same_stop p (subst (λ l. Descends (l ++ ps) i tokens b) (same_parts (sym d ∙ c)) q)
+same_stop (made qs c p) (absent d) = absurd (parts_missing (sym c ∙ d))
+same_stop (made qs c p) (deep d) = absurd (parts_deep (sym c ∙ d))
+same_stop (absent c) (taken is q) = absurd is
+same_stop (absent c) (other differs e) = absurd (none_some e)
+same_stop (absent c) (made rs d q) = absurd (parts_missing (sym d ∙ c))
+same_stop {i = i} (absent c) (absent d) = ap (Expects i) (same_missing (sym c ∙ d))
+same_stop (absent c) (deep d) = absurd (missing_deep (sym c ∙ d))
+same_stop (deep c) (taken is q) = absurd is
+same_stop (deep c) (other differs e) = absurd (none_some e)
+same_stop (deep c) (made rs d q) = absurd (parts_deep (sym d ∙ c))
+same_stop (deep c) (absent d) = absurd (missing_deep (sym d ∙ c))
+same_stop (deep c) (deep d) = refl
+
+pub as_is : {qs : List Part} {ts : List Token} {at : ℕ} → ReadAs qs qs ts at at
+as_is = record { on = λ o more r. r }
+
+-- one part is read, and then those after it
+pub both : {p : Part} {qs rs : List Part} {ts : List Token} {a b c : ℕ} → ReadAs (p ∷ []) [] ts a b → ReadAs qs rs ts b c → ReadAs (p ∷ qs) rs ts a c
+both {qs = qs} p q = record { on = λ o more r. p.on o (qs ++ more) (q.on o more r) }
+
+-- what is read as other parts is read as those are
+pub by : {ps qs rs : List Part} {ts : List Token} {a b c : ℕ} → ReadAs ps qs ts a b → ReadAs qs rs ts b c → ReadAs ps rs ts a c
+by p q = record { on = λ o more r. p.on o more (q.on o more r) }
+
+-- one token is read
+
+read_part : {p : Part} {x : Terminal ℕ} {ts : List Token} {at next : ℕ} → IsPart p x → rest ts at ≡ x ∷ rest ts next → next ≡ at + 1 → ReadAs (p ∷ []) [] ts at next
+read_part {p = p} {ts = ts} {at = at} {next = next} is here following = record {
+  on = λ o ps r.
+      subst (λ w. Descends (p ∷ ps) at w o) (sym here) (taken is (subst (λ j. Descends ps j (rest ts next) o) following r));
+}
+
+pub read_token : {k : TokenKind} {ts : List Token} {at next : ℕ} → rest ts at ≡ Mark k ∷ rest ts next → next ≡ at + 1 → ReadAs (token k ∷ []) [] ts at next
+read_token here following = read_part refl here following
+
+pub read_name : {n : ℕ} {ts : List Token} {at next : ℕ} → rest ts at ≡ Name n ∷ rest ts next → next ≡ at + 1 → ReadAs (name ∷ []) [] ts at next
+read_name {n = n} here following = read_part (n, refl) here following
+
+pub read_number : {n : ℕ} {ts : List Token} {at next : ℕ} → rest ts at ≡ Number n ∷ rest ts next → next ≡ at + 1 → ReadAs (number ∷ []) [] ts at next
+read_number {n = n} here following = read_part (n, refl) here following
+
+-- a word or symbol, as the functions of the parser answer it
+pub read_mark : {k : TokenKind} {ts : List Token} {at next : ℕ} → (rest ts at ≡ Mark k ∷ rest ts next) × (at < length ts) × (next ≡ at + 1) → ReadAs (token k ∷ []) [] ts at next
+read_mark h = read_token h.0 h.2
+
+-- a construct is read by the production that is chosen here
+pub read_made : {s : Sort} {room : ℕ} {ts : List Token} {at : ℕ} {qs : List Part} → chosen s room (rest ts at) ≡ parts qs → ReadAs (node s room ∷ []) qs ts at at
+read_made {qs = qs} c = record { on = λ o more r. made qs c r }
+
+-- the production begins with this token
+pub read_led : {s : Sort} {room : ℕ} {k : TokenKind} {ts : List Token} {at : ℕ} (qs : List Part) → chosen s room (Mark k ∷ rest ts (at + 1)) ≡ parts (token k ∷ qs) → rest ts at ≡ Mark k ∷ rest ts (at + 1) → ReadAs (node s room ∷ []) qs ts at (at + 1)
+read_led {s = s} {room = room} {k = k} qs c here =
+    by (read_made (ap (λ w. chosen s room w) here ∙ c)) (both (read_token here refl) as_is)
+
+-- .. and the construct counts for nesting
+pub read_opened : {s : Sort} {room : ℕ} {k : TokenKind} {ts : List Token} {at : ℕ} (inner : ℕ) (f : ℕ → List Part) → chosen s room (Mark k ∷ rest ts (at + 1)) ≡ nested room (λ n. token k ∷ f n) → room ≡ inner + 1 → rest ts at ≡ Mark k ∷ rest ts (at + 1) → ReadAs (node s room ∷ []) (f inner) ts at (at + 1)
+read_opened {k = k} inner f c d here =
+    let one : inner + 1 ≡ suc inner = omega arith in
+    read_led (f inner) (c ∙ ap (λ n. nested n (λ m. token k ∷ f m)) (d ∙ one)) here
+
+-- an item is next, or isn't
+
+pub next_item : (i : Item) (w : List (Terminal ℕ)) → Starts (item_rank i) w → is_next i w ≡ true
+next_item i [] s = absurd s
+next_item i (x ∷ w) s = eq-eqb (rank x) (item_rank i) s
+
+pub no_next : (i : Item) (w : List (Terminal ℕ)) → ¬ Starts (item_rank i) w → (b : Bool) → is_next i w ≡ b → is_next i w ≡ false
+no_next i w lacks false e = e
+no_next i [] lacks true e = refl
+no_next i (x ∷ w) lacks true e = absurd (lacks (eqb-true (rank x) (item_rank i) e))
+
+pub read_more : {i : Item} {room : ℕ} {ts : List Token} {at : ℕ} → Starts (item_rank i) (rest ts at) → ReadAs (node (items i) room ∷ []) (node (item i) room ∷ node (items i) room ∷ []) ts at at
+read_more {i = i} {room = room} {ts = ts} {at = at} s = read_made (ap (λ b. if b then parts (node (item i) room ∷ node (items i) room ∷ []) else parts []) (next_item i (rest ts at) s))
+
+pub read_end : {i : Item} {room : ℕ} {ts : List Token} {at : ℕ} → ¬ Starts (item_rank i) (rest ts at) → ReadAs (node (items i) room ∷ []) [] ts at at
+read_end {i = i} {room = room} {ts = ts} {at = at} lacks = read_made (ap (λ b. if b then parts (node (item i) room ∷ node (items i) room ∷ []) else parts []) (no_next i (rest ts at) lacks _ refl))
+
+pub read_one : {i : Item} {room : ℕ} {ts : List Token} {at : ℕ} → Starts (item_rank i) (rest ts at) → ReadAs (node (maybe i) room ∷ []) (node (item i) room ∷ []) ts at at
+read_one {i = i} {room = room} {ts = ts} {at = at} s = read_made (ap (λ b. if b then parts (node (item i) room ∷ []) else parts []) (next_item i (rest ts at) s))
+
+pub read_none : {i : Item} {room : ℕ} {ts : List Token} {at : ℕ} → ¬ Starts (item_rank i) (rest ts at) → ReadAs (node (maybe i) room ∷ []) [] ts at at
+read_none {i = i} {room = room} {ts = ts} {at = at} lacks = read_made (ap (λ b. if b then parts (node (item i) room ∷ []) else parts []) (no_next i (rest ts at) lacks _ refl))
+
+-- what a construct is made of is read where the construct is
+pub unmade : {s : Sort} {room : ℕ} {qs ps : List Part} {i : ℕ} {tokens : List (Terminal ℕ)} {o : Stop} → chosen s room tokens ≡ parts qs → Descends (node s room ∷ ps) i tokens o → Descends (qs ++ ps) i tokens o
+unmade c (taken is r) = absurd is
+unmade c (other differs e) = absurd (none_some e)
+unmade {ps = ps} {i = i} {tokens = tokens} {o = o} c (made rs d r) = subst (λ l. Descends (l ++ ps) i tokens o) (same_parts (sym d ∙ c)) r
+unmade c (absent d) = absurd (parts_missing (sym c ∙ d))
+unmade c (deep d) = absurd (parts_deep (sym c ∙ d))
+
+pub read_back : {s : Sort} {room : ℕ} {qs rs : List Part} {ts : List Token} {at next : ℕ} → chosen s room (rest ts at) ≡ parts qs → ReadAs (node s room ∷ []) rs ts at next → ReadAs qs rs ts at next
+read_back c p = record { on = λ o more r. unmade c (p.on o more r) }
+
+pub past_name : {n i : ℕ} {ps : List Part} {xs w : List (Terminal ℕ)} {o : Stop} → xs ≡ Name n ∷ w → Descends (name ∷ ps) i xs o → Descends ps (i + 1) w o
+past_name {n} {i} {ps} {xs} {w} {o} e r = following (subst (λ y. Descends (name ∷ ps) i y o) e r)
+  where
+    following : {n i : ℕ} {ps : List Part} {w : List (Terminal ℕ)} {o : Stop} → Descends (name ∷ ps) i (Name n ∷ w) o → Descends ps (i + 1) w o
+    following (taken is r) = r
+    following {n = n} (other differs e) = absurd (differs (n, refl))

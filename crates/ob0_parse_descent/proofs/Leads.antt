@@ -1,0 +1,161 @@
+-- Where a rank has one token only: what is, or doesn't, by that token.
+use Rattle.std.proofs.Common.{◌≡◌, ℕ, ◌+◌, ◌≤◌, ◌<◌, ◌++◌, ◌==◌, Option, Some, None, List, [], ◌∷◌, length, refl, sym, ◌∙◌, ap, subst, arith, if◌then◌else◌}
+use Rattle.ob0_scan.specs.declared.lexeme.TokenKind.{TokenKind}
+use Rattle.ob0_scan.specs.declared.lexeme.TokenKind.TheVariants as kind
+use Rattle.ob0_scan.specs.declared.lexeme.Reserved.TheVariants as reserved
+use Rattle.ob0_scan.specs.declared.lexeme.Symbol.TheVariants as symbol
+use Rattle.ob0_scan.specs.declared.lexeme.Token.{Token}
+use Rattle.ob0_tree.specs.Lexeme.{Terminal, Name, Number, Mark, EndOfText}
+use Rattle.ob0_parse_descent.specs.declared.refusal.Expected.{Expected}
+use Rattle.ob0_parse_descent.specs.declared.refusal.ParseRefusal.TheVariants.{Syntax}
+use Rattle.ob0_tree.specs.Tree.{Sort, Tree, spell}
+use Rattle.ob0_parse_descent.specs.Follow.{rank, kind_rank, level, Starts, Stops}
+use Rattle.ob0_parse_descent.proofs.Unique.{same}
+use Rattle.ob0_parse_descent.specs.Reading.{rest, Part, token, name, Begins, StopsIn, FailsToRead, Other, NoName}
+use Rattle.ob0_parse_descent.specs.Descent.{IsPart, expected_part, Expects, Descends, other}
+use Rattle.ob0_parse_descent.specs.declared.refusal.Expected.TheVariants as expected
+use Rattle.ob0_parse_descent.proofs.Refusals.{at_once}
+
+-- the only token of a rank
+abbrev pub leader : ℕ → Option TokenKind
+leader r =
+    if r == 5 then Some (kind.Symbol symbol.Comma) else
+    if r == 6 then Some (kind.Symbol symbol.LeftParen) else
+    if r == 9 then Some (kind.Symbol symbol.Semicolon) else
+    if r == 10 then Some (kind.Reserved reserved.Elsif) else
+    if r == 11 then Some (kind.Reserved reserved.Else) else
+    if r == 12 then Some (kind.Reserved reserved.Const) else
+    if r == 13 then Some (kind.Reserved reserved.Type) else
+    if r == 14 then Some (kind.Reserved reserved.Var) else
+    if r == 15 then Some (kind.Reserved reserved.Procedure) else
+    if r == 16 then Some (kind.Reserved reserved.Begin) else None
+
+leads : (k j : TokenKind) → leader (kind_rank k) ≡ Some j → k ≡ j
+leads kind.Identifier j e = cc
+leads (kind.Integer _) j e = cc
+leads (kind.Reserved reserved.Module) j e = cc
+leads (kind.Reserved reserved.Begin) j e = cc
+leads (kind.Reserved reserved.End) j e = cc
+leads (kind.Reserved reserved.Const) j e = cc
+leads (kind.Reserved reserved.Type) j e = cc
+leads (kind.Reserved reserved.Var) j e = cc
+leads (kind.Reserved reserved.Procedure) j e = cc
+leads (kind.Reserved reserved.If) j e = cc
+leads (kind.Reserved reserved.Then) j e = cc
+leads (kind.Reserved reserved.Elsif) j e = cc
+leads (kind.Reserved reserved.Else) j e = cc
+leads (kind.Reserved reserved.While) j e = cc
+leads (kind.Reserved reserved.Do) j e = cc
+leads (kind.Reserved reserved.Array) j e = cc
+leads (kind.Reserved reserved.Of) j e = cc
+leads (kind.Reserved reserved.Record) j e = cc
+leads (kind.Reserved reserved.Div) j e = cc
+leads (kind.Reserved reserved.Mod) j e = cc
+leads (kind.Reserved reserved.Or) j e = cc
+leads (kind.Reserved reserved.Repeat) j e = cc
+leads (kind.Reserved reserved.Until) j e = cc
+leads (kind.Symbol symbol.And) j e = cc
+leads (kind.Symbol symbol.Times) j e = cc
+leads (kind.Symbol symbol.Plus) j e = cc
+leads (kind.Symbol symbol.Minus) j e = cc
+leads (kind.Symbol symbol.Equal) j e = cc
+leads (kind.Symbol symbol.NotEqual) j e = cc
+leads (kind.Symbol symbol.Less) j e = cc
+leads (kind.Symbol symbol.LessEqual) j e = cc
+leads (kind.Symbol symbol.Greater) j e = cc
+leads (kind.Symbol symbol.GreaterEqual) j e = cc
+leads (kind.Symbol symbol.Not) j e = cc
+leads (kind.Symbol symbol.Dot) j e = cc
+leads (kind.Symbol symbol.Comma) j e = cc
+leads (kind.Symbol symbol.Semicolon) j e = cc
+leads (kind.Symbol symbol.Colon) j e = cc
+leads (kind.Symbol symbol.Becomes) j e = cc
+leads (kind.Symbol symbol.LeftParen) j e = cc
+leads (kind.Symbol symbol.RightParen) j e = cc
+leads (kind.Symbol symbol.LeftBracket) j e = cc
+leads (kind.Symbol symbol.RightBracket) j e = cc
+
+led : (x : Terminal ℕ) (j : TokenKind) → leader (rank x) ≡ Some j → x ≡ Mark j
+led (Name n) j e = cc
+led (Number n) j e = cc
+led (Mark k) j e = ap Mark (leads k j e)
+led EndOfText j e = cc
+
+-- another token is where the item's would
+pub no_item : {k : TokenKind} {ts : List Token} {at : ℕ} (r : ℕ) → leader r ≡ Some k → Other (Mark k) ts at → ¬ Starts r (rest ts at)
+no_item {k = k} {ts = ts} {at = at} r is o s =
+    let t : rank o.fault ≡ r = subst (λ y. Starts r y) o.here s in
+    o.differs (led o.fault k (ap leader t ∙ is))
+
+pub no_named_item : {ts : List Token} {at : ℕ} → NoName ts at → ¬ Starts 7 (rest ts at)
+no_named_item {ts = ts} {at = at} o s = o.ranked (subst (λ y. Starts 7 y) o.here s)
+
+-- the first token is the fault
+pub fails_here : {ps : List Part} {ts : List Token} {at : ℕ} {e : Expected} (x : Terminal ℕ) → at ≤ length ts → rest ts at ≡ x ∷ rest ts (at + 1) → StopsIn ps ts at (Expects at e) → ((u : List (Terminal ℕ)) → Begins ps (x ∷ u) → ⊥) → FailsToRead ps ts at (Syntax at e)
+fails_here x l here reads never = record { why = (l, at_once here never); reads = reads }
+
+-- another token than this part
+pub stops_here : {p : Part} {x : Terminal ℕ} {e : Expected} (ts : List Token) (at : ℕ) → rest ts at ≡ x ∷ rest ts (at + 1) → ¬ IsPart p x → expected_part p ≡ Some e → StopsIn (p ∷ []) ts at (Expects at e)
+stops_here {p = p} {e = e} ts at here differs is more = subst (λ w. Descends (p ∷ more) at w (Expects at e)) (sym here) (other differs is)
+
+pub fails_token : {k : TokenKind} {ts : List Token} {at : ℕ} → Other (Mark k) ts at → FailsToRead (token k ∷ []) ts at (Syntax at (expected.Token k))
+fails_token o = fails_here o.fault o.within o.here (stops_here _ _ o.here o.differs refl) (λ u b. o.differs (cc (b.1)))
+
+pub fails_name : {ts : List Token} {at : ℕ} → NoName ts at → FailsToRead (name ∷ []) ts at (Syntax at expected.Identifier)
+fails_name o = fails_here o.fault o.within o.here (stops_here _ _ o.here (λ p. o.ranked (ap rank p.1)) refl) (λ u b. let is : o.fault ≡ Name b.0 = cc (b.2) in o.ranked (ap rank is))
+
+positive : (x : Terminal ℕ) → 0 < rank x
+positive (Name n) = omega arith
+positive (Number n) = omega arith
+positive EndOfText = omega arith
+positive (Mark kind.Identifier) = omega arith
+positive (Mark (kind.Integer _)) = omega arith
+positive (Mark (kind.Reserved reserved.Module)) = omega arith
+positive (Mark (kind.Reserved reserved.Begin)) = omega arith
+positive (Mark (kind.Reserved reserved.End)) = omega arith
+positive (Mark (kind.Reserved reserved.Const)) = omega arith
+positive (Mark (kind.Reserved reserved.Type)) = omega arith
+positive (Mark (kind.Reserved reserved.Var)) = omega arith
+positive (Mark (kind.Reserved reserved.Procedure)) = omega arith
+positive (Mark (kind.Reserved reserved.If)) = omega arith
+positive (Mark (kind.Reserved reserved.Then)) = omega arith
+positive (Mark (kind.Reserved reserved.Elsif)) = omega arith
+positive (Mark (kind.Reserved reserved.Else)) = omega arith
+positive (Mark (kind.Reserved reserved.While)) = omega arith
+positive (Mark (kind.Reserved reserved.Do)) = omega arith
+positive (Mark (kind.Reserved reserved.Array)) = omega arith
+positive (Mark (kind.Reserved reserved.Of)) = omega arith
+positive (Mark (kind.Reserved reserved.Record)) = omega arith
+positive (Mark (kind.Reserved reserved.Div)) = omega arith
+positive (Mark (kind.Reserved reserved.Mod)) = omega arith
+positive (Mark (kind.Reserved reserved.Or)) = omega arith
+positive (Mark (kind.Reserved reserved.Repeat)) = omega arith
+positive (Mark (kind.Reserved reserved.Until)) = omega arith
+positive (Mark (kind.Symbol symbol.And)) = omega arith
+positive (Mark (kind.Symbol symbol.Times)) = omega arith
+positive (Mark (kind.Symbol symbol.Plus)) = omega arith
+positive (Mark (kind.Symbol symbol.Minus)) = omega arith
+positive (Mark (kind.Symbol symbol.Equal)) = omega arith
+positive (Mark (kind.Symbol symbol.NotEqual)) = omega arith
+positive (Mark (kind.Symbol symbol.Less)) = omega arith
+positive (Mark (kind.Symbol symbol.LessEqual)) = omega arith
+positive (Mark (kind.Symbol symbol.Greater)) = omega arith
+positive (Mark (kind.Symbol symbol.GreaterEqual)) = omega arith
+positive (Mark (kind.Symbol symbol.Not)) = omega arith
+positive (Mark (kind.Symbol symbol.Dot)) = omega arith
+positive (Mark (kind.Symbol symbol.Comma)) = omega arith
+positive (Mark (kind.Symbol symbol.Semicolon)) = omega arith
+positive (Mark (kind.Symbol symbol.Colon)) = omega arith
+positive (Mark (kind.Symbol symbol.Becomes)) = omega arith
+positive (Mark (kind.Symbol symbol.LeftParen)) = omega arith
+positive (Mark (kind.Symbol symbol.RightParen)) = omega arith
+positive (Mark (kind.Symbol symbol.LeftBracket)) = omega arith
+positive (Mark (kind.Symbol symbol.RightBracket)) = omega arith
+
+-- nothing goes on what is of level 0
+pub stops_zero : (x : List (Terminal ℕ)) → Stops 0 x
+stops_zero [] = tt
+stops_zero (c ∷ x) = positive c
+
+pub only_zero : {s : Sort} (t u : Tree ℕ s) (z w : List (Terminal ℕ)) → level s ≡ 0 → Stops (level s) z → spell u ++ z ≡ spell t ++ w → (u ≡ t) × (z ≡ w)
+only_zero t u z w is p e = same u t z w p (subst (λ n. Stops n w) (sym is) (stops_zero w)) e

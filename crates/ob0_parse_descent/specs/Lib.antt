@@ -1,0 +1,4 @@
+pub mod Follow
+pub mod Descent
+pub mod Reading
+pub mod ExpectedText

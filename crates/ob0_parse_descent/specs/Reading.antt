@@ -1,0 +1,244 @@
+-- What each function of the parser promises: what it took from the tokens, or why no tree begins with them.
+-- Rule: none; for private contracts of the parser.
+use Rattle.std.specs.declared.vec.Vec.{Vec}
+use Rattle.std.specs.declared.alloc.Global.{Global}
+use Rattle.std.specs.Prelude.{◌≡◌, ℕ, ◌+◌, ◌<◌, ◌≤◌, List, [], ◌∷◌, ◌++◌, Option, Some, None, IfNone, Result, Ok, Err, length, drop, ◌≢◌, Bool, true, false}
+use Rattle.ob0_scan.specs.declared.lexeme.TokenKind.{TokenKind}
+use Rattle.ob0_scan.specs.declared.lexeme.TokenKind.TheVariants as kind
+use Rattle.ob0_scan.specs.declared.lexeme.Symbol.TheVariants as symbol
+use Rattle.ob0_scan.specs.declared.lexeme.Token.{Token}
+use Rattle.ob0_tree.specs.Lexeme.{Terminal, Name, Number, Mark, EndOfText, sign_marks}
+use Rattle.ob0_tree.specs.declared.tree.Sign.{Sign}
+use Rattle.ob0_tree.specs.declared.tree.Designator.{Designator}
+use Rattle.ob0_tree.specs.declared.tree.Names.{Names}
+use Rattle.ob0_tree.specs.declared.tree.WrittenType.{WrittenType}
+use Rattle.ob0_scan.specs.declared.lexeme.Reserved.TheVariants as reserved
+use Rattle.ob0_tree.specs.Tree.{Item, Sort, item, items, selector, factor, names, written_type, Tree, designator, some_fields, spell, nesting}
+use Rattle.ob0_tree.specs.Places.{lexeme_of, lexemes}
+use Rattle.ob0_tree.specs.View.{items_of, selector_of, names_of, type_of}
+pub use Rattle.ob0_parse_descent.specs.Descent.{Part, token, name, number, node, finish}
+use Rattle.ob0_parse_descent.specs.Descent.{Stop, Expects, Deep, Descends, is_section_next}
+use Rattle.ob0_parse_descent.specs.Follow.{rank, kind_rank, item_rank, level, Stops, Starts}
+use Rattle.ob0_parse_descent.specs.declared.refusal.ParseRefusal.{ParseRefusal}
+use Rattle.ob0_parse_descent.specs.declared.refusal.ParseRefusal.TheVariants.{Syntax, TooDeep, Memory}
+
+-- the token at an index, where none means the end
+abbrev pub lexeme_at : ℕ → Option TokenKind → Terminal ℕ
+lexeme_at i None = EndOfText
+lexeme_at i (Some k) = lexeme_of i k
+
+-- what is left to read
+unfoldable pub rest : List Token → ℕ → List (Terminal ℕ)
+rest ts i = drop i (lexemes ts)
+
+-- the tokens begin with these parts, and each tree among them ends where it must
+abbrev pub Begins : List Part → List (Terminal ℕ) → Type 0
+Begins [] w = Unit {0}
+Begins (token k ∷ ps) w = (z : List (Terminal ℕ)) × (w ≡ Mark k ∷ z) × Begins ps z
+Begins (name ∷ ps) w = (n : ℕ) × (z : List (Terminal ℕ)) × (w ≡ Name n ∷ z) × Begins ps z
+Begins (number ∷ ps) w = (n : ℕ) × (z : List (Terminal ℕ)) × (w ≡ Number n ∷ z) × Begins ps z
+Begins (node s room ∷ ps) w =
+    (t : Tree ℕ s)
+    × (z : List (Terminal ℕ))
+    × (w ≡ spell t ++ z)
+    × (nesting t ≤ room)
+    × Stops (level s) z
+    × Begins ps z
+Begins (finish ∷ ps) w = (z : List (Terminal ℕ)) × (w ≡ EndOfText ∷ z) × Begins ps z
+
+-- The parts cannot begin so: nothing that begins with the tokens before after begins with them.
+pub record Refused (parts : List Part) (tokens after : List (Terminal ℕ)) : Type 0 where
+  pub passed : List (Terminal ℕ)
+  pub fault : Terminal ℕ
+  pub here : tokens ≡ passed ++ (fault ∷ after)
+  pub never : (unseen : List (Terminal ℕ)) → Begins parts (passed ++ (fault ∷ unseen)) → ⊥
+
+-- two lists begin with the same token
+pub record SameHead (xs w : List (Terminal ℕ)) : Type 0 where
+  pub head : Terminal ℕ
+  pub following : List (Terminal ℕ)
+  pub other : List (Terminal ℕ)
+  pub is : xs ≡ head ∷ following
+  pub alike : w ≡ head ∷ other
+
+-- To read these parts from one index on is to read the parts after from the next, whatever follows them.
+pub record ReadAs (ps following : List Part) (ts : List Token) (at next : ℕ) : Type 0 where
+  pub on : (o : Stop) (more : List Part)
+      → Descends (following ++ more) next (rest ts next) o
+      → Descends (ps ++ more) at (rest ts at) o
+
+-- The tokens from one index to another are this tree's. They and the next token leave no other tree here.
+pub record Taken {s : Sort} (t : Tree ℕ s) (room : ℕ) (ts : List Token) (at next : ℕ) : Type 0 where
+  pub spelled : rest ts at ≡ spell t ++ rest ts next
+  pub shallow : nesting t ≤ room
+  pub only : (u : Tree ℕ s) (z w : List (Terminal ℕ))
+      → SameHead (rest ts next) w
+      → Stops (level s) z
+      → spell u ++ z ≡ spell t ++ w
+      → (u ≡ t) × (z ≡ w)
+  pub reads : ReadAs (node s room ∷ []) [] ts at next
+  pub within : next ≤ length ts
+  pub forward : at ≤ next
+
+-- Why something was refused. Nothing is said of out of memory.
+abbrev pub Why : List Part → List Token → ℕ → ParseRefusal → Type 0
+Why parts ts at (Syntax i expected) = (i ≤ length ts) × Refused parts (rest ts at) (rest ts (i + 1))
+Why parts ts at (TooDeep i) = (i ≤ length ts) × Refused parts (rest ts at) (rest ts (i + 1))
+Why parts ts at Memory = Unit {0}
+
+-- the descent over the parts stops there, whatever follows them
+abbrev pub StopsIn : List Part → List Token → ℕ → Stop → Type 0
+StopsIn parts ts at o = (more : List Part) → Descends (parts ++ more) at (rest ts at) o
+
+-- the descent over these parts stops as the refusal says
+abbrev pub StopsBy : List Part → List Token → ℕ → ParseRefusal → Type 0
+StopsBy parts ts at (Syntax i expected) = StopsIn parts ts at (Expects i expected)
+StopsBy parts ts at (TooDeep i) = StopsIn parts ts at (Deep i)
+StopsBy parts ts at Memory = Unit {0}
+
+-- no tree begins so with these parts, and the descent over them stops there
+pub record FailsToRead
+    (parts : List Part) (ts : List Token) (at : ℕ) (e : ParseRefusal) : Type 0 where
+  pub why : Why parts ts at e
+  pub reads : StopsBy parts ts at e
+
+-- what a function of the parser answers for a sort, from a token on
+abbrev pub Reads : {A : Type 0} {s : Sort}
+    → (A → Tree ℕ s)
+    → ℕ
+    → List Token
+    → ℕ
+    → Result (A × ℕ) ParseRefusal
+    → Type 0
+Reads view room ts at (Ok x) = Taken (view x.0) room ts at x.1
+Reads {s = s} view room ts at (Err e) = FailsToRead (node s room ∷ []) ts at e
+
+-- another token than this one
+pub record Other (x : Terminal ℕ) (ts : List Token) (at : ℕ) : Type 0 where
+  pub fault : Terminal ℕ
+  pub here : rest ts at ≡ fault ∷ rest ts (at + 1)
+  pub differs : fault ≢ x
+  pub within : at ≤ length ts
+
+-- another token than an identifier
+pub record NoName (ts : List Token) (at : ℕ) : Type 0 where
+  pub fault : Terminal ℕ
+  pub here : rest ts at ≡ fault ∷ rest ts (at + 1)
+  pub ranked : rank fault ≢ 7
+  pub within : at ≤ length ts
+
+-- whether a reserved word or symbol is here
+abbrev pub TokenIs : TokenKind → List Token → ℕ → Bool → Type 0
+TokenIs k ts at true = (rest ts at ≡ Mark k ∷ rest ts (at + 1)) × (at < length ts)
+TokenIs k ts at false = Other (Mark k) ts at
+
+-- whether an identifier is here
+abbrev pub NameIs : List Token → ℕ → Bool → Type 0
+NameIs ts at true = (rest ts at ≡ Name at ∷ rest ts (at + 1)) × (at < length ts)
+NameIs ts at false = NoName ts at
+
+-- a reserved word or symbol at this place, and the index after it
+abbrev pub ReadsToken : TokenKind → List Token → ℕ → Result ℕ ParseRefusal → Type 0
+ReadsToken k ts at (Ok next) =
+    (rest ts at ≡ Mark k ∷ rest ts next) × (at < length ts) × (next ≡ at + 1)
+ReadsToken k ts at (Err e) = FailsToRead (token k ∷ []) ts at e
+
+-- an identifier is read, or it is missing
+abbrev pub ReadsName : List Token → ℕ → Result (ℕ × ℕ) ParseRefusal → Type 0
+ReadsName ts at (Ok x) =
+    (rest ts at ≡ Name at ∷ rest ts x.1) × (at < length ts) × (x.0 ≡ at) × (x.1 ≡ at + 1)
+ReadsName ts at (Err e) = FailsToRead (name ∷ []) ts at e
+
+-- one level less, or too deep where none is left
+abbrev pub Opens : ℕ → ℕ → Result ℕ ParseRefusal → Type 0
+Opens at room (Ok inner) = room ≡ inner + 1
+Opens at room (Err e) = (room ≡ 0) × (e ≡ TooDeep at)
+
+-- a factor of one token, and no token of this level or below is next
+pub record IsLone (level : ℕ) (f : Tree ℕ factor) (ts : List Token) (at : ℕ) : Type 0 where
+  pub taken : (room : ℕ) → Taken f room ts at (at + 1)
+  pub stops : Stops level (rest ts (at + 1))
+
+-- an item is here, and is refused
+pub record ItemFails
+    (i : Item) (room : ℕ) (ts : List Token) (at : ℕ) (e : ParseRefusal) : Type 0 where
+  pub is_here : Starts (item_rank i) (rest ts at)
+  pub fails : FailsToRead (node (item i) room ∷ []) ts at e
+
+-- an item that need not be there
+abbrev pub ReadsItem : {A : Type 0} {i : Item}
+    → (A → Tree ℕ (item i))
+    → ℕ
+    → List Token
+    → ℕ
+    → Result (Option (A × ℕ)) ParseRefusal
+    → Type 0
+ReadsItem {i = i} view room ts at (Ok None) = ¬ Starts (item_rank i) (rest ts at)
+ReadsItem view room ts at (Ok (Some x)) = Taken (view x.0) room ts at x.1 × (at < x.1)
+ReadsItem {i = i} view room ts at (Err e) = ItemFails i room ts at e
+
+-- the first token isn't a sign
+pub record Unsigned (w : List (Terminal ℕ)) : Type 0 where
+  pub plus : (z : List (Terminal ℕ)) → w ≡ Mark (kind.Symbol symbol.Plus) ∷ z → ⊥
+  pub minus : (z : List (Terminal ℕ)) → w ≡ Mark (kind.Symbol symbol.Minus) ∷ z → ⊥
+
+-- a sign where there is one, and else no sign
+pub record SignTaken (ts : List Token) (at : ℕ) (sign : Option Sign) (next : ℕ) : Type 0 where
+  pub spelled : rest ts at ≡ sign_marks sign ++ rest ts next
+  pub forward : at ≤ next
+  pub within : next ≤ length ts
+  pub unsigned : IfNone sign (Unsigned (rest ts at))
+  pub counted : next ≡ at + length (sign_marks {N = ℕ} sign)
+
+-- a name with its selectors, as the factor that it is alone; no selector is next
+abbrev pub ReadsDesignator : ℕ → List Token → ℕ → Result (Designator × ℕ) ParseRefusal → Type 0
+ReadsDesignator room ts at (Ok x) =
+    Taken (designator x.0.name (items_of selector_of x.0.selectors.items)) room ts at x.1
+    × ¬ Starts 1 (rest ts x.1)
+ReadsDesignator room ts at (Err e) = FailsToRead (name ∷ node (items selector) room ∷ []) ts at e
+
+-- the operator that a token is, where tokens of its rank are operators
+abbrev pub IsMarkOf : {A : Type 0} → (A → TokenKind) → ℕ → TokenKind → Option A → Type 0
+IsMarkOf mark r k (Some a) = k ≡ mark a
+IsMarkOf mark r k None = kind_rank k ≢ r
+
+-- Elements with something between them: the first, and the further ones. All were taken from one index to another.
+pub record ListRead
+    {A : Type 0} {s : Sort} {i : Item} (view : A → Tree ℕ s) (further : A → Tree ℕ (item i))
+    (xs : List A) (room : ℕ) (ts : List Token) (at next : ℕ) : Type 0 where
+  pub first : A
+  pub others : List A
+  pub is : xs ≡ first ∷ others
+  pub middle : ℕ
+  pub head : Taken (view first) room ts at middle
+  pub tail : Taken (items_of further others) room ts middle next
+
+-- one or more elements, that need not be a nonterminal of their own
+abbrev pub ReadsList : {A : Type 0} {s : Sort} {i : Item}
+    → (A → Tree ℕ s)
+    → (A → Tree ℕ (item i))
+    → ℕ
+    → List Token
+    → ℕ
+    → Result (Vec A Global × ℕ) ParseRefusal
+    → Type 0
+ReadsList view further room ts at (Ok x) = ListRead view further x.0.items room ts at x.1
+ReadsList {s = s} {i = i} view further room ts at (Err e) =
+    FailsToRead (node s room ∷ node (items i) room ∷ []) ts at e
+
+-- names, a colon and a type: the tokens of one group of fields
+abbrev pub ReadsTyped : ℕ
+    → List Token
+    → ℕ
+    → Result ((Names × WrittenType) × ℕ) ParseRefusal
+    → Type 0
+ReadsTyped room ts at (Ok x) = Taken (some_fields (names_of x.0.0) (type_of x.0.1)) room ts at x.1
+ReadsTyped room ts at (Err e) =
+    FailsToRead (node names 0 ∷ token (kind.Symbol symbol.Colon) ∷ node written_type room ∷ []) ts
+    at e
+
+-- whether formal parameters may begin here, or a `)` must be
+abbrev pub SectionMayBegin : List Token → ℕ → Bool → Type 0
+SectionMayBegin ts at true =
+    Other (Mark (kind.Symbol symbol.RightParen)) ts at × (is_section_next (rest ts at) ≡ true)
+SectionMayBegin ts at false = NoName ts at × Other (Mark (kind.Reserved reserved.Var)) ts at

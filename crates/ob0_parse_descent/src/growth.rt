@@ -1,0 +1,22 @@
+//! Lists that grow from room for one item.
+
+ghost use Rattle.std.specs.Prelude.{◌≡◌, ◌≤◌, ◌++◌, ◌∷◌, [], OnOk};
+
+use std::alloc::AllocError;
+
+/// Puts an item after the others. Most lists of a tree hold one item, so there is room for 1, 2, 4, 8 and so on.
+pub fn add<T: Drop>(list: &mut Vec<T>, item: T) -> Result<(), AllocError>
+    ensures { OnOk result (list.new.items ≡ list.old.items ++ item ∷ []) }
+{
+    let room = room_to_add(list.len(), list.capacity());
+    list.reserve_exact(room)?;
+    list.push_reserved(item);
+    Ok(())
+}
+
+/// For how many items there must be room where one is added: as many again where there is none.
+fn room_to_add(len: usize, capacity: usize) -> usize
+    ensures { 1 ≤ result }
+{
+    if len < capacity || len == 0 { 1 } else { len }
+}

@@ -1,0 +1,524 @@
+//! Recursive descent, one function for each production. Each is given where it begins and how many levels of
+//! nesting are left, and answers what it made with the index of the token after it.
+
+ghost use Rattle.std.specs.Prelude.{true, ◌≡◌, ◌+◌, ◌<◌, ◌≤◌, ◌∷◌, length, IfSome, IfNone, IfOk};
+ghost use Rattle.ob0_scan.specs.declared.lexeme.TokenKind.TheVariants as kind;
+ghost use Rattle.ob0_scan.specs.declared.lexeme.Symbol.TheVariants as symbol;
+ghost use Rattle.ob0_tree.specs.Lexeme.{add_mark, multiply_mark, relation_mark};
+ghost use Rattle.ob0_tree.specs.Tree.{then_name, compares, none};
+ghost use Rattle.ob0_tree.specs.View.{names_of, expression_of, comparison_of, simple_of, addend_of, term_of, multiplier_of, factor_of, selector_of};
+ghost use Rattle.ob0_parse_descent.specs.Follow.{binding};
+ghost use Rattle.ob0_parse_descent.specs.Reading.{lexeme_at, rest, Reads, ReadsItem, ReadsToken, ReadsName, TokenIs, NameIs, SignTaken, ReadsDesignator, IsMarkOf, IsLone, Opens};
+ghost use Rattle.ob0_parse_descent.specs.declared.refusal.ParseRefusal.TheVariants.{Syntax};
+
+use crate::growth::add;
+use crate::refusal::{Expected, ParseRefusal};
+use ob0_scan::{Reserved, Symbol, Token, TokenKind};
+use ob0_tree::{
+    AddOperator, Addend, Comparison, Compound, Designator, Expression, Factor, Multiplier,
+    MultiplyOperator, Names, Relation, Selector, Sign, Simple, Term,
+};
+use std::alloc::{AllocError, Global};
+
+/// What was made, and the index of the token after it.
+pub type Parsed<T> = Result<(T, usize), ParseRefusal>;
+
+/// The same of an item, which need not be there.
+pub type ParsedItem<T> = Result<Option<(T, usize)>, ParseRefusal>;
+
+/// The tokens that are read, and where what is built gets its memory.
+#[derive(Clone, Copy)]
+pub struct Parser<'t> {
+    pub alloc: Global,
+    pub tokens: &'t [Token],
+}
+
+impl<'t> Parser<'t> {
+    /// The kind of the token at an index, or none at the end.
+    pub fn kind(&self, at: usize) -> Option<TokenKind>
+        requires { at ≤ length self.now.tokens.now }
+        ensures here { rest self.now.tokens.now at
+            ≡ lexeme_at at result ∷ rest self.now.tokens.now (at + 1) }
+        ensures within { IfSome result (λ _. at < length self.now.tokens.now) }
+        ensures end { IfNone result (at ≡ length self.now.tokens.now) }
+    {
+        if at < self.tokens.len() {
+            Some(self.tokens[at].kind)
+        } else {
+            None
+        }
+    }
+
+    /// Whether this reserved word is here.
+    pub(crate) fn at_word(&self, at: usize, word: Reserved) -> bool
+        requires { at ≤ length self.now.tokens.now }
+        ensures { TokenIs (kind.Reserved word) self.now.tokens.now at result }
+    {
+        self.kind(at) == Some(TokenKind::Reserved(word))
+    }
+
+    /// Whether this symbol is here.
+    pub(crate) fn at_symbol(&self, at: usize, symbol: Symbol) -> bool
+        requires { at ≤ length self.now.tokens.now }
+        ensures { TokenIs (kind.Symbol symbol) self.now.tokens.now at result }
+    {
+        self.kind(at) == Some(TokenKind::Symbol(symbol))
+    }
+
+    /// A reserved word: the index after it.
+    pub fn expect_word(&self, at: usize, word: Reserved) -> Result<usize, ParseRefusal>
+        requires { at ≤ length self.now.tokens.now }
+        ensures { ReadsToken (kind.Reserved word) self.now.tokens.now at result }
+    {
+        if self.at_word(at, word) {
+            Ok(at + 1)
+        } else {
+            missing(at, Expected::Token(TokenKind::Reserved(word)))
+        }
+    }
+
+    /// A symbol: the index after it.
+    pub fn expect_symbol(&self, at: usize, symbol: Symbol) -> Result<usize, ParseRefusal>
+        requires { at ≤ length self.now.tokens.now }
+        ensures { ReadsToken (kind.Symbol symbol) self.now.tokens.now at result }
+    {
+        if self.at_symbol(at, symbol) {
+            Ok(at + 1)
+        } else {
+            missing(at, Expected::Token(TokenKind::Symbol(symbol)))
+        }
+    }
+
+    /// An identifier: the index of its token.
+    pub fn identifier(&self, at: usize) -> Parsed<usize>
+        requires { at ≤ length self.now.tokens.now }
+        ensures { ReadsName self.now.tokens.now at result }
+    {
+        if self.at_name(at) {
+            Ok((at, at + 1))
+        } else {
+            missing(at, Expected::Identifier)
+        }
+    }
+
+    /// Whether an identifier is here.
+    pub(crate) fn at_name(&self, at: usize) -> bool
+        requires { at ≤ length self.now.tokens.now }
+        ensures { NameIs self.now.tokens.now at result }
+    {
+        self.kind(at) == Some(TokenKind::Identifier)
+    }
+
+    /// `"," identifier`
+    fn further_name(&self, at: usize) -> ParsedItem<usize>
+        requires { at ≤ length self.now.tokens.now }
+        ensures { ReadsItem then_name 0 self.now.tokens.now at result }
+    {
+        if self.at_symbol(at, Symbol::Comma) {
+            let (name, next) = self.identifier(at + 1)?;
+            Ok(Some((name, next)))
+        } else {
+            Ok(None)
+        }
+    }
+
+    /// `identifier {"," identifier}`
+    pub(crate) fn names(&self, at: usize) -> Parsed<Names>
+        requires { at ≤ length self.now.tokens.now }
+        ensures { Reads names_of 0 self.now.tokens.now at result }
+    {
+        let (first, mut next) = self.identifier(at)?;
+        let mut more = Vec::new(self.alloc);
+        while let Some((name, end)) = self.further_name(next)? {
+            add(&mut more, name)?;
+            next = end;
+        }
+        Ok((Names { first, more }, next))
+    }
+
+    /// `simple [relation simple]`, made at once where it is one token.
+    #[cycle(expressions)]
+    #[inline(always)]
+    pub(crate) fn expression(&self, at: usize, room: u32) -> Parsed<Expression>
+        requires { at ≤ length self.now.tokens.now }
+        ensures { Reads expression_of room self.now.tokens.now at result }
+    {
+        let Some(factor) = self.lone(at, 4) else {
+            return self.sides(at, room);
+        };
+        Ok((Expression::Factor(factor), at + 1))
+    }
+
+    /// `simple [relation simple]`
+    #[cycle(expressions)]
+    #[inline(never)]
+    fn sides(&self, at: usize, room: u32) -> Parsed<Expression>
+        requires { at ≤ length self.now.tokens.now }
+        ensures { Reads expression_of room self.now.tokens.now at result }
+    {
+        let (left, next) = self.side(at, room)?;
+        let Some((comparison, end)) = self.comparison(next, room)? else {
+            let lone = self.lone_side(left)?;
+            return Ok((lone, next));
+        };
+        let boxed = Box::new(self.alloc, comparison)?;
+        let compared = Some(boxed);
+        let compound = Box::new(self.alloc, Compound { left, compared })?;
+        Ok((Expression::Compound(compound), end))
+    }
+
+    /// The expression that has no other side than this one: small where this is one factor.
+    #[inline(always)]
+    fn lone_side(&self, side: Simple) -> Result<Expression, AllocError>
+        ensures { IfOk result (λ e. expression_of e ≡ compares (simple_of side) none) }
+    {
+        if side.sign.is_none() && side.first.more.is_empty() && side.more.is_empty() {
+            return Ok(Expression::Factor(side.first.first));
+        }
+        let compound = Box::new(
+            self.alloc,
+            Compound {
+                left: side,
+                compared: None,
+            },
+        )?;
+        Ok(Expression::Compound(compound))
+    }
+
+    #[cycle(expressions)]
+    fn comparison(&self, at: usize, room: u32) -> ParsedItem<Comparison>
+        requires { at ≤ length self.now.tokens.now }
+        ensures { ReadsItem comparison_of room self.now.tokens.now at result }
+    {
+        let Some(kind) = self.kind(at) else {
+            return Ok(None);
+        };
+        let Some(relation) = relation_of(kind) else {
+            return Ok(None);
+        };
+        let (right, next) = self.side(at + 1, room)?;
+        Ok(Some((Comparison { relation, right }, next)))
+    }
+
+    /// A factor of one token, where nothing after it binds as strongly as this level or more.
+    #[inline(always)]
+    fn lone(&self, at: usize, level: u8) -> Option<Factor>
+        requires within { at ≤ length self.now.tokens.now }
+        requires level { 1 ≤ level }
+        ensures within { IfSome result (λ _. at < length self.now.tokens.now) }
+        ensures alone { IfSome result (λ f. IsLone level (factor_of f) self.now.tokens.now at) }
+    {
+        let Some(kind) = self.kind(at) else {
+            return None;
+        };
+        let next = self.kind(at + 1);
+        let bound = binding(next);
+        if bound <= level {
+            return None;
+        }
+        match kind {
+            TokenKind::Identifier => {
+                let selectors = Vec::new(self.alloc);
+                Some(Factor::Designator(Designator {
+                    name: at,
+                    selectors,
+                }))
+            }
+            TokenKind::Integer(_) => Some(Factor::Integer(at)),
+            _ => None,
+        }
+    }
+
+    /// A simple expression, made at once where it is one token.
+    #[cycle(expressions)]
+    #[inline(always)]
+    fn side(&self, at: usize, room: u32) -> Parsed<Simple>
+        requires { at ≤ length self.now.tokens.now }
+        ensures { Reads simple_of room self.now.tokens.now at result }
+    {
+        let Some(factor) = self.lone(at, 3) else {
+            return self.simple(at, room);
+        };
+        let multipliers = Vec::new(self.alloc);
+        let addends = Vec::new(self.alloc);
+        let first = Term {
+            first: factor,
+            more: multipliers,
+        };
+        Ok((
+            Simple {
+                sign: None,
+                first,
+                more: addends,
+            },
+            at + 1,
+        ))
+    }
+
+    /// A term, made at once where it is one token.
+    #[cycle(expressions)]
+    #[inline(always)]
+    fn summand(&self, at: usize, room: u32) -> Parsed<Term>
+        requires { at ≤ length self.now.tokens.now }
+        ensures { Reads term_of room self.now.tokens.now at result }
+    {
+        let Some(first) = self.lone(at, 2) else {
+            return self.term(at, room);
+        };
+        let more = Vec::new(self.alloc);
+        Ok((Term { first, more }, at + 1))
+    }
+
+    /// A factor, made at once where it is one token.
+    #[cycle(expressions)]
+    #[inline(always)]
+    fn operand(&self, at: usize, room: u32) -> Parsed<Factor>
+        requires { at ≤ length self.now.tokens.now }
+        ensures { Reads factor_of room self.now.tokens.now at result }
+    {
+        let Some(factor) = self.lone(at, 1) else {
+            return self.factor(at, room);
+        };
+        Ok((factor, at + 1))
+    }
+
+    /// `[sign] term {operator term}`
+    #[cycle(expressions)]
+    #[inline(never)]
+    fn simple(&self, at: usize, room: u32) -> Parsed<Simple>
+        requires { at ≤ length self.now.tokens.now }
+        ensures { Reads simple_of room self.now.tokens.now at result }
+    {
+        let (sign, start) = self.sign(at);
+        let (first, mut next) = self.summand(start, room)?;
+        let mut more = Vec::new(self.alloc);
+        while let Some((addend, end)) = self.addend(next, room)? {
+            add(&mut more, addend)?;
+            next = end;
+        }
+        Ok((Simple { sign, first, more }, next))
+    }
+
+    /// The sign at this place, where there is one, and the index after it.
+    fn sign(&self, at: usize) -> (Option<Sign>, usize)
+        requires { at ≤ length self.now.tokens.now }
+        ensures { SignTaken self.now.tokens.now at result.0 result.1 }
+    {
+        match self.kind(at) {
+            Some(TokenKind::Symbol(Symbol::Plus)) => (Some(Sign::Plus), at + 1),
+            Some(TokenKind::Symbol(Symbol::Minus)) => (Some(Sign::Minus), at + 1),
+            _ => (None, at),
+        }
+    }
+
+    #[cycle(expressions)]
+    fn addend(&self, at: usize, room: u32) -> ParsedItem<Addend>
+        requires { at ≤ length self.now.tokens.now }
+        ensures { ReadsItem addend_of room self.now.tokens.now at result }
+    {
+        let Some(kind) = self.kind(at) else {
+            return Ok(None);
+        };
+        let Some(operator) = add_operator_of(kind) else {
+            return Ok(None);
+        };
+        let (term, next) = self.summand(at + 1, room)?;
+        Ok(Some((Addend { operator, term }, next)))
+    }
+
+    /// `factor {operator factor}`
+    #[cycle(expressions)]
+    #[inline(never)]
+    fn term(&self, at: usize, room: u32) -> Parsed<Term>
+        requires { at ≤ length self.now.tokens.now }
+        ensures { Reads term_of room self.now.tokens.now at result }
+    {
+        let (first, mut next) = self.operand(at, room)?;
+        let mut more = Vec::new(self.alloc);
+        while let Some((multiplier, end)) = self.multiplier(next, room)? {
+            add(&mut more, multiplier)?;
+            next = end;
+        }
+        Ok((Term { first, more }, next))
+    }
+
+    #[cycle(expressions)]
+    fn multiplier(&self, at: usize, room: u32) -> ParsedItem<Multiplier>
+        requires { at ≤ length self.now.tokens.now }
+        ensures { ReadsItem multiplier_of room self.now.tokens.now at result }
+    {
+        let Some(kind) = self.kind(at) else {
+            return Ok(None);
+        };
+        let Some(operator) = multiply_operator_of(kind) else {
+            return Ok(None);
+        };
+        let (factor, next) = self.operand(at + 1, room)?;
+        Ok(Some((Multiplier { operator, factor }, next)))
+    }
+
+    #[cycle(expressions)]
+    #[inline(never)]
+    fn factor(&self, at: usize, room: u32) -> Parsed<Factor>
+        requires { at ≤ length self.now.tokens.now }
+        ensures { Reads factor_of room self.now.tokens.now at result }
+    {
+        if self.at_symbol(at, Symbol::LeftParen) {
+            return self.parenthesised(at, room);
+        }
+        if self.at_symbol(at, Symbol::Not) {
+            return self.negation(at, room);
+        }
+        let Some(kind) = self.kind(at) else {
+            return missing(at, Expected::Expression);
+        };
+        match kind {
+            TokenKind::Identifier => {
+                let (designator, next) = self.designator(at, room)?;
+                Ok((Factor::Designator(designator), next))
+            }
+            TokenKind::Integer(_) => Ok((Factor::Integer(at), at + 1)),
+            _ => missing(at, Expected::Expression),
+        }
+    }
+
+    /// `"(" expression ")"`
+    #[cycle(expressions)]
+    fn parenthesised(&self, at: usize, room: u32) -> Parsed<Factor>
+        requires { TokenIs (kind.Symbol symbol.LeftParen) self.now.tokens.now at true }
+        ensures { Reads factor_of room self.now.tokens.now at result }
+    {
+        let inner = opened(at, room)?;
+        let (expression, next) = self.expression(at + 1, inner)?;
+        let next = self.expect_symbol(next, Symbol::RightParen)?;
+        let boxed = Box::new(self.alloc, expression)?;
+        Ok((Factor::Parenthesised(boxed), next))
+    }
+
+    /// `"~" factor`
+    #[cycle(expressions)]
+    fn negation(&self, at: usize, room: u32) -> Parsed<Factor>
+        requires { TokenIs (kind.Symbol symbol.Not) self.now.tokens.now at true }
+        ensures { Reads factor_of room self.now.tokens.now at result }
+    {
+        let inner = opened(at, room)?;
+        let (factor, next) = self.factor(at + 1, inner)?;
+        let boxed = Box::new(self.alloc, factor)?;
+        Ok((Factor::Not(boxed), next))
+    }
+
+    /// A name and its selectors.
+    #[cycle(expressions)]
+    pub(crate) fn designator(&self, at: usize, room: u32) -> Parsed<Designator>
+        requires { at ≤ length self.now.tokens.now }
+        ensures { ReadsDesignator room self.now.tokens.now at result }
+    {
+        let (name, mut next) = self.identifier(at)?;
+        let mut selectors = Vec::new(self.alloc);
+        while let Some((selector, end)) = self.selector(next, room)? {
+            add(&mut selectors, selector)?;
+            next = end;
+        }
+        Ok((Designator { name, selectors }, next))
+    }
+
+    /// `"." identifier | "[" expression "]"`
+    #[cycle(expressions)]
+    fn selector(&self, at: usize, room: u32) -> ParsedItem<Selector>
+        requires { at ≤ length self.now.tokens.now }
+        ensures { ReadsItem selector_of room self.now.tokens.now at result }
+    {
+        if self.at_symbol(at, Symbol::Dot) {
+            let (name, next) = self.identifier(at + 1)?;
+            return Ok(Some((Selector::Field(name), next)));
+        }
+        if self.at_symbol(at, Symbol::LeftBracket) {
+            let inner = opened(at, room)?;
+            let (index, next) = self.expression(at + 1, inner)?;
+            let next = self.expect_symbol(next, Symbol::RightBracket)?;
+            return Ok(Some((Selector::Index(index), next)));
+        }
+        Ok(None)
+    }
+}
+
+/// How strongly a token after an operand takes it in: as a selector, a multiplication, an addition, a comparison, or
+/// not at all.
+#[inline(always)]
+fn binding(next: Option<TokenKind>) -> u8
+    ensures { result ≡ binding next }
+{
+    match next {
+        Some(TokenKind::Symbol(Symbol::Dot)) => 1,
+        Some(TokenKind::Symbol(Symbol::LeftBracket)) => 1,
+        Some(TokenKind::Symbol(Symbol::Times)) => 2,
+        Some(TokenKind::Symbol(Symbol::And)) => 2,
+        Some(TokenKind::Reserved(Reserved::Div)) => 2,
+        Some(TokenKind::Reserved(Reserved::Mod)) => 2,
+        Some(TokenKind::Symbol(Symbol::Plus)) => 3,
+        Some(TokenKind::Symbol(Symbol::Minus)) => 3,
+        Some(TokenKind::Reserved(Reserved::Or)) => 3,
+        Some(TokenKind::Symbol(Symbol::Equal)) => 4,
+        Some(TokenKind::Symbol(Symbol::NotEqual)) => 4,
+        Some(TokenKind::Symbol(Symbol::Less)) => 4,
+        Some(TokenKind::Symbol(Symbol::LessEqual)) => 4,
+        Some(TokenKind::Symbol(Symbol::Greater)) => 4,
+        Some(TokenKind::Symbol(Symbol::GreaterEqual)) => 4,
+        _ => 5,
+    }
+}
+
+fn relation_of(kind: TokenKind) -> Option<Relation>
+    ensures { IsMarkOf relation_mark 4 kind result }
+{
+    match kind {
+        TokenKind::Symbol(Symbol::Equal) => Some(Relation::Equal),
+        TokenKind::Symbol(Symbol::NotEqual) => Some(Relation::NotEqual),
+        TokenKind::Symbol(Symbol::Less) => Some(Relation::Less),
+        TokenKind::Symbol(Symbol::LessEqual) => Some(Relation::LessEqual),
+        TokenKind::Symbol(Symbol::Greater) => Some(Relation::Greater),
+        TokenKind::Symbol(Symbol::GreaterEqual) => Some(Relation::GreaterEqual),
+        _ => None,
+    }
+}
+
+fn add_operator_of(kind: TokenKind) -> Option<AddOperator>
+    ensures { IsMarkOf add_mark 3 kind result }
+{
+    match kind {
+        TokenKind::Symbol(Symbol::Plus) => Some(AddOperator::Add),
+        TokenKind::Symbol(Symbol::Minus) => Some(AddOperator::Subtract),
+        TokenKind::Reserved(Reserved::Or) => Some(AddOperator::Or),
+        _ => None,
+    }
+}
+
+fn multiply_operator_of(kind: TokenKind) -> Option<MultiplyOperator>
+    ensures { IsMarkOf multiply_mark 2 kind result }
+{
+    match kind {
+        TokenKind::Symbol(Symbol::Times) => Some(MultiplyOperator::Multiply),
+        TokenKind::Reserved(Reserved::Div) => Some(MultiplyOperator::Divide),
+        TokenKind::Reserved(Reserved::Mod) => Some(MultiplyOperator::Modulo),
+        TokenKind::Symbol(Symbol::And) => Some(MultiplyOperator::And),
+        _ => None,
+    }
+}
+
+/// A syntax fault at this token.
+pub fn missing<T>(token: usize, expected: Expected) -> Result<T, ParseRefusal>
+    ensures { result ≡ Err (Syntax token expected) }
+{
+    Err(ParseRefusal::Syntax { token, expected })
+}
+
+/// The levels that are left inside the construct that this token opens.
+pub(crate) fn opened(at: usize, room: u32) -> Result<u32, ParseRefusal>
+    ensures { Opens at room result }
+{
+    if room == 0 {
+        Err(ParseRefusal::TooDeep { token: at })
+    } else {
+        Ok(room - 1)
+    }
+}

@@ -1,0 +1,65 @@
+//! Why a text isn't a module.
+
+ghost use Rattle.std.specs.Prelude.{◌≡◌};
+ghost use Rattle.ob0_parse_descent.specs.declared.refusal.ParseRefusal.TheVariants.{Memory};
+
+use ob0_scan::TokenKind;
+use std::alloc::{AllocError, AllocFailed};
+use thiserror::Error;
+
+/// What must be at the place of a syntax fault.
+#[derive(Clone, Copy, PartialEq, Eq, Debug)]
+pub enum Expected {
+    Type,
+    Expression,
+    Identifier,
+    EndOfText,
+    Token(TokenKind),
+}
+
+impl Expected {
+    ghost use Rattle.ob0_parse_descent.specs.ExpectedText.{expected_text};
+
+    /// What follows `expected` in the message.
+    pub fn text(self) -> &'static str
+        ensures { result.now ≡ expected_text self }
+    {
+        match self {
+            Expected::Type => "type",
+            Expected::Expression => "expression",
+            Expected::Identifier => "identifier",
+            Expected::EndOfText => "end of text",
+            Expected::Token(TokenKind::Identifier) => "identifier",
+            Expected::Token(TokenKind::Integer(_)) => "integer",
+            Expected::Token(TokenKind::Reserved(word)) => word.text(),
+            Expected::Token(TokenKind::Symbol(symbol)) => symbol.text(),
+        }
+    }
+}
+
+/// Why a text isn't a module, and at which token. The end of the text counts as the token after the last.
+#[derive(Debug, Drop, Error)]
+pub enum ParseRefusal {
+    #[error("token {token}: expected {}", .expected.text())]
+    Syntax { token: usize, expected: Expected },
+    #[error("token {token}: nested too deep")]
+    TooDeep { token: usize },
+    #[error("out of memory")]
+    Memory,
+}
+
+impl From<AllocError> for ParseRefusal {
+    ghost from_gives = { λ _ e. e ≡ Memory };
+
+    fn from(_e: AllocError) -> Self {
+        ParseRefusal::Memory
+    }
+}
+
+impl<T: Drop> From<AllocFailed<T>> for ParseRefusal {
+    ghost from_gives = { λ _ e. e ≡ Memory };
+
+    fn from(_e: AllocFailed<T>) -> Self {
+        ParseRefusal::Memory
+    }
+}

@@ -1,0 +1,2 @@
+pub mod KeptTokens
+pub mod Moving
