@@ -4,7 +4,7 @@ use Rattle.std.specs.List.{flat_map}
 use Rattle.std.proofs.lemmas.Grind.{flat_map-append}
 use Rattle.ob0_frame.specs.Frames.{frame}
 use Rattle.ob0_frame.specs.Framing.{Rest, Open, Broken, Feeds}
-use Rattle.ob0_session.specs.Answers.{ServerState, start, Conversation}
+use Rattle.ob0_session_server.specs.Answers.{ServerState, start, Conversation}
 use Rattle.ob0_session.specs.Serving.{Served}
 use Rattle.ob0_session.specs.declared.serving.ServeFault.{ServeFault}
 use Rattle.ob0_session.specs.declared.serving.ServeFault.TheVariants.{BadHead, Truncated, Read, Write, Memory, TooManyReads}

@@ -2,9 +2,9 @@
 use Rattle.std.proofs.Common.{◌≡◌, ◌∙◌, ℕ, Option, Some, None, List, [], ◌∷◌, ◌++◌, refl, sym, subst}
 use Rattle.serde_json.specs.Data.{Data}
 use Rattle.ob0_rpc.specs.Messages.{ReadsContent, meaning}
-use Rattle.ob0_session.specs.Answers.{ServerState, Says, reacts, AnswersInState, AnswersGoingOn, Conversation}
-use Rattle.ob0_session.specs.declared.server.Phase.{Phase}
-use Rattle.ob0_session.specs.declared.server.Phase.TheVariants.{Starting, Running, ShutDown, Ended}
+use Rattle.ob0_session_server.specs.Answers.{ServerState, Says, reacts, AnswersInState, AnswersGoingOn, Conversation}
+use Rattle.ob0_session_server.specs.declared.server.Phase.{Phase}
+use Rattle.ob0_session_server.specs.declared.server.Phase.TheVariants.{Starting, Running, ShutDown, Ended}
 use Rattle.ob0_session_laws.specs.Determined.{OneAnswer, OneConversation, OneReply}
 
 abbrev pub Contents : Type 0

@@ -26,7 +26,7 @@ use Rattle.ob0_session_edits.specs.Diagnostics.{diagnostic_of}
 use Rattle.ob0_session_edits.specs.Formatted.{AnswersFormatting}
 use Rattle.ob0_session_edits.specs.Renamed.{AnswersRenaming, RequestedRename, edits_for_client}
 use Rattle.ob0_session_json.specs.Shapes.{action_value, edit_refused, edit_value, publication, versioned_document}
-use Rattle.ob0_session.specs.Answers.{Sends, diagnoses, answers_name, lays_out, nothing, offers_actions, renames, says}
+use Rattle.ob0_session_server.specs.Answers.{Sends, diagnoses, answers_name, lays_out, nothing, offers_actions, renames, says}
 use Rattle.ob0_world_rules.proofs.OneInlining.{inlines_or_refused, inlines_parts}
 use Rattle.ob0_world_rules.proofs.OneLayout.{lays_out_or_long, lays_out_said}
 use Rattle.ob0_world_rules.proofs.OneRenaming.{refuses_one, renames_or_refused, renames_parts}

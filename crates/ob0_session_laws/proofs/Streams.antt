@@ -3,10 +3,10 @@ use Rattle.std.proofs.Common.{◌≡◌, ◌≢◌, ◌∙◌, ℕ, ◌⊎◌, L
 use Rattle.std.specs.List.{flat_map}
 use Rattle.ob0_frame.specs.Frames.{frame}
 use Rattle.ob0_frame.specs.Framing.{Rest, Open, Broken, Feeds}
-use Rattle.ob0_session.specs.Answers.{ServerState, start, Answers, AnswersInState, Conversation}
+use Rattle.ob0_session_server.specs.Answers.{ServerState, start, Answers, AnswersInState, Conversation}
 use Rattle.ob0_session.specs.Serving.{AllServed, EndsWith}
-use Rattle.ob0_session.specs.Steps.{IsGoingOn}
-use Rattle.ob0_session.specs.declared.server.Phase.TheVariants.{Ended}
+use Rattle.ob0_session_server.specs.Steps.{IsGoingOn}
+use Rattle.ob0_session_server.specs.declared.server.Phase.TheVariants.{Ended}
 use Rattle.ob0_session.specs.declared.serving.ServeFault.{ServeFault}
 use Rattle.ob0_session.specs.declared.serving.ServeFault.TheVariants.{BadHead, Truncated, Read, Write, Memory, TooManyReads}
 use Rattle.ob0_session_laws.specs.Determined.{IsOfBytes, IsWritten, MayServe, OneConversation, OneOutput, OneResult}

@@ -22,17 +22,17 @@ use Rattle.ob0_rpc.specs.Faults.{minus}
 use Rattle.ob0_rpc.specs.Messages.{ReadsContent, meaning, meaning_of}
 use Rattle.ob0_rpc.specs.Shapes.{result_message, error_message}
 use Rattle.ob0_rpc.specs.declared.clients.Client.{Client}
-use Rattle.ob0_session.specs.Actions.{RequestedActions, ListsActions, Offers, wants_inlining, actions_offset, actions_value}
-use Rattle.ob0_session.specs.Answers as answers_of
-use Rattle.ob0_session.specs.Answers.{ServerState, Reply, Says, Sends, Reaction, reacts, reaction_to, hears, reaction_to_call, reaction_to_request as requested_in, calls, answers_about, lays_out, renames, offers_actions, published, Answers, AnswersInState, AnswersGoingOn, says}
-use Rattle.ob0_session.specs.Diagnosed.{Complaint, IsWellTypedModule, Reports, ReportsFaults, complaint_of}
-use Rattle.ob0_session.specs.Diagnostics.{Diagnoses, diagnostic_of}
-use Rattle.ob0_session.specs.Texts.{utf8}
-use Rattle.ob0_session.specs.Formatted.{AnswersFormatting}
-use Rattle.ob0_session.specs.Renamed.{RequestedRename, AnswersRenaming}
-use Rattle.ob0_session.specs.Shapes.{Diagnostic, diagnostic_value, edit_value, edits_value, document_edit, workspace_edit, publication}
+use Rattle.ob0_session_edits.specs.Actions.{RequestedActions, ListsActions, Offers, wants_inlining, actions_offset, actions_value}
+use Rattle.ob0_session_server.specs.Answers as answers_of
+use Rattle.ob0_session_server.specs.Answers.{ServerState, Reply, Says, Sends, Reaction, reacts, reaction_to, hears, reaction_to_call, reaction_to_request as requested_in, calls, answers_about, lays_out, renames, offers_actions, published, Answers, AnswersInState, AnswersGoingOn, says}
+use Rattle.ob0_analysis.specs.Diagnosed.{Complaint, IsWellTypedModule, Reports, ReportsFaults, complaint_of}
+use Rattle.ob0_session_edits.specs.Diagnostics.{Diagnoses, diagnostic_of}
+use Rattle.ob0_analysis.specs.Texts.{utf8}
+use Rattle.ob0_session_edits.specs.Formatted.{AnswersFormatting}
+use Rattle.ob0_session_edits.specs.Renamed.{RequestedRename, AnswersRenaming}
+use Rattle.ob0_session_json.specs.Shapes.{Diagnostic, diagnostic_value, edit_value, edits_value, document_edit, workspace_edit, publication}
 use Rattle.ob0_world_rules.specs.Answers.{Inlining, Here, Everywhere}
-use Rattle.ob0_session.specs.declared.server.Phase.TheVariants.{Running}
+use Rattle.ob0_session_server.specs.declared.server.Phase.TheVariants.{Running}
 use Rattle.ob0_world_editor.specs.Heard as heard_as
 use Rattle.ob0_world_editor.specs.Heard.{sent_as, HasVersion, IsAsk, call_for}
 use Rattle.ob0_world_editor.specs.Shapes.{method_of, empty_at}

@@ -5,7 +5,7 @@ use Rattle.std.specs.declared.alloc.Global.{Global}
 use Rattle.std.proofs.lemmas.List.{append-nil, map-append}
 use Rattle.std.proofs.lemmas.List.Elements.{All-head, All-push, All-tail}
 use Rattle.ob0_text.specs.OpenDocuments.{TextChange}
-use Rattle.ob0_session.specs.SessionStates.{SessionState}
+use Rattle.ob0_session_server.specs.SessionStates.{SessionState}
 use Rattle.ob0_world_editor.specs.Code.{applied_of}
 use Rattle.ob0_world_editor.specs.Heard.{heard, SaysToServer}
 use Rattle.ob0_world_editor.specs.Moves.{Moves, ComesOf}

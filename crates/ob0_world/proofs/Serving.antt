@@ -6,10 +6,10 @@ use Rattle.std.specs.declared.alloc.Global.{Global}
 use Rattle.std.proofs.lemmas.List.{map-append, length-map}
 use Rattle.std.proofs.lemmas.List.Elements.{All-nil, All-cons, All-head, All-tail}
 use Rattle.ob0_text.specs.OpenDocuments.{OpenDocuments}
-use Rattle.ob0_session.specs.Answers.{ServerState}
-use Rattle.ob0_session.specs.SessionStates.{SessionState, serving, failed}
-use Rattle.ob0_session.specs.Steps.{SessionSteps}
-use Rattle.ob0_session.specs.declared.session.Step.{Step}
+use Rattle.ob0_session_server.specs.Answers.{ServerState}
+use Rattle.ob0_session_server.specs.SessionStates.{SessionState, serving, failed}
+use Rattle.ob0_session_server.specs.Steps.{SessionSteps}
+use Rattle.ob0_session_server.specs.declared.session.Step.{Step}
 use Rattle.ob0_world_editor.specs.Heard.{heard, SaysToServer}
 use Rattle.ob0_world_editor.specs.Understood.{understood}
 use Rattle.ob0_world_editor.specs.declared.applied.Applied as applied

@@ -7,9 +7,9 @@ use Rattle.std.specs.declared.alloc.Global.{Global}
 use Rattle.ob0_text.specs.OpenDocuments.{OpenDocuments, Document, InStep, OutOfStep, document_at, none_open}
 use Rattle.ob0_text.specs.declared.position_types.Unit.{Unit}
 use Rattle.ob0_text.specs.declared.position_types.Unit.TheVariants.{Utf16}
-use Rattle.ob0_session.specs.Answers.{ServerState}
-use Rattle.ob0_session.specs.SessionStates.{SessionState, serving, failed}
-use Rattle.ob0_session.specs.declared.server.Phase.TheVariants.{Running}
+use Rattle.ob0_session_server.specs.Answers.{ServerState}
+use Rattle.ob0_session_server.specs.SessionStates.{SessionState, serving, failed}
+use Rattle.ob0_session_server.specs.declared.server.Phase.TheVariants.{Running}
 use Rattle.ob0_world_editor.specs.Heard.{heard, SaysToServer}
 use Rattle.ob0_world_editor.specs.Understood.{understood}
 use Rattle.ob0_world_editor.specs.Code.{applied_of}

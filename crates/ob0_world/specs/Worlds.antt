@@ -2,8 +2,8 @@
 -- Rule: none; for contracts of `World`: a list of events, step by step.
 use Rattle.std.specs.Prelude.{◌≡◌, ◌<◌, ◌+◌, ◌++◌, ◌⊎◌, ⊤, ℕ, List, [], ◌∷◌, map, take, length, Bool, true, false, Some}
 use Rattle.ob0_text.specs.declared.position_types.Unit.{Unit}
-use Rattle.ob0_session.specs.Answers.{ServerState, begins, Answers}
-use Rattle.ob0_session.specs.SessionStates.{SessionState, serving}
+use Rattle.ob0_session_server.specs.Answers.{ServerState, begins, Answers}
+use Rattle.ob0_session_server.specs.SessionStates.{SessionState, serving}
 use Rattle.ob0_world_editor.specs.Beginning.{client_for}
 use Rattle.ob0_world_editor.specs.Heard.{SaysToServer}
 use Rattle.ob0_world_editor.specs.Understood.{understood}

@@ -2,7 +2,7 @@
 ghost use Rattle.std.specs.Prelude.{◌≡◌, IfOk, OnErr, OnOk, map, option_map, option_and_then, string_bytes};
 ghost use Rattle.std.specs.Str.{chars};
 ghost use Rattle.ob0_text.specs.OpenDocuments.{reported_change, document_at};
-ghost use Rattle.ob0_session.specs.SessionStates.{failed};
+ghost use Rattle.ob0_session_server.specs.SessionStates.{failed};
 ghost use Rattle.ob0_world_editor.specs.Code.{ask_of};
 ghost use Rattle.ob0_world_editor.specs.Moves.{AreFew};
 ghost use Rattle.ob0_world_editor.specs.Understood.{understood};
@@ -15,7 +15,7 @@ ghost use Rattle.ob0_world.specs.Worlds.{new_both, HasCome, IsAnswered, IsTied, 
 
 use crate::events::{Event, Seen};
 use crate::played::{Made, Played};
-use ob0_session::{Session, SessionFault};
+use ob0_session_server::{Session, SessionFault};
 use ob0_text::{Change, Documents, Held, TextStore, Unit};
 use ob0_world_editor::{Applied, Applying, Ask, Editor, Message, initialize};
 use std::alloc::{AllocError, Global};

@@ -1,0 +1,56 @@
+-- What changes one document leaves the others, and the analyses that are kept of them.
+use Rattle.std.proofs.Common.{◌≡◌, ◌∙◌, ℕ, ℤ, true, false, cond, List, Option, Some, None, refl, ap}
+use Rattle.std.specs.Ordering.{nat_cmp, eq_by_cmp}
+use Rattle.std.specs.Cmp.Lexicographic.{slice_cmp, nat_list_cmp_total}
+use Rattle.std.specs.Str.{bytes_eq}
+use Rattle.std.specs.FinMap as map_of
+use Rattle.std.proofs.lemmas.Map.Text.{is_eq-slice_cmp}
+use Rattle.std.proofs.lemmas.Slice.Eq.{bytes_eq-Decides}
+use Rattle.ob0_text.specs.OpenDocuments.{Documents, Document, OpenDocuments, TextChange, InStep, OutOfStep, document_at, opened, changed, changed_document, lost, closed, updated}
+use Rattle.ob0_text.proofs.EntryLaws.{updated-some, updated-none}
+use Rattle.ob0_session_documents.specs.KeptAnalyses.{AreOfTheirTexts, KeepsOthers}
+use Rattle.ob0_session_documents.specs.declared.analyses.Analyses.{Analyses}
+
+unequal : (u uri : List ℕ) → (u ≡ uri → ⊥) → bytes_eq u uri ≡ false
+unequal u uri other = (elim (bytes_eq u uri) as (λ b. bytes_eq u uri ≡ b → b ≡ false) [
+  | true ↦ λ e. absurd (other ((bytes_eq-Decides u uri).0 e))
+  | false ↦ λ e. refl
+]) refl
+
+apart : (u uri : List ℕ) → (u ≡ uri → ⊥) → eq_by_cmp (slice_cmp nat_cmp) u uri ≡ false
+apart u uri other = is_eq-slice_cmp u uri ∙ unequal u uri other
+
+module _ (m : Documents) (uri u : List ℕ) (other : u ≡ uri → ⊥) where
+  inserted : (d : Document) → map_of.get (map_of.insert m uri d) u ≡ map_of.get m u
+  inserted d = map_of.get-insert nat_list_cmp_total m uri d u ∙ ap (λ b. cond b (Some d) (map_of.get m u)) (apart u uri other)
+
+  removed : map_of.get (map_of.remove m uri) u ≡ map_of.get m u
+  removed = map_of.get-remove nat_list_cmp_total m uri u ∙ ap (λ b. cond b None (map_of.get m u)) (apart u uri other)
+
+  updated_at : (f : Document → Document) (found : Option Document) → map_of.get m uri ≡ found → map_of.get (updated m uri f) u ≡ map_of.get m u
+  updated_at f None e = ap (λ n. map_of.get n u) (updated-none m uri f e)
+  updated_at f (Some d) e = ap (λ n. map_of.get n u) (updated-some m uri f d e) ∙ inserted (f d)
+
+-- at each other uri both have the same
+abbrev pub AgreesElsewhere : OpenDocuments → List ℕ → OpenDocuments → Type 0
+AgreesElsewhere old uri new = (u : List ℕ) → (u ≡ uri → ⊥) → document_at new u ≡ document_at old u
+
+pub opened_elsewhere : (old new : OpenDocuments) (uri : List ℕ) (version : ℤ) (text : List ℕ) → new ≡ opened old uri version text → AgreesElsewhere old uri new
+opened_elsewhere old new uri version text is u other = ap (λ d. document_at d u) is ∙ inserted old.by_uri uri u other (InStep version text)
+
+pub changed_elsewhere : (old new : OpenDocuments) (uri : List ℕ) (version : ℤ) (changes : List TextChange) → new ≡ changed old uri version changes → AgreesElsewhere old uri new
+changed_elsewhere old new uri version changes is u other =
+    ap (λ d. document_at d u) is ∙ updated_at old.by_uri uri u other (changed_document old.unit version changes) _ refl
+
+pub lost_elsewhere : (old new : OpenDocuments) (uri : List ℕ) → new ≡ lost old uri → AgreesElsewhere old uri new
+lost_elsewhere old new uri is u other = ap (λ d. document_at d u) is ∙ updated_at old.by_uri uri u other (λ _. OutOfStep) _ refl
+
+pub closed_elsewhere : (old new : OpenDocuments) (uri : List ℕ) → new ≡ closed old uri → AgreesElsewhere old uri new
+closed_elsewhere old new uri is u other = ap (λ d. document_at d u) is ∙ removed old.by_uri uri u other
+
+-- where the analysis of a document was taken out, whatever became of this document
+pub still_theirs : (old new : OpenDocuments) (before after : Analyses) (uri : List ℕ)
+    → AreOfTheirTexts old before → KeepsOthers before uri after → AgreesElsewhere old uri new → AreOfTheirTexts new after
+still_theirs old new before after uri theirs others agrees u text kept =
+    let was = others u text kept in
+    let there = theirs u text was.0 in (there.0, agrees u was.1 ∙ there.1)

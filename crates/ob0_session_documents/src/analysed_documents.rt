@@ -1,0 +1,167 @@
+//! The open documents, with the analyses of those that were reported or queried last.
+
+ghost use Rattle.std.specs.Prelude.{◌≡◌, IfSome, IfOk, OnOk, is_some, map, string_bytes};
+ghost use Rattle.std.specs.Str.{chars};
+ghost use Rattle.ob0_text.specs.Entries.{document_stored, UsesUnit};
+ghost use Rattle.ob0_text.specs.OpenDocuments.{changed, closed, document_at, lost, opened, reported_change};
+ghost use Rattle.std.specs.Option.{option_map};
+ghost use Rattle.ob0_session_documents.specs.KeptAnalyses.{HasDocumentText};
+
+use crate::analyses::Analyses;
+use ob0_analysis::Analysis;
+use ob0_text::{Change, Documents, Held, TextStore};
+use std::alloc::{AllocError, Global};
+use std::marker::Model;
+
+/// The open documents, and analyses of their texts. Contracts see the documents alone: an analysis that is kept is of
+/// the text that its document has, since what changes a text takes the analysis of the text before out.
+#[derive(Drop)]
+pub struct AnalysedDocuments<T: TextStore> {
+    alloc: Global,
+    documents: Documents<T>,
+    analyses: Analyses,
+}
+
+impl<T: TextStore> Model for AnalysedDocuments<T> {
+    ghost use Rattle.ob0_text.specs.OpenDocuments.{OpenDocuments, documents_code};
+    ghost use Rattle.ob0_session_documents.specs.KeptAnalyses.{AreOfTheirTexts};
+
+    ghost Value = { OpenDocuments };
+
+    ghost coded = { documents_code };
+
+    ghost view = { λ d. d.documents };
+
+    ghost invariant = { λ d. AreOfTheirTexts d.documents d.analyses };
+}
+
+impl<T: TextStore> AnalysedDocuments<T> {
+    /// These documents, without an analysis.
+    pub fn new(alloc: Global, documents: Documents<T>) -> AnalysedDocuments<T>
+        ensures { result ≡ documents }
+    {
+        AnalysedDocuments {
+            alloc,
+            documents,
+            analyses: Analyses::new(alloc),
+        }
+    }
+
+    /// The documents.
+    pub fn documents(&self) -> &Documents<T>
+        ensures { result.now ≡ self.now }
+    {
+        &self.documents
+    }
+
+    /// An open document (`Documents::get`).
+    pub fn get(&self, uri: &str) -> Option<Held<'_, T>>
+        ensures held { option_map (document_stored T.content) result
+            ≡ document_at self.now uri.now }
+        ensures unit { UsesUnit T.unit_of self.now.unit result }
+    {
+        self.documents.get(uri)
+    }
+
+    /// Opens a document, or opens it again, and analyses its text. The text as it came is dropped before.
+    pub fn did_open(&mut self, uri: &str, version: i64, text: String) -> Result<(), AllocError>
+        ensures { OnOk result
+            (self.new ≡ opened self.old uri.now version (chars (string_bytes text))) }
+    {
+        let before = self.analyses.take(uri);
+        self.documents.did_open(uri, version, text.as_str())?;
+        drop(text);
+        self.analyse(uri, before)
+    }
+
+    /// Makes the changes in order, and analyses the text that they leave. The changes as they came are dropped before.
+    pub fn did_change(
+        &mut self,
+        uri: &str,
+        version: i64,
+        changes: Vec<Change>,
+    ) -> Result<(), AllocError>
+        ensures { OnOk result
+            (self.new ≡ changed self.old uri.now version (map reported_change changes.items)) }
+    {
+        let before = self.analyses.take(uri);
+        self.documents.did_change(uri, version, changes.as_slice())?;
+        drop(changes);
+        self.analyse(uri, before)
+    }
+
+    /// Notes that the client's text of an open document isn't known any more.
+    pub fn lose(&mut self, uri: &str)
+        ensures { self.new ≡ lost self.old uri.now }
+    {
+        drop(self.analyses.take(uri));
+        self.documents.lose(uri);
+    }
+
+    /// Closes a document, and says whether it was open.
+    pub fn did_close(&mut self, uri: &str) -> bool
+        ensures after { self.new ≡ closed self.old uri.now }
+        ensures was_open { result ≡ is_some (document_at self.old uri.now) }
+    {
+        drop(self.analyses.take(uri));
+        self.documents.did_close(uri)
+    }
+
+    /// Takes out the analysis of a document's text, where it is kept.
+    pub fn take(&mut self, uri: &str) -> Option<Analysis>
+        ensures same { self.new ≡ self.old }
+        ensures found { IfSome result (HasDocumentText self.old uri.now) }
+    {
+        self.analyses.take(uri)
+    }
+
+    /// Keeps the analysis of a document's text.
+    pub fn keep(&mut self, uri: &str, analysis: Analysis) -> Result<(), AllocError>
+        requires { HasDocumentText self.old uri.now analysis }
+        ensures { self.new ≡ self.old }
+    {
+        self.analyses.put(uri, analysis)
+    }
+
+    /// Analyses the text of a document, from the analysis of the text before, and keeps that.
+    fn analyse(&mut self, uri: &str, before: Option<Analysis>) -> Result<(), AllocError>
+        ensures { self.new ≡ self.old }
+    {
+        match self.documents.get(uri) {
+            Some(Held::InStep { version: _, text }) => {
+                let analysis = analysis_after(self.alloc, before, text.as_str())?;
+                self.analyses.put(uri, analysis)
+            }
+            _ => Ok(()),
+        }
+    }
+}
+
+/// The analysis of a text, from one of another text where there is one.
+fn analysis_after(
+    alloc: Global,
+    before: Option<Analysis>,
+    text: &str,
+) -> Result<Analysis, AllocError>
+    ensures { IfOk result (λ a. a ≡ text.now) }
+{
+    match before {
+        None => Analysis::of(alloc, text),
+        Some(before) => before.after(alloc, text),
+    }
+}
+
+/// The analysis of a stored text: the one that was kept of it, or one from nothing.
+pub fn analysis_of<T: TextStore>(
+    alloc: Global,
+    kept: Option<Analysis>,
+    store: &T,
+) -> Result<Analysis, AllocError>
+    requires { IfSome kept (λ a. T.content store.now ≡ chars a) }
+    ensures { IfOk result (λ a. T.content store.now ≡ chars a) }
+{
+    match kept {
+        None => Analysis::of(alloc, store.as_str()),
+        Some(kept) => Ok(kept),
+    }
+}

@@ -1,0 +1,118 @@
+//! The analyses of the documents that were reported or queried last.
+
+ghost use Rattle.std.specs.Prelude.{◌≡◌, ◌∷◌, ◌≤◌, [], IfSome, IfOk};
+ghost use Rattle.ob0_session_documents.specs.KeptAnalyses.{KeepsAnalysis, KeepsAlso, KeepsOnly, KeepsOthers};
+
+use lru::LruCache;
+use ob0_analysis::Analysis;
+use std::alloc::{AllocError, Global};
+
+/// How many bytes the analyses that are kept count for together, at most: those of two of the longest texts.
+const MOST_BYTES: usize = 2_099_200;
+
+/// What an analysis counts for beside the bytes of its text, so that those of empty texts are bounded too.
+const BYTES_PER_ANALYSIS: usize = 1_024;
+
+/// Analyses of texts by the uris of their documents. What is put in may be dropped at any time.
+#[derive(Drop)]
+pub struct Analyses {
+    alloc: Global,
+    /// None until the first is kept, since a cache allocates when it is made.
+    by_uri: Option<LruCache<String, Analysis>>,
+    /// What those that are kept count for together.
+    bytes: usize,
+}
+
+impl Analyses {
+    /// No analysis of any document.
+    pub fn new(alloc: Global) -> Analyses
+        ensures { (uri : _) (text : _) → KeepsAnalysis result uri text → ⊥ }
+    {
+        Analyses {
+            alloc,
+            by_uri: None,
+            bytes: 0,
+        }
+    }
+
+    /// Takes the analysis of a document out, where one is kept.
+    pub fn take(&mut self, uri: &str) -> Option<Analysis>
+        ensures found { IfSome result (KeepsAnalysis self.old uri.now) }
+        ensures others { KeepsOthers self.old uri.now self.new }
+    {
+        let by_uri = self.by_uri.as_mut()?;
+        // For the proof: what the contract of this call says.
+        let _count = by_uri.len();
+        let analysis = by_uri.pop(uri)?;
+        self.bytes = self.bytes.saturating_sub(bytes_of(&analysis));
+        Some(analysis)
+    }
+
+    /// Keeps the analysis of a document, and drops those that weren't used for longest where there is too much in all.
+    /// One that is too much alone isn't kept.
+    pub fn put(&mut self, uri: &str, analysis: Analysis) -> Result<(), AllocError>
+        ensures { KeepsAlso self.old uri.now analysis self.new }
+    {
+        let bytes = bytes_of(&analysis);
+        if bytes > MOST_BYTES {
+            return Ok(());
+        }
+        self.free(bytes);
+        self.insert(uri, analysis)
+    }
+
+    fn insert(&mut self, uri: &str, analysis: Analysis) -> Result<(), AllocError>
+        ensures { KeepsAlso self.old uri.now analysis self.new }
+    {
+        let key = String::from_str(self.alloc, uri)?;
+        match &mut self.by_uri {
+            Some(by_uri) => {
+                by_uri.put(key, analysis)?;
+            }
+            None => self.by_uri = Some(cache_of(self.alloc, key, analysis)?),
+        }
+        Ok(())
+    }
+
+    /// Counts this many bytes more, and drops what wasn't used for longest until all is within the bound.
+    fn free(&mut self, bytes: usize)
+        ensures { KeepsOnly self.old self.new }
+    {
+        let mut counted = self.bytes.saturating_add(bytes);
+        while counted > MOST_BYTES {
+            let Some(oldest) = self.remove_oldest() else {
+                break;
+            };
+            counted = counted.saturating_sub(bytes_of(&oldest));
+        }
+        self.bytes = counted;
+    }
+
+    fn remove_oldest(&mut self) -> Option<Analysis>
+        ensures { KeepsOnly self.old self.new }
+    {
+        let by_uri = self.by_uri.as_mut()?;
+        let (_, oldest) = by_uri.pop_lru()?;
+        Some(oldest)
+    }
+}
+
+/// What an analysis counts for.
+fn bytes_of(analysis: &Analysis) -> usize
+    ensures { BYTES_PER_ANALYSIS ≤ result }
+{
+    analysis.text().len().saturating_add(BYTES_PER_ANALYSIS)
+}
+
+/// A cache with one analysis.
+fn cache_of(
+    alloc: Global,
+    uri: String,
+    analysis: Analysis,
+) -> Result<LruCache<String, Analysis>, AllocError>
+    ensures { IfOk result (λ c. c.entries ≡ (uri, analysis) ∷ []) }
+{
+    let mut cache = LruCache::unbounded(alloc)?;
+    cache.put(uri, analysis)?;
+    Ok(cache)
+}

@@ -1,0 +1,20 @@
+use Rattle.std.proofs.Common.{◌≡◌, ap, map, option_map, refl, string_bytes, subst, sym}
+use Rattle.std.proofs.Math.Facts.{to_z-of_z}
+use Rattle.std.proofs.lemmas.Result.{IfOk-weaker}
+use Rattle.std.specs.Option.{option_to_list}
+use Rattle.ob0_text.specs.OpenDocuments.{changed, document_at, reported_change}
+use Rattle.ob0_session_server.specs.Answers.{ServerState, Says, published}
+use Rattle.ob0_session_server.proofs.Answering.{publishes}
+use Rattle.ob0_session_server.proofs.server.Server.change.Goals as goal
+
+pub returns : goal.returns
+returns g c =
+    let uri = string_bytes c.args.uri in
+    let reported = c.as_str-2.result.now in
+    let held = changed c.args.self.now.held uri c.args.version (map reported_change c.args.all.items) in
+    let is = rw (to_z-of_z c.ranges.version, ap (λ s. s.held) c.self.view_is) at c.in_ok-did_change.ensures in
+    let after : c.publish.new.self ≡ record c.args.self.now { held = held } =
+    rw (c.publish.ensures.same, is, ap (λ s. s.phase) c.self.view_is, ap (λ s. s.client) c.self.view_is, c.as_str.ensures.value) refl in
+    IfOk-weaker c.publish.result _ _ (λ sent said.
+    publishes c.args.self.now c.publish.new.self uri reported held sent c.as_str-2.ensures.value after
+    (subst (λ (s : ServerState). Says (published s.held.unit reported (document_at s.held reported)) (option_to_list (option_map (λ v. v.items) sent))) (sym c.publish.ensures.same) said)) c.publish.ensures.says

@@ -1,0 +1,29 @@
+use Rattle.std.proofs.Common.{Some, None, refl}
+use Rattle.std.proofs.lemmas.Result.{IfOk-weaker}
+use Rattle.ob0_rpc.specs.Messages.{not_a_message}
+use Rattle.ob0_rpc.specs.Seen.{seen}
+use Rattle.ob0_session_server.proofs.Answering.{answered}
+use Rattle.ob0_session_server.proofs.server.Server.reply.Goals as goal
+
+pub returns-in-Ok-Request : goal.returns-in-Ok-Request
+returns-in-Ok-Request g c =
+    let read = c.in-Ok-Request.ensures in
+    IfOk-weaker c.reply_to_request.result _ _ (λ sent h.
+    answered c.args.self.now c.args.content.now (Some read.0) (seen c.in-Ok-Request.field-0) sent c.reply_to_request.new.self read.1 read.2 (rw (c.in-Ok-Request.field-0-is, ← c.as_str.ensures.value) h)) c.reply_to_request.ensures
+
+pub returns-in-Ok-Notice : goal.returns-in-Ok-Notice
+returns-in-Ok-Notice g c =
+    let read = c.in-Ok-Notice.ensures in
+    IfOk-weaker c.handle_request.result _ _ (λ sent h.
+    answered c.args.self.now c.args.content.now (Some read.0) (seen c.in-Ok-Notice.field-0) sent c.handle_request.new.self read.1 read.2 (rw (c.in-Ok-Notice.field-0-is, ← c.as_str-in-Ok-Notice.ensures.value) h)) c.handle_request.ensures
+
+pub returns-in-Ok-Ignored : goal.returns-in-Ok-Ignored
+returns-in-Ok-Ignored g c =
+    let read = c.in-Ok-Ignored.ensures in
+    answered c.args.self.now c.args.content.now (Some read.0) (seen c.in-Ok-Ignored.field-0) None c.args.self.now read.1 read.2 (rw c.in-Ok-Ignored.field-0-is (refl, refl))
+
+pub returns-in-Err-NotAMessage : goal.returns-in-Err-NotAMessage
+returns-in-Err-NotAMessage g c =
+    let read = rw c.in-Err-NotAMessage.field-0-is at c.in-Err-NotAMessage.ensures in
+    IfOk-weaker c.refuse_fault-in-Err-NotAMessage.result _ _ (λ sent h.
+    answered c.args.self.now c.args.content.now (Some read.0) not_a_message sent c.args.self.now read.1 read.2 h) c.refuse_fault-in-Err-NotAMessage.ensures

@@ -1,0 +1,265 @@
+-- The answers of a server, message by message.
+-- Rule: docs/PROTOCOL.md, Order of checks, and errors; Lifecycle; Documents; Publishing; Requests on documents.
+use Rattle.std.specs.Prelude.{◌≡◌, ℕ, ℤ, List, [], ◌∷◌, ◌++◌, false, Option, Some, None, is_some, Result, Ok, Err, if◌then◌else◌, codes}
+use Rattle.std.specs.Str.{bytes_eq}
+use Rattle.serde_json.specs.Data.{Data, null}
+use Rattle.ob0_text.specs.OpenDocuments.{OpenDocuments, Document, InStep, OutOfStep, none_open, document_at, opened, changed, lost, closed}
+use Rattle.ob0_text.specs.declared.position_types.Unit.{Unit}
+use Rattle.ob0_text.specs.declared.position_types.Unit.TheVariants.{Utf16}
+use Rattle.ob0_text.specs.declared.edits.Indent.{Indent}
+use Rattle.ob0_text.specs.declared.position_types.Range.{Range}
+use Rattle.ob0_rpc.specs.Requesting.{At, ClientRequest, initialize, shutdown, hover, definition, references, prepare_rename, rename, code_action, formatting, request_by_method}
+use Rattle.ob0_rpc.specs.Faults.{minus, error_code, error_text}
+use Rattle.ob0_rpc.specs.Messages.{ReadsContent, MessageMeaning, not_json, not_a_message, response, request, notice, meaning}
+use Rattle.ob0_rpc.specs.Notifications.{Notification, exits, opens, changes, closes, unreadable, other, note_of}
+use Rattle.ob0_rpc.specs.Shapes.{result_message, error_message}
+use Rattle.ob0_rpc.specs.Writing.{Writes}
+use Rattle.ob0_rpc.specs.declared.clients.Client.{Client}
+use Rattle.ob0_rpc.specs.declared.incoming.RpcFault.{RpcFault}
+use Rattle.ob0_rpc.specs.declared.incoming.RpcFault.TheVariants.{NotJson, NotAMessage}
+use Rattle.ob0_session_edits.specs.Actions.{RequestedActions, AnswersActions}
+use Rattle.ob0_session_server.specs.Units.{unit_for}
+use Rattle.ob0_session_edits.specs.Diagnostics.{Diagnoses}
+use Rattle.ob0_session_edits.specs.Formatted.{AnswersFormatting}
+use Rattle.ob0_session_queries.specs.Questions.{AnswersName}
+use Rattle.ob0_session_edits.specs.Renamed.{RequestedRename, AnswersRenaming}
+use Rattle.ob0_session_json.specs.Shapes.{Diagnostic, capabilities, edit_refused, publication}
+use Rattle.ob0_session_queries.specs.declared.questions.NameQuestion.{NameQuestion}
+use Rattle.ob0_session_queries.specs.declared.questions.NameQuestion.TheVariants.{Hover, Definition, References, PrepareRename}
+use Rattle.ob0_session_server.specs.declared.server.Phase.{Phase}
+use Rattle.ob0_session_server.specs.declared.server.Phase.TheVariants.{Starting, Running, ShutDown, Ended}
+
+-- ---- what a server keeps from message to message
+
+-- what a session knows: how far the lifecycle is, the client, the documents
+pub record ServerState : Type 0 where
+  -- how far the lifecycle has come
+  pub phase : Phase
+  -- what the editor has said that it can do
+  pub client : Client
+  -- the documents that the client has open, and the unit of positions
+  pub held : OpenDocuments
+
+-- nothing was said yet
+abbrev pub no_client : Client
+no_client =
+    record {
+      counts_utf8 = false;
+      prepares_renames = false;
+      takes_literal_actions = false;
+      takes_document_changes = false;
+    }
+
+-- before `initialize`
+abbrev pub start : ServerState
+start = record { phase = Starting; client = no_client; held = none_open Utf16 }
+
+-- ---- what it sends back for one message
+
+-- what is sent for one message: nothing, a message, or diagnostics
+pub data Reply : Type 0 where
+  nothing : Reply
+  -- this message
+  says : Data → Reply
+  -- the diagnostics of a document, at positions of this unit: its uri, its version and the characters of its text
+  diagnoses : Unit → List ℕ → ℤ → List ℕ → Reply
+  -- the edits that lay out a text, or why there are none: the unit, the request's id, the indent and the characters of
+  -- the text
+  lays_out : Unit → Data → Indent → List ℕ → Reply
+  -- the answer about what is at a position: the unit, the request's id, the document and position, the question and the
+  -- characters of the text
+  answers_name : Unit → Data → At → NameQuestion → List ℕ → Reply
+  -- the edits that write another name, or why there are none: the unit, the request and the characters of the text
+  renames : Unit → RequestedRename → List ℕ → Reply
+  -- the code actions that are offered: the unit, the request and the characters of the text
+  offers_actions : Unit → RequestedActions → List ℕ → Reply
+
+-- one message is sent, of which this is the text
+abbrev pub Sends : Data → List (List ℕ) → Type 0
+Sends message sent = (bytes : List ℕ) × (sent ≡ bytes ∷ []) × Writes message bytes
+
+-- These bytes say it. The diagnostics are those of the text: where it isn't a module, the one of the token at which the
+-- parser stops.
+abbrev pub Says : Reply → List (List ℕ) → Type 0
+Says nothing sent = sent ≡ []
+Says (says message) sent = Sends message sent
+Says (diagnoses unit uri version text) sent =
+    (ds : List Diagnostic) × Diagnoses unit text ds × Sends (publication uri (Some version) ds) sent
+Says (lays_out unit id indent text) sent =
+    (message : Data) × AnswersFormatting unit id indent text message × Sends message sent
+Says (answers_name unit id at question text) sent =
+    (value : Data) × AnswersName unit text at question value × Sends (result_message id value) sent
+Says (renames unit requested text) sent =
+    (message : Data) × AnswersRenaming unit requested text message × Sends message sent
+Says (offers_actions unit requested text) sent =
+    (message : Data) × AnswersActions unit requested text message × Sends message sent
+
+-- the state after a message, and what is sent
+pub record Reaction : Type 0 where
+  pub after : ServerState
+  pub say : Reply
+
+-- the state stays as it is
+abbrev pub stays : ServerState → Reply → Reaction
+stays s say = record { after = s; say = say }
+
+-- the lifecycle comes to this phase
+abbrev pub with_phase : Phase → ServerState → Reply → Reaction
+with_phase phase s say = record { after = record s { phase = phase }; say = say }
+
+-- the documents are these from now on
+abbrev pub with_documents : OpenDocuments → ServerState → Reply → Reaction
+with_documents held s say = record { after = record s { held = held }; say = say }
+
+-- an error is answered, and the state stays as it is
+abbrev pub refuses : ServerState → Data → ℤ → List ℕ → Reaction
+refuses s id code said = stays s (says (error_message id code said))
+
+-- an error for a message that can't be read or isn't known
+abbrev pub refuses_fault : ServerState → Data → RpcFault → Reaction
+refuses_fault s id fault = refuses s id (error_code fault) (error_text fault)
+
+-- ---- requests: the lifecycle is looked at first, then the method, then the params
+
+-- a client begins with no document
+abbrev pub begins : Client → ServerState
+begins client = record { phase = Running; client = client; held = none_open (unit_for client) }
+
+-- what is said of the version and the text of a document that is open and in step; else the request is refused
+abbrev pub answers_about : ServerState → Data → Option Document → (ℤ → List ℕ → Reply) → Reaction
+answers_about s id (Some (InStep version text)) say = stays s (say version text)
+answers_about s id (Some OutOfStep) say = stays s (says (edit_refused id (codes "out of step")))
+answers_about s id None say = stays s (says (edit_refused id (codes "unopened")))
+
+-- a question about what is at a position
+abbrev pub requests_name : ServerState → Data → At → NameQuestion → Reaction
+requests_name s id at question =
+    answers_about s id (document_at s.held at.uri)
+    (λ version. answers_name s.held.unit id at question)
+
+-- a request for another name of what is named at a position
+abbrev pub requests_rename : ServerState → Data → At → List ℕ → Reaction
+requests_rename s id at new =
+    answers_about s id (document_at s.held at.uri) (λ version. renames s.held.unit
+    (record { id = id; client = s.client; at = at; version = version; new = new }))
+
+-- a request for code actions in a range
+abbrev pub requests_actions : ServerState
+    → Data
+    → List ℕ
+    → Range
+    → Option (List (List ℕ))
+    → Reaction
+requests_actions s id uri range only =
+    answers_about s id (document_at s.held uri)
+    (λ version. offers_actions s.held.unit (record
+    { id = id; client = s.client; uri = uri; version = version; range = range; only = only }))
+
+-- a request for a layout
+abbrev pub requests_layout : ServerState → Data → List ℕ → Indent → Reaction
+requests_layout s id uri indent =
+    answers_about s id (document_at s.held uri) (λ version. lays_out s.held.unit id indent)
+
+-- what comes of a request of a known method, once its params are read
+abbrev pub calls : ServerState → Data → Result ClientRequest RpcFault → Reaction
+calls s id (Ok (initialize client)) =
+    record { after = begins client; say = says (result_message id (capabilities client)) }
+calls s id (Ok shutdown) = with_phase ShutDown s (says (result_message id null))
+calls s id (Ok (hover at)) = requests_name s id at Hover
+calls s id (Ok (definition at)) = requests_name s id at Definition
+calls s id (Ok (references at include)) = requests_name s id at (References include)
+calls s id (Ok (prepare_rename at)) = requests_name s id at PrepareRename
+calls s id (Ok (rename at new)) = requests_rename s id at new
+calls s id (Ok (code_action uri range only)) = requests_actions s id uri range only
+calls s id (Ok (formatting uri indent)) = requests_layout s id uri indent
+calls s id (Err fault) = refuses_fault s id fault
+
+-- what comes of a request while the session runs
+abbrev pub reaction_to_call : ServerState → Data → List ℕ → Data → Reaction
+reaction_to_call s id method params = calls s id (request_by_method method params)
+
+-- what comes of a request, by the lifecycle
+abbrev pub reaction_to_request : Phase → ServerState → Data → List ℕ → Data → Reaction
+reaction_to_request Starting s id method params =
+    if bytes_eq method (codes "initialize") then reaction_to_call s id method params
+    else refuses s id (minus 32002) (codes "not initialized")
+reaction_to_request Running s id method params =
+    if bytes_eq method (codes "initialize")
+    then refuses s id (minus 32600) (codes "already initialized")
+    else reaction_to_call s id method params
+reaction_to_request ShutDown s id method params = refuses s id (minus 32600) (codes "shut down")
+reaction_to_request (Ended status) s id method params = stays s nothing
+
+-- ---- notifications
+
+-- `exit` ends with 0 after a shutdown, and else with 1
+abbrev pub end_status : Phase → ℕ
+end_status ShutDown = 0
+end_status phase = 1
+
+-- `exit` ends the session, with 0 after `shutdown` and with 1 otherwise
+abbrev pub ends : ServerState → Reaction
+ends s = with_phase (Ended (end_status s.phase)) s nothing
+
+-- a document in step is diagnosed
+abbrev pub published : Unit → List ℕ → Option Document → Reply
+published unit uri (Some (InStep version text)) = diagnoses unit uri version text
+published unit uri (Some OutOfStep) = nothing
+published unit uri None = nothing
+
+-- the documents are changed, and what is now held under the uri is published
+abbrev pub publish_documents : List ℕ → OpenDocuments → ServerState → Reaction
+publish_documents uri held s =
+    with_documents held s (published held.unit uri (document_at held uri))
+
+-- what comes of a notification while the session runs
+abbrev pub reaction_to : ServerState → Notification → Reaction
+reaction_to s exits = ends s
+reaction_to s (opens uri version text) = publish_documents uri (opened s.held uri version text) s
+reaction_to s (changes uri version all) = publish_documents uri (changed s.held uri version all) s
+-- the close of a held document takes its diagnostics back
+reaction_to s (closes uri) =
+    with_documents (closed s.held uri) s
+    (if is_some (document_at s.held uri) then says (publication uri None []) else nothing)
+reaction_to s (unreadable (Some uri)) = with_documents (lost s.held uri) s nothing
+reaction_to s (unreadable None) = stays s nothing
+reaction_to s other = stays s nothing
+
+-- before `initialize` and after `shutdown` only `exit` is heard
+abbrev pub hears : Phase → ServerState → List ℕ → Data → Reaction
+hears Running s method params = reaction_to s (note_of method params)
+hears phase s method params = if bytes_eq method (codes "exit") then ends s else stays s nothing
+
+-- ---- messages
+
+-- what comes of a content
+abbrev pub reacts : ServerState → MessageMeaning → Reaction
+reacts s not_json = refuses_fault s null NotJson
+reacts s not_a_message = refuses_fault s null NotAMessage
+reacts s response = stays s nothing
+reacts s (request id method params) = reaction_to_request s.phase s id method params
+reacts s (notice method params) = hears s.phase s method params
+
+-- the answers of a server that has not ended
+abbrev pub AnswersGoingOn : ServerState → List ℕ → List (List ℕ) → ServerState → Type 0
+AnswersGoingOn before content sent after =
+    (json : Option Data) × ReadsContent content json
+    × (let r = reacts before (meaning json) in (after ≡ r.after) × Says r.say sent)
+
+-- after its end it sends nothing and stays as it is
+abbrev pub AnswersInState : Phase → ServerState → List ℕ → List (List ℕ) → ServerState → Type 0
+AnswersInState (Ended status) before content sent after = (sent ≡ []) × (after ≡ before)
+AnswersInState phase before content sent after = AnswersGoingOn before content sent after
+
+-- In the one state the server replies to this content with these messages, and then it is in the other state.
+abbrev pub Answers : ServerState → List ℕ → List (List ℕ) → ServerState → Type 0
+Answers before content sent after = AnswersInState before.phase before content sent after
+
+-- The same for contents in turn, and the messages sent for them in that order.
+abbrev pub Conversation : ServerState → List (List ℕ) → List (List ℕ) → ServerState → Type 0
+Conversation before [] sent after = (sent ≡ []) × (after ≡ before)
+Conversation before (content ∷ contents) sent after =
+    (between : ServerState) × (first : List (List ℕ)) × (later : List (List ℕ))
+    × Answers before content first between
+    × Conversation between contents later after
+    × (sent ≡ first ++ later)

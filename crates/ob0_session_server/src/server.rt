@@ -1,0 +1,480 @@
+//! What a server keeps, and what it answers.
+ghost use Rattle.std.specs.Prelude.{◌≡◌, Ok, IfOk, map, option_map, string_bytes};
+ghost use Rattle.ob0_text.specs.OpenDocuments.{none_open};
+ghost use Rattle.ob0_session_server.specs.Units.{unit_for};
+
+mod held;
+
+use crate::session::Next;
+use ob0_rpc::{
+    Client, ClientNotification, ClientRequest, DocumentPosition, Id, Incoming, RpcFault, error,
+    notice, read, request, result_of,
+};
+use ob0_session_documents::{AnalysedDocuments, analysis_of};
+use ob0_session_edits::actions::{ActionsRequest, code_actions};
+use ob0_session_edits::diagnostics::diagnostics;
+use ob0_session_edits::formatting::format_document;
+use ob0_session_edits::renaming::{RenameRequest, rename_symbol};
+use ob0_session_json::capabilities::initialize_answer;
+use ob0_session_json::publication::publication;
+use ob0_session_json::refusals::refused;
+use ob0_session_queries::{NameQuestion, answer_question};
+use ob0_text::{Change, Documents, Held, Indent, Range, TextStore, Unit};
+use serde_json::Value;
+use std::alloc::{AllocError, Global};
+use std::marker::Model;
+
+/// How far the lifecycle has come.
+#[derive(Clone, Copy, Debug, Drop, PartialEq, Eq)]
+pub enum Phase {
+    Starting,
+    Running,
+    ShutDown,
+    Ended(u8),
+}
+
+/// A server, which may run out of memory at any answer.
+#[derive(Drop)]
+pub struct Server<T: TextStore> {
+    alloc: Global,
+    phase: Phase,
+    client: Client,
+    documents: AnalysedDocuments<T>,
+}
+
+impl<T: TextStore> Model for Server<T> {
+    ghost use Rattle.std.specs.Coded.{codes};
+    ghost use Rattle.ob0_text.specs.OpenDocuments.{documents_code};
+    ghost use Rattle.ob0_session_server.specs.Answers.{ServerState};
+
+    ghost Value = { ServerState };
+
+    ghost coded = { Prim.hlevel (codes, documents_code) };
+
+    ghost view = { λ s. record { phase = s.phase; client = s.client; held = s.documents } };
+}
+
+impl<T: TextStore> Server<T> {
+    ghost use Rattle.serde_json.specs.View.{view};
+    ghost use Rattle.std.specs.Option.{option_to_list};
+    ghost use Rattle.ob0_session_server.specs.Answers.{start, begins, AnswersGoingOn, Says, reaction_to_request, requests_actions, requests_layout, requests_name, requests_rename, reaction_to_call, calls, ends, hears, published, refuses, refuses_fault, says, stays, reaction_to};
+    ghost use Rattle.ob0_session_json.specs.Shapes.{edit_refused};
+    ghost use Rattle.ob0_rpc.specs.Notifications.{opens, changes, closes, note_of};
+    ghost use Rattle.ob0_rpc.specs.Seen.{at_seen, id_data, id_or_null, kinds_seen, seen_call, seen_note};
+    ghost use Rattle.ob0_session_server.specs.Seen.{Reacts};
+    ghost use Rattle.ob0_session_server.specs.Steps.{next_after};
+    ghost use Rattle.std.specs.Str.{chars};
+    ghost use Rattle.ob0_text.specs.OpenDocuments.{reported_change, document_at};
+
+    /// A server before `initialize`, with no open document; positions are in UTF-16 units.
+    pub fn new(alloc: Global) -> Server<T>
+        ensures { result ≡ start }
+    {
+        Server {
+            alloc,
+            phase: Phase::Starting,
+            client: Client {
+                counts_utf8: false,
+                prepares_renames: false,
+                takes_literal_actions: false,
+                takes_document_changes: false,
+            },
+            documents: AnalysedDocuments::new(alloc, Documents::new(alloc)),
+        }
+    }
+
+    /// Whether the server goes on, or the status with which it has ended.
+    pub fn next(&self) -> Next
+        ensures { result ≡ next_after self.now.phase }
+    {
+        match self.phase {
+            Phase::Ended(status) => Next::End(status),
+            _ => Next::Continue,
+        }
+    }
+
+    /// The messages that answer a content: one, or none.
+    pub fn answer(&mut self, content: &[u8]) -> Result<Vec<Vec<u8>>, AllocError>
+        ensures { IfOk result
+            (λ sent. AnswersGoingOn self.old content.now (map (λ v. v.items) sent.items) self.new) }
+    {
+        let mut sent = Vec::new(self.alloc);
+        if let Some(message) = self.reply(content)? {
+            sent.push(message)?;
+        }
+        Ok(sent)
+    }
+
+    fn reply(&mut self, content: &[u8]) -> Result<Option<Vec<u8>>, AllocError>
+        ensures { IfOk result (λ sent. AnswersGoingOn self.old content.now
+            (option_to_list (option_map (λ v. v.items) sent)) self.new) }
+    {
+        match read(self.alloc, content) {
+            Ok(Incoming::Request(id, method, params)) => {
+                self.reply_to_request(&id, method.as_str(), &params)
+            }
+            Ok(Incoming::Notice(method, params)) => self.handle_request(method.as_str(), params),
+            Ok(Incoming::Ignored) => Ok(None),
+            Err(RpcFault::Memory) => Err(AllocError),
+            Err(RpcFault::NotJson) => self.refuse_fault(None, RpcFault::NotJson),
+            Err(RpcFault::NotAMessage) => self.refuse_fault(None, RpcFault::NotAMessage),
+            Err(RpcFault::UnknownMethod) => unreachable!(),
+            Err(RpcFault::BadParams) => unreachable!(),
+        }
+    }
+
+    fn refuse(&self, id: Option<&Id>, code: i32, said: &str) -> Result<Option<Vec<u8>>, AllocError>
+        ensures { IfOk result (λ sent. Reacts
+            (refuses self.now (id_or_null (option_map (λ i. i.now) id.entry)) code said.now) sent
+            self.now) }
+    {
+        Ok(Some(error(self.alloc, id, code, said)?))
+    }
+
+    fn refuse_fault(&self, id: Option<&Id>, fault: RpcFault) -> Result<Option<Vec<u8>>, AllocError>
+        ensures { IfOk result (λ sent. Reacts
+            (refuses_fault self.now (id_or_null (option_map (λ i. i.now) id.entry)) fault) sent
+            self.now) }
+    {
+        self.refuse(id, fault.code(), fault.text())
+    }
+
+    fn reply_to_request(
+        &mut self,
+        id: &Id,
+        method: &str,
+        params: &Value,
+    ) -> Result<Option<Vec<u8>>, AllocError>
+        ensures { IfOk result (λ sent. Reacts (reaction_to_request self.old.phase self.old
+            (id_data id.now) method.now (view params.now)) sent self.new) }
+    {
+        let is_initialize = method == "initialize";
+        match self.phase {
+            Phase::Starting if !is_initialize => self.refuse(Some(id), -32002, "not initialized"),
+            Phase::Running if is_initialize => self.refuse(Some(id), -32600, "already initialized"),
+            Phase::Starting | Phase::Running => self.reply_to_known(id, method, params),
+            Phase::ShutDown => self.refuse(Some(id), -32600, "shut down"),
+            Phase::Ended(_) => Ok(None),
+        }
+    }
+
+    /// A request in a phase in which it is heard.
+    fn reply_to_known(
+        &mut self,
+        id: &Id,
+        method: &str,
+        params: &Value,
+    ) -> Result<Option<Vec<u8>>, AllocError>
+        ensures { IfOk result (λ sent. Reacts
+            (reaction_to_call self.old (id_data id.now) method.now (view params.now))
+            sent self.new) }
+    {
+        match request(self.alloc, method, params) {
+            Ok(call) => self.reply_to_call(id, call),
+            Err(fault) => match fault {
+                RpcFault::Memory => Err(AllocError),
+                RpcFault::UnknownMethod => self.refuse_fault(Some(id), RpcFault::UnknownMethod),
+                RpcFault::BadParams => self.refuse_fault(Some(id), RpcFault::BadParams),
+                RpcFault::NotJson => unreachable!(),
+                RpcFault::NotAMessage => unreachable!(),
+            },
+        }
+    }
+
+    fn reply_to_call(&mut self, id: &Id, call: ClientRequest) -> Result<Option<Vec<u8>>, AllocError>
+        ensures { IfOk result
+            (λ sent. Reacts (calls self.old (id_data id.now) (Ok (seen_call call))) sent self.new) }
+    {
+        match call {
+            ClientRequest::Initialize(client) => {
+                self.begin(client);
+                Ok(Some(initialize_answer(self.alloc, id, client)?))
+            }
+            ClientRequest::Shutdown => {
+                self.phase = Phase::ShutDown;
+                Ok(Some(result_of(self.alloc, id, &())?))
+            }
+            ClientRequest::Hover(place) => self.query(id, &place, NameQuestion::Hover),
+            ClientRequest::Definition(place) => self.query(id, &place, NameQuestion::Definition),
+            ClientRequest::References {
+                place,
+                include_declaration,
+            } => self.query(
+                id,
+                &place,
+                NameQuestion::References {
+                    include_declaration,
+                },
+            ),
+            ClientRequest::PrepareRename(place) => self.query(
+                id,
+                &place,
+                NameQuestion::PrepareRename,
+            ),
+            ClientRequest::Rename { place, new_name } => self.rename(id, &place, new_name.as_str()),
+            ClientRequest::CodeAction { uri, range, only } => self.act(
+                id,
+                uri.as_str(),
+                range,
+                &only,
+            ),
+            ClientRequest::Formatting { uri, indent } => self.format(id, uri.as_str(), indent),
+        }
+    }
+
+    fn query(
+        &mut self,
+        id: &Id,
+        place: &DocumentPosition,
+        question: NameQuestion,
+    ) -> Result<Option<Vec<u8>>, AllocError>
+        ensures { IfOk result (λ sent. Reacts
+            (requests_name self.old (id_data id.now) (at_seen place.now) question) sent self.new) }
+    {
+        let uri = place.uri.as_str();
+        let kept = self.documents.take(uri);
+        match self.documents.get(uri) {
+            Some(Held::InStep { version: _, text }) => {
+                let analysis = analysis_of(self.alloc, kept, text)?;
+                let answer = answer_question(self.alloc, id, text, &analysis, place, question)?;
+                self.documents.keep(uri, analysis)?;
+                Ok(Some(answer))
+            }
+            Some(Held::OutOfStep) => self.refuse_document(id, "out of step"),
+            None => self.refuse_document(id, "unopened"),
+        }
+    }
+
+    fn rename(
+        &mut self,
+        id: &Id,
+        place: &DocumentPosition,
+        new: &str,
+    ) -> Result<Option<Vec<u8>>, AllocError>
+        ensures { IfOk result (λ sent. Reacts
+            (requests_rename self.old (id_data id.now) (at_seen place.now) new.now) sent self.new) }
+    {
+        let uri = place.uri.as_str();
+        let kept = self.documents.take(uri);
+        match self.documents.get(uri) {
+            Some(Held::InStep { version, text }) => {
+                let request = RenameRequest {
+                    id,
+                    client: self.client,
+                    place,
+                    version,
+                    new,
+                };
+                let analysis = analysis_of(self.alloc, kept, text)?;
+                let answer = rename_symbol(self.alloc, text, &analysis, &request)?;
+                self.documents.keep(uri, analysis)?;
+                Ok(Some(answer))
+            }
+            Some(Held::OutOfStep) => self.refuse_document(id, "out of step"),
+            None => self.refuse_document(id, "unopened"),
+        }
+    }
+
+    fn act(
+        &mut self,
+        id: &Id,
+        uri: &str,
+        range: Range,
+        only: &Option<Vec<String>>,
+    ) -> Result<Option<Vec<u8>>, AllocError>
+        ensures { IfOk result (λ sent. Reacts
+            (requests_actions self.old (id_data id.now) uri.now range (kinds_seen only.now)) sent
+            self.new) }
+    {
+        let kept = self.documents.take(uri);
+        match self.documents.get(uri) {
+            Some(Held::InStep { version, text }) => {
+                let request = ActionsRequest {
+                    id,
+                    client: self.client,
+                    uri,
+                    version,
+                    range,
+                    only,
+                };
+                let analysis = analysis_of(self.alloc, kept, text)?;
+                let answer = code_actions(self.alloc, text, &analysis, &request)?;
+                self.documents.keep(uri, analysis)?;
+                Ok(Some(answer))
+            }
+            Some(Held::OutOfStep) => self.refuse_document(id, "out of step"),
+            None => self.refuse_document(id, "unopened"),
+        }
+    }
+
+    fn refuse_document(&self, id: &Id, said: &str) -> Result<Option<Vec<u8>>, AllocError>
+        ensures { IfOk result (λ sent. Reacts
+            (stays self.now (says (edit_refused (id_data id.now) said.now))) sent self.now) }
+    {
+        Ok(Some(refused(self.alloc, id, said)?))
+    }
+
+    fn format(&mut self, id: &Id, uri: &str, indent: Indent) -> Result<Option<Vec<u8>>, AllocError>
+        ensures { IfOk result (λ sent. Reacts
+            (requests_layout self.old (id_data id.now) uri.now indent) sent self.new) }
+    {
+        let kept = self.documents.take(uri);
+        match self.documents.get(uri) {
+            Some(Held::InStep { version: _, text }) => {
+                let analysis = analysis_of(self.alloc, kept, text)?;
+                let answer = format_document(self.alloc, id, text, &analysis, indent)?;
+                self.documents.keep(uri, analysis)?;
+                Ok(Some(answer))
+            }
+            Some(Held::OutOfStep) => self.refuse_document(id, "out of step"),
+            None => self.refuse_document(id, "unopened"),
+        }
+    }
+
+    /// Begins with a client that can do this, and with no document.
+    fn begin(&mut self, client: Client)
+        ensures { self.new ≡ begins client }
+    {
+        self.phase = Phase::Running;
+        self.client = client;
+        self.documents = AnalysedDocuments::new(self.alloc, documents_for(self.alloc, client));
+    }
+
+    fn handle_request(&mut self, method: &str, params: Value) -> Result<Option<Vec<u8>>, AllocError>
+        ensures { IfOk result (λ sent. Reacts
+            (hears self.old.phase self.old method.now (view params)) sent self.new) }
+    {
+        if let Phase::Running = self.phase {
+            return self.handle_notification(method, params);
+        }
+        if method == "exit" {
+            self.end();
+        }
+        Ok(None)
+    }
+
+    fn handle_notification(
+        &mut self,
+        method: &str,
+        params: Value,
+    ) -> Result<Option<Vec<u8>>, AllocError>
+        ensures { IfOk result (λ sent. Reacts
+            (reaction_to self.old (note_of method.now (view params))) sent self.new) }
+    {
+        match notice(self.alloc, method, params) {
+            Ok(note) => self.apply_notification(note),
+            Err(fault) => match fault {
+                RpcFault::Memory => Err(AllocError),
+                RpcFault::NotJson => unreachable!(),
+                RpcFault::NotAMessage => unreachable!(),
+                RpcFault::UnknownMethod => unreachable!(),
+                RpcFault::BadParams => unreachable!(),
+            },
+        }
+    }
+
+    fn end(&mut self)
+        ensures { self.new ≡ (ends self.old).after }
+    {
+        self.phase = match self.phase {
+            Phase::ShutDown => Phase::Ended(0),
+            _ => Phase::Ended(1),
+        };
+    }
+
+    fn apply_notification(
+        &mut self,
+        note: ClientNotification,
+    ) -> Result<Option<Vec<u8>>, AllocError>
+        ensures { IfOk result
+            (λ sent. Reacts (reaction_to self.old (seen_note note)) sent self.new) }
+    {
+        match note {
+            ClientNotification::Exit => {
+                self.end();
+                Ok(None)
+            }
+            ClientNotification::Open { uri, version, text } => self.open(
+                uri.as_str(),
+                version,
+                text,
+            ),
+            ClientNotification::Change {
+                uri,
+                version,
+                changes,
+            } => self.change(uri, version, changes),
+            ClientNotification::Close { uri } => self.close(uri.as_str()),
+            ClientNotification::Unreadable { uri } => {
+                if let Some(uri) = uri {
+                    self.documents.lose(uri.as_str());
+                }
+                Ok(None)
+            }
+            ClientNotification::Other => Ok(None),
+        }
+    }
+
+    fn open(&mut self, uri: &str, version: i64, text: String) -> Result<Option<Vec<u8>>, AllocError>
+        ensures { IfOk result (λ sent. Reacts
+            (reaction_to self.old (opens uri.now version (chars (string_bytes text)))) sent
+            self.new) }
+    {
+        self.documents.did_open(uri, version, text)?;
+        self.publish(uri)
+    }
+
+    fn change(
+        &mut self,
+        uri: String,
+        version: i64,
+        all: Vec<Change>,
+    ) -> Result<Option<Vec<u8>>, AllocError>
+        ensures { IfOk result (λ sent. Reacts (reaction_to self.old
+            (changes (string_bytes uri) version (map reported_change all.items))) sent self.new) }
+    {
+        self.documents.did_change(uri.as_str(), version, all)?;
+        self.publish(uri.as_str())
+    }
+
+    fn close(&mut self, uri: &str) -> Result<Option<Vec<u8>>, AllocError>
+        ensures { IfOk result
+            (λ sent. Reacts (reaction_to self.old (closes uri.now)) sent self.new) }
+    {
+        if !self.documents.did_close(uri) {
+            return Ok(None);
+        }
+        let none = Vec::new(self.alloc);
+        Ok(Some(publication(self.alloc, uri, None, none)?))
+    }
+
+    /// The diagnostics of a document that is in step.
+    fn publish(&mut self, uri: &str) -> Result<Option<Vec<u8>>, AllocError>
+        ensures same { self.new ≡ self.old }
+        ensures says { IfOk result (λ sent. Says
+            (published self.old.held.unit uri.now (document_at self.old.held uri.now))
+            (option_to_list (option_map (λ v. v.items) sent))) }
+    {
+        let kept = self.documents.take(uri);
+        match self.documents.get(uri) {
+            Some(Held::InStep { version, text }) => {
+                let analysis = analysis_of(self.alloc, kept, text)?;
+                let list = diagnostics(self.alloc, text, &analysis)?;
+                self.documents.keep(uri, analysis)?;
+                Ok(Some(publication(self.alloc, uri, Some(version), list)?))
+            }
+            _ => Ok(None),
+        }
+    }
+}
+
+/// No documents, in the unit of positions that a client wants.
+fn documents_for<T: TextStore>(alloc: Global, client: Client) -> Documents<T>
+    ensures { result ≡ none_open (unit_for client) }
+{
+    let mut documents = Documents::new(alloc);
+    if client.counts_utf8 {
+        documents.set_unit(Unit::Utf8);
+    }
+    documents
+}
