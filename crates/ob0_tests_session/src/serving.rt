@@ -1,9 +1,8 @@
 //! Conversations over devices that fail, and a writer that passes on what it is given only where it is flushed.
 
 use crate::devices::{Count, Counter, Source};
-use ob0_session::{Noted, ServeFault, serve};
+use ob0_session::{DeviceFault, Noted, ServeFault, serve};
 use std::alloc::Global;
-use std::io;
 use std::process::Abort;
 
 /// The first conversation.
@@ -136,8 +135,8 @@ fn conversed(alloc: Global, end: &ServeEnd, count: &mut Count) -> Found {
     }
 }
 
-fn broke_by(result: Result<u8, ServeFault>, fault: ServeFault) -> bool {
-    match result {
+fn broke_by(end: Result<u8, ServeFault>, fault: ServeFault) -> bool {
+    match end {
         Ok(_status) => false,
         Err(found) => found == fault,
     }
@@ -192,7 +191,7 @@ fn each_piece_is_flushed_at_its_end(rt: HostRuntime) {
     assert!(rt; count == ENDS.len(), "conversation {count}");
 }
 
-fn is_one(count: io::Result<usize>) -> bool {
+fn is_one(count: Result<usize, DeviceFault>) -> bool {
     match count {
         Ok(count) => count == 1,
         Err(_fault) => false,
