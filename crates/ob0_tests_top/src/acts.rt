@@ -225,6 +225,13 @@ fn begun<T: TextStore>(alloc: Global, unit: Unit) -> Result<World<T>, WorldFault
     }
 }
 
+fn begun_again<T: TextStore>(alloc: Global, unit: Unit) -> Result<World<T>, WorldFault> {
+    match begun(alloc, unit) {
+        Ok(world) => Ok(world),
+        Err(_refused) => begun(alloc, unit),
+    }
+}
+
 /// How a story goes on where this is seen in place of what was wanted.
 fn way_on(way: Way, seen: Sight, wanted: Sight) -> Way {
     match way {
@@ -244,30 +251,17 @@ fn way_on(way: Way, seen: Sight, wanted: Sight) -> Way {
     }
 }
 
-/// How events go, one by one.
-fn way_through<T: TextStore>(alloc: Global, world: &mut World<T>, moments: &[(Act, Sight)]) -> Way {
-    let mut way = Way::AsTold;
-    for moment in moments {
-        let (act, wanted) = *moment;
-        way = way_on(way, shown(alloc, world, act), wanted);
-    }
-    way
-}
-
-/// How a story goes; None where no world can be made. (What owns a world is expensive to prove, at each of its steps.)
-fn way_once<T: TextStore>(alloc: Global, story: &Story) -> Option<Way> {
-    match begun::<T>(alloc, story.unit) {
-        Ok(mut world) => Some(way_through(alloc, &mut world, story.moments)),
-        Err(_fault) => None,
-    }
-}
-
 /// How a story goes, event by event.
 pub fn way_of<T: TextStore>(alloc: Global, story: &Story) -> Way {
-    match way_once::<T>(alloc, story) {
-        Some(way) => way,
-        None => way_once::<T>(alloc, story).unwrap_or(Way::Otherwise),
+    let Ok(mut world) = begun_again::<T>(alloc, story.unit) else {
+        return Way::Otherwise;
+    };
+    let mut way = Way::AsTold;
+    for moment in story.moments {
+        let (act, wanted) = *moment;
+        way = way_on(way, shown(alloc, &mut world, act), wanted);
     }
+    way
 }
 
 fn events_of(alloc: Global, story: &Story) -> Result<Vec<Event>, AllocError> {
@@ -314,27 +308,24 @@ fn played(alloc: Global, unit: Unit, events: &[Event]) -> Extent {
     }
 }
 
-/// Makes the first `most` events one by one, up to one whose allocation fails.
-fn step_through(world: &mut World<Lines>, events: &[Event], most: u64) {
-    for event in events {
-        if world.steps() >= most || stepped(world, event) == Sight::Refused {
-            return;
-        }
-    }
-}
-
-/// What they leave; None where no world can be made.
+/// What the first `most` events leave, made one by one, or those before one whose allocation fails; None where no world
+/// can be made.
 fn stepped_through(alloc: Global, unit: Unit, events: &[Event], most: u64) -> Option<Extent> {
-    match begun::<Lines>(alloc, unit) {
-        Ok(mut world) => {
-            step_through(&mut world, events, most);
-            Some(Extent {
-                steps: world.steps(),
-                played: world.into_played(),
-            })
+    let mut world: World<Lines> = match begun(alloc, unit) {
+        Ok(world) => world,
+        Err(_fault) => return None,
+    };
+    let mut goes_on = true;
+    for event in events {
+        if goes_on && world.steps() < most {
+            let seen = stepped(&mut world, event);
+            goes_on = seen != Sight::Refused;
         }
-        Err(_fault) => None,
     }
+    Some(Extent {
+        steps: world.steps(),
+        played: world.into_played(),
+    })
 }
 
 fn is_edit(found: &Applied, wanted: &Edited) -> bool {
