@@ -1,7 +1,6 @@
 -- What the entries of a cache are after a call.
-use Rattle.std.proofs.Common.{◌≡◌, ◌∙◌, ℕ, ◌⊎◌, inl, inr, Bool, true, false, cond, take, List, [], ◌∷◌, Contains, Some, None, String, string_bytes, Global, refl, sym, ap, subst}
+use Rattle.std.proofs.Common.{◌≡◌, ◌∙◌, ℕ, ◌⊎◌, inl, inr, Bool, true, false, cond, take, List, [], ◌∷◌, Contains, Some, None, String, string_bytes, Global, sym, ap, subst}
 use Rattle.std.specs.Str.{bytes_eq}
-use Rattle.std.specs.Cmp.{IsEquivalence}
 use Rattle.std.specs.Map.{keys_of, lookup, remove_entry}
 use Rattle.std.specs.List.{AllByRecursion, IsDistinct}
 use Rattle.std.specs.String.{string_eq, string_eq_equiv}

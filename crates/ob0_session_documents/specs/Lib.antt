@@ -1,1 +1,2 @@
 pub mod KeptAnalyses
+pub mod AskedDocuments

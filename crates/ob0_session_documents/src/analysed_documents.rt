@@ -2,12 +2,11 @@
 
 ghost use Rattle.std.specs.Prelude.{◌≡◌, IfSome, IfOk, OnOk, is_some, map, string_bytes};
 ghost use Rattle.std.specs.Str.{chars};
-ghost use Rattle.ob0_text.specs.Entries.{document_stored, UsesUnit};
 ghost use Rattle.ob0_text.specs.OpenDocuments.{changed, closed, document_at, lost, opened, reported_change};
-ghost use Rattle.std.specs.Option.{option_map};
-ghost use Rattle.ob0_session_documents.specs.KeptAnalyses.{HasDocumentText};
+ghost use Rattle.ob0_session_documents.specs.AskedDocuments.{ComesOfAsking};
 
 use crate::analyses::Analyses;
+use crate::document_requests::{Asked, DocumentRequest};
 use ob0_analysis::Analysis;
 use ob0_text::{Change, Documents, Held, TextStore};
 use std::alloc::{AllocError, Global};
@@ -54,15 +53,6 @@ impl<T: TextStore> AnalysedDocuments<T> {
         &self.documents
     }
 
-    /// An open document (`Documents::get`).
-    pub fn get(&self, uri: &str) -> Option<Held<'_, T>>
-        ensures held { option_map (document_stored T.content) result
-            ≡ document_at self.now uri.now }
-        ensures unit { UsesUnit T.unit_of self.now.unit result }
-    {
-        self.documents.get(uri)
-    }
-
     /// Opens a document, or opens it again, and analyses its text. The text as it came is dropped before.
     pub fn did_open(&mut self, uri: &str, version: i64, text: String) -> Result<(), AllocError>
         ensures { OnOk result
@@ -107,20 +97,26 @@ impl<T: TextStore> AnalysedDocuments<T> {
         self.documents.did_close(uri)
     }
 
-    /// Takes out the analysis of a document's text, where it is kept.
-    pub fn take(&mut self, uri: &str) -> Option<Analysis>
+    /// Makes a request of a document that is in step. The analysis of its text is kept for what comes next.
+    pub fn ask<Q: DocumentRequest<T>>(
+        &mut self,
+        uri: &str,
+        request: &Q,
+    ) -> Result<Asked, AllocError>
         ensures same { self.new ≡ self.old }
-        ensures found { IfSome result (HasDocumentText self.old uri.now) }
+        ensures asked { IfOk result (ComesOfAsking (Q.answers request.now) self.old uri.now) }
     {
-        self.analyses.take(uri)
-    }
-
-    /// Keeps the analysis of a document's text.
-    pub fn keep(&mut self, uri: &str, analysis: Analysis) -> Result<(), AllocError>
-        requires { HasDocumentText self.old uri.now analysis }
-        ensures { self.new ≡ self.old }
-    {
-        self.analyses.put(uri, analysis)
+        match self.documents.get(uri) {
+            Some(Held::InStep { version, text }) => {
+                let kept = self.analyses.take(uri);
+                let analysis = analysis_of(self.alloc, kept, text)?;
+                let answer = request.answer(self.alloc, version, text, &analysis);
+                self.analyses.put(uri, analysis)?;
+                Ok(Asked::Answered(answer?))
+            }
+            Some(Held::OutOfStep) => Ok(Asked::OutOfStep),
+            None => Ok(Asked::Unopened),
+        }
     }
 
     /// Analyses the text of a document, from the analysis of the text before, and keeps that.
@@ -152,7 +148,7 @@ fn analysis_after(
 }
 
 /// The analysis of a stored text: the one that was kept of it, or one from nothing.
-pub fn analysis_of<T: TextStore>(
+fn analysis_of<T: TextStore>(
     alloc: Global,
     kept: Option<Analysis>,
     store: &T,

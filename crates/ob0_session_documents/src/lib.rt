@@ -3,5 +3,7 @@
 
 mod analysed_documents;
 mod analyses;
+mod document_requests;
 
-pub use analysed_documents::{AnalysedDocuments, analysis_of};
+pub use analysed_documents::AnalysedDocuments;
+pub use document_requests::{Asked, DocumentRequest};

@@ -1,10 +1,30 @@
 -- What the values that the code passes on mean.
 -- Rule: none; for contracts: what values of the code mean.
-use Rattle.std.specs.Prelude.{◌≡◌, ℕ, Option, Vec, option_map}
+use Rattle.std.specs.Prelude.{◌≡◌, ℕ, Option, Some, None, Vec, option_map, codes}
 use Rattle.std.specs.Option.{option_to_list}
 use Rattle.std.specs.declared.alloc.Global.{Global}
-use Rattle.ob0_session_server.specs.Answers.{ServerState, Reaction, Says}
+use Rattle.serde_json.specs.Data.{Data}
+use Rattle.ob0_session_documents.specs.declared.document_requests.Asked.{Asked}
+use Rattle.ob0_session_documents.specs.declared.document_requests.Asked.TheVariants.{Answered, OutOfStep, Unopened}
+use Rattle.ob0_session_json.specs.Shapes.{edit_refused}
+use Rattle.ob0_session_server.specs.Answers.{ServerState, Reaction, Reply, Says, says}
+
+-- the messages that are sent say it
+abbrev pub Replies : Reply → Option (Vec ℕ Global) → Type 0
+Replies reply sent = Says reply (option_to_list (option_map (λ v. v.items) sent))
 
 -- a state and messages that a reaction allows
 abbrev pub Reacts : Reaction → Option (Vec ℕ Global) → ServerState → Type 0
-Reacts r sent new = (new ≡ r.after) × Says r.say (option_to_list (option_map (λ v. v.items) sent))
+Reacts r sent new = (new ≡ r.after) × Replies r.say sent
+
+-- what is sent where this came of a request about a document: its message, or a refusal
+abbrev pub RepliesAsked : Data → Asked → Option (Vec ℕ Global) → Type 0
+RepliesAsked id (Answered message) sent = sent ≡ Some message
+RepliesAsked id OutOfStep sent = Replies (says (edit_refused id (codes "out of step"))) sent
+RepliesAsked id Unopened sent = Replies (says (edit_refused id (codes "unopened"))) sent
+
+-- its message, where there is one
+abbrev pub message_of : Asked → Option (Vec ℕ Global)
+message_of (Answered message) = Some message
+message_of OutOfStep = None
+message_of Unopened = None

@@ -1,25 +1,24 @@
 //! What a server keeps, and what it answers.
 ghost use Rattle.std.specs.Prelude.{◌≡◌, Ok, IfOk, map, option_map, string_bytes};
+ghost use Rattle.ob0_rpc.specs.Seen.{id_data};
 ghost use Rattle.ob0_text.specs.OpenDocuments.{none_open};
+ghost use Rattle.ob0_session_server.specs.Seen.{RepliesAsked, message_of as what_is_sent};
 ghost use Rattle.ob0_session_server.specs.Units.{unit_for};
 
 mod held;
 
+use crate::requests::{LayoutRequest, NameRequest, NewNameRequest, OfferRequest, PublishRequest};
 use crate::session::Next;
 use ob0_rpc::{
     Client, ClientNotification, ClientRequest, DocumentPosition, Id, Incoming, RpcFault, error,
     notice, read, request, result_of,
 };
-use ob0_session_documents::{AnalysedDocuments, analysis_of};
-use ob0_session_edits::actions::{ActionsRequest, code_actions};
-use ob0_session_edits::diagnostics::diagnostics;
-use ob0_session_edits::formatting::format_document;
-use ob0_session_edits::renaming::{RenameRequest, rename_symbol};
+use ob0_session_documents::{AnalysedDocuments, Asked};
 use ob0_session_json::capabilities::initialize_answer;
 use ob0_session_json::publication::publication;
 use ob0_session_json::refusals::refused;
-use ob0_session_queries::{NameQuestion, answer_question};
-use ob0_text::{Change, Documents, Held, Indent, Range, TextStore, Unit};
+use ob0_session_queries::NameQuestion;
+use ob0_text::{Change, Documents, Indent, Range, TextStore, Unit};
 use serde_json::Value;
 use std::alloc::{AllocError, Global};
 use std::marker::Model;
@@ -57,10 +56,9 @@ impl<T: TextStore> Model for Server<T> {
 impl<T: TextStore> Server<T> {
     ghost use Rattle.serde_json.specs.View.{view};
     ghost use Rattle.std.specs.Option.{option_to_list};
-    ghost use Rattle.ob0_session_server.specs.Answers.{start, begins, AnswersGoingOn, Says, reaction_to_request, requests_actions, requests_layout, requests_name, requests_rename, reaction_to_call, calls, ends, hears, published, refuses, refuses_fault, says, stays, reaction_to};
-    ghost use Rattle.ob0_session_json.specs.Shapes.{edit_refused};
+    ghost use Rattle.ob0_session_server.specs.Answers.{start, begins, AnswersGoingOn, Says, reaction_to_request, requests_actions, requests_layout, requests_name, requests_rename, reaction_to_call, calls, ends, hears, published, refuses, refuses_fault, reaction_to};
     ghost use Rattle.ob0_rpc.specs.Notifications.{opens, changes, closes, note_of};
-    ghost use Rattle.ob0_rpc.specs.Seen.{at_seen, id_data, id_or_null, kinds_seen, seen_call, seen_note};
+    ghost use Rattle.ob0_rpc.specs.Seen.{at_seen, id_or_null, kinds_seen, seen_call, seen_note};
     ghost use Rattle.ob0_session_server.specs.Seen.{Reacts};
     ghost use Rattle.ob0_session_server.specs.Steps.{next_after};
     ghost use Rattle.std.specs.Str.{chars};
@@ -231,18 +229,13 @@ impl<T: TextStore> Server<T> {
         ensures { IfOk result (λ sent. Reacts
             (requests_name self.old (id_data id.now) (at_seen place.now) question) sent self.new) }
     {
-        let uri = place.uri.as_str();
-        let kept = self.documents.take(uri);
-        match self.documents.get(uri) {
-            Some(Held::InStep { version: _, text }) => {
-                let analysis = analysis_of(self.alloc, kept, text)?;
-                let answer = answer_question(self.alloc, id, text, &analysis, place, question)?;
-                self.documents.keep(uri, analysis)?;
-                Ok(Some(answer))
-            }
-            Some(Held::OutOfStep) => self.refuse_document(id, "out of step"),
-            None => self.refuse_document(id, "unopened"),
-        }
+        let request = NameRequest {
+            id,
+            place,
+            question,
+        };
+        let asked = self.documents.ask(place.uri.as_str(), &request)?;
+        reply_asked(self.alloc, id, asked)
     }
 
     fn rename(
@@ -254,25 +247,14 @@ impl<T: TextStore> Server<T> {
         ensures { IfOk result (λ sent. Reacts
             (requests_rename self.old (id_data id.now) (at_seen place.now) new.now) sent self.new) }
     {
-        let uri = place.uri.as_str();
-        let kept = self.documents.take(uri);
-        match self.documents.get(uri) {
-            Some(Held::InStep { version, text }) => {
-                let request = RenameRequest {
-                    id,
-                    client: self.client,
-                    place,
-                    version,
-                    new,
-                };
-                let analysis = analysis_of(self.alloc, kept, text)?;
-                let answer = rename_symbol(self.alloc, text, &analysis, &request)?;
-                self.documents.keep(uri, analysis)?;
-                Ok(Some(answer))
-            }
-            Some(Held::OutOfStep) => self.refuse_document(id, "out of step"),
-            None => self.refuse_document(id, "unopened"),
-        }
+        let request = NewNameRequest {
+            id,
+            client: self.client,
+            place,
+            new,
+        };
+        let asked = self.documents.ask(place.uri.as_str(), &request)?;
+        reply_asked(self.alloc, id, asked)
     }
 
     fn act(
@@ -286,49 +268,23 @@ impl<T: TextStore> Server<T> {
             (requests_actions self.old (id_data id.now) uri.now range (kinds_seen only.now)) sent
             self.new) }
     {
-        let kept = self.documents.take(uri);
-        match self.documents.get(uri) {
-            Some(Held::InStep { version, text }) => {
-                let request = ActionsRequest {
-                    id,
-                    client: self.client,
-                    uri,
-                    version,
-                    range,
-                    only,
-                };
-                let analysis = analysis_of(self.alloc, kept, text)?;
-                let answer = code_actions(self.alloc, text, &analysis, &request)?;
-                self.documents.keep(uri, analysis)?;
-                Ok(Some(answer))
-            }
-            Some(Held::OutOfStep) => self.refuse_document(id, "out of step"),
-            None => self.refuse_document(id, "unopened"),
-        }
-    }
-
-    fn refuse_document(&self, id: &Id, said: &str) -> Result<Option<Vec<u8>>, AllocError>
-        ensures { IfOk result (λ sent. Reacts
-            (stays self.now (says (edit_refused (id_data id.now) said.now))) sent self.now) }
-    {
-        Ok(Some(refused(self.alloc, id, said)?))
+        let request = OfferRequest {
+            id,
+            client: self.client,
+            uri,
+            range,
+            only,
+        };
+        let asked = self.documents.ask(uri, &request)?;
+        reply_asked(self.alloc, id, asked)
     }
 
     fn format(&mut self, id: &Id, uri: &str, indent: Indent) -> Result<Option<Vec<u8>>, AllocError>
         ensures { IfOk result (λ sent. Reacts
             (requests_layout self.old (id_data id.now) uri.now indent) sent self.new) }
     {
-        let kept = self.documents.take(uri);
-        match self.documents.get(uri) {
-            Some(Held::InStep { version: _, text }) => {
-                let analysis = analysis_of(self.alloc, kept, text)?;
-                let answer = format_document(self.alloc, id, text, &analysis, indent)?;
-                self.documents.keep(uri, analysis)?;
-                Ok(Some(answer))
-            }
-            Some(Held::OutOfStep) => self.refuse_document(id, "out of step"),
-            None => self.refuse_document(id, "unopened"),
-        }
+        let asked = self.documents.ask(uri, &LayoutRequest { id, indent })?;
+        reply_asked(self.alloc, id, asked)
     }
 
     /// Begins with a client that can do this, and with no document.
@@ -455,16 +411,30 @@ impl<T: TextStore> Server<T> {
             (published self.old.held.unit uri.now (document_at self.old.held uri.now))
             (option_to_list (option_map (λ v. v.items) sent))) }
     {
-        let kept = self.documents.take(uri);
-        match self.documents.get(uri) {
-            Some(Held::InStep { version, text }) => {
-                let analysis = analysis_of(self.alloc, kept, text)?;
-                let list = diagnostics(self.alloc, text, &analysis)?;
-                self.documents.keep(uri, analysis)?;
-                Ok(Some(publication(self.alloc, uri, Some(version), list)?))
-            }
-            _ => Ok(None),
-        }
+        let asked = self.documents.ask(uri, &PublishRequest { uri })?;
+        Ok(message_of(asked))
+    }
+}
+
+/// The answer to a request, by what came of asking about its document.
+fn reply_asked(alloc: Global, id: &Id, asked: Asked) -> Result<Option<Vec<u8>>, AllocError>
+    ensures { IfOk result (RepliesAsked (id_data id.now) asked) }
+{
+    match asked {
+        Asked::Answered(message) => Ok(Some(message)),
+        Asked::OutOfStep => Ok(Some(refused(alloc, id, "out of step")?)),
+        Asked::Unopened => Ok(Some(refused(alloc, id, "unopened")?)),
+    }
+}
+
+/// The message that came of asking about a document, where one did.
+fn message_of(asked: Asked) -> Option<Vec<u8>>
+    ensures { result ≡ what_is_sent asked }
+{
+    match asked {
+        Asked::Answered(message) => Some(message),
+        Asked::OutOfStep => None,
+        Asked::Unopened => None,
     }
 }
 

@@ -1,42 +1,14 @@
-use Rattle.std.proofs.Common.{◌∙◌, Some, ap, refl, rules, subst}
-use Rattle.std.proofs.Math.Facts.{to_z-of_z}
 use Rattle.std.proofs.lemmas.Result.{IfOk-weaker}
-use Rattle.std.specs.Int.{w64}
 use Rattle.ob0_rpc.specs.Seen.{at_seen, id_data}
-use Rattle.ob0_rpc.specs.declared.clients.Client.{Client}
-use Rattle.ob0_text.specs.OpenDocuments.{OpenDocuments, InStep, OutOfStep, document_at}
-use Rattle.ob0_text.specs.declared.position_types.Unit.{Unit}
-use Rattle.ob0_session_server.specs.Answers.{ServerState, requests_rename, renames}
-use Rattle.ob0_session_edits.specs.Renamed.{RequestedRename, AnswersRenaming}
-use Rattle.ob0_session_server.specs.Seen.{Reacts}
-use Rattle.ob0_session_server.proofs.Answering.{of_held, stays_with}
+use Rattle.ob0_session_server.specs.Answers.{renames}
+use Rattle.ob0_session_server.proofs.Answering.{reacts_as_asked}
 use Rattle.ob0_session_server.proofs.server.Server.rename.Goals as goal
 
-pub returns-in_ok-keep-in-Some-InStep : goal.returns-in_ok-keep-in-Some-InStep
-returns-in_ok-keep-in-Some-InStep g c =
-    let s = c.args.self.now in
-    let id = id_data c.args.id.now in
+pub returns : goal.returns
+returns g c =
     let place = at_seen c.args.place.now in
-    let is = c.take-kept.ensures.same ∙ ap (λ (t : ServerState). t.held) c.self.view_is in
-    let client = ap (λ (t : ServerState). t.client) c.self.view_is in
-    let there = (rw c.in-Some-InStep.field-0-is at c.in-Some-InStep.ensures.held) ∙ ap (document_at c.take-kept.new.self) c.as_str-uri.ensures.value in
-    let unit = (rw c.in-Some-InStep.field-0-is at c.in-Some-InStep.ensures.unit) ∙ ap (λ (h : OpenDocuments). h.unit) is in
-    let text = g.T.TextStore.content c.in-Some-InStep.text.now in
-    let requested : Client → RequestedRename = λ who. record { id = id; client = who; at = place; version = c.in-Some-InStep.version; new = c.args.new.now } in
-    let answer = rw (to_z-of_z {w = w64} {z = c.in-Some-InStep.version} (search rules)) at c.in_ok-answer-in-Some-InStep.ensures in
-    let for_unit = subst (λ (u : Unit). AnswersRenaming u (requested c.self.inside.client) text answer.0) unit answer.1 in
-    let for_client = subst (λ (who : Client). AnswersRenaming s.held.unit (requested who) text answer.0) client for_unit in
-    subst (Reacts (requests_rename s id place c.args.new.now) (Some c.in_ok-answer-in-Some-InStep.answer)) (stays_with c.self.inside.phase c.self.inside.client c.self.inside.documents c.keep.new.self s c.self.view_is (c.keep.ensures ∙ c.take-kept.ensures.same))
-    (of_held s id _ place.uri (Some (InStep _ text)) (λ version. renames s.held.unit (record { id = id; client = s.client; at = place; version = version; new = c.args.new.now })) _ is there
-    (refl, (answer.0, for_client, (_, refl, answer.2))))
-
-pub returns-in-Some-OutOfStep : goal.returns-in-Some-OutOfStep
-returns-in-Some-OutOfStep g c =
-    let s = c.args.self.now in
     let id = id_data c.args.id.now in
-    let place = at_seen c.args.place.now in
-    let is = c.take-kept.ensures.same ∙ ap (λ (t : ServerState). t.held) c.self.view_is in
-    let there = (rw c.in-Some-OutOfStep.field-0-is at c.in-Some-OutOfStep.ensures.held) ∙ ap (document_at c.take-kept.new.self) c.as_str-uri.ensures.value in
-    IfOk-weaker c.refuse_document.result _ _ (λ sent said.
-    subst (Reacts (requests_rename s id place c.args.new.now) sent) (stays_with c.self.inside.phase c.self.inside.client c.self.inside.documents c.take-kept.new.self s c.self.view_is c.take-kept.ensures.same)
-    (of_held s id _ place.uri (Some OutOfStep) (λ version. renames s.held.unit (record { id = id; client = s.client; at = place; version = version; new = c.args.new.now })) _ is there (refl, said.1))) c.refuse_document.ensures
+    IfOk-weaker c.reply_asked.result _ _ (λ sent replies.
+    reacts_as_asked c.self.inside.phase c.self.inside.client c.self.inside.documents c.ask.new.self c.args.self.now id place.uri
+    (λ client version unit. renames unit (record { id = id; client = client; at = place; version = version; new = c.args.new.now })) c.in_ok-asked.asked sent c.self.view_is c.ask.ensures.same
+    (rw c.as_str.ensures.value at c.in_ok-asked.ensures.asked) replies) c.reply_asked.ensures

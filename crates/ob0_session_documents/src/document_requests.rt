@@ -1,0 +1,34 @@
+//! Requests about a document, and what comes of them.
+
+ghost use Rattle.std.specs.Prelude.{◌≡◌, ℕ, ℤ, List, IfOk};
+ghost use Rattle.std.specs.Str.{chars};
+ghost use Rattle.ob0_text.specs.declared.position_types.Unit.{Unit};
+
+use ob0_analysis::Analysis;
+use ob0_text::TextStore;
+use std::alloc::{AllocError, Global};
+
+/// What is asked of a document that is in step.
+pub trait DocumentRequest<T: TextStore> {
+    /// What a message says of the document's version, of its text, and of the unit in which positions are counted.
+    ghost answers: { Self → ℤ → Unit → List ℕ → List ℕ → Type 0 };
+
+    fn answer(
+        &self,
+        alloc: Global,
+        version: i64,
+        text: &T,
+        analysis: &Analysis,
+    ) -> Result<Vec<u8>, AllocError>
+        requires { T.content text.now ≡ chars analysis.now }
+        ensures { IfOk result (λ message. answers self.now version (T.unit_of text.now)
+            (T.content text.now) message.items) };
+}
+
+/// What comes of a request about a document: a message, or why there is none.
+#[derive(Drop)]
+pub enum Asked {
+    Answered(Vec<u8>),
+    OutOfStep,
+    Unopened,
+}
