@@ -20,10 +20,10 @@ PAGE = os.path.join(TOP, "docs", "SURFACE.md")
 REASONS = os.path.join(TOP, "tools", "surface_reasons.txt")
 HEAD = """# Public functions
 
-Made by `make surface`: the functions that each crate has for others, who uses them, and the mutants that turn them, which
-the prover refuses (`must-fail/` in the gate, `wrong-bodies/` by `make wrong-bodies`). Users are found by names: of a
-method by what the names before it say of its type, and where they say nothing, by the method's own name. A function
-with neither a result nor an argument that it writes is a law: its contract is all there is of it.
+Made by `make surface`: the functions that each crate has for others, who uses them, and the mutants that turn them,
+which the prover refuses (`must-fail/` in the gate, `wrong-bodies/` by `make wrong-bodies`). Users are found by names:
+of a method by what the names before it say of its type, and where they say nothing, by the method's own name. A
+function with neither a result nor an argument that it writes is a law: its contract is all there is of it.
 """
 README = os.path.join(TOP, "README.md")
 COUNTS = re.compile(r"(every proof, )\d+( wrong versions.*?tries all )\d+( mutants)", re.S)
