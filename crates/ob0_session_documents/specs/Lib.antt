@@ -1,2 +1,2 @@
 pub mod KeptAnalyses
-pub mod AskedDocuments
+pub mod DocumentRequests

@@ -3,10 +3,10 @@
 ghost use Rattle.std.specs.Prelude.{◌≡◌, IfSome, IfOk, OnOk, is_some, map, string_bytes};
 ghost use Rattle.std.specs.Str.{chars};
 ghost use Rattle.ob0_text.specs.OpenDocuments.{changed, closed, document_at, lost, opened, reported_change};
-ghost use Rattle.ob0_session_documents.specs.AskedDocuments.{ComesOfAsking};
+ghost use Rattle.ob0_session_documents.specs.DocumentRequests.{ComesOfRequest};
 
 use crate::analyses::Analyses;
-use crate::document_requests::{Asked, DocumentRequest};
+use crate::document_requests::{DocumentRequest, RequestOutcome};
 use ob0_analysis::Analysis;
 use ob0_text::{Change, Documents, Held, TextStore};
 use std::alloc::{AllocError, Global};
@@ -102,9 +102,9 @@ impl<T: TextStore> AnalysedDocuments<T> {
         &mut self,
         uri: &str,
         request: &Q,
-    ) -> Result<Asked, AllocError>
+    ) -> Result<RequestOutcome, AllocError>
         ensures same { self.new ≡ self.old }
-        ensures asked { IfOk result (ComesOfAsking (Q.answers request.now) self.old uri.now) }
+        ensures outcome { IfOk result (ComesOfRequest (Q.answers request.now) self.old uri.now) }
     {
         match self.documents.get(uri) {
             Some(Held::InStep { version, text }) => {
@@ -112,10 +112,10 @@ impl<T: TextStore> AnalysedDocuments<T> {
                 let analysis = analysis_of(self.alloc, kept, text)?;
                 let answer = request.answer(self.alloc, version, text, &analysis);
                 self.analyses.put(uri, analysis)?;
-                Ok(Asked::Answered(answer?))
+                Ok(RequestOutcome::Answered(answer?))
             }
-            Some(Held::OutOfStep) => Ok(Asked::OutOfStep),
-            None => Ok(Asked::Unopened),
+            Some(Held::OutOfStep) => Ok(RequestOutcome::OutOfStep),
+            None => Ok(RequestOutcome::Unopened),
         }
     }
 

@@ -8,7 +8,7 @@ use ob0_analysis::Analysis;
 use ob0_text::TextStore;
 use std::alloc::{AllocError, Global};
 
-/// What is asked of a document that is in step.
+/// A request about a document that is in step.
 pub trait DocumentRequest<T: TextStore> {
     /// What a message says of the document's version, of its text, and of the unit in which positions are counted.
     ghost answers: { Self → ℤ → Unit → List ℕ → List ℕ → Type 0 };
@@ -27,7 +27,7 @@ pub trait DocumentRequest<T: TextStore> {
 
 /// What comes of a request about a document: a message, or why there is none.
 #[derive(Drop)]
-pub enum Asked {
+pub enum RequestOutcome {
     Answered(Vec<u8>),
     OutOfStep,
     Unopened,

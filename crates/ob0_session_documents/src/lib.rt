@@ -6,4 +6,4 @@ mod analyses;
 mod document_requests;
 
 pub use analysed_documents::AnalysedDocuments;
-pub use document_requests::{Asked, DocumentRequest};
+pub use document_requests::{DocumentRequest, RequestOutcome};

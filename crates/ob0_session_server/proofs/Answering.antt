@@ -7,10 +7,10 @@ use Rattle.ob0_text.specs.OpenDocuments.{Document, OpenDocuments, document_at}
 use Rattle.ob0_text.specs.declared.position_types.Unit.{Unit}
 use Rattle.ob0_rpc.specs.declared.clients.Client.{Client}
 use Rattle.ob0_rpc.specs.Messages.{ReadsContent, MessageMeaning, meaning}
-use Rattle.ob0_session_documents.specs.AskedDocuments.{ComesOfAsking}
-use Rattle.ob0_session_documents.specs.declared.document_requests.Asked.{Asked}
-use Rattle.ob0_session_documents.specs.declared.document_requests.Asked.TheVariants.{Answered, OutOfStep, Unopened}
-use Rattle.ob0_session_server.specs.Seen.{Reacts, Replies, RepliesAsked, message_of}
+use Rattle.ob0_session_documents.specs.DocumentRequests.{ComesOfRequest}
+use Rattle.ob0_session_documents.specs.declared.document_requests.RequestOutcome.{RequestOutcome}
+use Rattle.ob0_session_documents.specs.declared.document_requests.RequestOutcome.TheVariants.{Answered, OutOfStep, Unopened}
+use Rattle.ob0_session_server.specs.Seen.{Reacts, Replies, RepliesWith, message_of}
 use Rattle.ob0_session_server.specs.SessionStates.{SessionState, serving}
 use Rattle.ob0_session_server.specs.Steps.{next_after, IsGoingOn, SessionSteps}
 use Rattle.ob0_session_server.specs.declared.server.Phase.{Phase}
@@ -60,46 +60,46 @@ publishes before after uri reported held sent same is said =
     let Q : OpenDocuments → Type 0 = λ h. Says (published h.unit reported (document_at h reported)) (option_to_list (option_map (λ v. v.items) sent)) in
     (is, subst P same (subst Q (ap (λ (s : ServerState). s.held) is) said))
 
--- what is sent for a request about a document that was asked about, where the documents stay as they are
-asked_of : (s : ServerState) (id : Data) (uri : List ℕ) (say : ℤ → Unit → List ℕ → Reply) (asked : Asked) (sent : Option (Vec ℕ Global))
-    → ComesOfAsking (λ version unit text message. Says (say version unit text) (message ∷ [])) s.held uri asked → RepliesAsked id asked sent
+-- what is sent for a request about a document, where the documents stay as they are
+replies_of : (s : ServerState) (id : Data) (uri : List ℕ) (say : ℤ → Unit → List ℕ → Reply) (outcome : RequestOutcome) (sent : Option (Vec ℕ Global))
+    → ComesOfRequest (λ version unit text message. Says (say version unit text) (message ∷ [])) s.held uri outcome → RepliesWith id outcome sent
     → Reacts (answers_about s id (document_at s.held uri) (λ version. say version s.held.unit)) sent s
-asked_of s id uri say (Answered message) sent comes is =
+replies_of s id uri say (Answered message) sent comes is =
     let P : Option Document → Type 0 = λ d. Reacts (answers_about s id d (λ version. say version s.held.unit)) sent s in
     let Q : Option (Vec ℕ Global) → Type 0 = λ o. Replies (say comes.0 s.held.unit comes.1) o in
     subst P (sym comes.2) (refl, subst Q (sym is) comes.3)
-asked_of s id uri say OutOfStep sent comes is =
+replies_of s id uri say OutOfStep sent comes is =
     let P : Option Document → Type 0 = λ d. Reacts (answers_about s id d (λ version. say version s.held.unit)) sent s in
     subst P (sym comes) (refl, is)
-asked_of s id uri say Unopened sent comes is =
+replies_of s id uri say Unopened sent comes is =
     let P : Option Document → Type 0 = λ d. Reacts (answers_about s id d (λ version. say version s.held.unit)) sent s in
     subst P (sym comes) (refl, is)
 
 -- the same of the server's fields, of which a request may have the client
-pub reacts_as_asked : (phase : Phase) (client : Client) (old new : OpenDocuments) (s : ServerState) (id : Data) (uri : List ℕ)
-    → (say : Client → ℤ → Unit → List ℕ → Reply) (asked : Asked) (sent : Option (Vec ℕ Global))
+pub reacts_with : (phase : Phase) (client : Client) (old new : OpenDocuments) (s : ServerState) (id : Data) (uri : List ℕ)
+    → (say : Client → ℤ → Unit → List ℕ → Reply) (outcome : RequestOutcome) (sent : Option (Vec ℕ Global))
     → record { phase = phase; client = client; held = old } ≡ s → new ≡ old
-    → ComesOfAsking (λ version unit text message. Says (say client version unit text) (message ∷ [])) old uri asked → RepliesAsked id asked sent
+    → ComesOfRequest (λ version unit text message. Says (say client version unit text) (message ∷ [])) old uri outcome → RepliesWith id outcome sent
     → Reacts (answers_about s id (document_at s.held uri) (λ version. say s.client version s.held.unit)) sent (record { phase = phase; client = client; held = new })
-reacts_as_asked phase client old new s id uri say asked sent is same comes replies =
+reacts_with phase client old new s id uri say outcome sent is same comes replies =
     let server : OpenDocuments → ServerState = λ held. record { phase = phase; client = client; held = held } in
     let P : ServerState → Type 0 = λ t. Reacts (answers_about t id (document_at t.held uri) (λ version. say t.client version t.held.unit)) sent (server new) in
     let Q : ServerState → Type 0 = λ t. Reacts (answers_about (server old) id (document_at old uri) (λ version. say client version old.unit)) sent t in
-    subst P is (subst Q (sym (ap server same)) (asked_of (server old) id uri (say client) asked sent comes replies))
+    subst P is (subst Q (sym (ap server same)) (replies_of (server old) id uri (say client) outcome sent comes replies))
 
--- what is published of a document that was asked about
-pub published_as_asked : (held : OpenDocuments) (uri : List ℕ) (asked : Asked) (sent : Option (Vec ℕ Global))
-    → ComesOfAsking (λ version unit text message. Says (diagnoses unit uri version text) (message ∷ [])) held uri asked → sent ≡ message_of asked
+-- what is published of a document
+pub published_with : (held : OpenDocuments) (uri : List ℕ) (outcome : RequestOutcome) (sent : Option (Vec ℕ Global))
+    → ComesOfRequest (λ version unit text message. Says (diagnoses unit uri version text) (message ∷ [])) held uri outcome → sent ≡ message_of outcome
     → Replies (published held.unit uri (document_at held uri)) sent
-published_as_asked held uri (Answered message) sent comes is =
+published_with held uri (Answered message) sent comes is =
     let P : Option Document → Type 0 = λ d. Replies (published held.unit uri d) sent in
     let Q : Option (Vec ℕ Global) → Type 0 = λ o. Replies (diagnoses held.unit uri comes.0 comes.1) o in
     subst P (sym comes.2) (subst Q (sym is) comes.3)
-published_as_asked held uri OutOfStep sent comes is =
+published_with held uri OutOfStep sent comes is =
     let P : Option Document → Type 0 = λ d. Replies (published held.unit uri d) sent in
     let Q : Option (Vec ℕ Global) → Type 0 = λ o. Replies nothing o in
     subst P (sym comes) (subst Q (sym is) refl)
-published_as_asked held uri Unopened sent comes is =
+published_with held uri Unopened sent comes is =
     let P : Option Document → Type 0 = λ d. Replies (published held.unit uri d) sent in
     let Q : Option (Vec ℕ Global) → Type 0 = λ o. Replies nothing o in
     subst P (sym comes) (subst Q (sym is) refl)

@@ -4,8 +4,8 @@ use Rattle.std.specs.Prelude.{◌≡◌, ℕ, Option, Some, None, Vec, option_ma
 use Rattle.std.specs.Option.{option_to_list}
 use Rattle.std.specs.declared.alloc.Global.{Global}
 use Rattle.serde_json.specs.Data.{Data}
-use Rattle.ob0_session_documents.specs.declared.document_requests.Asked.{Asked}
-use Rattle.ob0_session_documents.specs.declared.document_requests.Asked.TheVariants.{Answered, OutOfStep, Unopened}
+use Rattle.ob0_session_documents.specs.declared.document_requests.RequestOutcome.{RequestOutcome}
+use Rattle.ob0_session_documents.specs.declared.document_requests.RequestOutcome.TheVariants.{Answered, OutOfStep, Unopened}
 use Rattle.ob0_session_json.specs.Shapes.{edit_refused}
 use Rattle.ob0_session_server.specs.Answers.{ServerState, Reaction, Reply, Says, says}
 
@@ -18,13 +18,13 @@ abbrev pub Reacts : Reaction → Option (Vec ℕ Global) → ServerState → Typ
 Reacts r sent new = (new ≡ r.after) × Replies r.say sent
 
 -- what is sent where this came of a request about a document: its message, or a refusal
-abbrev pub RepliesAsked : Data → Asked → Option (Vec ℕ Global) → Type 0
-RepliesAsked id (Answered message) sent = sent ≡ Some message
-RepliesAsked id OutOfStep sent = Replies (says (edit_refused id (codes "out of step"))) sent
-RepliesAsked id Unopened sent = Replies (says (edit_refused id (codes "unopened"))) sent
+abbrev pub RepliesWith : Data → RequestOutcome → Option (Vec ℕ Global) → Type 0
+RepliesWith id (Answered message) sent = sent ≡ Some message
+RepliesWith id OutOfStep sent = Replies (says (edit_refused id (codes "out of step"))) sent
+RepliesWith id Unopened sent = Replies (says (edit_refused id (codes "unopened"))) sent
 
 -- its message, where there is one
-abbrev pub message_of : Asked → Option (Vec ℕ Global)
+abbrev pub message_of : RequestOutcome → Option (Vec ℕ Global)
 message_of (Answered message) = Some message
 message_of OutOfStep = None
 message_of Unopened = None

@@ -2,7 +2,7 @@
 ghost use Rattle.std.specs.Prelude.{◌≡◌, Ok, IfOk, map, option_map, string_bytes};
 ghost use Rattle.ob0_rpc.specs.Seen.{id_data};
 ghost use Rattle.ob0_text.specs.OpenDocuments.{none_open};
-ghost use Rattle.ob0_session_server.specs.Seen.{RepliesAsked, message_of as what_is_sent};
+ghost use Rattle.ob0_session_server.specs.Seen.{RepliesWith, message_of as what_is_sent};
 ghost use Rattle.ob0_session_server.specs.Units.{unit_for};
 
 mod held;
@@ -13,7 +13,7 @@ use ob0_rpc::{
     Client, ClientNotification, ClientRequest, DocumentPosition, Id, Incoming, RpcFault, error,
     notice, read, request, result_of,
 };
-use ob0_session_documents::{AnalysedDocuments, Asked};
+use ob0_session_documents::{AnalysedDocuments, RequestOutcome};
 use ob0_session_json::capabilities::initialize_answer;
 use ob0_session_json::publication::publication;
 use ob0_session_json::refusals::refused;
@@ -234,8 +234,8 @@ impl<T: TextStore> Server<T> {
             place,
             question,
         };
-        let asked = self.documents.ask(place.uri.as_str(), &request)?;
-        reply_asked(self.alloc, id, asked)
+        let outcome = self.documents.ask(place.uri.as_str(), &request)?;
+        reply_with(self.alloc, id, outcome)
     }
 
     fn rename(
@@ -253,8 +253,8 @@ impl<T: TextStore> Server<T> {
             place,
             new,
         };
-        let asked = self.documents.ask(place.uri.as_str(), &request)?;
-        reply_asked(self.alloc, id, asked)
+        let outcome = self.documents.ask(place.uri.as_str(), &request)?;
+        reply_with(self.alloc, id, outcome)
     }
 
     fn act(
@@ -275,16 +275,16 @@ impl<T: TextStore> Server<T> {
             range,
             only,
         };
-        let asked = self.documents.ask(uri, &request)?;
-        reply_asked(self.alloc, id, asked)
+        let outcome = self.documents.ask(uri, &request)?;
+        reply_with(self.alloc, id, outcome)
     }
 
     fn format(&mut self, id: &Id, uri: &str, indent: Indent) -> Result<Option<Vec<u8>>, AllocError>
         ensures { IfOk result (λ sent. Reacts
             (requests_layout self.old (id_data id.now) uri.now indent) sent self.new) }
     {
-        let asked = self.documents.ask(uri, &LayoutRequest { id, indent })?;
-        reply_asked(self.alloc, id, asked)
+        let outcome = self.documents.ask(uri, &LayoutRequest { id, indent })?;
+        reply_with(self.alloc, id, outcome)
     }
 
     /// Begins with a client that can do this, and with no document.
@@ -411,30 +411,34 @@ impl<T: TextStore> Server<T> {
             (published self.old.held.unit uri.now (document_at self.old.held uri.now))
             (option_to_list (option_map (λ v. v.items) sent))) }
     {
-        let asked = self.documents.ask(uri, &PublishRequest { uri })?;
-        Ok(message_of(asked))
+        let outcome = self.documents.ask(uri, &PublishRequest { uri })?;
+        Ok(message_of(outcome))
     }
 }
 
-/// The answer to a request, by what came of asking about its document.
-fn reply_asked(alloc: Global, id: &Id, asked: Asked) -> Result<Option<Vec<u8>>, AllocError>
-    ensures { IfOk result (RepliesAsked (id_data id.now) asked) }
+/// The answer to a request, by what came of it.
+fn reply_with(
+    alloc: Global,
+    id: &Id,
+    outcome: RequestOutcome,
+) -> Result<Option<Vec<u8>>, AllocError>
+    ensures { IfOk result (RepliesWith (id_data id.now) outcome) }
 {
-    match asked {
-        Asked::Answered(message) => Ok(Some(message)),
-        Asked::OutOfStep => Ok(Some(refused(alloc, id, "out of step")?)),
-        Asked::Unopened => Ok(Some(refused(alloc, id, "unopened")?)),
+    match outcome {
+        RequestOutcome::Answered(message) => Ok(Some(message)),
+        RequestOutcome::OutOfStep => Ok(Some(refused(alloc, id, "out of step")?)),
+        RequestOutcome::Unopened => Ok(Some(refused(alloc, id, "unopened")?)),
     }
 }
 
-/// The message that came of asking about a document, where one did.
-fn message_of(asked: Asked) -> Option<Vec<u8>>
-    ensures { result ≡ what_is_sent asked }
+/// The message that came of a request about a document, where one did.
+fn message_of(outcome: RequestOutcome) -> Option<Vec<u8>>
+    ensures { result ≡ what_is_sent outcome }
 {
-    match asked {
-        Asked::Answered(message) => Some(message),
-        Asked::OutOfStep => None,
-        Asked::Unopened => None,
+    match outcome {
+        RequestOutcome::Answered(message) => Some(message),
+        RequestOutcome::OutOfStep => None,
+        RequestOutcome::Unopened => None,
     }
 }
 

@@ -88,7 +88,7 @@ fn range_of(start: Position, end: Position) -> Range {
     Range { start, end }
 }
 
-/// Whether they agree after a change that begins in a line and ends so many lines further, in one unit, and after one
+/// Whether they agree after a change that begins in a line and ends some lines further, in one unit, and after one
 /// that begins and ends in the line, in the other.
 fn agree_from(alloc: Global, text: &str, new: &str, line: u64, further: u64) -> bool {
     let range = range_of(at(line, 1), at(line.saturating_add(further), further));

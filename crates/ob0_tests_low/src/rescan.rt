@@ -224,7 +224,7 @@ fn change_between(
     change(alloc, front.as_str(), "1", other, following.as_str())
 }
 
-/// Whether at most so many tokens and comments are read again where another text comes in place of the digit between
+/// Whether at most `most` tokens and comments are read again where another text comes in place of the digit between
 /// 5,000 statements and 5,000 more.
 fn is_little_read(alloc: Global, other: &str, most: usize) -> bool {
     let Ok(statements) = statements(alloc) else {
