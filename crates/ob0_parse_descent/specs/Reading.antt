@@ -1,5 +1,5 @@
 -- What each function of the parser promises: what it took from the tokens, or why no tree begins with them.
--- Rule: none; for private contracts of the parser.
+-- Rule: none; for contracts of the parser.
 use Rattle.std.specs.declared.vec.Vec.{Vec}
 use Rattle.std.specs.declared.alloc.Global.{Global}
 use Rattle.std.specs.Prelude.{◌≡◌, ℕ, ◌+◌, ◌<◌, ◌≤◌, List, [], ◌∷◌, ◌++◌, Option, Some, None, IfNone, Result, Ok, Err, length, drop, ◌≢◌, Bool, true, false}
@@ -102,7 +102,7 @@ pub record FailsToRead
   pub why : Why parts ts at e
   pub reads : StopsBy parts ts at e
 
--- what a function of the parser answers for a sort, from a token on
+-- what a function of the parser returns for a sort, from a token on
 abbrev pub Reads : {A : Type 0} {s : Sort}
     → (A → Tree ℕ s)
     → ℕ

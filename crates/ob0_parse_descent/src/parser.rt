@@ -1,5 +1,5 @@
 //! Recursive descent, one function for each production. Each is given where it begins and how many levels of
-//! nesting are left, and answers what it made with the index of the token after it.
+//! nesting are left, and returns what it made with the index of the token after it.
 
 ghost use Rattle.std.specs.Prelude.{true, ◌≡◌, ◌+◌, ◌<◌, ◌≤◌, ◌∷◌, length, IfSome, IfNone, IfOk};
 ghost use Rattle.ob0_scan.specs.declared.lexeme.TokenKind.TheVariants as kind;

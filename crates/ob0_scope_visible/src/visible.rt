@@ -116,7 +116,7 @@ impl<'t> Visible<'t> {
         }
     }
 
-    /// Gives up the newest binding, so that what it hid is visible again.
+    /// Removes the newest binding, so that what it hid is visible again.
     fn leave(&mut self)
         ensures { self.new ≡ with_scope self.old (drop 1 self.old.scope) }
     {

@@ -3,7 +3,7 @@
 use Rattle.std.specs.Prelude.{Bool, true, false}
 use Rattle.ob0_session_server.specs.Answers.{ServerState}
 
--- a session that wanted memory has failed for good
+-- a session that ran out of memory has failed for good
 pub data SessionState : Type 0 where
   serving : ServerState → SessionState
   failed : SessionState
