@@ -550,17 +550,29 @@ def renamed_to_a_long_name():
     halves("uses and letters", cost, 500_000, 8_000_000)
 
 
+def cost_of_changes(changes, lines, line_of, program=BINARY):
+    """What one notification takes beside an open alone: change number `at` is in line `line_of(at)` of so many lines."""
+    text = "MODULE M; VAR x: INTEGER; BEGIN\n" + "x:=x+1;\n" * lines + "END M.\n"
+    replaced = [{"range": extent(f"{1 + line_of(at)}:0-{1 + line_of(at)}:1"), "text": "x"} for at in range(changes)]
+    talk = lambda more: frames([initialize(), did_open(text), *more, SHUTDOWN, EXIT])
+    found, opening = (best(3, lambda more=more: Timed([program, "serve"], talk(more))) for more in ([did_change(replaced, version=2)], []))
+    return max(found.processor - opening.processor, 1e-4), found.memory
+
+
 @measure("serve: a change on each line in one note, beside half of the changes and half of the lines")
 def changed_on_each_line():
-    def cost(changes, lines):
-        """From the first line on, and at the first again after the last."""
-        text = "MODULE M; VAR x: INTEGER; BEGIN\n" + "x:=x+1;\n" * lines + "END M.\n"
-        replaced = [{"range": extent(f"{1 + at % lines}:0-{1 + at % lines}:1"), "text": "x"} for at in range(changes)]
-        talk = lambda more: frames([initialize(), did_open(text), *more, SHUTDOWN, EXIT])
-        found, opening = (best(3, lambda more=more: Timed([BINARY, "serve"], talk(more))) for more in ([did_change(replaced, version=2)], []))
-        return max(found.processor - opening.processor, 1e-4), found.memory
+    # (from the first line on, and at the first again after the last)
+    halves("changes and lines", lambda changes, lines: cost_of_changes(changes, lines, lambda at: at % lines), 128_000, 128_000)
 
-    halves("changes and lines", cost, 128_000, 128_000)
+
+@measure("serve: changes of the first line and the last in turn in one note, beside half of the changes and half of the lines")
+def changed_at_both_ends():
+    """Each moves the starts of all lines between. Where BESIDE names another program, the time by its own."""
+    cost = lambda changes, lines, program=BINARY: cost_of_changes(changes, lines, lambda at: at % 2 * (lines - 1), program)
+    halves("changes in turn and lines", cost, 16_000, 128_000)
+    if os.environ.get("BESIDE"):
+        seconds, _ = cost(16_000, 128_000, os.environ["BESIDE"])
+        said("changes in turn, beside", f"{seconds:7.3f} s, ratio {cost(16_000, 128_000)[0] / seconds:.2f}")
 
 
 @measure("serve: one message of 16 MiB, beside one of 8")
