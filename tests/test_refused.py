@@ -18,15 +18,15 @@ for key, given in conversations.SHORT.items():
     make(key, given)
 
 
-def make_of_crate(what, crate, module):
+def make_of_crate(what, crate, *modules):
     @test(f"refused memory: {what}")
     def walk_tests():
         found = list(refused_tests.checks(crate, 20000))
-        holds(any(f"::{module}::" in f"::{name}" for name, _ in found), f"no test of {module} is among {found}")
+        for module in modules:
+            holds(any(f"::{module}::" in f"::{name}" for name, _ in found), f"no test of {module} is among {found}")
         for _, does in found:
             does()
 
 
 make_of_crate("the tests of the framer, of documents and of texts", "ob0_tests_low", "frame")
-make_of_crate("the tests of sessions", "ob0_tests_session", "session")
-make_of_crate("the tests of worlds of an editor and a server", "ob0_tests_top", "world")
+make_of_crate("the tests of sessions, and of worlds of an editor and a server", "ob0_tests_session", "session", "world")

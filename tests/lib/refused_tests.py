@@ -7,7 +7,7 @@ import subprocess
 import failing
 from harness import TOP, holds, leave_out, same
 
-CRATES = ("ob0_tests_low", "ob0_tests_language", "ob0_tests_session", "ob0_tests_top")
+CRATES = ("ob0_tests_low", "ob0_tests_language", "ob0_tests_session")
 
 
 def program_of(crate):

@@ -1,7 +1,9 @@
-//! Tests of the session, of `serve`, of the commands and of command lines. They check what no contract says, and
-//! examples with known answers; what the built program displays is tested end to end.
+//! Tests of the session, of `serve`, of the commands and of command lines, and of worlds of an editor and a server. They
+//! check what no contract says, and examples with known answers; what the built program displays is tested end to end.
 #![tactic(auto)]
 
+#[cfg(test)]
+mod acts;
 #[cfg(test)]
 mod commands;
 #[cfg(test)]
@@ -10,3 +12,7 @@ mod devices;
 mod serving;
 #[cfg(test)]
 mod session;
+#[cfg(test)]
+mod stories;
+#[cfg(test)]
+mod world;
