@@ -16,7 +16,7 @@ use ob0_rpc::{
 use ob0_session_documents::{AnalysedDocuments, RequestOutcome};
 use ob0_session_json::capabilities::initialize_answer;
 use ob0_session_json::publication::publication;
-use ob0_session_json::refusals::refused;
+use ob0_session_json::refusals::refuse;
 use ob0_session_queries::NameQuestion;
 use ob0_text::{Change, Documents, Indent, Range, TextStore, Unit};
 use serde_json::Value;
@@ -426,8 +426,8 @@ fn reply_with(
 {
     match outcome {
         RequestOutcome::Answered(message) => Ok(Some(message)),
-        RequestOutcome::OutOfStep => Ok(Some(refused(alloc, id, "out of step")?)),
-        RequestOutcome::Unopened => Ok(Some(refused(alloc, id, "unopened")?)),
+        RequestOutcome::OutOfStep => Ok(Some(refuse(alloc, id, "out of step")?)),
+        RequestOutcome::Unopened => Ok(Some(refuse(alloc, id, "unopened")?)),
     }
 }
 
