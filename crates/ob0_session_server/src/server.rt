@@ -5,8 +5,6 @@ ghost use Rattle.ob0_text.specs.OpenDocuments.{none_open};
 ghost use Rattle.ob0_session_server.specs.Seen.{RepliesWith, message_of as what_is_sent};
 ghost use Rattle.ob0_session_server.specs.Units.{unit_for};
 
-mod held;
-
 use crate::requests::{LayoutRequest, NameRequest, NewNameRequest, OfferRequest, PublishRequest};
 use crate::session::Next;
 use ob0_rpc::{
@@ -79,6 +77,13 @@ impl<T: TextStore> Server<T> {
             },
             documents: AnalysedDocuments::new(alloc, Documents::new(alloc)),
         }
+    }
+
+    /// The open documents, as the server has them.
+    pub fn documents(&self) -> &Documents<T>
+        ensures { result.now ≡ self.now.held }
+    {
+        self.documents.documents()
     }
 
     /// Whether the server goes on, or the status with which it has ended.
