@@ -1,6 +1,6 @@
 //! The open documents, with the analyses of those that were reported or queried last.
 
-ghost use Rattle.std.specs.Prelude.{◌≡◌, IfSome, IfOk, OnOk, is_some, map, string_bytes};
+ghost use Rattle.std.specs.Prelude.{◌≡◌, ◌⊎◌, IfSome, IfOk, OnOk, OnErr, is_some, map, string_bytes};
 ghost use Rattle.std.specs.Str.{chars};
 ghost use Rattle.ob0_text.specs.OpenDocuments.{changed, closed, document_at, lost, opened, reported_change};
 ghost use Rattle.ob0_session_documents.specs.DocumentRequests.{ComesOfRequest};
@@ -53,10 +53,13 @@ impl<T: TextStore> AnalysedDocuments<T> {
         &self.documents
     }
 
-    /// Opens a document, or opens it again, and analyses its text. The text as it came is dropped before.
+    /// Opens a document, or opens it again, and analyses its text. The text as it came is dropped before. Where an
+    /// allocation fails nothing was opened, or this text was.
     pub fn did_open(&mut self, uri: &str, version: i64, text: String) -> Result<(), AllocError>
-        ensures { OnOk result
+        ensures ok { OnOk result
             (self.new ≡ opened self.old uri.now version (chars (string_bytes text))) }
+        ensures err { OnErr result ((self.new ≡ self.old)
+            ⊎ (self.new ≡ opened self.old uri.now version (chars (string_bytes text)))) }
     {
         let before = self.analyses.take(uri);
         self.documents.did_open(uri, version, text.as_str())?;
@@ -65,14 +68,17 @@ impl<T: TextStore> AnalysedDocuments<T> {
     }
 
     /// Makes the changes in order, and analyses the text that they leave. The changes as they came are dropped before.
+    /// Where an allocation fails the document is out of step, or all changes were made.
     pub fn did_change(
         &mut self,
         uri: &str,
         version: i64,
         changes: Vec<Change>,
     ) -> Result<(), AllocError>
-        ensures { OnOk result
+        ensures ok { OnOk result
             (self.new ≡ changed self.old uri.now version (map reported_change changes.items)) }
+        ensures err { OnErr result ((self.new ≡ lost self.old uri.now)
+            ⊎ (self.new ≡ changed self.old uri.now version (map reported_change changes.items))) }
     {
         let before = self.analyses.take(uri);
         self.documents.did_change(uri, version, changes.as_slice())?;

@@ -1,5 +1,5 @@
 -- The edits that lay out a text leave the same module.
-use Rattle.std.proofs.Common.{◌≡◌, ◌≤◌, ◌<◌, ◌⊎◌, ◌∙◌, ℕ, List, Option, Some, None, Result, Vec, Global, map, length, inl, inr, refl, sym, ap, subst}
+use Rattle.std.proofs.Common.{◌≡◌, ◌≤◌, ◌<◌, ◌⊎◌, ◌∙◌, ℕ, List, Option, Some, None, Result, Ok, Err, IfOk, IfErr, IsErrOf, Vec, Global, map, length, inl, inr, refl, sym, ap, subst}
 use Rattle.std.specs.Str.{chars, IsUtf8}
 use Rattle.std.proofs.lemmas.Str.{encodes-chars}
 use Rattle.ob0_scan.specs.Lexed.{Lexeme, Lexed}
@@ -83,6 +83,22 @@ too_long indent text names m refusal is h long (inr wants) other = absurd (other
 too_long indent text names m refusal is h long (inl longer) other =
     let P : Parsed → Type 0 = λ p. (scan : IsScan p.source) → refusal ≡ TooLong → max_text < length (layout indent (named_tree_of p) scan.lexemes) in
     (longer, record { before = is_module (utf8 text) names h; long = subst P is long h.scan.scan longer })
+
+-- edits or a refusal, where memory didn't run out, by what the maker of the edits says of its result
+pub formats_or_not : (unit : Unit) (indent : Indent) (text : List ℕ) (names : Resolution) (m : Parsed) (r : Result (Vec Edit Global) EditRefusal) → m ≡ names.module_read
+    → IsModuleIn (utf8 text) names → text ≡ chars names.module_read.source.text
+    → ((scan : IsScan m.source) → IfOk r (λ edits. map edit_text edits.items ≡ map (edit_of indent (width_of unit) text) (changed_sites indent m.source.text (all_sites (line_roles 0 (named_tree_of m)) scan.lexemes))))
+    → ((scan : IsScan m.source) → IfOk r (λ edits. length (layout indent (named_tree_of m) scan.lexemes) ≤ max_text))
+    → ((scan : IsScan m.source) → text ≡ chars m.source.text → IfOk r (λ edits. patched (width_of unit) text edits.items ≡ Some (chars (layout indent (named_tree_of m) scan.lexemes))))
+    → ((scan : IsScan m.source) → IsErrOf r TooLong → max_text < length (layout indent (named_tree_of m) scan.lexemes))
+    → IfErr r (λ refusal. (refusal ≡ TooLong) ⊎ (refusal ≡ Memory)) → IfErr r (λ refusal. refusal ≡ Memory → ⊥)
+    → ((indent : Indent) (s : Scanned) (scan : IsScan s) (tree : Tree (List ℕ) module_text) → IsUtf8 (layout indent tree scan.lexemes))
+    → ((indent : Indent) (s : Scanned) (scan : IsScan s) (tree : Tree (List ℕ) module_text) → ModuleOf s tree → Lexed (layout indent tree scan.lexemes) (laid_out indent tree scan.lexemes))
+    → ModuleStays → Formats unit indent text r
+formats_or_not unit indent text names m (Ok edits) is h same changes short made long refusals other u lexed law =
+    formats unit indent text edits.items names m is h same (changes, short, made) u lexed law
+formats_or_not unit indent text names m (Err refusal) is h same changes short made long refusals other u lexed law =
+    too_long indent text names m refusal is h (λ scan e. long scan (ap Err e)) refusals other
 
 -- what was found of a text that is to be laid out
 abbrev pub FoundOf : Unit → Indent → List ℕ → Option (Result (Vec Edit Global) EditRefusal) → Type 0

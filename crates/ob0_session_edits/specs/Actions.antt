@@ -113,16 +113,22 @@ actions_value requested here everywhere =
     array (items_of
     (action_values requested Here here ++ action_values requested Everywhere everywhere))
 
+-- the client wants them, and of a well-typed module these are offered
+pub record ListsInlinings (unit : Unit) (requested : RequestedActions) (text : List ℕ)
+    (value : Data) : Type 0 where
+  pub here : Option (Vec Edit Global)
+  pub everywhere : Option (Vec Edit Global)
+  pub wanted : wants_inlining requested ≡ true
+  pub offers_here : Offers Here unit text (actions_offset unit text requested.range) here
+  pub offers_everywhere : Offers Everywhere unit text (actions_offset unit text requested.range)
+      everywhere
+  pub listed : value ≡ actions_value requested here everywhere
+
 -- These actions are offered, as a list; none to a client that wants none, and none of a text that
 -- isn't a well-typed module.
 abbrev pub ListsActions : Unit → RequestedActions → List ℕ → Data → Type 0
 ListsActions unit requested text value =
-    ((here : Option (Vec Edit Global))
-    × (everywhere : Option (Vec Edit Global))
-    × (wants_inlining requested ≡ true)
-    × Offers Here unit text (actions_offset unit text requested.range) here
-    × Offers Everywhere unit text (actions_offset unit text requested.range) everywhere
-    × (value ≡ actions_value requested here everywhere))
+    ListsInlinings unit requested text value
     ⊎ (((wants_inlining requested ≡ false) ⊎ ¬ IsWellTypedModule (utf8 text))
     × (value ≡ array no_items))
 

@@ -14,6 +14,7 @@ ghost use Rattle.ob0_session_edits.specs.Actions.{AnswersActions, FindsInlinings
 ghost use Rattle.ob0_session_json.specs.Made.{action_in};
 ghost use Rattle.ob0_session_offers.specs.declared.inlining.Inlining.TheVariants as how;
 
+use crate::refusals::without_memory;
 use ob0_analysis::{Analysis, Question, WellTyped, ask};
 use ob0_inline::{inline_all, inline_here};
 use ob0_rpc::{Client, Id, result_of};
@@ -56,19 +57,14 @@ impl<'a, T: TextStore> Question for InlinedAt<'a, T> {
     }
 }
 
-/// The edits of an inliner; none where they are refused. Running out of memory isn't a refusal.
+/// The edits of an inliner; none where they are refused.
 fn offered_edits(answer: Result<Vec<Edit>, EditRefusal>) -> Result<Option<Vec<Edit>>, AllocError>
     ensures { IfOk result (λ edits. IsOffered answer edits) }
 {
-    match answer {
+    let kept = without_memory(answer)?;
+    match kept {
         Ok(edits) => Ok(Some(edits)),
-        Err(refusal) => {
-            if refusal == EditRefusal::Memory {
-                Err(AllocError)
-            } else {
-                Ok(None)
-            }
-        }
+        Err(_refusal) => Ok(None),
     }
 }
 

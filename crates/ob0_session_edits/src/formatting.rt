@@ -8,11 +8,12 @@ ghost use Rattle.ob0_analysis.specs.Analysed.{IsModuleIn};
 ghost use Rattle.ob0_analysis.specs.Texts.{utf8};
 ghost use Rattle.ob0_session_edits.specs.Formatted.{AnswersFormatting, Formats};
 
+use crate::refusals::without_memory;
 use ob0_analysis::{Analysis, Question, WellTyped, ask};
 use ob0_layout::format;
 use ob0_layout::laws::{gaps_make_the_layout, lexemes_stay, module_stays};
 use ob0_rpc::{Id, result_of};
-use ob0_session_json::refusals::{refused, refused_ill_typed};
+use ob0_session_json::refusals::{refuse, refuse_ill_typed};
 use ob0_text::{Edit, EditRefusal, Indent, TextStore};
 use std::alloc::{AllocError, Global};
 
@@ -39,16 +40,7 @@ impl<'a, T: TextStore> Question for Formatting<'a, T> {
         module_stays();
         gaps_make_the_layout();
         let module = module.resolved().module();
-        match format(alloc, self.store, module, self.indent) {
-            Ok(edits) => Ok(Ok(edits)),
-            Err(refusal) => {
-                if refusal == EditRefusal::Memory {
-                    Err(AllocError)
-                } else {
-                    Ok(Err(refusal))
-                }
-            }
-        }
+        without_memory(format(alloc, self.store, module, self.indent))
     }
 }
 
@@ -69,8 +61,8 @@ pub fn format_document<T: TextStore>(
     match ask(alloc, analysis, &Formatting { store, indent })? {
         Some(outcome) => match outcome {
             Ok(edits) => result_of(alloc, id, &edits.as_slice()),
-            Err(refusal) => refused(alloc, id, refusal.text(alloc)?.as_str()),
+            Err(refusal) => refuse(alloc, id, refusal.text(alloc)?.as_str()),
         },
-        None => refused_ill_typed(alloc, id),
+        None => refuse_ill_typed(alloc, id),
     }
 }

@@ -4,4 +4,5 @@
 pub mod actions;
 pub mod diagnostics;
 pub mod formatting;
+mod refusals;
 pub mod renaming;

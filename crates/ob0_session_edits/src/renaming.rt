@@ -12,7 +12,7 @@ use ob0_analysis::Analysis;
 use ob0_rename::rename_in;
 use ob0_rpc::{Client, DocumentPosition, Id, result_of};
 use ob0_session_json::edits::WorkspaceEdit;
-use ob0_session_json::refusals::{refused_because, refused_ill_typed};
+use ob0_session_json::refusals::{refuse_because, refuse_ill_typed};
 use ob0_text::{Edit, TextStore};
 use std::alloc::{AllocError, Global};
 
@@ -44,9 +44,9 @@ pub fn rename_symbol<T: TextStore>(
     match rename_in(alloc, store, analysis, place.position, request.new)? {
         Some(outcome) => match outcome {
             Ok(edits) => edits_answer(alloc, request, edits.as_slice()),
-            Err(refusal) => refused_because(alloc, id, refusal),
+            Err(refusal) => refuse_because(alloc, id, refusal),
         },
-        None => refused_ill_typed(alloc, id),
+        None => refuse_ill_typed(alloc, id),
     }
 }
 

@@ -10,25 +10,25 @@ use ob0_text::EditRefusal;
 use std::alloc::{AllocError, Global};
 
 /// The refusal of a request for edits.
-pub fn refused(alloc: Global, id: &Id, said: &str) -> Result<Vec<u8>, AllocError>
+pub fn refuse(alloc: Global, id: &Id, said: &str) -> Result<Vec<u8>, AllocError>
     ensures { IfOk result (λ bytes. Writes (edit_refused (id_data id.now) said.now) bytes.items) }
 {
     error(alloc, Some(id), -32803, said)
 }
 
 /// The refusal of such a request for a reason that is reported.
-pub fn refused_because(alloc: Global, id: &Id, refusal: EditRefusal) -> Result<Vec<u8>, AllocError>
+pub fn refuse_because(alloc: Global, id: &Id, refusal: EditRefusal) -> Result<Vec<u8>, AllocError>
     ensures { IfOk result
         (λ bytes. Writes (edit_refused (id_data id.now) (refusal_text refusal)) bytes.items) }
 {
     let text = refusal.text(alloc)?;
-    refused(alloc, id, text.as_str())
+    refuse(alloc, id, text.as_str())
 }
 
 /// The refusal of such a request where the text isn't a well-typed module.
-pub fn refused_ill_typed(alloc: Global, id: &Id) -> Result<Vec<u8>, AllocError>
+pub fn refuse_ill_typed(alloc: Global, id: &Id) -> Result<Vec<u8>, AllocError>
     ensures { IfOk result
         (λ bytes. Writes (edit_refused (id_data id.now) (codes "ill-typed")) bytes.items) }
 {
-    refused(alloc, id, "ill-typed")
+    refuse(alloc, id, "ill-typed")
 }

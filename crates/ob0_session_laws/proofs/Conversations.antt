@@ -38,7 +38,7 @@ module _ (says : OneReply) where
 
 pub one_conversation : OneAnswer → OneConversation
 one_conversation one before [] sent more after other h k = (h.0 ∙ sym k.0, h.1 ∙ sym k.1)
-one_conversation one before (content ∷ contents) sent more after other (between, first, later, answers, goes_on, is) (middle, head, rest, answers_too, goes_on_too, is_too) =
-    let here = one before content first head between middle answers answers_too in
-    let there = one_conversation one middle contents later rest after other (subst (λ s. Conversation s contents later after) here.1 goes_on) goes_on_too in
-    (is ∙ (λ i. here.0 i ++ there.0 i) ∙ sym is_too, there.1)
+one_conversation one before (content ∷ contents) sent more after other h k =
+    let here = one before content h.first k.first h.between k.between h.answers k.answers in
+    let there = one_conversation one k.between contents h.later k.later after other (subst (λ s. Conversation s contents h.later after) here.1 h.follows) k.follows in
+    (h.all ∙ (λ i. here.0 i ++ there.0 i) ∙ sym k.all, there.1)

@@ -120,12 +120,14 @@ module _ (unit : Unit) (requested : RequestedActions) (text : List ℕ) where
   apart h k = let no : true ≡ false = sym h ∙ k in absurd (cc)
 
   lists_one : (value other : Data) → ListsActions unit requested text value → ListsActions unit requested text other → value ≡ other
-  lists_one value other (inl (here, everywhere, wanted, one, two, is)) (inl (here_too, everywhere_too, wanted_too, one_too, two_too, too)) =
-      is ∙ (λ i. array (items_of (offered_one Here here here_too one one_too i ++ offered_one Everywhere everywhere everywhere_too two two_too i))) ∙ sym too
-  lists_one value other (inl (here, everywhere, wanted, one, two, is)) (inr (inl unwanted, too)) = apart wanted unwanted
-  lists_one value other (inl (here, everywhere, wanted, one, two, is)) (inr (inr unfit, too)) = absurd (unfit (fits_offered Here here one))
-  lists_one value other (inr (inl unwanted, is)) (inl (here, everywhere, wanted, one, two, too)) = apart wanted unwanted
-  lists_one value other (inr (inr unfit, is)) (inl (here, everywhere, wanted, one, two, too)) = absurd (unfit (fits_offered Here here one))
+  lists_one value other (inl h) (inl k) =
+      h.listed
+      ∙ (λ i. array (items_of (offered_one Here h.here k.here h.offers_here k.offers_here i ++ offered_one Everywhere h.everywhere k.everywhere h.offers_everywhere k.offers_everywhere i)))
+      ∙ sym k.listed
+  lists_one value other (inl h) (inr (inl unwanted, too)) = apart h.wanted unwanted
+  lists_one value other (inl h) (inr (inr unfit, too)) = absurd (unfit (fits_offered Here h.here h.offers_here))
+  lists_one value other (inr (inl unwanted, is)) (inl k) = apart k.wanted unwanted
+  lists_one value other (inr (inr unfit, is)) (inl k) = absurd (unfit (fits_offered Here k.here k.offers_here))
   lists_one value other (inr (why, is)) (inr (other_why, too)) = is ∙ sym too
 
 -- ---- everything

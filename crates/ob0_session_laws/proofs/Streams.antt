@@ -24,15 +24,15 @@ pub record Cut (before : ServerState) (contents more : Contents) (sent : Content
 
 pub cut : (before : ServerState) (contents more : Contents) (sent : Contents) (after : ServerState) → Conversation before (contents ++ more) sent after → Cut before contents more sent after
 cut before [] more sent after h = record { between = before; first = []; later = sent; begins = (refl, refl); goes_on = h; is = refl }
-cut before (content ∷ contents) more sent after (between, first, later, answers, rest, is) =
-    let next : Cut between contents more later after = cut between contents more later after rest in
+cut before (content ∷ contents) more sent after h =
+    let next : Cut h.between contents more h.later after = cut h.between contents more h.later after h.follows in
     record {
       between = next.between;
-      first = first ++ next.first;
+      first = h.first ++ next.first;
       later = next.later;
-      begins = (between, first, next.first, answers, next.begins, refl);
+      begins = record { between = h.between; first = h.first; later = next.first; answers = h.answers; follows = next.begins; all = refl };
       goes_on = next.goes_on;
-      is = is ∙ ap (λ xs. first ++ xs) next.is ∙ sym (append_assoc first next.first next.later);
+      is = h.all ∙ ap (λ xs. h.first ++ xs) next.is ∙ sym (append_assoc h.first next.first next.later);
     }
 
 -- after its end a server sends nothing
@@ -41,10 +41,10 @@ ended_answer status before content sent after over h = subst (λ phase. AnswersI
 
 silent : (status : ℕ) (before : ServerState) (contents : Contents) (sent : Contents) (after : ServerState) → before.phase ≡ Ended status → Conversation before contents sent after → (sent ≡ []) × (after ≡ before)
 silent status before [] sent after over h = h
-silent status before (content ∷ contents) sent after over (between, first, later, answers, rest, is) =
-    let here = ended_answer status before content first between over answers in
-    let there = silent status between contents later after (ap (λ (s : ServerState). s.phase) here.1 ∙ over) rest in
-    (is ∙ (λ i. here.0 i ++ there.0 i), there.1 ∙ here.1)
+silent status before (content ∷ contents) sent after over h =
+    let here = ended_answer status before content h.first h.between over h.answers in
+    let there = silent status h.between contents h.later after (ap (λ (s : ServerState). s.phase) here.1 ∙ over) h.follows in
+    (h.all ∙ (λ i. here.0 i ++ there.0 i), there.1 ∙ here.1)
 
 -- ---- one list begins another
 

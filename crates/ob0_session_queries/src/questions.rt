@@ -7,20 +7,18 @@ ghost use Rattle.serde_json.specs.View.{items_of};
 ghost use Rattle.ob0_rpc.specs.Seen.{at_seen, id_data};
 ghost use Rattle.ob0_rpc.specs.Shapes.{result_message};
 ghost use Rattle.ob0_rpc.specs.Writing.{Writes};
-ghost use Rattle.ob0_text.specs.Units.{width_of};
-ghost use Rattle.ob0_edits.specs.Ranges.{range_of};
 ghost use Rattle.ob0_refs.specs.Parts.{hover_in};
 ghost use Rattle.ob0_refs.specs.Questions.{AreReferencesAt, hover_at_place, definition_at};
 ghost use Rattle.ob0_session_queries.specs.Questions.{AnswersName, can_be_renamed, hover_at, renamable_in, location_at, range_at, value_or_null};
 ghost use Rattle.ob0_session_queries.specs.declared.questions.NameQuestion.TheVariants as asks;
 
 use ob0_analysis::{Analysis, Question, WellTyped, ask};
-use ob0_edits::ranges;
+use ob0_edits::{range_of, ranges};
 use ob0_refs::{Of, at, definition, hover, references};
 use ob0_rpc::{DocumentPosition, Id, result_of};
 use ob0_scan::Span;
 use ob0_session_json::places::{HoverResult, Location, Locations, MarkupContent};
-use ob0_text::{Range, TextStore};
+use ob0_text::TextStore;
 use std::alloc::{AllocError, Global};
 
 /// A question about a name or a field.
@@ -240,7 +238,7 @@ fn hover_or_null<T: TextStore>(
             let contents = MarkupContent {
                 value: shown.text.as_str(),
             };
-            let range = range_of_span(store, shown.span);
+            let range = range_of(store, shown.span);
             result_of(alloc, id, &HoverResult { contents, range })
         }
         None => result_of(alloc, id, &()),
@@ -261,7 +259,7 @@ fn location_or_null<T: TextStore>(
 {
     match found {
         Some(span) => {
-            let range = range_of_span(store, span);
+            let range = range_of(store, span);
             result_of(alloc, id, &Location { range, uri })
         }
         None => result_of(alloc, id, &()),
@@ -279,17 +277,8 @@ fn range_or_null<T: TextStore>(
         bytes.items) }
 {
     match found {
-        Some(span) => result_of(alloc, id, &range_of_span(store, span)),
+        Some(span) => result_of(alloc, id, &range_of(store, span)),
         None => result_of(alloc, id, &()),
-    }
-}
-
-fn range_of_span<T: TextStore>(store: &T, span: Span) -> Range
-    ensures { result ≡ range_of (width_of (T.unit_of store.now)) (T.content store.now) span }
-{
-    Range {
-        start: store.position(span.start as usize),
-        end: store.position(span.end as usize),
     }
 }
 

@@ -2,7 +2,7 @@
 use Rattle.std.proofs.Common.{◌≡◌, ◌∙◌, ℕ, ℤ, List, [], ◌∷◌, Option, Vec, Global, option_map, map, sym, subst, ap, refl}
 use Rattle.std.specs.Option.{option_to_list}
 use Rattle.serde_json.specs.Data.{Data}
-use Rattle.ob0_session_server.specs.Answers.{ServerState, Reply, nothing, diagnoses, Says, answers_about, reacts, published, publish_documents, AnswersGoingOn, AnswersInState}
+use Rattle.ob0_session_server.specs.Answers.{ServerState, Reply, nothing, diagnoses, Says, answers_about, reacts, published, publish_documents, Answers, AnswersGoingOn, AnswersInState}
 use Rattle.ob0_text.specs.OpenDocuments.{Document, OpenDocuments, document_at}
 use Rattle.ob0_text.specs.declared.position_types.Unit.{Unit}
 use Rattle.ob0_rpc.specs.declared.clients.Client.{Client}
@@ -42,13 +42,15 @@ ended (Ended other) status before content h = (refl, refl)
 pub ended_step : (old : SessionState) (s : ServerState) (content : List ℕ) (step : Step) (status : ℕ)
     → old ≡ serving s → step.send.items ≡ [] → step.next ≡ End status → End status ≡ next_after s.phase → SessionSteps old content step old
 ended_step old s content step status is none next end =
-    rw (is, none) (s, refl, ended s.phase status s content (sym end), next ∙ end)
+    let P : List (List ℕ) → Type 0 = λ sent. Answers s content sent s in
+    let empty : map (λ (v : Vec ℕ Global). v.items) step.send.items ≡ [] = ap (map (λ (v : Vec ℕ Global). v.items)) none in
+    rw is (record { after = s; serves = refl; answers = subst P (sym empty) (ended s.phase status s content (sym end)); next = next ∙ end })
 
 pub going_step : (old : SessionState) (before after : ServerState) (content : List ℕ) (step : Step)
     → old ≡ serving before → IsGoingOn before.phase → AnswersGoingOn before content (map (λ v. v.items) step.send.items) after → step.next ≡ next_after after.phase
     → SessionSteps old content step (serving after)
 going_step old before after content step is going answers next =
-    rw is (after, refl, going_on before.phase before content (map (λ v. v.items) step.send.items) after going answers, next)
+    rw is (record { after = after; serves = refl; answers = going_on before.phase before content (map (λ v. v.items) step.send.items) after going answers; next = next })
 
 -- what is published after a change of the held documents
 pub publishes : (before after : ServerState) (uri reported : List ℕ) (held : OpenDocuments) (sent : Option (Vec ℕ Global))

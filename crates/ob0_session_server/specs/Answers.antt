@@ -255,11 +255,18 @@ AnswersInState phase before content sent after = AnswersGoingOn before content s
 abbrev pub Answers : ServerState → List ℕ → List (List ℕ) → ServerState → Type 0
 Answers before content sent after = AnswersInState before.phase before content sent after
 
+-- The server replies to this content, and then, from the state in which it is, to what follows.
+pub record AnswersFirst (before : ServerState) (content : List ℕ) (sent : List (List ℕ))
+    (Follows : ServerState → List (List ℕ) → Type 0) : Type 0 where
+  pub between : ServerState
+  pub first : List (List ℕ)
+  pub later : List (List ℕ)
+  pub answers : Answers before content first between
+  pub follows : Follows between later
+  pub all : sent ≡ first ++ later
+
 -- The same for contents in turn, and the messages sent for them in that order.
 abbrev pub Conversation : ServerState → List (List ℕ) → List (List ℕ) → ServerState → Type 0
 Conversation before [] sent after = (sent ≡ []) × (after ≡ before)
 Conversation before (content ∷ contents) sent after =
-    (between : ServerState) × (first : List (List ℕ)) × (later : List (List ℕ))
-    × Answers before content first between
-    × Conversation between contents later after
-    × (sent ≡ first ++ later)
+    AnswersFirst before content sent (λ between later. Conversation between contents later after)

@@ -20,13 +20,17 @@ next_after phase = Continue
 abbrev pub IsGoingOn : Phase → Type 0
 IsGoingOn phase = next_after phase ≡ Continue
 
+-- the session replies to a content, and says whether it goes on
+pub record StepAnswers (before : ServerState) (content : List ℕ) (step : Step)
+    (new : SessionState) : Type 0 where
+  pub after : ServerState
+  pub serves : new ≡ serving after
+  pub answers : Answers before content (map (λ v. v.items) step.send.items) after
+  pub next : step.next ≡ next_after after.phase
+
 -- a step that is answered
 abbrev pub SessionSteps : SessionState → List ℕ → Step → SessionState → Type 0
-SessionSteps (serving before) content step new =
-    (after : ServerState)
-    × (new ≡ serving after)
-    × Answers before content (map (λ v. v.items) step.send.items) after
-    × (step.next ≡ next_after after.phase)
+SessionSteps (serving before) content step new = StepAnswers before content step new
 SessionSteps failed content step new = ⊥
 
 -- a step that isn't: Memory comes only before the end and leaves the session failed, Failed comes only then

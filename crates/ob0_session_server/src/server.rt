@@ -5,8 +5,6 @@ ghost use Rattle.ob0_text.specs.OpenDocuments.{none_open};
 ghost use Rattle.ob0_session_server.specs.Seen.{RepliesWith, message_of as what_is_sent};
 ghost use Rattle.ob0_session_server.specs.Units.{unit_for};
 
-mod held;
-
 use crate::requests::{LayoutRequest, NameRequest, NewNameRequest, OfferRequest, PublishRequest};
 use crate::session::Next;
 use ob0_rpc::{
@@ -16,7 +14,7 @@ use ob0_rpc::{
 use ob0_session_documents::{AnalysedDocuments, RequestOutcome};
 use ob0_session_json::capabilities::initialize_answer;
 use ob0_session_json::publication::publication;
-use ob0_session_json::refusals::refused;
+use ob0_session_json::refusals::refuse;
 use ob0_session_queries::NameQuestion;
 use ob0_text::{Change, Documents, Indent, Range, TextStore, Unit};
 use serde_json::Value;
@@ -79,6 +77,13 @@ impl<T: TextStore> Server<T> {
             },
             documents: AnalysedDocuments::new(alloc, Documents::new(alloc)),
         }
+    }
+
+    /// The open documents, as the server has them.
+    pub fn documents(&self) -> &Documents<T>
+        ensures { result.now ≡ self.now.held }
+    {
+        self.documents.documents()
     }
 
     /// Whether the server goes on, or the status with which it has ended.
@@ -426,8 +431,8 @@ fn reply_with(
 {
     match outcome {
         RequestOutcome::Answered(message) => Ok(Some(message)),
-        RequestOutcome::OutOfStep => Ok(Some(refused(alloc, id, "out of step")?)),
-        RequestOutcome::Unopened => Ok(Some(refused(alloc, id, "unopened")?)),
+        RequestOutcome::OutOfStep => Ok(Some(refuse(alloc, id, "out of step")?)),
+        RequestOutcome::Unopened => Ok(Some(refuse(alloc, id, "unopened")?)),
     }
 }
 

@@ -1,10 +1,8 @@
 //! A session, which ends where memory runs out.
 ghost use Rattle.std.specs.Prelude.{◌≡◌, IfOk, IfErr};
 
-mod held;
-
 use crate::server::{Phase, Server};
-use ob0_text::TextStore;
+use ob0_text::{Documents, TextStore};
 use std::alloc::{AllocError, Global};
 use std::marker::Model;
 use thiserror::Error;
@@ -53,7 +51,7 @@ impl<T: TextStore> Model for Session<T> {
 }
 
 impl<T: TextStore> Session<T> {
-    ghost use Rattle.ob0_session_server.specs.Answers.{start};
+    ghost use Rattle.ob0_session_server.specs.Answers.{ServerState, start};
     ghost use Rattle.ob0_session_server.specs.SessionStates.{serving};
     ghost use Rattle.ob0_session_server.specs.Steps.{SessionSteps, SessionFails};
 
@@ -66,6 +64,13 @@ impl<T: TextStore> Session<T> {
             server: Server::new(alloc),
             has_failed: false,
         }
+    }
+
+    /// The documents that the client has open. Nothing is said of them once an allocation failed.
+    pub fn documents(&self) -> &Documents<T>
+        ensures { (s : ServerState) → self.now ≡ serving s → result.now ≡ s.held }
+    {
+        self.server.documents()
     }
 
     /// Takes the content of one message, and gives the answers to it.

@@ -362,10 +362,10 @@ inlined how requested k uri position client unit version text sent takes literal
     unfit (inr ill_typed) = ill_typed
 
     go : ListsActions unit request text value → Answered requested k (inlining_at how position) unit (Some (InStep version text)) sent
-    go (inl (here, everywhere, wanted, offers_here, offers_everywhere, listed)) =
-        with_edits (edits_offered (requested_for how here everywhere))
-        (ap (λ v. edits_for (inlining_at how position) (result_message (number (unsigned k)) v)) listed ∙ actions_read_back how position request here everywhere takes)
-        (requested_offered how unit text position here everywhere offers_here offers_everywhere)
+    go (inl h) =
+        with_edits (edits_offered (requested_for how h.here h.everywhere))
+        (ap (λ v. edits_for (inlining_at how position) (result_message (number (unsigned k)) v)) h.listed ∙ actions_read_back how position request h.here h.everywhere takes)
+        (requested_offered how unit text position h.here h.everywhere h.offers_here h.offers_everywhere)
     go (inr (why, listed)) =
         with_edits [] (ap (λ v. edits_for (inlining_at how position) (result_message (number (unsigned k)) v)) listed ∙ none_read_back how position (number (unsigned k))) (unfit_answer unit text (inlining_at how position) (unfit why))
 

@@ -54,16 +54,16 @@ pub record Turn (e : Editor) (q rest : Contents) (s s' : SessionState) (content 
   pub served_so : Served e.requested message before after (bytes sent)
 
 pub turn : (e : Editor) (q rest r : Contents) (s s' : SessionState) (content : Vec ℕ Global) (sent : Contents) → q ≡ content ∷ rest → Sound e.requested q r s → IsAnswered s content.items (bytes sent) s' → Turn e q rest s s' content sent
-turn e q rest r s s' content sent first sound (before, after, was, is, how) =
+turn e q rest r s s' content sent first sound h =
     let heard_first : IsHeard e.requested content = All-head (IsHeard e.requested) content rest (subst (All (IsHeard e.requested)) first sound.heard_all) in
     record {
       message = heard_first.0;
       says = heard_first.1;
-      before = before;
-      after = after;
-      was = was;
-      is = is;
-      served_so = served e.requested heard_first.0 before after content.items (bytes sent) (session_is s before was sound.running) heard_first.1 how;
+      before = h.before;
+      after = h.after;
+      was = h.served;
+      is = h.serves;
+      served_so = served e.requested heard_first.0 h.before h.after content.items (bytes sent) (session_is s h.before h.served sound.running) heard_first.1 h.answers;
     }
 
 pub rest_sound : (requested : List SentAsk) (q rest r : Contents) (s s' : SessionState) (content : Vec ℕ Global) → q ≡ content ∷ rest → Sound requested q r s → IsRunningOrFailed s' → Sound requested rest r s'
@@ -115,7 +115,7 @@ turn_happens e q rest r r' s s' ap_list md md' content sent held o n first t ref
     (sym (ap (all_heard e.requested) first ∙ said_first (heard e.requested) content rest t.message (says_heard e.requested t.message content.items t.says))) this
 
 pub answered_so : (old : SessionState) (content : List ℕ) (step : Step) (new : SessionState) → SessionSteps old content step new → IsAnswered old content (bytes step.send.items) new
-answered_so (serving before) content step new (after, is, how, next) = (before, after, refl, is, how)
+answered_so (serving before) content step new h = record { before = before; after = h.after; served = refl; serves = h.serves; answers = h.answers }
 answered_so failed content step new h = absurd h
 
 -- ---- the server is the session
@@ -124,4 +124,4 @@ pub turn_taken : (e f : Editor) (q rest r r' : Contents) (s s' : SessionState) (
     → TakesFirst (bytes q) (both_from e q s r ap_list md) (both_from f rest s' r' ap_new md')
 turn_taken e f q rest r r' s s' ap_list ap_new md md' content sent first answered grown =
     subst (λ x. TakesFirst (bytes x) (both_from e q s r ap_list md) (both_from f rest s' r' ap_new md')) (sym first)
-    (bytes sent, answered, refl, ap bytes grown ∙ map-append (λ v. v.items) r sent)
+    (record { sent = bytes sent; answered = answered; to_server = refl; to_editor = ap bytes grown ∙ map-append (λ v. v.items) r sent })

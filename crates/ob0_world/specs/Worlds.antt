@@ -51,23 +51,26 @@ new_world unit = record { both = new_both unit; steps = 0; ended = false }
 -- ---- the server is the session
 
 -- the session replies to a content with these
-abbrev pub IsAnswered : SessionState → List ℕ → List (List ℕ) → SessionState → Type 0
-IsAnswered old content sent new =
-    (before : ServerState)
-    × (after : ServerState)
-    × (old ≡ serving before)
-    × (new ≡ serving after)
-    × Answers before content sent after
+pub record IsAnswered (old : SessionState) (content : List ℕ) (sent : List (List ℕ))
+    (new : SessionState) : Type 0 where
+  pub before : ServerState
+  pub after : ServerState
+  pub served : old ≡ serving before
+  pub serves : new ≡ serving after
+  pub answers : Answers before content sent after
 
--- the session takes the first content that waits, and its replies wait for the editor
+-- the session takes this content, and its replies wait for the editor
+pub record TakesContent (content : List ℕ) (rest : List (List ℕ)) (old new : Both) : Type 0 where
+  pub sent : List (List ℕ)
+  pub answered : IsAnswered old.session content sent new.session
+  pub to_server : new.to_server ≡ rest
+  pub to_editor : new.to_editor ≡ old.to_editor ++ sent
+
+-- the session takes the first content that waits
 abbrev pub TakesFirst : List (List ℕ) → Both → Both → Type 0
 TakesFirst [] old new =
     (new.session ≡ old.session) × (new.to_server ≡ []) × (new.to_editor ≡ old.to_editor)
-TakesFirst (content ∷ rest) old new =
-    (sent : List (List ℕ))
-    × IsAnswered old.session content sent new.session
-    × (new.to_server ≡ rest)
-    × (new.to_editor ≡ old.to_editor ++ sent)
+TakesFirst (content ∷ rest) old new = TakesContent content rest old new
 
 -- only its own event moves it
 abbrev pub MovesServer : Event → Both → Both → Type 0
@@ -97,13 +100,17 @@ pub record IsTied (w : Both) : Type 0 where
 
 -- ---- one step
 
--- A world that hasn't ended makes the step, and counts it; one that has ended makes none.
+-- the step is made and counted
+pub record MakesStep (old : World) (event : Event) (seen : Seen) (new : World) : Type 0 where
+  pub happens : Happens old.both.ends event seen new.both.ends
+  pub moves : MovesServer event old.both new.both
+  pub tied : IsTied new.both
+  pub counted : new.steps ≡ old.steps + 1
+  pub goes_on : new.ended ≡ false
+
+-- A world that hasn't ended makes the step; one that has ended makes none.
 abbrev pub StepsFrom : Bool → World → Event → Seen → World → Type 0
-StepsFrom false old event seen new =
-    Happens old.both.ends event seen new.both.ends
-    × MovesServer event old.both new.both
-    × IsTied new.both
-    × (new.steps ≡ old.steps + 1) × (new.ended ≡ false)
+StepsFrom false old event seen new = MakesStep old event seen new
 StepsFrom true old event seen new = ⊥
 
 -- a step is what happens at its event, and is counted

@@ -151,7 +151,6 @@ impl<T: TextStore> World<T> {
 fn nothing_played(alloc: Global) -> Played
     ensures { (unit : units.Unit) → HasCome (start unit) result }
 {
-    // For the proof: what is known of this value.
     Played {
         applied: Vec::new(alloc),
         made: Vec::new(alloc),

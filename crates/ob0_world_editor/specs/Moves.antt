@@ -69,17 +69,21 @@ text_sent r =
     let a : Applied
     = applied_of r.applied in notifies (Changed a.uri (pos r.version) (whole_text a.after ∷ []))
 
+-- the editor has this document's new text, and the message says so
+pub record Rewrites (old new : Editor) (a : Applied) (message : ToServer)
+    (r : rewritten.Rewritten) : Type 0 where
+  pub text : new ≡ with_text old r
+  pub applied : a ≡ applied_of r.applied
+  pub says : message ≡ text_sent r
+  pub few : r.version < 2 ^ 63
+
 -- this document gets a new text, if any does
 abbrev pub IsRewritten : Editor → ApplyOutcome → Option rewritten.Rewritten → Type 0
 IsRewritten e not_held r = ⊥
 IsRewritten e (drops_answer f) None = f ≡ e
 IsRewritten e (drops_answer f) (Some r) = ⊥
 IsRewritten e (makes f a message) None = ⊥
-IsRewritten e (makes f a message) (Some r) =
-    (f ≡ with_text e r)
-    × (a ≡ applied_of r.applied)
-    × (message ≡ text_sent r)
-    × (r.version < 2 ^ 63)
+IsRewritten e (makes f a message) (Some r) = Rewrites e f a message r
 
 -- it got it, and this content is the notification
 abbrev pub IsMade : Editor → rewritten.Rewritten → applying.Applying → Editor → Type 0

@@ -15,7 +15,7 @@ pub enum Ask {
 }
 
 /// Another ask of the same.
-pub fn copied(alloc: Global, ask: &Ask) -> Result<Ask, AllocError>
+pub fn copy_of(alloc: Global, ask: &Ask) -> Result<Ask, AllocError>
     ensures { IfOk result (λ copy. ask_of copy ≡ ask_of ask.now) }
 {
     match ask {

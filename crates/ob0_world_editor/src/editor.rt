@@ -10,10 +10,10 @@ ghost use Rattle.ob0_world_editor.specs.Moves.{AreFew, Moves, ComesOf, IsRewritt
 ghost use Rattle.ob0_world_editor.specs.Understood.{understood};
 
 use crate::applied::{Applied, Applying};
-use crate::asks::{Ask, copied};
+use crate::asks::{Ask, copy_of};
 use crate::documents::{Open, OpenDocuments};
 use crate::reading::{Message, numbered_ask, read_message};
-use crate::texts::{changed, patched};
+use crate::texts::{apply_changes, apply_edits};
 use crate::writing::{did_change, did_close, did_open, did_rewrite, request};
 use ob0_text::{Change, Edit, Unit, Whole};
 use std::alloc::{AllocError, Global};
@@ -127,7 +127,7 @@ impl Editor {
         let Some(open) = self.documents.get(uri) else {
             return Ok(None);
         };
-        let text = changed::<Whole>(self.alloc, self.unit, open.text.as_str(), changes)?;
+        let text = apply_changes::<Whole>(self.alloc, self.unit, open.text.as_str(), changes)?;
         let version = open.version + 1;
         let opening = open.opening;
         let content = did_change(self.alloc, uri, version, changes)?;
@@ -172,7 +172,7 @@ impl Editor {
         let (version, opening) = (open.version, open.opening);
         let number = self.requested.len() as u64 + 1;
         let content = request(self.alloc, number, uri, ask)?;
-        let ask = copied(self.alloc, ask)?;
+        let ask = copy_of(self.alloc, ask)?;
         let uri = String::from_str(self.alloc, uri)?;
         self.requested.push(SentAsk {
             ask,
@@ -216,7 +216,7 @@ impl Editor {
         let Some(edits) = self.drop_document(k) else {
             return Ok(Applying::NotHeld);
         };
-        match self.rewritten(k, edits.as_slice())? {
+        match self.rewrite(k, edits.as_slice())? {
             Some(rewritten) => self.make(rewritten),
             None => Ok(Applying::Dropped),
         }
@@ -242,7 +242,7 @@ impl Editor {
 
     /// The document of the request, with these edits made; None where it isn't the same any more, or the edits can't be
     /// made.
-    fn rewritten(&self, k: u64, edits: &[Edit]) -> Result<Option<Rewritten>, AllocError>
+    fn rewrite(&self, k: u64, edits: &[Edit]) -> Result<Option<Rewritten>, AllocError>
         requires { AreFew self.now }
         ensures { IfOk result (λ rewritten. IsRewritten self.now
             (applies_requested self.now (replacements edits.now)
@@ -258,7 +258,12 @@ impl Editor {
         if document.opening != requested.opening || document.version != requested.version {
             return Ok(None);
         }
-        let Some(after) = patched::<Whole>(self.alloc, self.unit, document.text.as_str(), edits)?
+        let Some(after) = apply_edits::<Whole>(
+            self.alloc,
+            self.unit,
+            document.text.as_str(),
+            edits,
+        )?
         else {
             return Ok(None);
         };

@@ -203,11 +203,11 @@ fn action_values<'v>(actions: &'v Value, title: &str) -> Option<&'v Vec<Value>>
     ensures { option_map (λ v. items_view v.now.items) result
         ≡ action_items title.now (view actions.now) }
 {
-    let action = titled(actions.as_array()?, title)?;
+    let action = action_with_title(actions.as_array()?, title)?;
     workspace_values(action.get("edit")?)
 }
 
-fn titled<'v>(actions: &'v [Value], title: &str) -> Option<&'v Value>
+fn action_with_title<'v>(actions: &'v [Value], title: &str) -> Option<&'v Value>
     ensures { option_map (λ v. view v.now) result
         ≡ titled_action title.now (items_view actions.now) }
 {

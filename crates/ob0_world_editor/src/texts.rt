@@ -10,7 +10,7 @@ use ob0_text::{Change, Edit, PatchFault, TextStore, Unit, patch};
 use std::alloc::{AllocError, Global};
 
 /// The text after changes, each made of the result of the one before.
-pub fn changed<T: TextStore>(
+pub fn apply_changes<T: TextStore>(
     alloc: Global,
     unit: Unit,
     text: &str,
@@ -47,7 +47,7 @@ fn make_change<T: TextStore>(
 }
 
 /// The text with all edits made; None where two of them share a character.
-pub fn patched<T: TextStore>(
+pub fn apply_edits<T: TextStore>(
     alloc: Global,
     unit: Unit,
     text: &str,

@@ -16,7 +16,7 @@ returns-in-Some g c =
     let found = subst (λ (a : Option Inlinings). FindsInlinings unit text offset a) c.in-Some.is c.in_ok-found.ensures in
     IfOk-weaker c.list_actions.result _ _ (λ bytes sent. (
       _,
-      (_, inl (c.in-Some.found.here, c.in-Some.found.everywhere, sym c.wants_inlining.ensures ∙ c.if-not-wants_inlining.false, found.0, found.1, refl), refl),
+      (_, inl (record { here = c.in-Some.found.here; everywhere = c.in-Some.found.everywhere; wanted = sym c.wants_inlining.ensures ∙ c.if-not-wants_inlining.false; offers_here = found.0; offers_everywhere = found.1; listed = refl }), refl),
       sent,
     )) c.list_actions.ensures
 

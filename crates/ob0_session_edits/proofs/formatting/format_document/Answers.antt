@@ -36,11 +36,11 @@ returns-in_ok-text-in-Err g c =
     let outcome = subst (λ (o : Option (Result (Vec Edit Global) EditRefusal)). FoundOf unit c.args.indent text o) c.in-Some.is found in
     let long = subst (λ (o : Result (Vec Edit Global) EditRefusal). Formats unit c.args.indent text o) c.in-Err.is outcome in
     let is = c.as_str.ensures.value ∙ (c.in_ok-text-in-Err.ensures ∙ ap refusal_text long.0) in
-    IfOk-weaker c.refused.result _ _ (λ bytes sent. (
+    IfOk-weaker c.refuse.result _ _ (λ bytes sent. (
       edit_refused (id_data c.args.id.now) (refusal_text TooLong),
       inr (inl (long.1, refl)),
       subst (λ (said : List ℕ). Writes (edit_refused (id_data c.args.id.now) said) bytes.items) is sent,
-    )) c.refused.ensures
+    )) c.refuse.ensures
 
 pub returns-in-None : goal.returns-in-None
 returns-in-None g c =
@@ -48,4 +48,4 @@ returns-in-None g c =
     let text : List ℕ = g.T.TextStore.content c.args.store.now in
     let found = found_of unit c.args.indent c.args.analysis.now text c.in_ok-outcome.field-0 c.in_ok-outcome.ensures.utf8 (sym c.requires) c.in_ok-outcome.ensures.found in
     let ill = subst (λ (o : Option (Result (Vec Edit Global) EditRefusal)). FoundOf unit c.args.indent text o) c.in-None.is found in
-    IfOk-weaker c.refused_ill_typed.result _ _ (λ bytes sent. (edit_refused (id_data c.args.id.now) (codes "ill-typed"), inr (inr (ill, refl)), sent)) c.refused_ill_typed.ensures
+    IfOk-weaker c.refuse_ill_typed.result _ _ (λ bytes sent. (edit_refused (id_data c.args.id.now) (codes "ill-typed"), inr (inr (ill, refl)), sent)) c.refuse_ill_typed.ensures

@@ -32,7 +32,7 @@ returns-in-Err g c =
     let requested = rename_requested c.args.request.now in
     let found = subst (λ (a : Option (Result (Vec Edit Global) EditRefusal)). FindsNewName unit text requested.at.position requested.new a) c.in-Some.is c.in_ok-outcome.ensures in
     let why = subst (λ (o : Result (Vec Edit Global) EditRefusal). FindsNewName unit text requested.at.position requested.new (Some o)) c.in-Err.is found in
-    IfOk-weaker c.refused_because.result _ _ (λ bytes sent. (edit_refused requested.id (refusal_text c.in-Err.refusal), inr (inl (c.in-Err.refusal, why, refl)), sent)) c.refused_because.ensures
+    IfOk-weaker c.refuse_because.result _ _ (λ bytes sent. (edit_refused requested.id (refusal_text c.in-Err.refusal), inr (inl (c.in-Err.refusal, why, refl)), sent)) c.refuse_because.ensures
 
 pub returns-in-None : goal.returns-in-None
 returns-in-None g c =
@@ -40,4 +40,4 @@ returns-in-None g c =
     let text : List ℕ = g.T.TextStore.content c.args.store.now in
     let requested = rename_requested c.args.request.now in
     let found = subst (λ (a : Option (Result (Vec Edit Global) EditRefusal)). FindsNewName unit text requested.at.position requested.new a) c.in-None.is c.in_ok-outcome.ensures in
-    IfOk-weaker c.refused_ill_typed.result _ _ (λ bytes sent. (edit_refused requested.id (codes "ill-typed"), inr (inr (found, refl)), sent)) c.refused_ill_typed.ensures
+    IfOk-weaker c.refuse_ill_typed.result _ _ (λ bytes sent. (edit_refused requested.id (codes "ill-typed"), inr (inr (found, refl)), sent)) c.refuse_ill_typed.ensures

@@ -12,7 +12,7 @@ returns g c =
     let uri = string_bytes c.args.uri in
     let reported = c.as_str-2.result.now in
     let held = changed c.args.self.now.held uri c.args.version (map reported_change c.args.all.items) in
-    let is = rw (to_z-of_z c.ranges.version, ap (λ s. s.held) c.self.view_is) at c.in_ok-did_change.ensures in
+    let is = rw (to_z-of_z c.ranges.version, ap (λ s. s.held) c.self.view_is) at c.in_ok-did_change.ensures.ok in
     let after : c.publish.new.self ≡ record c.args.self.now { held = held } =
     rw (c.publish.ensures.same, is, ap (λ s. s.phase) c.self.view_is, ap (λ s. s.client) c.self.view_is, c.as_str.ensures.value) refl in
     IfOk-weaker c.publish.result _ _ (λ sent said.

@@ -21,7 +21,7 @@ returns-in-Err-step-clause-err g c =
 pub loop-event-preserved : goal.loop-event-preserved
 loop-event-preserved g c =
     let made = step_made _ _ _ _ c.loop-event.invariant.2 c.in-Ok-step.ensures.ok in
-    (course_more c.args.unit c.args.events.now c.loop-event.event-index c.event-item.result _ _ _ c.loop-event-test.true c.event-item.is c.loop-event.invariant.0 made.0, made.3 ∙ ap (λ n. n + 1) c.loop-event.invariant.1, made.4)
+    (course_more c.args.unit c.args.events.now c.loop-event.event-index c.event-item.result _ _ _ c.loop-event-test.true c.event-item.is c.loop-event.invariant.0 made.happens, made.counted ∙ ap (λ n. n + 1) c.loop-event.invariant.1, made.goes_on)
 
 pub returns-clause-ok : goal.returns-clause-ok
 returns-clause-ok g c =

@@ -1,7 +1,7 @@
 use Rattle.std.proofs.Common.{◌≡◌, drop}
 use Rattle.serde_json.specs.View.{items_view}
 use Rattle.ob0_world_editor.specs.Understood.{titled_action}
-use Rattle.ob0_world_editor.proofs.reading.titled.Given as goal
+use Rattle.ob0_world_editor.proofs.reading.action_with_title.Given as goal
 
 -- the action is among those that are left
 abbrev pub invariant-loop-action : goal.invariant-loop-action

@@ -3,9 +3,9 @@ use Rattle.std.proofs.lemmas.Result.{IfOk-weaker}
 use Rattle.ob0_rpc.specs.Seen.{id_data}
 use Rattle.ob0_rpc.specs.Writing.{Writes}
 use Rattle.ob0_session_json.specs.Shapes.{edit_refused}
-use Rattle.ob0_session_json.proofs.refusals.refused_because.Goals as goal
+use Rattle.ob0_session_json.proofs.refusals.refuse_because.Goals as goal
 
 pub returns : goal.returns
 returns c =
     let reported = c.as_str.ensures.value ∙ c.in_ok-text.ensures in
-    IfOk-weaker c.refused.result _ _ (λ bytes sent. subst (λ (said : List ℕ). Writes (edit_refused (id_data c.args.id.now) said) bytes.items) reported sent) c.refused.ensures
+    IfOk-weaker c.refuse.result _ _ (λ bytes sent. subst (λ (said : List ℕ). Writes (edit_refused (id_data c.args.id.now) said) bytes.items) reported sent) c.refuse.ensures

@@ -1,7 +1,7 @@
 use Rattle.std.proofs.Common.{◌≡◌, ◌∙◌, ◌<◌, ◌-◌, ◌^◌, ap, sym, arith, Some}
 use Rattle.ob0_world_rules.specs.Ends.{Editor, open_at}
 use Rattle.ob0_world_editor.specs.Entries.{open_document}
-use Rattle.ob0_world_editor.proofs.editor.Editor.rewritten.Goals as goal
+use Rattle.ob0_world_editor.proofs.editor.Editor.rewrite.Goals as goal
 
 pub overflow_add-result : goal.overflow_add-result
 overflow_add-result c =

@@ -2,7 +2,7 @@ use Rattle.std.proofs.Common.{◌∙◌, ap, sym, Err}
 use Rattle.ob0_text.specs.Units.{width_of}
 use Rattle.ob0_text.specs.Patches as patches
 use Rattle.ob0_world_rules.proofs.EditedTexts.{edited_as_patched}
-use Rattle.ob0_world_editor.proofs.texts.patched.Goals as goal
+use Rattle.ob0_world_editor.proofs.texts.apply_edits.Goals as goal
 
 pub returns-in-Ok : goal.returns-in-Ok
 returns-in-Ok g c =

@@ -1,6 +1,6 @@
 use Rattle.std.proofs.Common.{◌≡◌, fold, map, take, Some}
 use Rattle.ob0_text.specs.OpenDocuments.{changed_text, reported_change}
-use Rattle.ob0_world_editor.proofs.texts.changed.Given as goal
+use Rattle.ob0_world_editor.proofs.texts.apply_changes.Given as goal
 
 -- the changes so far are made, and positions are counted in the unit
 abbrev pub invariant-loop-change : goal.invariant-loop-change
