@@ -1,2 +1,3 @@
 pub mod Appending
 mod Lists
+mod Whole

@@ -12,15 +12,21 @@ mod objects;
 mod outgoing;
 mod ranges;
 mod requests;
+mod values;
 
 pub use clients::Client;
 pub use incoming::{Id, Incoming, RpcFault, read};
 pub use json_text::{Written, begin_list, end_list, write_item};
 pub use members::{range_in, text_in};
 pub use notifications::{ClientNotification, notice};
+/// What a notification says, by its short name.
+pub use notifications::ClientNotification as Note;
 pub use objects::{OneMember, end_object, first_member, next_member};
 pub use outgoing::{
     ErrorResponse, Notification, Response, ResponseError, content_of, error, notify, result_of,
 };
 pub use ranges::{piece_before, range_before};
 pub use requests::{ClientRequest, DocumentPosition, request};
+/// What a request says, by its short name.
+pub use requests::ClientRequest as Call;
+pub use values::{notification, result};

@@ -1,11 +1,11 @@
 //! Messages from outside: what they mean, and which contents aren't messages; and the bytes of answers.
 
 use ob0_rpc::{
-    Client, ClientRequest, Id, Incoming, OneMember, RpcFault, Written, error, notify, read,
-    request, result_of,
+    Call, Client, Id, Incoming, OneMember, RpcFault, Written, error, notification, notify, read,
+    request, result, result_of,
 };
 use ob0_text::{Indent, Position, Range};
-use serde_json::Value;
+use serde_json::{Value, json};
 use std::alloc::{AllocError, Global};
 use std::process::Abort;
 
@@ -104,13 +104,13 @@ fn said_by(indent: Indent) -> &'static str {
 }
 
 /// A request, in a word.
-fn word_of(call: &ClientRequest) -> &'static str {
+fn word_of(call: &Call) -> &'static str {
     match call {
-        ClientRequest::Initialize(client) => said_of(*client),
-        ClientRequest::Shutdown => "shutdown",
-        ClientRequest::Hover(_place) => "hover",
-        ClientRequest::Definition(_place) => "definition",
-        ClientRequest::References {
+        Call::Initialize(client) => said_of(*client),
+        Call::Shutdown => "shutdown",
+        Call::Hover(_place) => "hover",
+        Call::Definition(_place) => "definition",
+        Call::References {
             place: _place,
             include_declaration,
         } => {
@@ -120,12 +120,12 @@ fn word_of(call: &ClientRequest) -> &'static str {
                 "references"
             }
         }
-        ClientRequest::PrepareRename(_place) => "prepare a rename",
-        ClientRequest::Rename {
+        Call::PrepareRename(_place) => "prepare a rename",
+        Call::Rename {
             place: _place,
             new_name: _name,
         } => "rename",
-        ClientRequest::CodeAction {
+        Call::CodeAction {
             uri: _uri,
             range: _range,
             only,
@@ -139,7 +139,7 @@ fn word_of(call: &ClientRequest) -> &'static str {
                 }
             }
         },
-        ClientRequest::Formatting { uri: _uri, indent } => said_by(*indent),
+        Call::Formatting { uri: _uri, indent } => said_by(*indent),
     }
 }
 
@@ -306,6 +306,32 @@ fn is_error(alloc: Global, fault: RpcFault, wanted: &str) -> bool {
 
 fn is_note(alloc: Global, method: &str, wanted: &str) -> bool {
     is_written(notify(alloc, method, &()), wanted)
+}
+
+/// A value with members of each kind but a fraction, if there is memory for it.
+fn value_of_each_kind(alloc: Global) -> Result<Value, AllocError> {
+    json!(in alloc; {"b": [true, null, -1], "a": {"c": "\"\n"}})
+}
+
+/// Whether the answer to a request, and a notification, with this value are written so.
+fn are_written_with_a_value(alloc: Global, answer: &str, note: &str) -> bool {
+    let Ok(value) = value_of_each_kind(alloc) else {
+        return false;
+    };
+    let Ok(params) = value_of_each_kind(alloc) else {
+        return false;
+    };
+    is_written(result(alloc, &Id::Unsigned(5), value), answer)
+        && is_written(notification(alloc, "m", params), note)
+}
+
+#[test]
+fn values_are_written(rt: HostRuntime) {
+    let answer =
+        "{\"id\":5,\"jsonrpc\":\"2.0\",\"result\":{\"a\":{\"c\":\"\\\"\\n\"},\"b\":[true,null,-1]}}";
+    let note = "{\"jsonrpc\":\"2.0\",\"method\":\"m\",\
+         \"params\":{\"a\":{\"c\":\"\\\"\\n\"},\"b\":[true,null,-1]}}";
+    assert!(rt; are_written_with_a_value(rt.alloc(), answer, note));
 }
 
 #[test]

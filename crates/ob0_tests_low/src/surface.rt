@@ -2,7 +2,7 @@
 //! notifications.
 
 use ob0_frame::{FrameFault, Framer};
-use ob0_rpc::{ClientNotification, notice};
+use ob0_rpc::{Note, notice};
 use ob0_text::{Documents, Held, Lines, TextStore, Unit, Whole};
 use serde_json::Value;
 use std::alloc::Global;
@@ -82,11 +82,11 @@ fn a_document_is_there_until_it_is_closed(rt: HostRuntime) {
 }
 
 /// In a word what a notification says.
-fn word_of(note: &ClientNotification) -> &'static str {
+fn word_of(note: &Note) -> &'static str {
     match note {
-        ClientNotification::Unreadable { uri: None } => "unreadable",
-        ClientNotification::Unreadable { uri: Some(_uri) } => "unreadable, of a document",
-        ClientNotification::Other => "other",
+        Note::Unreadable { uri: None } => "unreadable",
+        Note::Unreadable { uri: Some(_uri) } => "unreadable, of a document",
+        Note::Other => "other",
         _ => "read",
     }
 }

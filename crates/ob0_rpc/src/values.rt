@@ -1,0 +1,64 @@
+//! Messages whose result or params are a JSON value.
+ghost use Rattle.std.specs.Prelude.{◌≡◌, ◌≤◌, false, IfOk};
+ghost use Rattle.serde_json.specs.Data.{depth};
+ghost use Rattle.serde_json.specs.View.{view};
+ghost use Rattle.serde_json.specs.Written.{has_float};
+ghost use Rattle.ob0_rpc.specs.Shapes.{result_message, notification_message};
+ghost use Rattle.ob0_rpc.specs.Seen.{id_data};
+ghost use Rattle.ob0_rpc.specs.Writing.{CanBeSent, Writes};
+
+use crate::incoming::Id;
+use serde_json::{Value, json};
+use std::alloc::{AllocError, Global};
+
+/// The answer to a request, with a value that isn't nested deeper than 126 and whose numbers are whole ones.
+pub fn result(alloc: Global, id: &Id, value: Value) -> Result<Vec<u8>, AllocError>
+    ensures { IfOk result (λ bytes. has_float (view value) ≡ false
+        → CanBeSent (view value)
+        → Writes (result_message (id_data id.now) (view value)) bytes.items) }
+{
+    let message = result_value(alloc, id, value)?;
+    text_of(alloc, &message)
+}
+
+/// A notification, with params that aren't nested deeper than 126 and whose numbers are whole ones.
+pub fn notification(alloc: Global, method: &str, params: Value) -> Result<Vec<u8>, AllocError>
+    ensures { IfOk result (λ bytes. has_float (view params) ≡ false
+        → CanBeSent (view params)
+        → Writes (notification_message method.now (view params)) bytes.items) }
+{
+    let message = notification_value(alloc, method, params)?;
+    text_of(alloc, &message)
+}
+
+fn result_value(alloc: Global, id: &Id, value: Value) -> Result<Value, AllocError>
+    ensures { IfOk result (λ v. view v ≡ result_message (id_data id.now) (view value)) }
+{
+    let id = id_value(alloc, id)?;
+    json!(in alloc; {"id": id, "jsonrpc": "2.0", "result": value})
+}
+
+fn notification_value(alloc: Global, method: &str, params: Value) -> Result<Value, AllocError>
+    ensures { IfOk result (λ v. view v ≡ notification_message method.now (view params)) }
+{
+    json!(in alloc; {"jsonrpc": "2.0", "method": method, "params": params})
+}
+
+fn id_value(alloc: Global, id: &Id) -> Result<Value, AllocError>
+    ensures { IfOk result (λ v. view v ≡ id_data id.now) }
+{
+    match id {
+        Id::Signed(n) => Ok(Value::from(*n)),
+        Id::Unsigned(n) => Ok(Value::from(*n)),
+        Id::Text(text) => Value::try_from_str(alloc, text.as_str()),
+    }
+}
+
+fn text_of(alloc: Global, message: &Value) -> Result<Vec<u8>, AllocError>
+    ensures { IfOk result (λ bytes. has_float (view message.now) ≡ false
+        → depth (view message.now) ≤ 127
+        → Writes (view message.now) bytes.items) }
+{
+    let text = message.to_string(alloc)?;
+    Ok(text.into_bytes())
+}
