@@ -6,8 +6,10 @@ ghost use Rattle.ob0_tree.specs.Tree.{Tree, module_text};
 ghost use Rattle.ob0_scope_rules.specs.Names.{Name};
 ghost use Rattle.ob0_run_rules.specs.Runs.{run};
 ghost use Rattle.ob0_run_machine.specs.Outcomes as machine;
+ghost use Rattle.ob0_run_machine.specs.View.{program_of};
 ghost use Rattle.ob0_run_cells.specs.Lowering.{end_of};
 ghost use Rattle.ob0_run_cells.specs.LoweredStatements.{HaveNumbers};
+ghost use Rattle.ob0_run_lowering.specs.LoweredModules.{MeansModule};
 ghost use Rattle.ob0_run.specs.Outcomes.{end_in, run_of};
 ghost use Rattle.ob0_run.specs.Programs.{RunsAs};
 
@@ -84,7 +86,9 @@ fn have_addresses(most_cells: usize, calls: u32) -> bool
 ///
 /// Out of memory.
 pub fn lower(alloc: Global, checked: &WellTyped<'_>) -> Result<Program, AllocError>
-    ensures { IfOk result (RunsAs (named_tree_of checked.now.module_read)) }
+    ensures runs { IfOk result (RunsAs (named_tree_of checked.now.module_read)) }
+    ensures means { IfOk result (λ made. MeansModule made.most_cells
+        (named_tree_of checked.now.module_read) (program_of made.code)) }
 {
     runs_lowered();
     ob0_run_lowering::lower(alloc, checked.resolved(), checked.known())

@@ -4,14 +4,12 @@ ghost use Rattle.std.specs.Prelude.{◌≡◌, ◌≤◌, ℕ, IfOk, OnOk, slice
 ghost use Rattle.ob0_tree.specs.Tree.{more};
 ghost use Rattle.ob0_tree.specs.View.{block_of, procedure_of};
 ghost use Rattle.ob0_tree.specs.Parsed.{named_tree_of};
-ghost use Rattle.ob0_scope_rules.specs.Names.{as_labels};
-ghost use Rattle.ob0_scope_rules.specs.Scopes.{numbered};
 ghost use Rattle.ob0_types_table.specs.KnownTables.{declared_in};
 ghost use Rattle.ob0_types_rules.specs.Bindings.{declared_object};
 ghost use Rattle.ob0_types_rules.specs.WellTyped.{WellTyped};
 ghost use Rattle.ob0_types_rules.specs.InLabels.{in_labels};
 ghost use Rattle.ob0_run_machine.specs.View.{program_of};
-ghost use Rattle.ob0_run_cells.specs.Activations.{ProgramMeans};
+ghost use Rattle.ob0_run_lowering.specs.LoweredModules.{MeansModule};
 ghost use Rattle.ob0_run_lowering.specs.Blocks.{Goes, LowersBlock};
 
 use crate::contexts::LoweringContext;
@@ -32,8 +30,8 @@ pub(crate) struct Lowering {
     pub(crate) most: usize,
 }
 
-/// The program of a module, none of whose activations has more than `most_cells` cells, those of its parameters among
-/// them.
+/// The program of a module. An activation of the module or of a procedure of it has at most `most_cells` cells, those of
+/// its parameters among them, and one has as many.
 #[derive(Drop)]
 pub struct Program {
     pub code: code::LoweredCode,
@@ -171,7 +169,7 @@ pub fn lower<'t>(
     ensures { IfOk result (λ made. WellTyped (named_tree_of resolved.now.module_read)
         → ((k : ℕ)
         → declared_in known.now k ≡ declared_object (named_tree_of resolved.now.module_read) k)
-        → ProgramMeans made.most_cells as_labels (numbered (named_tree_of resolved.now.module_read))
+        → MeansModule made.most_cells (named_tree_of resolved.now.module_read)
         (program_of made.code)) }
 {
     let types = Types::new(alloc, known)?;

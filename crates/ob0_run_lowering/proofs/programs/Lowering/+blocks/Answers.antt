@@ -29,7 +29,7 @@ block-returns t c =
     let own = c.in_ok-own.own in
     let scene : Scene = record { resolved = c.args.ground.now.resolved; types = c.args.ground.now.types; sites = c.as_slice.result; depth = own.depth } in
     let entry : Routine = record { cells = own.cells - c.args.frame.cells; body = c.in_ok-body.body } in
-    block_means c.args.ground.now.types.now c.args.self.now c.loop-p.self c.variables.new.self c.args.b.now c.deref-p-items.result.now c.loop-p.p-index c.args.frame own scene entry r c.in_ok-own.ensures c.greater-self.result c.greater-self.ensures.left c.greater-self.ensures.right c.loop-p.invariant.goes c.loop-p-test.false
+    block_means c.args.ground.now.types.now c.args.self.now c.loop-p.self c.variables.new.self c.args.b.now c.deref-p-items.result.now c.loop-p.p-index c.args.frame own scene entry r c.in_ok-own.ensures c.greater-self.result (record { left = c.greater-self.ensures.left; right = c.greater-self.ensures.right; least = c.greater-self.ensures.least }) c.loop-p.invariant.goes c.loop-p-test.false
     c.deref-p-items.ensures.value refl c.as_slice.ensures.value refl c.in_ok-body.ensures refl
 
 pub procedure-returns : goal.procedure-returns
