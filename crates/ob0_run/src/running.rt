@@ -20,7 +20,7 @@ use ob0_types::WellTyped;
 use std::alloc::{AllocError, Global};
 
 /// How a run ends.
-#[derive(Clone, Copy, PartialEq, Eq)]
+#[derive(Clone, Copy, Debug, PartialEq, Eq)]
 pub enum End {
     /// The end of the module's body.
     Done,
@@ -39,7 +39,7 @@ pub enum End {
 }
 
 /// What a run output, and how it ended.
-#[derive(Drop)]
+#[derive(Debug, Drop)]
 pub struct Outcome {
     pub output: Vec<Item>,
     pub end: End,
@@ -62,7 +62,8 @@ fn end_of(end: ob0_run_machine::Halt) -> End
     }
 }
 
-/// An input is of numbers of 32 bits, as the law of lowered runs requires.
+/// An input is of numbers of 32 bits, as the law of lowered runs requires. The loop is for the proof alone: that an `i32`
+/// has 32 bits is known of each that is read, not of all at once, so each is read, once for a run.
 fn have_numbers(input: &[i32])
     ensures { HaveNumbers input.now }
 {

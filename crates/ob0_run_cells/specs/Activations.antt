@@ -65,7 +65,7 @@ slots_in naming placing x = first_slot (from_name naming placing x)
 abbrev pub targets_in : {N : Type 0} → Naming N → Placing N → N → Target
 targets_in naming placing x = first_target (from_name naming placing x)
 
--- the same from one activation further in
+-- a slot as an activation one level further in sees it
 abbrev pub inward_slot : Slot → Slot
 inward_slot (of_module at) = of_module at
 inward_slot (held up at) = held (suc up) at

@@ -61,7 +61,7 @@ AllMean table most s code statements ps =
 pub record Reaches (t : Tables) (w v : Lowering) (depth : ℕ) (s : BlockState)
     (statements : Tree Label (maybe body)) (ps left : Tree Label (items procedure)) : Type 0 where
   pub now : BlockState
-  pub ready : Ready t v.sight.sites.items depth now statements left
+  pub ready : Ready t v.visible.sites.items depth now statements left
   pub mean : (table : List lowered.Routine) (most : ℕ) (code : lowered.Instructions)
       → v.most ≤ most
       → Later table (length w.procedures.items) v.procedures.items
@@ -79,10 +79,10 @@ pub record Reaches (t : Tables) (w v : Lowering) (depth : ℕ) (s : BlockState)
 pub record Goes (t : Tables) (w v : Lowering) (depth : ℕ) (ps left : Tree Label (items procedure))
     : Type 0 where
   pub on : (s : BlockState) (statements : Tree Label (maybe body))
-      → Ready t w.sight.sites.items depth s statements ps
+      → Ready t w.visible.sites.items depth s statements ps
       → Reaches t w v depth s statements ps left
   pub most_grows : w.most ≤ v.most
-  pub follows : Follows w.sight v.sight
+  pub follows : Follows w.visible v.visible
   pub longer : length w.procedures.items ≤ length v.procedures.items
   pub grown : Grown w.procedures.items v.procedures.items
 
@@ -107,11 +107,11 @@ pub record LowersBlock (t : Tables) (w v : Lowering) (f : Frame) (b : Tree Label
     (entry : Routine) : Type 0 where
   pub on : (env : TypeEnvironment Label) (p : Placed Label) (k : ℕ)
       → Matches env p.placing
-      → IsFrame w.sight.sites.items f p
+      → IsFrame w.visible.sites.items f p
       → block_fits as_labels env k b ≡ true
       → BlockDeclared (declared_in t) env k b
       → MeansBlock w v f b entry env p k
   pub most_grows : w.most ≤ v.most
-  pub follows : Follows w.sight v.sight
+  pub follows : Follows w.visible v.visible
   pub longer : length w.procedures.items ≤ length v.procedures.items
   pub grown : Grown w.procedures.items v.procedures.items
