@@ -6,8 +6,10 @@ ghost use Rattle.ob0_tree.specs.Tree.{Tree, module_text};
 ghost use Rattle.ob0_scope_rules.specs.Names.{Name};
 ghost use Rattle.ob0_run_rules.specs.Runs.{run};
 ghost use Rattle.ob0_run_machine.specs.Outcomes as machine;
+ghost use Rattle.ob0_run_machine.specs.View.{program_of};
 ghost use Rattle.ob0_run_cells.specs.Lowering.{end_of};
 ghost use Rattle.ob0_run_cells.specs.LoweredStatements.{HaveNumbers};
+ghost use Rattle.ob0_run_lowering.specs.LoweredModules.{MeansModule};
 ghost use Rattle.ob0_run.specs.Outcomes.{end_in, run_of};
 ghost use Rattle.ob0_run.specs.Programs.{RunsAs};
 
@@ -18,7 +20,7 @@ use ob0_types::WellTyped;
 use std::alloc::{AllocError, Global};
 
 /// How a run ends.
-#[derive(Clone, Copy, PartialEq, Eq)]
+#[derive(Clone, Copy, Debug, PartialEq, Eq)]
 pub enum End {
     /// The end of the module's body.
     Done,
@@ -37,7 +39,7 @@ pub enum End {
 }
 
 /// What a run output, and how it ended.
-#[derive(Drop)]
+#[derive(Debug, Drop)]
 pub struct Outcome {
     pub output: Vec<Item>,
     pub end: End,
@@ -60,7 +62,8 @@ fn end_of(end: ob0_run_machine::Halt) -> End
     }
 }
 
-/// An input is of numbers of 32 bits, as the law of lowered runs requires.
+/// An input is of numbers of 32 bits, as the law of lowered runs requires. The loop is for the proof alone: that an `i32`
+/// has 32 bits is known of each that is read, not of all at once, so each is read, once for a run.
 fn have_numbers(input: &[i32])
     ensures { HaveNumbers input.now }
 {
@@ -84,7 +87,9 @@ fn have_addresses(most_cells: usize, calls: u32) -> bool
 ///
 /// Out of memory.
 pub fn lower(alloc: Global, checked: &WellTyped<'_>) -> Result<Program, AllocError>
-    ensures { IfOk result (RunsAs (named_tree_of checked.now.module_read)) }
+    ensures runs { IfOk result (RunsAs (named_tree_of checked.now.module_read)) }
+    ensures means { IfOk result (λ made. MeansModule made.most_cells
+        (named_tree_of checked.now.module_read) (program_of made.code)) }
 {
     runs_lowered();
     ob0_run_lowering::lower(alloc, checked.resolved(), checked.known())

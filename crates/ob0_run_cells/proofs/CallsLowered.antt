@@ -1,7 +1,6 @@
 -- Calls of lowered procedures do what calls of the module's do, by induction on how many may be open.
 use Rattle.std.proofs.Common.{◌≡◌, ℕ, zero, suc, ◌+◌, ◌*◌, ◌^◌, ◌<◌, true, List, [], ◌∷◌, ◌++◌, drop, length, map, replicate, take, pos, slice_get, Some, option_and_then, unwrap_or, sym, refl, ap, ◌∙◌, subst, arith, append_assoc}
 use Rattle.ob0_tree.specs.Tree.{Tree, begins, body, declares_procedure, item, maybe, none, one, procedure}
-use Rattle.ob0_scope_rules.specs.Names.{Naming}
 use Rattle.ob0_scope_rules.specs.Parts.{block_statements, formal_sections, procedure_formals}
 use Rattle.ob0_types_rules.specs.Declarations.{formals_constructors}
 use Rattle.ob0_types_rules.specs.Environments.{from_binding, meanings, newest}
@@ -16,7 +15,7 @@ use Rattle.ob0_run_machine.specs.Evaluation.{Level, Levels}
 use Rattle.ob0_run_machine.specs.Execution as execution
 use Rattle.ob0_run_machine.specs.Lowered as lowered
 use Rattle.ob0_run_cells.specs.ActivationLaws.{CallsLowered}
-use Rattle.ob0_run_cells.specs.Activations.{BodyMeans, IsPlaced, Placed, Placing, PlacingFits, ProcedureMeans, Whereabouts, at_target, entered_placing, first_target, from_name, inward, own_target, target_of, targets_in}
+use Rattle.ob0_run_cells.specs.Activations.{RoutineTable, BodyMeans, IsPlaced, Placed, Placing, PlacingFits, ProcedureMeans, Whereabouts, at_target, entered_placing, first_target, from_name, inward, label_table, own_target, target_of, targets_in}
 use Rattle.ob0_run_cells.specs.Cells.{all_cells, sizes}
 use Rattle.ob0_run_cells.specs.LoweredStatements.{Body, CallsRepresent, HaveNumbers, ProgressRepresents, Represents, Target, argument_addresses, argument_cells}
 use Rattle.ob0_run_cells.specs.Lowering.{held}
@@ -47,44 +46,44 @@ give_up-represents typing now others old base (execution.stopped x out) (stopped
 give_up-represents typing now others old base (execution.running low) (stopped y written) e fits is h = absurd h
 give_up-represents typing now others old base (execution.stopped x out) (running s) e fits is h = absurd h
 
-module _ {N : Type 0} (table : List lowered.Routine) (most : ℕ) (naming : Naming N) where
+module _ {N : Type 0} (table : RoutineTable N) where
   abbrev pub body_of : ℕ → ℕ → StoreTyping → Levels → Activation N → Body N
-  body_of c t typing ls active = record { typing = typing; active = statement_meanings naming active; levels = ls; enters = call_giving_up naming c t active; lowered_enters = execution.call table c t }
+  body_of c t typing ls active = record { typing = typing; active = statement_meanings table.naming active; levels = ls; enters = call_giving_up table.naming c t active; lowered_enters = execution.call table.routines c t }
 
   -- what is known of calls of which c more may be open
   abbrev pub CallsKnown : ℕ → ℕ → Type 0
   CallsKnown c t =
-      (typing : StoreTyping) (ls : Levels) (checked : TypeEnvironment N) (placing : Placing N) (active : Activation N) → EnvironmentsFit naming typing checked active → PlacingFits table most naming typing ls checked placing active → sizes typing + c * most < 2 ^ 64
-      → CallsRepresent (meanings naming checked) (targets_in naming placing) (body_of c t typing ls active)
+      (typing : StoreTyping) (ls : Levels) (checked : TypeEnvironment N) (placing : Placing N) (active : Activation N) → EnvironmentsFit table.naming typing checked active → PlacingFits table typing ls checked placing active → sizes typing + c * table.most < 2 ^ 64
+      → CallsRepresent (meanings table.naming checked) (targets_in table.naming placing) (body_of c t typing ls active)
 
-  pub body-represents : (c t : ℕ) → CallsKnown c t → (typing : StoreTyping) (ls : Levels) (checked : TypeEnvironment N) (placing : Placing N) (active : Activation N) → EnvironmentsFit naming typing checked active → PlacingFits table most naming typing ls checked placing active → sizes typing + c * most < 2 ^ 64
-      → (code : lowered.Instructions) (statements : Tree N (maybe body)) → BodyMeans naming checked placing code statements → (low : execution.MachineState) (s : State) → Represents typing low s
-      → ProgressRepresents typing (execution.execute_all (execution.call table c t) t ls code low) (execute_body naming active (call_giving_up naming c t active) t statements s)
+  pub body-represents : (c t : ℕ) → CallsKnown c t → (typing : StoreTyping) (ls : Levels) (checked : TypeEnvironment N) (placing : Placing N) (active : Activation N) → EnvironmentsFit table.naming typing checked active → PlacingFits table typing ls checked placing active → sizes typing + c * table.most < 2 ^ 64
+      → (code : lowered.Instructions) (statements : Tree N (maybe body)) → BodyMeans table.naming checked placing code statements → (low : execution.MachineState) (s : State) → Represents typing low s
+      → ProgressRepresents typing (execution.execute_all (execution.call table.routines c t) t ls code low) (execute_body table.naming active (call_giving_up table.naming c t active) t statements s)
   unfolding execution.execute execute_body
-  body-represents c t known typing ls checked placing active env placed few code none means low s h = subst (λ code. ProgressRepresents typing (execution.execute_all (execution.call table c t) t ls code low) (running s)) (sym means) h
+  body-represents c t known typing ls checked placing active env placed few code none means low s h = subst (λ code. ProgressRepresents typing (execution.execute_all (execution.call table.routines c t) t ls code low) (running s)) (sym means) h
   body-represents c t known typing ls checked placing active env placed few code (one (begins statements)) means low s h =
       means (body_of c t typing ls active) record {
-        names_fit = (names-fit naming typing checked active env, λ x. refl);
-        variables_in_slots = λ x p e. slots-fit table most naming typing ls (from_binding naming checked x) (from_name naming placing x) (from_binding naming active x) (from-placed table most naming typing ls checked placing active x placed) p e;
+        names_fit = (names-fit table.naming typing checked active env, λ x. refl);
+        variables_in_slots = λ x p e. slots-fit table typing ls (from_binding table.naming checked x) (from_name table.naming placing x) (from_binding table.naming active x) (from-placed table typing ls checked placing active x placed) p e;
         has_addresses = omega (arith, few);
         calls_represent = known typing ls checked placing active env placed few;
       } t low s h
 
   pub activate-represents : (c t : ℕ) → CallsKnown c t → (typing : StoreTyping) (ls : Levels) (checked : TypeEnvironment N) (placing : Placing N) (active : Activation N) (signature : Signature) (args : List Argument) (low : execution.MachineState) (s : State) (p : execution.Passed)
-      → EnvironmentsFit naming typing checked active → PlacingFits table most naming typing ls checked placing active → sizes typing + suc c * most < 2 ^ 64 → newest checked ≡ Some (a_procedure signature) → Represents typing low s → ArgumentsFit typing signature args
+      → EnvironmentsFit table.naming typing checked active → PlacingFits table typing ls checked placing active → sizes typing + suc c * table.most < 2 ^ 64 → newest checked ≡ Some (a_procedure signature) → Represents typing low s → ArgumentsFit typing signature args
       → p.cells ≡ low.cells ++ argument_cells args → p.addresses ≡ argument_addresses typing args → HaveNumbers p.cells
-      → ProgressRepresents typing (execution.call table (suc c) t (first_target placing).procedure (execution.entered ls (length low.cells) (first_target placing).up p) record low { cells = p.cells }) (drop_variables (length s.store) (activate naming (call_giving_up naming c t) t active args s))
+      → ProgressRepresents typing (execution.call table.routines (suc c) t (first_target placing).procedure (execution.entered ls (length low.cells) (first_target placing).up p) record low { cells = p.cells }) (drop_variables (length s.store) (activate table.naming (call_giving_up table.naming c t) t active args s))
   unfolding execution.call activate block_fits
   activate-represents c t known typing ls [] placing active signature args low s p env placed few e h fit cells there numbers = absurd (cc)
   activate-represents c t known typing ls (b ∷ checked) [] [] signature args low s p env placed few e h fit cells there numbers = absurd env
   activate-represents c t known typing ls (b ∷ checked) [] (d ∷ active) signature args low s p env placed few e h fit cells there numbers = absurd placed
   activate-represents c t known typing ls (b ∷ checked) (w ∷ placing) [] signature args low s p env placed few e h fit cells there numbers = absurd env
-  activate-represents c t known typing ls ((x, o) ∷ checked) ((z, w) ∷ placing) ((y, r) ∷ active) signature args low s p env placed few e h fit cells there numbers = of_objects o w r env.1 placed.2 (some-inverse {a = o} {b = a_procedure signature} e)
+  activate-represents c t known typing ls ((x, o) ∷ checked) ((z, w) ∷ placing) ((y, r) ∷ active) signature args low s p env placed few e h fit cells there numbers = of_objects o w r env.1 placed.here (some-inverse {a = o} {b = a_procedure signature} e)
     where
-      of_text : (tg : Target) (outer : Placing N) (entry : lowered.Routine) (j : ℕ) (text : Tree N (item procedure)) (ps : List (TypedParameter N)) → PlacingFits table most naming typing (drop tg.up ls) checked outer active → typed_parameters naming checked j (procedure_formals text) ≡ Some ps
-          → slice_get table tg.procedure ≡ Some entry → signature ≡ map (λ p. p.formal) ps → procedure_fits naming (bind_typed ps (heading x ps checked)) j text ≡ true
-          → ProcedureMeans table most naming (bind_typed ps (heading x ps checked)) (entered_placing ps ((x, own_target tg.procedure) ∷ outer)) j entry text
-          → ProgressRepresents typing (execution.call table (suc c) t tg.procedure (execution.entered ls (length low.cells) tg.up p) record low { cells = p.cells }) (drop_variables (length s.store) (activate naming (call_giving_up naming c t) t ((y, a_procedure record { first_constructor = j; text = text }) ∷ active) args s))
+      of_text : (tg : Target) (outer : Placing N) (entry : lowered.Routine) (j : ℕ) (text : Tree N (item procedure)) (ps : List (TypedParameter N)) → PlacingFits table typing (drop tg.up ls) checked outer active → typed_parameters table.naming checked j (procedure_formals text) ≡ Some ps
+          → slice_get table.routines tg.procedure ≡ Some entry → signature ≡ map (λ p. p.formal) ps → procedure_fits table.naming (bind_typed ps (heading x ps checked)) j text ≡ true
+          → ProcedureMeans table (bind_typed ps (heading x ps checked)) (entered_placing ps ((x, own_target tg.procedure) ∷ outer)) j entry text
+          → ProgressRepresents typing (execution.call table.routines (suc c) t tg.procedure (execution.entered ls (length low.cells) tg.up p) record low { cells = p.cells }) (drop_variables (length s.store) (activate table.naming (call_giving_up table.naming c t) t ((y, a_procedure record { first_constructor = j; text = text }) ∷ active) args s))
       of_text tg outer entry j (declares_procedure q fs b closing) ps inside eps et sig fits means =
           let text : Tree N (item procedure) = declares_procedure q fs b closing in
           let l : Level = record { base = length low.cells; addresses = p.addresses } in
@@ -92,16 +91,16 @@ module _ {N : Type 0} (table : List lowered.Routine) (most : ℕ) (naming : Nami
           let f : Frame N = record { env = (y, a_procedure record { first_constructor = j; text = text }) ∷ active; store = s.store } in
           let p₀ : Placed N = record { placing = inward ((x, own_target tg.procedure) ∷ outer); cells = 0; reference_places = 0 } in
           let sized : length low.cells ≡ sizes typing = ap length h.same_cells ∙ store-size typing s.store h.store_fits in
-          let start : FramePlaced table most naming typing (l ∷ seen) l.base (heading x ps checked) p₀ f = record {
+          let start : FramePlaced table typing (l ∷ seen) l.base (heading x ps checked) p₀ f = record {
             store_fits = h.store_fits;
             environment_fits = (env.0, (ps, eps, refl, fits), env.2);
-            placing_fits = inward-fits table most naming typing l seen (heading x ps checked) ((x, own_target tg.procedure) ∷ outer) f.env (env.0, refl, (outer, inside, ps, entry, eps, et, means), inside);
+            placing_fits = inward-fits table typing l seen (heading x ps checked) ((x, own_target tg.procedure) ∷ outer) f.env record { same_active = env.0; same_placed = refl; here = (outer, inside, record { parameters = ps; routine = entry; are_typed = eps; in_table = et; means = means }); further = inside };
             cells_counted = omega (arith, sized);
           } in
-          let (g, eg, part) = parameters-placed table most naming typing l seen ps args (heading x ps checked) p₀ f start (subst (λ fs. ArgumentsFit typing fs args) sig fit) there in
-          let (k, after, q₂, ek, total, bounded, body_means, rest) = block-placed table most naming part.typing_now (l ∷ seen) l.base (held 0) (λ c. refl) (j + formals_constructors (formal_sections fs)) entry.cells entry.body b (bind_typed ps (heading x ps checked)) (entered_placing ps ((x, own_target tg.procedure) ∷ outer)) g part.frame fits means in
+          let (g, eg, part) = parameters-placed table typing l seen ps args (heading x ps checked) p₀ f start (subst (λ fs. ArgumentsFit typing fs args) sig fit) there in
+          let (k, after, q₂, ek, total, bounded, body_means, rest) = block-placed table part.typing_now (l ∷ seen) l.base (held 0) (λ c. refl) (j + formals_constructors (formal_sections fs)) entry.cells entry.body b (bind_typed ps (heading x ps checked)) (entered_placing ps ((x, own_target tg.procedure) ∷ outer)) g part.frame fits means in
           let counted : l.base + q₂.cells ≡ sizes rest.typing_now = rest.frame.cells_counted in
-          let room : sizes rest.typing_now + c * most < 2 ^ 64 = omega (arith, counted, bounded, sized, few) in
+          let room : sizes rest.typing_now + c * table.most < 2 ^ 64 = omega (arith, counted, bounded, sized, few) in
           let low₂ : execution.MachineState = record low { cells = p.cells ++ execution.zeros entry.cells } in
           let s₂ : State = record s { store = k.store } in
           let represents : Represents rest.typing_now low₂ s₂ = record {
@@ -114,19 +113,20 @@ module _ {N : Type 0} (table : List lowered.Routine) (most : ℕ) (naming : Nami
           } in
           let does = body-represents c t known rest.typing_now (l ∷ seen) after q₂.placing k.env rest.frame.environment_fits rest.frame.placing_fits room entry.body (block_statements b) body_means low₂ s₂ represents in
           let grown : rest.typing_now ≡ typing ++ (part.others ++ rest.others) = rest.is_grown ∙ (ap (λ l. l ++ rest.others) part.is_grown ∙ append_assoc typing part.others rest.others) in
-          let gives_up = give_up-represents typing rest.typing_now (part.others ++ rest.others) s.store l.base (execution.execute_all (execution.call table c t) t (l ∷ seen) entry.body low₂) (execute_body naming k.env (call_giving_up naming c t k.env) t (block_statements b) s₂) grown h.store_fits (ap length h.same_cells) does in
-          let frames = ap (λ l. option_and_then (declare_block naming (j + formals_constructors (formal_sections fs)) b) (bind_parameters l args f)) (parameters-of_typed naming checked j (formal_sections fs) ps eps) ∙ (ap (option_and_then (declare_block naming (j + formals_constructors (formal_sections fs)) b)) eg ∙ ek) in
-          subst (λ o. ProgressRepresents typing (execution.drop_variables l.base (execution.activate (execution.call table c t) t (l ∷ seen) o record low { cells = p.cells })) (drop_variables (length s.store) (activate naming (call_giving_up naming c t) t ((y, a_procedure record { first_constructor = j; text = text }) ∷ active) args s))) (sym et)
-          (subst (λ frame. ProgressRepresents typing (execution.drop_variables l.base (execution.execute_all (execution.call table c t) t (l ∷ seen) entry.body low₂)) (drop_variables (length s.store) (in_frame s frame (λ f. execute_body naming f.env (call_giving_up naming c t f.env) t (block_statements b))))) (sym frames) gives_up)
+          let gives_up = give_up-represents typing rest.typing_now (part.others ++ rest.others) s.store l.base (execution.execute_all (execution.call table.routines c t) t (l ∷ seen) entry.body low₂) (execute_body table.naming k.env (call_giving_up table.naming c t k.env) t (block_statements b) s₂) grown h.store_fits (ap length h.same_cells) does in
+          let frames = ap (λ l. option_and_then (declare_block table.naming (j + formals_constructors (formal_sections fs)) b) (bind_parameters l args f)) (parameters-of_typed table.naming checked j (formal_sections fs) ps eps) ∙ (ap (option_and_then (declare_block table.naming (j + formals_constructors (formal_sections fs)) b)) eg ∙ ek) in
+          subst (λ o. ProgressRepresents typing (execution.drop_variables l.base (execution.activate (execution.call table.routines c t) t (l ∷ seen) o record low { cells = p.cells })) (drop_variables (length s.store) (activate table.naming (call_giving_up table.naming c t) t ((y, a_procedure record { first_constructor = j; text = text }) ∷ active) args s))) (sym et)
+          (subst (λ frame. ProgressRepresents typing (execution.drop_variables l.base (execution.execute_all (execution.call table.routines c t) t (l ∷ seen) entry.body low₂)) (drop_variables (length s.store) (in_frame s frame (λ f. execute_body table.naming f.env (call_giving_up table.naming c t f.env) t (block_statements b))))) (sym frames) gives_up)
 
-      of_objects : (o : Object Shape Signature) (w : Whereabouts) (r : Object Place (ProcedureText N)) → BindingFits naming typing checked x o r → IsPlaced table most naming typing ls checked (λ ls placing. PlacingFits table most naming typing ls checked placing active) x o w r → o ≡ a_procedure signature
-          → ProgressRepresents typing (execution.call table (suc c) t (target_of w).procedure (execution.entered ls (length low.cells) (target_of w).up p) record low { cells = p.cells }) (drop_variables (length s.store) (activate naming (call_giving_up naming c t) t ((y, r) ∷ active) args s))
+      of_objects : (o : Object Shape Signature) (w : Whereabouts) (r : Object Place (ProcedureText N)) → BindingFits table.naming typing checked x o r → IsPlaced table typing ls checked (λ ls placing. PlacingFits table typing ls checked placing active) x o w r → o ≡ a_procedure signature
+          → ProgressRepresents typing (execution.call table.routines (suc c) t (target_of w).procedure (execution.entered ls (length low.cells) (target_of w).up p) record low { cells = p.cells }) (drop_variables (length s.store) (activate table.naming (call_giving_up table.naming c t) t ((y, r) ∷ active) args s))
       of_objects (a_procedure sg) (at_target tg) (a_procedure code) bound at e =
           let (ps, eps, sig, fits) = bound in
-          let (outer, inside, qs, entry, eqs, et, means) = at in
-          let same : ps ≡ qs = some-inverse (sym eps ∙ eqs) in
+          let (outer, inside, found) = at in
+          let qs : List (TypedParameter N) = found.parameters in
+          let same : ps ≡ qs = some-inverse (sym eps ∙ found.are_typed) in
           let signed : signature ≡ map (λ p. p.formal) qs = sym (ap (λ o. unwrap_or (signature_of (Some o)) []) e) ∙ (sig ∙ ap (map (λ p. p.formal)) same) in
-          of_text tg outer entry code.first_constructor code.text qs inside eqs et signed (subst (λ ps. procedure_fits naming (bind_typed ps (heading x ps checked)) code.first_constructor code.text ≡ true) same fits) means
+          of_text tg outer found.routine code.first_constructor code.text qs inside found.are_typed found.in_table signed (subst (λ ps. procedure_fits table.naming (bind_typed ps (heading x ps checked)) code.first_constructor code.text ≡ true) same fits) found.means
       of_objects (a_type q) w r bound at e = absurd (cc)
       of_objects (a_constant q) w r bound at e = absurd (cc)
       of_objects (a_variable q) w r bound at e = absurd (cc)
@@ -137,7 +137,7 @@ module _ {N : Type 0} (table : List lowered.Routine) (most : ℕ) (naming : Nami
   unfolding call_giving_up execution.call
   calls-known zero t typing ls checked placing active env placed few x signature e args low s p h fit cells there numbers = (refl, h.same_output)
   calls-known (suc c) t typing ls checked placing active env placed few x signature e args low s p h fit cells there numbers =
-      activate-represents c t (calls-known c t) typing ls (from_binding naming checked x) (from_name naming placing x) (from_binding naming active x) signature args low s p (from-fit naming typing checked active x env) (from-placed table most naming typing ls checked placing active x placed) few e h fit cells there numbers
+      activate-represents c t (calls-known c t) typing ls (from_binding table.naming checked x) (from_name table.naming placing x) (from_binding table.naming active x) signature args low s p (from-fit table.naming typing checked active x env) (from-placed table typing ls checked placing active x placed) few e h fit cells there numbers
 
 pub calls_lowered-holds : CallsLowered
-calls_lowered-holds table most c t typing ls checked placing active env placed few = calls-known table most _ c t typing ls checked placing active env placed few
+calls_lowered-holds table bound c t typing ls checked placing active env placed few = calls-known (label_table table bound) c t typing ls checked placing active env placed few

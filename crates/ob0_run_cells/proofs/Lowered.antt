@@ -54,12 +54,12 @@ conjunctions_lower-holds = truths.both-leads
 
 pub operators_end-holds : OperatorsEnd
 unfolding evaluate
-operators_end-holds checked slots whole = (
-  λ n h. numbers.number-whole checked slots n (multipliers_left end) whole (λ z v. refl) h,
-  λ n h. numbers.number-whole checked slots n (addends_left end) whole (λ z v. refl) h,
-  λ t h. truths.truth-whole checked slots t (multipliers_left end) whole (λ z v. refl) h,
-  λ t h. truths.truth-whole checked slots t (addends_left end) whole (λ z v. refl) h,
-)
+operators_end-holds checked slots whole = record {
+  number_term = λ n h. numbers.number-whole checked slots n (multipliers_left end) whole (λ z v. refl) h;
+  number_sum = λ n h. numbers.number-whole checked slots n (addends_left end) whole (λ z v. refl) h;
+  truth_term = λ t h. truths.truth-whole checked slots t (multipliers_left end) whole (λ z v. refl) h;
+  truth_sum = λ t h. truths.truth-whole checked slots t (addends_left end) whole (λ z v. refl) h;
+}
 
 pub sums_lower-holds : SumsLower
 sums_lower-holds checked slots e rest = (

@@ -11,7 +11,8 @@ use Rattle.ob0_run_rules.specs.Runs.{Argument, Progress, State, evaluate_argumen
 use Rattle.ob0_run_machine.specs.Evaluation as machine
 use Rattle.ob0_run_machine.specs.Execution as execution
 use Rattle.ob0_run_machine.specs.Lowered as lowered
-use Rattle.ob0_run_cells.specs.Cells.{address, all_cells, cells_of, size, sizes}
+use Rattle.ob0_run_cells.specs.CellLaws.{HoldsSlice, WritesPlace}
+use Rattle.ob0_run_cells.specs.Cells.{address, all_cells, cells_of, cells_with, size, sizes}
 use Rattle.ob0_run_cells.specs.LoweredStatements.{HaveNumbers, IsAt, ProgressRepresents, Represents, StatementMeans, Target}
 use Rattle.ob0_run_cells.specs.Lowering.{Has32Bits, NumberMeans, PlaceMeans, Slot, TruthMeans, ValueAt, place_of_designator, value_of_expression}
 use Rattle.ob0_run_cells.proofs.Parts.{cells-size}
@@ -38,21 +39,21 @@ copied-within cells to from n h k =
 pub cells-copied : (typing : StoreTyping) (low : execution.MachineState) (s : State) (p q : Place) (shape : Shape) → Represents typing low s → PlaceFits typing p shape → PlaceFits typing q shape
     → ProgressRepresents typing (execution.running record low { cells = execution.copied low.cells (address typing p) (address typing q) (size shape) }) (use_in s (or_stuck (read_place s.store q)) (store_at s p))
 cells-copied typing low s p q shape h fit_p fit_q =
-    let (inside_q, at_q) = places_are_slices-holds typing s.store q shape h.store_fits fit_q in
-    let (v, read, hv, slice) = at_q in
-    let (inside_p, at_p) = places_are_slices-holds typing s.store p shape h.store_fits fit_p in
-    let (after, wrote, fits_after, cells) = writing_places_writes_slices-holds typing s.store p shape v h.store_fits fit_p hv in
-    let n : length (cells_of v) ≡ size shape = cells-size v shape hv in
+    let at_q : HoldsSlice typing s.store q shape = places_are_slices-holds typing s.store q shape h.store_fits fit_q in
+    let v : Value = at_q.value in
+    let inside_p = (places_are_slices-holds typing s.store p shape h.store_fits fit_p).within in
+    let done : WritesPlace typing s.store p v (cells_with (address typing p) (cells_of v) (all_cells s.store)) = writing_places_writes_slices-holds typing s.store p shape v h.store_fits fit_p at_q.has_shape in
+    let n : length (cells_of v) ≡ size shape = cells-size v shape at_q.has_shape in
     let m : sizes typing ≡ length (all_cells s.store) = sym (store-size typing s.store h.store_fits) in
     let copy : execution.copied (all_cells s.store) (address typing p) (address typing q) (size shape) ≡ take (address typing p) (all_cells s.store) ++ (take (size shape) (drop (address typing q) (all_cells s.store)) ++ drop (address typing p + size shape) (all_cells s.store)) =
-    copied-within (all_cells s.store) (address typing p) (address typing q) (size shape) (subst (λ k. address typing p + size shape ≤ k) m inside_p) (subst (λ k. address typing q + size shape ≤ k) m inside_q) in
-    let same : execution.copied low.cells (address typing p) (address typing q) (size shape) ≡ all_cells after =
+    copied-within (all_cells s.store) (address typing p) (address typing q) (size shape) (subst (λ k. address typing p + size shape ≤ k) m inside_p) (subst (λ k. address typing q + size shape ≤ k) m at_q.within) in
+    let same : execution.copied low.cells (address typing p) (address typing q) (size shape) ≡ all_cells done.after =
     ap (λ l. execution.copied l (address typing p) (address typing q) (size shape)) h.same_cells
-    ∙ (copy ∙ ((λ i. take (address typing p) (all_cells s.store) ++ (sym slice i ++ drop (address typing p + sym n i) (all_cells s.store))) ∙ sym cells)) in
+    ∙ (copy ∙ ((λ i. take (address typing p) (all_cells s.store) ++ (sym at_q.same_cells i ++ drop (address typing p + sym n i) (all_cells s.store))) ∙ sym done.same_cells)) in
     let numbers = subst HaveNumbers h.same_cells h.cells_have_numbers in
-    subst (λ o. ProgressRepresents typing (execution.running record low { cells = execution.copied low.cells (address typing p) (address typing q) (size shape) }) (use_in s (or_stuck o) (store_at s p))) (sym read)
-    (subst (λ o. ProgressRepresents typing (execution.running record low { cells = execution.copied low.cells (address typing p) (address typing q) (size shape) }) (use_in s (or_stuck o) (λ store. running record s { store = store }))) (sym wrote) record {
-      store_fits = fits_after;
+    subst (λ o. ProgressRepresents typing (execution.running record low { cells = execution.copied low.cells (address typing p) (address typing q) (size shape) }) (use_in s (or_stuck o) (store_at s p))) (sym at_q.is_read)
+    (subst (λ o. ProgressRepresents typing (execution.running record low { cells = execution.copied low.cells (address typing p) (address typing q) (size shape) }) (use_in s (or_stuck o) (λ store. running record s { store = store }))) (sym done.is_written) record {
+      store_fits = done.store_fits;
       same_cells = same;
       same_input = h.same_input;
       same_output = h.same_output;
@@ -112,13 +113,14 @@ module _ {N : Type 0} (checked : Typed N) (slots : N → Slot) (targets : N → 
   pub reads-mean : (x : N) (es : Tree N (maybe arguments)) (e : Tree N expression) (q : lowered.Place) → checked.object_for x ≡ Some (a_standard reads) → arguments_listed es ≡ e ∷ [] → IsAt checked slots q integer_shape e → StatementMeans checked slots targets (lowered.reads q) (calls x es)
   unfolding execution.execute execute evaluate_arguments
   reads-mean x es e q st one hq b shown t low s h =
-      let (y, others, v, d, ey, hp) = hq in
+      let y : N = hq.name in
+      let others : Tree N (items selector) = hq.path in
       let stands : b.active.object_for x ≡ Some (a_standard reads) = standard-stands b.typing reads (b.active.object_for x) (subst (λ o. ObjectFits b.typing o (b.active.object_for x)) st (shown.names_fit.0 x)) in
       subst (λ o. ProgressRepresents b.typing (execution.use_in low (machine.address b.levels low.cells q) (λ a. execution.read_number low a low.input)) (use_in s (modes_of o >>= (λ modes. evaluate_arguments b.active s.store modes (arguments_listed es))) (λ args. perform o (b.enters x) args s))) (sym stands)
       (subst (λ l. ProgressRepresents b.typing (execution.use_in low (machine.address b.levels low.cells q) (λ a. execution.read_number low a low.input)) (use_in s (evaluate_arguments b.active s.store (by_place ∷ []) l) (λ args. perform (Some (a_standard reads)) (b.enters x) args s))) (sym one)
-      (subst (λ o. ProgressRepresents b.typing (execution.use_in low (machine.address b.levels low.cells q) (λ a. execution.read_number low a low.input)) (use_in s ((or_stuck o >>= (λ d. designate b.active s.store d.0 d.1 >>= (λ p. gives (place_argument p)))) >>= (λ a. gives (a ∷ []))) (λ args. perform (Some (a_standard reads)) (b.enters x) args s))) (sym d)
+      (subst (λ o. ProgressRepresents b.typing (execution.use_in low (machine.address b.levels low.cells q) (λ a. execution.read_number low a low.input)) (use_in s ((or_stuck o >>= (λ d. designate b.active s.store d.0 d.1 >>= (λ p. gives (place_argument p)))) >>= (λ a. gives (a ∷ []))) (λ args. perform (Some (a_standard reads)) (b.enters x) args s))) (sym hq.is_designator)
       (subst (λ w. ProgressRepresents b.typing (execution.use_in low (machine.address b.levels low.cells q) (λ a. execution.read_number low a low.input)) w) (sym (use-place-argument s (designate b.active s.store y others) (λ args. perform (Some (a_standard reads)) (b.enters x) args s)))
-      (use-place b.typing integer_shape low s (machine.address b.levels low.cells q) (designate b.active s.store y others) (λ a. execution.read_number low a low.input) (λ p. read_number s p s.input) h (place-in checked slots targets b shown q integer_shape (place_of_designator y others) hp low s h)
+      (use-place b.typing integer_shape low s (machine.address b.levels low.cells q) (designate b.active s.store y others) (λ a. execution.read_number low a low.input) (λ p. read_number s p s.input) h (place-in checked slots targets b shown q integer_shape (place_of_designator y others) hq.place_means low s h)
       (λ p fit. subst (λ input. ProgressRepresents b.typing (execution.read_number low (address b.typing p) low.input) (read_number s p input)) h.same_input (number-read b.typing low s p low.input h fit h.input_has_numbers))))))
 
   pub writes-mean : (x : N) (es : Tree N (maybe arguments)) (e : Tree N expression) (n : lowered.Number) → checked.object_for x ≡ Some (a_standard writes) → arguments_listed es ≡ e ∷ [] → NumberMeans checked slots n (value_of_expression e) → StatementMeans checked slots targets (lowered.writes n) (calls x es)

@@ -91,7 +91,7 @@ pub step-led : (typing : StoreTyping) (store : Store) → StoreFits typing store
     → Led typing t (machine.gives (machine.forward (address typing p) (step_offset s step))) (gives (further p (step ∷ [])))
 step-led typing store fits few p s t step fit e =
     let (is, there) = parts_have_addresses-holds typing p (step ∷ []) s t fit (ap (option_and_then (shape_at_path [])) e) in
-    let (within, held_there) = places_are_slices-holds typing store (further p (step ∷ [])) t fits is in
+    let within = (places_are_slices-holds typing store (further p (step ∷ [])) t fits is).within in
     let alone : offset (step ∷ []) s ≡ step_offset s step = step-alone s t step e in
     let same_address : address typing (further p (step ∷ [])) ≡ address typing p + step_offset s step = there ∙ ap (λ n. address typing p + n) alone in
     let bound : address typing p + step_offset s step < 2 ^ 64 = omega (arith, within, few, same_address) in
@@ -194,7 +194,7 @@ module _ {N : Type 0} (checked : Typed N) (slots : N → Slot) where
     (λ z. object_place (z.active.object_for x)),
     (λ z shown. let (p, ep, fit) = variable-stands z.typing s (z.active.object_for x) (subst (λ o. ObjectFits z.typing o (z.active.object_for x)) e (shown.names_fit.0 x)) in
         let there : slot_address z.levels (slots x) ≡ address z.typing p = shown.variables_in_slots x p ep in
-        let (within, held_there) = places_are_slices-holds z.typing z.store p s shown.store_fits fit in
+        let within = (places_are_slices-holds z.typing z.store p s shown.store_fits fit).within in
         let few : sizes z.typing < 2 ^ 64 = shown.has_addresses in
         let bound : slot_address z.levels (slots x) < 2 ^ 64 = omega (arith, within, there, few) in (
           ap (outcome_of same) (slot-found z.levels (cells_in z) (slots x) bound) ∙ (ap gives there ∙ sym (ap (λ o. addresses z.typing (object_place {P = List Mode} o)) ep)),

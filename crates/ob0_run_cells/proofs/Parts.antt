@@ -135,18 +135,21 @@ lies-inside cells whole old write a n m h en em =
 
 pub parts_are_slices-holds : PartsAreSlices
 parts_are_slices-holds path v s t h e =
-    let (w, ew, hw, write, made, l) = path-lies path v s t h e in (
-      lies-inside cells_of v w write (offset path s) (size t) (size s) l (cells-size w t hw) (cells-size v s h),
-      (w, ew, hw, split-at l.before (cells_of w) l.after (offset path s) (size t) l.begins (cells-size w t hw) ∙ ap (cells_at (offset path s) (size t)) (sym l.is_split)),
-    )
+    let (w, ew, hw, write, made, l) = path-lies path v s t h e in record {
+      within = lies-inside cells_of v w write (offset path s) (size t) (size s) l (cells-size w t hw) (cells-size v s h);
+      value = w;
+      is_part = ew;
+      has_shape = hw;
+      same_cells = split-at l.before (cells_of w) l.after (offset path s) (size t) l.begins (cells-size w t hw) ∙ ap (cells_at (offset path s) (size t)) (sym l.is_split);
+    }
 
 pub writing_parts_writes_slices-holds : WritingPartsWritesSlices
 writing_parts_writes_slices-holds path v new s t h e hn =
     let (w, ew, hw, write, made, l) = path-lies path v s t h e in
     let (u, eu, hu) = with_path-fits path v s t new h e hn in
-    let same : write new ≡ u = ap (λ o. unwrap_or o u) (sym (made new) ∙ eu) in (
-      u,
-      eu,
-      hu,
-      ap cells_of (sym same) ∙ (l.is_written new ∙ (split-with l.before (cells_of w) (cells_of new) l.after (offset path s) l.begins (cells-size new t hn ∙ sym (cells-size w t hw)) ∙ ap (cells_with (offset path s) (cells_of new)) (sym l.is_split))),
-    )
+    let same : write new ≡ u = ap (λ o. unwrap_or o u) (sym (made new) ∙ eu) in record {
+      after = u;
+      is_written = eu;
+      has_shape = hu;
+      same_cells = ap cells_of (sym same) ∙ (l.is_written new ∙ (split-with l.before (cells_of w) (cells_of new) l.after (offset path s) l.begins (cells-size new t hn ∙ sym (cells-size w t hw)) ∙ ap (cells_with (offset path s) (cells_of new)) (sym l.is_split)));
+    }

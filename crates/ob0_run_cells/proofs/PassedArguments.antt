@@ -2,7 +2,7 @@
 use Rattle.std.proofs.Common.{◌≡◌, ℕ, zero, suc, ◌+◌, ◌-◌, ◌≤◌, Bool, true, List, [], ◌∷◌, ◌++◌, length, take, drop, ℤ, if◌then◌else◌, Some, None, Option, sym, refl, ap, ◌∙◌, subst, arith, append-nil, append_assoc, length-append, length-drop}
 use Rattle.std.proofs.lemmas.Bool.{le-leb}
 use Rattle.std.proofs.lemmas.List.{drop-append-le, take-append-le}
-use Rattle.ob0_tree.specs.Tree.{Tree, arguments, calls, expression, maybe}
+use Rattle.ob0_tree.specs.Tree.{Tree, arguments, calls, expression, items, maybe, selector}
 use Rattle.ob0_types_rules.specs.Arguments.{arguments_listed}
 use Rattle.ob0_types_rules.specs.Expressions.{Object, a_constant, a_procedure, a_standard, a_type, a_variable, designate, evaluate}
 use Rattle.ob0_types_rules.specs.WellTyped.{Formal, Mode, Signature, Typed}
@@ -13,6 +13,7 @@ use Rattle.ob0_run_rules.proofs.SoundStatements.{first-argument}
 use Rattle.ob0_run_machine.specs.Evaluation as machine
 use Rattle.ob0_run_machine.specs.Execution as execution
 use Rattle.ob0_run_machine.specs.Lowered as lowered
+use Rattle.ob0_run_cells.specs.CellLaws.{HoldsSlice}
 use Rattle.ob0_run_cells.specs.Cells.{address, all_cells, cells_of, size, sizes}
 use Rattle.ob0_run_cells.specs.LoweredStatements.{ArgumentMeans, ArgumentsMean, Body, HaveNumbers, ProgressRepresents, Represents, ShowsBody, StatementMeans, Target, argument_addresses, argument_cells}
 use Rattle.ob0_run_cells.specs.Lowering.{Has32Bits, Slot, end_of, outcome_of, place_of_designator, value_of_expression}
@@ -107,11 +108,12 @@ module _ {N : Type 0} (checked : Typed N) (slots : N → Slot) (targets : N → 
       → Both (λ p a. Passes b.typing (f ∷ []) done p (a ∷ [])) (execution.pass b.levels c done) (evaluate_argument b.active store f.mode e)
   unfolding evaluate_argument
   argument-passed f (lowered.by_place q) e h done passed same numbers =
-      let (x, path, v, d, ex, hq) = h.1 in
+      let x : N = h.1.name in
+      let path : Tree N (items selector) = h.1.path in
       subst (λ m. Both (λ p a. Passes b.typing (f ∷ []) done p (a ∷ [])) (execution.pass b.levels (lowered.by_place q) done) (evaluate_argument b.active store m e)) (sym h.0)
-      (subst (λ o. Both (λ p a. Passes b.typing (f ∷ []) done p (a ∷ [])) (execution.pass b.levels (lowered.by_place q) done) (or_stuck o >>= (λ d. designate b.active store d.0 d.1 >>= (λ p. gives (place_argument p))))) (sym d)
+      (subst (λ o. Both (λ p a. Passes b.typing (f ∷ []) done p (a ∷ [])) (execution.pass b.levels (lowered.by_place q) done) (or_stuck o >>= (λ d. designate b.active store d.0 d.1 >>= (λ p. gives (place_argument p))))) (sym h.1.is_designator)
       (both-then (λ a p. (a ≡ address b.typing p) × PlaceFits b.typing p f.shape) (λ p a. Passes b.typing (f ∷ []) done p (a ∷ [])) (machine.address b.levels done.cells q) (designate b.active store x path) (λ a. machine.gives (record done { addresses = done.addresses ++ a ∷ [] })) (λ p. gives (place_argument p))
-      (both-led b.typing f.shape (machine.address b.levels done.cells q) (designate b.active store x path) (place-at checked slots targets b shown q f.shape (place_of_designator x path) hq store passed done.cells fits same numbers))
+      (both-led b.typing f.shape (machine.address b.levels done.cells q) (designate b.active store x path) (place-at checked slots targets b shown q f.shape (place_of_designator x path) h.1.place_means store passed done.cells fits same numbers))
       (λ a p r. record {
         arguments_fit = (h.0, r.1, tt);
         cells_passed = sym (append-nil done.cells);
@@ -148,17 +150,17 @@ module _ {N : Type 0} (checked : Typed N) (slots : N → Slot) (targets : N → 
       (subst (λ w. Both (λ p a. Passes b.typing (f ∷ []) done p (a ∷ [])) (execution.pass b.levels (lowered.by_block q n) done) w) (sym (grouped-then (place here) (λ p. or_stuck (read_place store p)) (λ v. gives (value_argument v))))
       (both-then (λ a p. (a ≡ address b.typing p) × PlaceFits b.typing p f.shape) (λ p a. Passes b.typing (f ∷ []) done p (a ∷ [])) (machine.address b.levels done.cells q) (place here) (λ a. machine.gives (execution.pass_cells done (execution.block_at done.cells a n))) (λ p. or_stuck (read_place store p) >>= (λ v. gives (value_argument v)))
       (both-led b.typing f.shape (machine.address b.levels done.cells q) (place here) (place-at checked slots targets b shown q f.shape place hq store passed done.cells fits same numbers))
-      (λ a p r. let (inside, at_p) = places_are_slices-holds b.typing store p f.shape fits r.1 in
-      let (w, read, hw, slice) = at_p in
+      (λ a p r. let at_p : HoldsSlice b.typing store p f.shape = places_are_slices-holds b.typing store p f.shape fits r.1 in
+      let w : Value = at_p.value in
       let m : sizes b.typing ≡ length (all_cells store) = sym (store-size b.typing store fits) in
       let block : execution.block_at done.cells a n ≡ cells_of w =
-      (λ i. execution.block_at (same i) (r.0 i) (h.1 i)) ∙ (block-there (all_cells store) passed (address b.typing p) (size f.shape) (subst (λ k. address b.typing p + size f.shape ≤ k) m inside) ∙ sym slice) in
-      subst (λ o. Both (λ p a. Passes b.typing (f ∷ []) done p (a ∷ [])) (machine.gives (execution.pass_cells done (execution.block_at done.cells a n))) (or_stuck o >>= (λ v. gives (value_argument v)))) (sym read) record {
-        arguments_fit = (h.0, hw, tt);
+      (λ i. execution.block_at (same i) (r.0 i) (h.1 i)) ∙ (block-there (all_cells store) passed (address b.typing p) (size f.shape) (subst (λ k. address b.typing p + size f.shape ≤ k) m at_p.within) ∙ sym at_p.same_cells) in
+      subst (λ o. Both (λ p a. Passes b.typing (f ∷ []) done p (a ∷ [])) (machine.gives (execution.pass_cells done (execution.block_at done.cells a n))) (or_stuck o >>= (λ v. gives (value_argument v)))) (sym at_p.is_read) record {
+        arguments_fit = (h.0, at_p.has_shape, tt);
         cells_passed = ap (λ l. done.cells ++ l) (block ∙ sym (append-nil (cells_of w)));
         addresses_passed = sym (append-nil done.addresses);
         have_numbers = numbers-append done.cells (execution.block_at done.cells a n) numbers
-            (subst HaveNumbers (sym (block ∙ slice)) (numbers-take (size f.shape) (drop (address b.typing p) (all_cells store)) (numbers-drop (address b.typing p) (all_cells store) (numbers-before (all_cells store) passed (subst HaveNumbers same numbers)))));
+            (subst HaveNumbers (sym (block ∙ at_p.same_cells)) (numbers-take (size f.shape) (drop (address b.typing p) (all_cells store)) (numbers-drop (address b.typing p) (all_cells store) (numbers-before (all_cells store) passed (subst HaveNumbers same numbers)))));
       }))))
 
   pub arguments-passed : (fs : Signature) (cs : List lowered.LoweredArgument) (es : List (Tree N expression)) → ArgumentsMean checked slots fs cs es → (done : execution.Passed) (passed : List ℤ) → done.cells ≡ all_cells store ++ passed → HaveNumbers done.cells

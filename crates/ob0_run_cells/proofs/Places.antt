@@ -57,19 +57,22 @@ place-lies typing store p s h e =
 
 pub places_are_slices-holds : PlacesAreSlices
 places_are_slices-holds typing store p s h e =
-    let (v, ev, hv, write, made, fits, l) = place-lies typing store p s h e in (
-      lies-inside all_cells store v write (address typing p) (size s) (sizes typing) l (cells-size v s hv) (store-size typing store h),
-      (v, ev, hv, split-at l.before (cells_of v) l.after (address typing p) (size s) l.begins (cells-size v s hv) ∙ ap (cells_at (address typing p) (size s)) (sym l.is_split)),
-    )
+    let (v, ev, hv, write, made, fits, l) = place-lies typing store p s h e in record {
+      within = lies-inside all_cells store v write (address typing p) (size s) (sizes typing) l (cells-size v s hv) (store-size typing store h);
+      value = v;
+      is_read = ev;
+      has_shape = hv;
+      same_cells = split-at l.before (cells_of v) l.after (address typing p) (size s) l.begins (cells-size v s hv) ∙ ap (cells_at (address typing p) (size s)) (sym l.is_split);
+    }
 
 pub writing_places_writes_slices-holds : WritingPlacesWritesSlices
 writing_places_writes_slices-holds typing store p s new h e hn =
-    let (v, ev, hv, write, made, fits, l) = place-lies typing store p s h e in (
-      write new,
-      made new,
-      fits new hn,
-      l.is_written new ∙ (split-with l.before (cells_of v) (cells_of new) l.after (address typing p) l.begins (cells-size new s hn ∙ sym (cells-size v s hv)) ∙ ap (cells_with (address typing p) (cells_of new)) (sym l.is_split)),
-    )
+    let (v, ev, hv, write, made, fits, l) = place-lies typing store p s h e in record {
+      after = write new;
+      is_written = made new;
+      store_fits = fits new hn;
+      same_cells = l.is_written new ∙ (split-with l.before (cells_of v) (cells_of new) l.after (address typing p) l.begins (cells-size new s hn ∙ sym (cells-size v s hv)) ∙ ap (cells_with (address typing p) (cells_of new)) (sym l.is_split));
+    }
 
 -- a value of one cell is read from it, and written to it
 pub one-read : (store : Store) (v : Value) (write : Value → Store) (a : ℕ) (n : ℤ) → Lies all_cells store v write a → cells_of v ≡ n ∷ [] → slice_get (all_cells store) a ≡ Some n
@@ -85,7 +88,7 @@ numbers_are_cells-holds typing store p h e =
     let (v, ev, hv, write, made, fits, l) = place-lies typing store p integer_shape h e in
     let (m, em) = is_number v hv in (
       (m, ev ∙ ap Some em, one-read store v write (address typing p) m l (ap cells_of em)),
-      λ n. (write (number n), made (number n), fits (number n) tt, one-written store v (number n) write (address typing p) m n l (ap cells_of em) refl),
+      λ n. record { after = write (number n); is_written = made (number n); store_fits = fits (number n) tt; same_cells = one-written store v (number n) write (address typing p) m n l (ap cells_of em) refl },
     )
 
 pub truths_are_cells-holds : TruthsAreCells
@@ -93,7 +96,7 @@ truths_are_cells-holds typing store p h e =
     let (v, ev, hv, write, made, fits, l) = place-lies typing store p boolean_shape h e in
     let (b, eb) = is_truth v hv in (
       (b, ev ∙ ap Some eb, one-read store v write (address typing p) (truth_cell b) l (ap cells_of eb)),
-      λ c. (write (truth c), made (truth c), fits (truth c) tt, one-written store v (truth c) write (address typing p) (truth_cell b) (truth_cell c) l (ap cells_of eb) refl),
+      λ c. record { after = write (truth c); is_written = made (truth c); store_fits = fits (truth c) tt; same_cells = one-written store v (truth c) write (address typing p) (truth_cell b) (truth_cell c) l (ap cells_of eb) refl },
     )
 
 -- addresses

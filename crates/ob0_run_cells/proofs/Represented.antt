@@ -106,10 +106,10 @@ pub number-stored : (typing : StoreTyping) (low : execution.MachineState) (s : S
     → ProgressRepresents typing (execution.running (execution.store_at low (address typing p) n)) (store_at s p (number n))
 number-stored typing low s p n h fit e =
     let (found, writes) = numbers_are_cells-holds typing s.store p h.store_fits fit in
-    let (after, wrote, fits_after, cells) = writes n in
-    subst (λ o. ProgressRepresents typing (execution.running (execution.store_at low (address typing p) n)) (use_in s (or_stuck o) (λ store. running record s { store = store }))) (sym wrote) record {
-      store_fits = fits_after;
-      same_cells = ap (λ l. slice_set l (address typing p) n) h.same_cells ∙ sym cells;
+    let done = writes n in
+    subst (λ o. ProgressRepresents typing (execution.running (execution.store_at low (address typing p) n)) (use_in s (or_stuck o) (λ store. running record s { store = store }))) (sym done.is_written) record {
+      store_fits = done.store_fits;
+      same_cells = ap (λ l. slice_set l (address typing p) n) h.same_cells ∙ sym done.same_cells;
       same_input = h.same_input;
       same_output = h.same_output;
       cells_have_numbers = numbers-set low.cells (address typing p) n h.cells_have_numbers e;
@@ -120,10 +120,10 @@ pub truth-stored : (typing : StoreTyping) (low : execution.MachineState) (s : St
     → ProgressRepresents typing (execution.running (execution.store_at low (address typing p) (machine.as_cell b))) (store_at s p (truth b))
 truth-stored typing low s p b h fit =
     let (found, writes) = truths_are_cells-holds typing s.store p h.store_fits fit in
-    let (after, wrote, fits_after, cells) = writes b in
-    subst (λ o. ProgressRepresents typing (execution.running (execution.store_at low (address typing p) (machine.as_cell b))) (use_in s (or_stuck o) (λ store. running record s { store = store }))) (sym wrote) record {
-      store_fits = fits_after;
-      same_cells = ap (λ l. slice_set l (address typing p) (machine.as_cell b)) h.same_cells ∙ (ap (slice_set (all_cells s.store) (address typing p)) (as_cell-same b) ∙ sym cells);
+    let done = writes b in
+    subst (λ o. ProgressRepresents typing (execution.running (execution.store_at low (address typing p) (machine.as_cell b))) (use_in s (or_stuck o) (λ store. running record s { store = store }))) (sym done.is_written) record {
+      store_fits = done.store_fits;
+      same_cells = ap (λ l. slice_set l (address typing p) (machine.as_cell b)) h.same_cells ∙ (ap (slice_set (all_cells s.store) (address typing p)) (as_cell-same b) ∙ sym done.same_cells);
       same_input = h.same_input;
       same_output = h.same_output;
       cells_have_numbers = numbers-set low.cells (address typing p) (machine.as_cell b) h.cells_have_numbers (truth-number b);

@@ -15,12 +15,16 @@ use Rattle.ob0_run_rules.proofs.Proved.{runs_by_ordinal-holds}
 use Rattle.ob0_run_machine.specs.Execution as execution
 use Rattle.ob0_run_machine.specs.Lowered as lowered
 use Rattle.ob0_run_cells.specs.ActivationLaws.{RunsLowered, run_of}
-use Rattle.ob0_run_cells.specs.Activations.{Placed, ProgramMeans, outermost_placing}
+use Rattle.ob0_run_cells.specs.Activations.{FitsFirst, Placed, ProgramMeans, RoutineTable, outermost_placing}
 use Rattle.ob0_run_cells.specs.Cells.{sizes}
 use Rattle.ob0_run_cells.specs.LoweredStatements.{HaveNumbers, ProgressRepresents, Represents}
 use Rattle.ob0_run_cells.specs.Lowering.{of_module}
 use Rattle.ob0_run_cells.proofs.CallsLowered.{body-represents, calls-known, numbers-zero}
 use Rattle.ob0_run_cells.proofs.PlacedDeclarations.{FramePlaced, block-placed}
+
+-- a predeclared name is nowhere
+predeclared : {N : Type 0} {x : N} {Further : Type 0} → Further → FitsFirst x x x (Unit {0}) Further
+predeclared h = record { same_active = refl; same_placed = refl; here = tt; further = h }
 
 pub finished-same : (typing : StoreTyping) (p : execution.MachineProgress) (q : Progress) → ProgressRepresents typing p q → run_of (execution.finished p) ≡ finished q
 finished-same typing (execution.running low) (running s) h = ap (λ out. record { output = out; ending = (finished (running s)).ending }) h.same_output
@@ -36,13 +40,14 @@ run-given_up {N} naming (is_module x b closing) program most c t input fits mean
     let low : execution.MachineState = record { cells = execution.zeros program.cells; input = input; output = [] } in
     let p : Placed N = record { placing = outermost_placing naming; cells = 0; reference_places = 0 } in
     let f : Frame N = record { env = outermost naming; store = [] } in
-    let frame : FramePlaced program.procedures most naming [] execution.outermost 0 (outermost naming) p f = record {
+    let table : RoutineTable N = record { routines = program.procedures; most = most; naming = naming } in
+    let frame : FramePlaced table [] execution.outermost 0 (outermost naming) p f = record {
       store_fits = tt;
       environment_fits = (refl, refl, (refl, refl, (refl, refl, (refl, refl, (refl, refl, (refl, refl, (refl, refl, tt)))))));
-      placing_fits = (refl, refl, tt, (refl, refl, tt, (refl, refl, tt, (refl, refl, tt, (refl, refl, tt, (refl, refl, tt, (refl, refl, tt, tt)))))));
+      placing_fits = predeclared (predeclared (predeclared (predeclared (predeclared (predeclared (predeclared tt))))));
       cells_counted = refl;
     } in
-    let (g, after, q, eg, total, bounded, body_means, part) = block-placed program.procedures most naming [] execution.outermost 0 of_module (λ c. omega arith) 0 program.cells program.body b (outermost naming) p f frame fits means in
+    let (g, after, q, eg, total, bounded, body_means, part) = block-placed table [] execution.outermost 0 of_module (λ c. omega arith) 0 program.cells program.body b (outermost naming) p f frame fits means in
     let counted : 0 + q.cells ≡ sizes part.typing_now = part.frame.cells_counted in
     let room : sizes part.typing_now + c * most < 2 ^ 64 = omega (arith, counted, bounded, few) in
     let represents : Represents part.typing_now low record start { store = g.store } = record {
@@ -55,7 +60,7 @@ run-given_up {N} naming (is_module x b closing) program most c t input fits mean
     } in
     subst (λ o. run_of (execution.run program input c t) ≡ finished (in_frame start o (λ f. execute_body naming f.env (call_giving_up naming c t f.env) t (block_statements b)))) (sym eg)
     (finished-same part.typing_now (execution.execute_all (execution.call program.procedures c t) t execution.outermost program.body low) (execute_body naming g.env (call_giving_up naming c t g.env) t (block_statements b) record start { store = g.store })
-    (body-represents program.procedures most naming c t (calls-known program.procedures most naming c t) part.typing_now execution.outermost after q.placing g.env part.frame.environment_fits part.frame.placing_fits room program.body (block_statements b) body_means low record start { store = g.store } represents))
+    (body-represents table c t (calls-known table c t) part.typing_now execution.outermost after q.placing g.env part.frame.environment_fits part.frame.placing_fits room program.body (block_statements b) body_means low record start { store = g.store } represents))
 
 -- of the store that keeps every variable too: no run reads again what a call failed
 pub run-lowered : {N : Type 0} (naming : Naming N) (m : Tree N module_text) (program : lowered.LoweredCode) (most c t : ℕ) (input : List ℤ) → fits_over naming m ≡ true → ProgramMeans most naming m program → suc c * most < 2 ^ 64 → HaveNumbers input

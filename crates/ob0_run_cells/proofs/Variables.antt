@@ -46,12 +46,12 @@ pub variables_are_added-holds : VariablesAreAdded
 variables_are_added-holds typing store s v h hv =
     let e : slice_get (typing ++ s ∷ []) (length store) ≡ Some s = last-shape typing store s h in
     let b : sizes (take (length store) (typing ++ s ∷ [])) ≡ sizes typing = taken-all typing store s h in
-    let o : unwrap_or (option_map (offset []) (slice_get (typing ++ s ∷ []) (length store))) 0 ≡ 0 = ap (λ o. unwrap_or (option_map (offset []) o) 0) e in (
-      store-appends typing store s v h hv,
-      cells-append store (v ∷ []) ∙ ap (λ l. all_cells store ++ l) (append-nil (cells_of v)),
-      ap (option_and_then (shape_at_path [])) e,
-      omega (arith, b, o),
-    )
+    let o : unwrap_or (option_map (offset []) (slice_get (typing ++ s ∷ []) (length store))) 0 ≡ 0 = ap (λ o. unwrap_or (option_map (offset []) o) 0) e in record {
+      store_fits = store-appends typing store s v h hv;
+      cells_added = cells-append store (v ∷ []) ∙ ap (λ l. all_cells store ++ l) (append-nil (cells_of v));
+      place_fits = ap (option_and_then (shape_at_path [])) e;
+      address_is = omega (arith, b, o);
+    }
 
 pub cut-fits : (typing others : StoreTyping) (old new : Store) → StoreFits typing old → StoreFits (typing ++ others) new → StoreFits typing (take (length old) new)
 cut-fits [] others [] new h k = tt

@@ -57,14 +57,14 @@ number-alone : (checked : Typed Label) (slots : Label → Slot) (x : Label) → 
 number-alone checked slots x e =
     let n = lowered.cell (slot_place (slots x)) in
     let factor = (cells_lower-holds checked slots x integer_shape end (slot_place (slots x)) e).0 (place-alone checked slots x integer_shape e) in
-    let term = (operators_end-holds checked slots _).0 n ((terms_lower-holds checked slots (designator x end) end).0 n factor) in
-    (expressions_lower-holds checked slots (sum None (product (designator x end) end) end)).0 n ((operators_end-holds checked slots _).1 n ((sums_lower-holds checked slots (product (designator x end) end) end).0 n term).0)
+    let term = (operators_end-holds checked slots _).number_term n ((terms_lower-holds checked slots (designator x end) end).0 n factor) in
+    (expressions_lower-holds checked slots (sum None (product (designator x end) end) end)).0 n ((operators_end-holds checked slots _).number_sum n ((sums_lower-holds checked slots (product (designator x end) end) end).0 n term).0)
 
 seven-alone : (checked : Typed Label) (slots : Label → Slot) → NumberMeans checked slots (lowered.literal (pos 7)) (value_of_expression (written_number 7))
 seven-alone checked slots =
     let n = lowered.literal (pos 7) in
-    let term = (operators_end-holds checked slots _).0 n ((terms_lower-holds checked slots (integer 7) end).0 n (integers_lower-holds checked slots 7 refl)) in
-    (expressions_lower-holds checked slots (sum None (product (integer 7) end) end)).0 n ((operators_end-holds checked slots _).1 n ((sums_lower-holds checked slots (product (integer 7) end) end).0 n term).0)
+    let term = (operators_end-holds checked slots _).number_term n ((terms_lower-holds checked slots (integer 7) end).0 n (integers_lower-holds checked slots 7 refl)) in
+    (expressions_lower-holds checked slots (sum None (product (integer 7) end) end)).0 n ((operators_end-holds checked slots _).number_sum n ((sums_lower-holds checked slots (product (integer 7) end) end).0 n term).0)
 
 abbrev worked_parameters : List (TypedParameter Label)
 worked_parameters = record { name = declared 9; formal = record { mode = by_value; shape = integer_shape } } ∷ record { name = declared 10; formal = record { mode = by_place; shape = integer_shape } } ∷ []
@@ -103,24 +103,44 @@ module-body =
     let shown = (standard_calls_lower-holds checked slots targets (declared 5) (one (some_arguments (written_name (declared 7)) end)) (written_name (declared 7))).1 (lowered.cell (lowered.in_module 0)) refl refl (number-alone checked slots (declared 7) refl) in
     let called = calls_lower-holds checked slots targets (declared 8) (one (some_arguments (written_number 7) (more (then_argument (written_name (declared 7))) end))) (record { mode = by_value; shape = integer_shape } ∷ record { mode = by_place; shape = integer_shape } ∷ [])
     (lowered.by_number (lowered.literal (pos 7)) ∷ lowered.by_place (lowered.in_module 0) ∷ []) refl
-    ((refl, refl, seven-alone checked slots), ((refl, (declared 7, end, integer_shape, refl, refl, place-alone checked slots (declared 7) integer_shape refl)), tt)) in
+    ((refl, refl, seven-alone checked slots), ((refl, record { name = declared 7; path = end; shape = integer_shape; is_designator = refl; is_variable = refl; place_means = place-alone checked slots (declared 7) integer_shape refl }), tt)) in
     let last = (sequences_lower-holds checked slots targets end lowered.no_statement (sequences_end-holds checked slots targets)).0 (calls (declared 5) (one (some_arguments (written_name (declared 7)) end))) (lowered.writes (lowered.cell (lowered.in_module 0))) shown in
     ((sequences_lower-holds checked slots targets (more (then_statement (calls (declared 5) (one (some_arguments (written_name (declared 7)) end)))) end) (lowered.before (lowered.writes (lowered.cell (lowered.in_module 0))) lowered.no_statement) last.1).0
     (calls (declared 8) (one (some_arguments (written_number 7) (more (then_argument (written_name (declared 7))) end)))) (lowered.calls 0 0 (lowered.by_number (lowered.literal (pos 7)) ∷ lowered.by_place (lowered.in_module 0) ∷ [])) called).0
 
 pub program-means : ProgramMeans 1 as_labels worked_module worked_program
 unfolding declare_first declare_typed place_variables typed_parameters
-program-means = (
-  outermost as_labels,
-  worked_checked,
-  record { placing = worked_placing; cells = 1; reference_places = 0 },
-  refl,
-  refl,
-  refl,
-  refl,
-  omega arith,
-  (worked_parameters, 0, worked_entry, refl, refl, (inside_checked, inside_checked, inside_placed, refl, refl, refl, refl, omega arith, procedure-body), module-body),
-)
+program-means = record {
+  first = outermost as_labels;
+  inner = worked_checked;
+  placed = record { placing = worked_placing; cells = 1; reference_places = 0 };
+  first_declared = refl;
+  variables_declared = refl;
+  variables_placed = refl;
+  cells_counted = refl;
+  within_most = omega arith;
+  inside = (
+    0,
+    record {
+      parameters = worked_parameters;
+      routine = worked_entry;
+      are_typed = refl;
+      in_table = refl;
+      means = record {
+        first = inside_checked;
+        inner = inside_checked;
+        placed = inside_placed;
+        first_declared = refl;
+        variables_declared = refl;
+        variables_placed = refl;
+        cells_counted = refl;
+        within_most = omega arith;
+        inside = procedure-body;
+      };
+    },
+    module-body,
+  );
+}
 
 -- so its run is the module's: a line of arguments for the definitions, since both can be computed
 pub worked-run : run_of (execution.run worked_program [] 1 9) ≡ run_over as_labels worked_module [] 1 9

@@ -13,7 +13,7 @@ use Rattle.ob0_run_rules.specs.Runs.{Activation, Run, run, statement_meanings}
 use Rattle.ob0_run_machine.specs.Evaluation.{Levels}
 use Rattle.ob0_run_machine.specs.Execution as execution
 use Rattle.ob0_run_machine.specs.Lowered as lowered
-use Rattle.ob0_run_cells.specs.Activations.{Placing, PlacingFits, ProgramMeans, targets_in}
+use Rattle.ob0_run_cells.specs.Activations.{Placing, PlacingFits, ProgramMeans, label_table, targets_in}
 use Rattle.ob0_run_cells.specs.Cells.{sizes}
 use Rattle.ob0_run_cells.specs.LoweredStatements.{CallsRepresent, HaveNumbers, written_of}
 use Rattle.ob0_run_cells.specs.Lowering.{end_of}
@@ -25,7 +25,7 @@ CallsLowered =
     (table : List lowered.Routine) (most c t : ℕ) (typing : StoreTyping) (ls : Levels)
     (checked : TypeEnvironment Label) (placing : Placing Label) (active : Activation Label)
     → EnvironmentsFit as_labels typing checked active
-    → PlacingFits table most as_labels typing ls checked placing active
+    → PlacingFits (label_table table most) typing ls checked placing active
     → sizes typing + c * most < 2 ^ 64
     → CallsRepresent (meanings as_labels checked) (targets_in as_labels placing) record {
       typing = typing;

@@ -3,8 +3,8 @@
 -- Rule: none; for contracts of lowering, against docs/LANGUAGE.md, Runs 6.
 use Rattle.std.specs.Prelude.{◌≡◌, ℕ, suc, ◌+◌, ◌≤◌, true, false, List, [], ◌∷◌, drop, slice_get, Some, Option, option_and_then}
 use Rattle.ob0_tree.specs.Tree.{Tree, begins, block, body, declares, declares_procedure, declares_variable, end, has_body, item, items, maybe, module_text, more, none, one, procedure, variable}
-use Rattle.ob0_scope_rules.specs.Names.{Naming}
-use Rattle.ob0_scope_rules.specs.Parts.{constant_names, formal_sections, module_block, named_types, names_listed, procedure_formals, procedure_name, section_constants, section_types, section_variables}
+use Rattle.ob0_scope_rules.specs.Names.{Label, Naming, as_labels}
+use Rattle.ob0_scope_rules.specs.Parts.{block_constants, block_types, block_variables, constant_names, formal_sections, module_block, named_types, names_listed, procedure_formals, procedure_name}
 use Rattle.ob0_types_rules.specs.Declarations.{after_types, after_variables, declare_first, formals_constructors, procedure_constructors}
 use Rattle.ob0_types_rules.specs.Environments.{meanings, outermost}
 use Rattle.ob0_types_rules.specs.Expressions.{Object, a_constant, a_procedure, a_standard, a_type, a_variable}
@@ -65,7 +65,7 @@ slots_in naming placing x = first_slot (from_name naming placing x)
 abbrev pub targets_in : {N : Type 0} → Naming N → Placing N → N → Target
 targets_in naming placing x = first_target (from_name naming placing x)
 
--- the same from one activation further in
+-- a slot as an activation one level further in sees it
 abbrev pub inward_slot : Slot → Slot
 inward_slot (of_module at) = of_module at
 inward_slot (held up at) = held (suc up) at
@@ -154,14 +154,59 @@ BodyMeans naming checked placing code (one (begins statements)) =
     SequenceMeans (meanings naming checked) (slots_in naming placing) (targets_in naming placing)
     code statements
 
+-- code that procedures are lowered to, the most cells that an activation may have, and how the names
+-- of the module are told apart
+pub record RoutineTable (N : Type 0) : Type 0 where
+  pub routines : List lowered.Routine
+  pub most : ℕ
+  pub naming : Naming N
+
+-- a table for a module whose names are labels
+abbrev pub label_table : List lowered.Routine → ℕ → RoutineTable Label
+label_table routines most = record { routines = routines; most = most; naming = as_labels }
+
+-- Runs 6: the table has code at an index that means a procedure, which is declared among the names
+-- of `checked`, placed by `placing`
+pub record HasRoutine {N : Type 0} (table : RoutineTable N) (checked : TypeEnvironment N)
+    (placing : Placing N) (x : N) (k : ℕ) (text : Tree N (item procedure)) (index : ℕ)
+    (Means : TypeEnvironment N → Placed N → lowered.Routine → Type 0) : Type 0 where
+  pub parameters : List (TypedParameter N)
+  pub routine : lowered.Routine
+  pub are_typed : typed_parameters table.naming checked k (procedure_formals text)
+      ≡ Some parameters
+  pub in_table : slice_get table.routines index ≡ Some routine
+  pub means : Means (bind_typed parameters (heading x parameters checked))
+      (entered_placing parameters ((x, own_target index) ∷ placing)) routine
+
+-- Runs 1 and 6: a block has its own variables after what p has, in `cells` cells, and an activation
+-- of it has no more than may be; `Inside` says what its procedures and statements mean
+pub record BlockIsPlaced {N : Type 0} (table : RoutineTable N) (at : ℕ → Slot)
+    (checked : TypeEnvironment N) (p : Placed N) (k cells : ℕ) (b : Tree N block)
+    (Inside : TypeEnvironment N → Placing N → Type 0) : Type 0 where
+  pub first : TypeEnvironment N
+  pub inner : TypeEnvironment N
+  pub placed : Placed N
+  pub first_declared : declare_first table.naming checked k b ≡ Some first
+  pub variables_declared : declare_typed table.naming (after_types k b) (block_variables b) first
+      ≡ Some inner
+  pub variables_placed : place_variables table.naming at first (after_types k b)
+      (block_variables b) record p {
+        placing
+            = hide_names (named_types (block_types b))
+            (hide_names (constant_names (block_constants b)) p.placing);
+      }
+      ≡ Some placed
+  pub cells_counted : p.cells + cells ≡ placed.cells
+  pub within_most : placed.cells ≤ table.most
+  pub inside : Inside inner placed.placing
+
 -- a table has the code of the procedures of a block, and of those in them; `cells` are those of the
--- block's own variables, and no activation has more than `most`
+-- block's own variables
 abbrev mutual
-  -- a block: its variables are placed after what p has, and `code` means its statements
+  -- Runs 1 and 6: a block, whose variables are placed after what p has, and whose statements `code`
+  -- means
   pub BlockMeans : {N : Type 0}
-      → List lowered.Routine
-      → ℕ
-      → Naming N
+      → RoutineTable N
       → (ℕ → Slot)
       → TypeEnvironment N
       → Placed N
@@ -170,34 +215,14 @@ abbrev mutual
       → lowered.Instructions
       → Tree N block
       → Type 0
-  BlockMeans {N} table most naming at checked p k cells code
-      (has_body (declares cs ts vs ps) statements)
-      =
-      (first : TypeEnvironment N)
-      × (inner : TypeEnvironment N)
-      × (q : Placed N)
-      × (declare_first naming checked k (has_body (declares cs ts vs ps) statements)
-      ≡ Some first)
-      × (declare_typed naming (after_types k (has_body (declares cs ts vs ps) statements))
-      (section_variables vs) first
-      ≡ Some inner)
-      × (place_variables naming at first
-      (after_types k (has_body (declares cs ts vs ps) statements)) (section_variables vs) record p {
-        placing
-            = hide_names (named_types (section_types ts))
-            (hide_names (constant_names (section_constants cs)) p.placing);
-      }
-      ≡ Some q)
-      × (p.cells + cells ≡ q.cells)
-      × (q.cells ≤ most)
-      × ProceduresMean table most naming inner q.placing
-      (after_variables k (has_body (declares cs ts vs ps) statements)) code statements ps
+  BlockMeans {N} table at checked p k cells code (has_body (declares cs ts vs ps) statements) =
+      BlockIsPlaced table at checked p k cells (has_body (declares cs ts vs ps) statements)
+      (λ inner placing. ProceduresMean table inner placing
+      (after_variables k (has_body (declares cs ts vs ps) statements)) code statements ps)
 
-  -- each procedure has an entry in the table, and `code` means the statements of the block
+  -- Runs 6: each procedure has code in the table, and `code` means the statements of the block
   pub ProceduresMean : {N : Type 0}
-      → List lowered.Routine
-      → ℕ
-      → Naming N
+      → RoutineTable N
       → TypeEnvironment N
       → Placing N
       → ℕ
@@ -205,41 +230,33 @@ abbrev mutual
       → Tree N (maybe body)
       → Tree N (items procedure)
       → Type 0
-  ProceduresMean table most naming checked placing k code statements end =
-      BodyMeans naming checked placing code statements
-  ProceduresMean {N} table most naming checked placing k code statements (more p rest) =
-      (ps : List (TypedParameter N))
-      × (i : ℕ)
-      × (entry : lowered.Routine)
-      × (typed_parameters naming checked k (procedure_formals p) ≡ Some ps)
-      × (slice_get table i ≡ Some entry)
-      × ProcedureMeans table most naming (bind_typed ps (heading (procedure_name p) ps checked))
-      (entered_placing ps ((procedure_name p, own_target i) ∷ placing)) k entry p
-      × ProceduresMean table most naming (heading (procedure_name p) ps checked)
-      ((procedure_name p, own_target i) ∷ placing) (k + procedure_constructors p) code statements
-      rest
+  ProceduresMean table checked placing k code statements end =
+      BodyMeans table.naming checked placing code statements
+  ProceduresMean {N} table checked placing k code statements (more p rest) =
+      (index : ℕ)
+      × (here : HasRoutine table checked placing (procedure_name p) k p index
+      (λ checked placed routine. ProcedureMeans table checked placed k routine p))
+      × ProceduresMean table (heading (procedure_name p) here.parameters checked)
+      ((procedure_name p, own_target index) ∷ placing) (k + procedure_constructors p) code
+      statements rest
 
-  -- an entry of the table means the block of this procedure
+  -- Runs 6: code means the block of this procedure
   pub ProcedureMeans : {N : Type 0}
-      → List lowered.Routine
-      → ℕ
-      → Naming N
+      → RoutineTable N
       → TypeEnvironment N
       → Placed N
       → ℕ
       → lowered.Routine
       → Tree N (item procedure)
       → Type 0
-  ProcedureMeans table most naming checked p k entry (declares_procedure x fs b closing) =
-      BlockMeans table most naming (held 0) checked p
-      (k + formals_constructors (formal_sections fs)) entry.cells entry.body b
+  ProcedureMeans table checked p k routine (declares_procedure x fs b closing) =
+      BlockMeans table (held 0) checked p (k + formals_constructors (formal_sections fs))
+      routine.cells routine.body b
 
--- one binding, over those after it: a variable's slot has its place's address, and a procedure's
--- code means its block, where it is declared
+-- one binding, over those after it: a variable's slot has its place's address (Runs 1), and a
+-- procedure's code means its block, where it is declared (Runs 6)
 abbrev pub IsPlaced : {N : Type 0}
-    → List lowered.Routine
-    → ℕ
-    → Naming N
+    → RoutineTable N
     → StoreTyping
     → Levels
     → TypeEnvironment N
@@ -249,46 +266,46 @@ abbrev pub IsPlaced : {N : Type 0}
     → Whereabouts
     → Object Place (ProcedureText N)
     → Type 0
-IsPlaced table most naming typing ls checked Fits x (a_variable s) (in_slot slot) (a_variable p) =
+IsPlaced table typing ls checked Fits x (a_variable s) (in_slot slot) (a_variable p) =
     PlaceFits typing p s × (slot_address ls slot ≡ address typing p)
-IsPlaced {N} table most naming typing ls checked Fits x (a_procedure signature) (at_target t)
+IsPlaced {N} table typing ls checked Fits x (a_procedure signature) (at_target t)
     (a_procedure code)
     =
     (outer : Placing N)
     × Fits (drop t.up ls) outer
-    × (ps : List (TypedParameter N))
-    × (entry : lowered.Routine)
-    × (typed_parameters naming checked code.first_constructor (procedure_formals code.text)
-    ≡ Some ps)
-    × (slice_get table t.procedure ≡ Some entry)
-    × ProcedureMeans table most naming (bind_typed ps (heading x ps checked))
-    (entered_placing ps ((x, own_target t.procedure) ∷ outer)) code.first_constructor entry
-    code.text
-IsPlaced table most naming typing ls checked Fits x (a_type s) nowhere (a_type u) = Unit {0}
-IsPlaced table most naming typing ls checked Fits x (a_constant v) nowhere (a_constant w) = Unit {0}
-IsPlaced table most naming typing ls checked Fits x (a_standard p) nowhere (a_standard q) = Unit {0}
-IsPlaced table most naming typing ls checked Fits x _ _ _ = ⊥
+    × HasRoutine table checked outer x code.first_constructor code.text t.procedure
+    (λ checked placed routine. ProcedureMeans table checked placed code.first_constructor routine
+    code.text)
+IsPlaced table typing ls checked Fits x (a_type s) nowhere (a_type u) = Unit {0}
+IsPlaced table typing ls checked Fits x (a_constant v) nowhere (a_constant w) = Unit {0}
+IsPlaced table typing ls checked Fits x (a_standard p) nowhere (a_standard q) = Unit {0}
+IsPlaced table typing ls checked Fits x _ _ _ = ⊥
 
--- a placing says where an activation's bindings are, at levels
+-- the newest binding, which has one name in an environment, a placing and an activation; `Here` says
+-- where it is, and `Further` where the older ones are
+pub record FitsFirst {N : Type 0} (checked placed active : N) (Here Further : Type 0)
+    : Type 0 where
+  pub same_active : checked ≡ active
+  pub same_placed : checked ≡ placed
+  pub here : Here
+  pub further : Further
+
+-- Runs 1 and 6: a placing says where an activation's bindings are, at levels
 abbrev pub PlacingFits : {N : Type 0}
-    → List lowered.Routine
-    → ℕ
-    → Naming N
+    → RoutineTable N
     → StoreTyping
     → Levels
     → TypeEnvironment N
     → Placing N
     → Activation N
     → Type 0
-PlacingFits table most naming typing ls [] [] [] = Unit {0}
-PlacingFits table most naming typing ls (b ∷ checked) (w ∷ placing) (d ∷ active) =
-    (b.0 ≡ d.0)
-    × (b.0 ≡ w.0)
-    × IsPlaced table most naming typing ls checked
-    (λ ls placing. PlacingFits table most naming typing ls checked placing active) b.0 b.1 w.1
-    d.1
-    × PlacingFits table most naming typing ls checked placing active
-PlacingFits table most naming typing ls _ _ _ = ⊥
+PlacingFits table typing ls [] [] [] = Unit {0}
+PlacingFits table typing ls (b ∷ checked) (w ∷ placing) (d ∷ active) =
+    FitsFirst b.0 w.0 d.0
+    (IsPlaced table typing ls checked
+    (λ ls placing. PlacingFits table typing ls checked placing active) b.0 b.1 w.1 d.1)
+    (PlacingFits table typing ls checked placing active)
+PlacingFits table typing ls _ _ _ = ⊥
 
 -- the predeclared names are nowhere
 abbrev pub outermost_placing : {N : Type 0} → Naming N → Placing N
@@ -311,6 +328,7 @@ abbrev pub ProgramMeans : {N : Type 0}
     → lowered.LoweredCode
     → Type 0
 ProgramMeans most naming m program =
-    BlockMeans program.procedures most naming of_module (outermost naming) record
+    BlockMeans record { routines = program.procedures; most = most; naming = naming } of_module
+    (outermost naming) record
     { placing = outermost_placing naming; cells = 0; reference_places = 0 } 0 program.cells
     program.body (module_block m)

@@ -18,15 +18,29 @@ TypesGiveSizes =
 abbrev pub SizesAreLimited : Type 0
 SizesAreLimited = (s : Shape) → size s ≤ scalars s
 
+-- a value has a part at a path, with the type at the path's end, whose cells are those of the whole
+-- from the offset of the path on
+pub record HoldsPart (path : List Step) (v : Value) (s t : Shape) : Type 0 where
+  pub within : offset path s + size t ≤ size s
+  pub value : Value
+  pub is_part : at_path path v ≡ Some value
+  pub has_shape : HasShape value t
+  pub same_cells : cells_of value ≡ cells_at (offset path s) (size t) (cells_of v)
+
 -- a part lies within its whole, from its offset on
 abbrev pub PartsAreSlices : Type 0
 PartsAreSlices =
-    (path : List Step) (v : Value) (s t : Shape) → HasShape v s → shape_at_path path s ≡ Some t
-    → (offset path s + size t ≤ size s)
-    × ((w : Value)
-    × (at_path path v ≡ Some w)
-    × HasShape w t
-    × (cells_of w ≡ cells_at (offset path s) (size t) (cells_of v)))
+    (path : List Step) (v : Value) (s t : Shape)
+    → HasShape v s
+    → shape_at_path path s ≡ Some t
+    → HoldsPart path v s t
+
+-- a value with a new part, whose cells are written over those of the old one
+pub record WritesPart (path : List Step) (v new : Value) (s : Shape) : Type 0 where
+  pub after : Value
+  pub is_written : with_at_path path new v ≡ Some after
+  pub has_shape : HasShape after s
+  pub same_cells : cells_of after ≡ cells_with (offset path s) (cells_of new) (cells_of v)
 
 -- a part written is its cells written, and no others
 abbrev pub WritingPartsWritesSlices : Type 0
@@ -35,10 +49,16 @@ WritingPartsWritesSlices =
     → HasShape v s
     → shape_at_path path s ≡ Some t
     → HasShape new t
-    → (w : Value)
-    × (with_at_path path new v ≡ Some w)
-    × HasShape w s
-    × (cells_of w ≡ cells_with (offset path s) (cells_of new) (cells_of v))
+    → WritesPart path v new s
+
+-- a place holds a value of a type, whose cells are those of the store from the place's address on
+pub record HoldsSlice (typing : StoreTyping) (store : Store) (p : Place) (s : Shape)
+    : Type 0 where
+  pub within : address typing p + size s ≤ sizes typing
+  pub value : Value
+  pub is_read : read_place store p ≡ Some value
+  pub has_shape : HasShape value s
+  pub same_cells : cells_of value ≡ cells_at (address typing p) (size s) (all_cells store)
 
 -- what a place holds lies in the store's cells from the place's address on
 abbrev pub PlacesAreSlices : Type 0
@@ -46,11 +66,15 @@ PlacesAreSlices =
     (typing : StoreTyping) (store : Store) (p : Place) (s : Shape)
     → StoreFits typing store
     → PlaceFits typing p s
-    → (address typing p + size s ≤ sizes typing)
-    × ((v : Value)
-    × (read_place store p ≡ Some v)
-    × HasShape v s
-    × (cells_of v ≡ cells_at (address typing p) (size s) (all_cells store)))
+    → HoldsSlice typing store p s
+
+-- a place is written, and the store keeps its types; `cells` are those of the store then
+pub record WritesPlace (typing : StoreTyping) (store : Store) (p : Place) (new : Value)
+    (cells : List ℤ) : Type 0 where
+  pub after : Store
+  pub is_written : write_place store p new ≡ Some after
+  pub store_fits : StoreFits typing after
+  pub same_cells : all_cells after ≡ cells
 
 -- a place written is its cells written, and no others; the store keeps its types
 abbrev pub WritingPlacesWritesSlices : Type 0
@@ -59,10 +83,8 @@ WritingPlacesWritesSlices =
     → StoreFits typing store
     → PlaceFits typing p s
     → HasShape new s
-    → (after : Store)
-    × (write_place store p new ≡ Some after)
-    × StoreFits typing after
-    × (all_cells after ≡ cells_with (address typing p) (cells_of new) (all_cells store))
+    → WritesPlace typing store p new
+    (cells_with (address typing p) (cells_of new) (all_cells store))
 
 -- a number or a truth is one cell, read and written
 abbrev pub NumbersAreCells : Type 0
@@ -74,10 +96,7 @@ NumbersAreCells =
     × (read_place store p ≡ Some (number n))
     × (slice_get (all_cells store) (address typing p) ≡ Some n))
     × ((n : ℤ)
-    → (after : Store)
-    × (write_place store p (number n) ≡ Some after)
-    × StoreFits typing after
-    × (all_cells after ≡ slice_set (all_cells store) (address typing p) n))
+    → WritesPlace typing store p (number n) (slice_set (all_cells store) (address typing p) n))
 
 -- a truth value is one cell
 abbrev pub TruthsAreCells : Type 0
@@ -89,10 +108,8 @@ TruthsAreCells =
     × (read_place store p ≡ Some (truth b))
     × (slice_get (all_cells store) (address typing p) ≡ Some (truth_cell b)))
     × ((b : Bool)
-    → (after : Store)
-    × (write_place store p (truth b) ≡ Some after)
-    × StoreFits typing after
-    × (all_cells after ≡ slice_set (all_cells store) (address typing p) (truth_cell b)))
+    → WritesPlace typing store p (truth b)
+    (slice_set (all_cells store) (address typing p) (truth_cell b)))
 
 -- a part of what a place holds has its offset after the place's address,
 -- and the type at the end of its path
@@ -126,16 +143,23 @@ abbrev pub InitialCellsAreZero : Type 0
 InitialCellsAreZero =
     (s : Shape) → HasShape (initial s) s × (cells_of (initial s) ≡ replicate (size s) (pos 0))
 
--- a new variable's cells come after those of all others, from the size of their types on
+-- a store with a variable more, whose cells come after those of all others, from the size of their
+-- types on
+pub record AddsVariable (typing : StoreTyping) (store : Store) (s : Shape) (v : Value)
+    : Type 0 where
+  pub store_fits : StoreFits (typing ++ s ∷ []) (store ++ v ∷ [])
+  pub cells_added : all_cells (store ++ v ∷ []) ≡ all_cells store ++ cells_of v
+  pub place_fits : PlaceFits (typing ++ s ∷ []) record { variable = length store; path = [] } s
+  pub address_is : address (typing ++ s ∷ []) record { variable = length store; path = [] }
+      ≡ sizes typing
+
+-- a new variable's cells come after those of all others
 abbrev pub VariablesAreAdded : Type 0
 VariablesAreAdded =
     (typing : StoreTyping) (store : Store) (s : Shape) (v : Value)
     → StoreFits typing store
     → HasShape v s
-    → StoreFits (typing ++ s ∷ []) (store ++ v ∷ [])
-    × (all_cells (store ++ v ∷ []) ≡ all_cells store ++ cells_of v)
-    × PlaceFits (typing ++ s ∷ []) record { variable = length store; path = [] } s
-    × (address (typing ++ s ∷ []) record { variable = length store; path = [] } ≡ sizes typing)
+    → AddsVariable typing store s v
 
 -- to drop variables is to drop their cells: a store cut back to the variables of an older one has
 -- as many cells as that

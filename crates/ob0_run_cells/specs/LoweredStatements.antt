@@ -174,20 +174,14 @@ ElsifsMean checked slots targets bs cs rest last =
     (λ b t. execute_elsifs b.active b.enters t rest (execute_else b.active b.enters t last))
 
 -- an expression that is a designator alone, of a variable, which is at a place
-abbrev pub IsAt : {N : Type 0}
-    → Typed N
-    → (N → Slot)
-    → lowered.Place
-    → Shape
-    → Tree N expression
-    → Type 0
-IsAt {N} checked slots q s e =
-    (x : N)
-    × (path : Tree N (items selector))
-    × (v : Shape)
-    × (designated e ≡ Some (x, path))
-    × (checked.object_for x ≡ Some (a_variable v))
-    × PlaceMeans checked slots q s (place_of_designator x path)
+pub record IsAt {N : Type 0} (checked : Typed N) (slots : N → Slot) (q : lowered.Place) (s : Shape)
+    (e : Tree N expression) : Type 0 where
+  pub name : N
+  pub path : Tree N (items selector)
+  pub shape : Shape
+  pub is_designator : designated e ≡ Some (name, path)
+  pub is_variable : checked.object_for name ≡ Some (a_variable shape)
+  pub place_means : PlaceMeans checked slots q s (place_of_designator name path)
 
 -- an argument by how its parameter is passed:
 -- a place, or a number, a truth or the cells of an array or a record

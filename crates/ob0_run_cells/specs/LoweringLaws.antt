@@ -141,22 +141,28 @@ ConjunctionsLower =
     whole
     → TruthLeads checked slots (lowered.both t u) (multipliers_left rest) whole
 
--- where no operator is left, what was found is the whole
+-- where no operator is left, what was found is the whole: of a term and of a sum, each of numbers
+-- and of truth values
+pub record EndsChains (checked : Typed Label) (slots : Label → Slot)
+    (whole : Evaluated Label Value) : Type 0 where
+  pub number_term : (n : lowered.Number)
+      → NumberLeads checked slots n (multipliers_left end) whole
+      → NumberMeans checked slots n whole
+  pub number_sum : (n : lowered.Number)
+      → NumberLeads checked slots n (addends_left end) whole
+      → NumberMeans checked slots n whole
+  pub truth_term : (t : lowered.Truth)
+      → TruthLeads checked slots t (multipliers_left end) whole
+      → TruthMeans checked slots t whole
+  pub truth_sum : (t : lowered.Truth)
+      → TruthLeads checked slots t (addends_left end) whole
+      → TruthMeans checked slots t whole
+
+-- terms and sums end
 abbrev pub OperatorsEnd : Type 0
 OperatorsEnd =
     (checked : Typed Label) (slots : Label → Slot) (whole : Evaluated Label Value)
-    → ((n : lowered.Number)
-    → NumberLeads checked slots n (multipliers_left end) whole
-    → NumberMeans checked slots n whole)
-    × ((n : lowered.Number)
-    → NumberLeads checked slots n (addends_left end) whole
-    → NumberMeans checked slots n whole)
-    × ((t : lowered.Truth)
-    → TruthLeads checked slots t (multipliers_left end) whole
-    → TruthMeans checked slots t whole)
-    × ((t : lowered.Truth)
-    → TruthLeads checked slots t (addends_left end) whole
-    → TruthMeans checked slots t whole)
+    → EndsChains checked slots whole
 
 -- a sum begins with its first term: after `+` as it is, since it has 32 bits,
 -- and after `-` its negative

@@ -232,13 +232,13 @@ module _ (checked : Typed Label) (slots : Label → Slot) where
   unfolding evaluate
   addends-end c x whole h =
       let ended = operators_end-holds checked slots whole in
-      leads-end c x (addends_left end) whole (λ z v. refl) (λ n. ended.1 n) (λ t. ended.3 t) h
+      leads-end c x (addends_left end) whole (λ z v. refl) (λ n. ended.number_sum n) (λ t. ended.truth_sum t) h
 
   pub multipliers-end : (c : ExpressionCode) (x : Shape) (whole : Evaluated Label Value) → CodeLeads checked slots c x (multipliers_left end) whole → CodeMeans checked slots c x whole
   unfolding evaluate
   multipliers-end c x whole h =
       let ended = operators_end-holds checked slots whole in
-      leads-end c x (multipliers_left end) whole (λ z v. refl) (λ n. ended.0 n) (λ t. ended.2 t) h
+      leads-end c x (multipliers_left end) whole (λ z v. refl) (λ n. ended.number_term n) (λ t. ended.truth_term t) h
 
   -- an expression without a relation is its sum, and what is in parentheses evaluates to the same
 

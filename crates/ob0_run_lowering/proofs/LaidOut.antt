@@ -4,7 +4,6 @@ use Rattle.std.proofs.lemmas.Bool.Decides.{nat_tests}
 use Rattle.std.proofs.lemmas.Option.{slice_get_past}
 use Rattle.std.proofs.lemmas.List.{drop_all, drop_more, get_or_past, take_all}
 use Rattle.std.proofs.Math.Seq.{take-suc}
-use Rattle.std.specs.Borrow.{Bor}
 use Rattle.ob0_scope_rules.specs.Names.{Name, same_name}
 use Rattle.ob0_run_machine.specs.Evaluation as machine
 use Rattle.ob0_types_rules.specs.Expressions.{a_constant}

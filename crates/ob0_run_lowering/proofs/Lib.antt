@@ -11,5 +11,5 @@ pub mod Assigned
 pub mod Called
 pub mod DeclaredBlocks
 pub mod Placings
-pub mod Sights
+pub mod FollowingSites
 pub mod LoweredBlocks

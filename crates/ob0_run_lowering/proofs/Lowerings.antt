@@ -23,7 +23,6 @@ use Rattle.ob0_run_machine.specs.View.{argument_of, number_of, place_of, truth_o
 use Rattle.ob0_run_machine.specs.declared.code.Argument.{Argument}
 use Rattle.ob0_run_machine.specs.declared.code.Argument.TheVariants as argument
 use Rattle.ob0_run_machine.specs.declared.code.Number.{Number}
-use Rattle.ob0_run_machine.specs.declared.code.Place.{Place}
 use Rattle.ob0_run_machine.specs.declared.code.Truth.{Truth}
 use Rattle.ob0_run_cells.specs.Cells.{size}
 use Rattle.ob0_run_cells.specs.LoweredStatements.{ArgumentMeans}
@@ -111,7 +110,7 @@ alone-by scene e x path l is h checked slots targets sees s typed =
     let there = ap (variable_type checked) (sym is) ∙ typed in
     let (v, ev, at) = variable-typed checked y (in_labels scene.resolved.now path) s (checked.object_for y) refl there in
     let (shape, means) = h checked slots targets sees s there in
-    (shape, (y, in_labels scene.resolved.now path, v, is, ev, means))
+    (shape, record { name = y; path = in_labels scene.resolved.now path; shape = v; is_designator = is; is_variable = ev; place_means = means })
 
 nothing-typed : (checked : Typed Label) (s : Shape) → variable_type checked None ≡ Some s → ⊥
 unfolding variable_type

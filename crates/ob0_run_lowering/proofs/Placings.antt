@@ -216,6 +216,27 @@ groups_match at size_of (more (declares_variable ns u) gs) k env inner p h m =
     let f = then_some (denoted (meanings as_labels env) k u) (λ s. declare_typed as_labels (k + constructors u) gs (bind_names (names_listed ns) (a_variable s) env)) inner h in
     groups_match at size_of gs (k + constructors u) (bind_names (names_listed ns) (a_variable f.0) env) inner (place_each at size_of by_value (names_listed ns) p) f.2 (names_match at size_of by_value (names_listed ns) f.0 env p m)
 
+-- how many cells there are then doesn't depend on where they are
+
+each_cells : (at others : ℕ → Slot) (size_of : Label → ℕ) (mode : Mode) (xs : List Label) (p q : Placed Label) → p.cells ≡ q.cells → (place_each at size_of mode xs p).cells ≡ (place_each others size_of mode xs q).cells
+each_cells at others size_of mode [] p q e = e
+each_cells at others size_of by_value (x ∷ xs) p q e = each_cells at others size_of by_value xs (place_one at size_of by_value x p) (place_one others size_of by_value x q) (ap (λ n. n + size_of x) e)
+each_cells at others size_of by_place (x ∷ xs) p q e = each_cells at others size_of by_place xs (place_one at size_of by_place x p) (place_one others size_of by_place x q) e
+
+pub groups_cells : (at others : ℕ → Slot) (size_of : Label → ℕ) (gs : Tree Label (items variable)) (p q : Placed Label) → p.cells ≡ q.cells → (place_groups at size_of gs p).cells ≡ (place_groups others size_of gs q).cells
+groups_cells at others size_of end p q e = e
+groups_cells at others size_of (more (declares_variable ns u) gs) p q e =
+    groups_cells at others size_of gs (place_each at size_of by_value (names_listed ns) p) (place_each others size_of by_value (names_listed ns) q) (each_cells at others size_of by_value (names_listed ns) p q e)
+
+parameter_cells : (mode : Mode) (x : Label) (n : ℕ) (p q : Placed Label) → p.cells ≡ q.cells → (place_parameter mode x n p).cells ≡ (place_parameter mode x n q).cells
+parameter_cells by_value x n p q e = ap (λ m. m + n) e
+parameter_cells by_place x n p q e = e
+
+pub parameters_cells : (ps : List (TypedParameter Label)) (p q : Placed Label) → p.cells ≡ q.cells → (place_parameters ps p).cells ≡ (place_parameters ps q).cells
+parameters_cells [] p q e = e
+parameters_cells (r ∷ ps) p q e =
+    parameters_cells ps (place_parameter r.formal.mode r.name (size r.formal.shape) p) (place_parameter r.formal.mode r.name (size r.formal.shape) q) (parameter_cells r.formal.mode r.name (size r.formal.shape) p q e)
+
 -- parameters
 
 pub typed_before : (objects : Objects) (ps : List (TypedParameter Label)) (env : TypeEnvironment Label) → AreDeclared objects (bind_typed ps env) → AreDeclared objects env

@@ -8,7 +8,8 @@ use Rattle.ob0_types_rules.specs.WellTyped.{TypeEnvironment, block_fits, procedu
 use Rattle.ob0_run_machine.specs.Lowered as lowered
 use Rattle.ob0_run_machine.specs.View.{procedure_of, sequence_of}
 use Rattle.ob0_run_machine.specs.declared.code.Routine.{Routine}
-use Rattle.ob0_run_cells.specs.Activations.{BlockMeans, Placed, Placing, ProceduresMean}
+use Rattle.ob0_run_cells.specs.Activations.{BlockMeans, Placed, Placing, ProceduresMean, label_table}
+use Rattle.ob0_run_cells.specs.Lowering.{Slot}
 use Rattle.ob0_run_lowering.specs.declared.scene.Site.{Site}
 use Rattle.ob0_run_lowering.specs.KnownBlocks.{AreDeclared, BlockDeclared, ProceduresDeclared}
 use Rattle.ob0_run_lowering.specs.Placed.{Follows, LocatesAll, IsFrame, Matches, slots_at}
@@ -52,39 +53,65 @@ abbrev pub AllMean : List lowered.Routine
     → Tree Label (items procedure)
     → Type 0
 AllMean table most s code statements ps =
-    ProceduresMean table most as_labels s.env s.placing s.next code statements ps
+    ProceduresMean (label_table table most) s.env s.placing s.next code statements ps
 
--- procedures are lowered, of which some are left: where what is left means what is there, all do,
--- and no activation has more cells than is known of then
-pub record Goes (t : Tables) (w v : Lowering) (depth : ℕ) (ps left : Tree Label (items procedure))
-    : Type 0 where
-  pub on : (s : BlockState) (statements : Tree Label (maybe body))
-      → Ready t w.sight.sites.items depth s statements ps
-      → (now : BlockState) × Ready t v.sight.sites.items depth now statements left
-      × ((table : List lowered.Routine) (most : ℕ) (code : lowered.Instructions)
+-- procedures are lowered from a state of their block, of which some are left: where what is left
+-- means what is there, all do, and no activation has more cells than is known of then; and that
+-- many are needed, wherever the procedures are placed
+pub record Reaches (t : Tables) (w v : Lowering) (depth : ℕ) (s : BlockState)
+    (statements : Tree Label (maybe body)) (ps left : Tree Label (items procedure)) : Type 0 where
+  pub now : BlockState
+  pub ready : Ready t v.visible.sites.items depth now statements left
+  pub mean : (table : List lowered.Routine) (most : ℕ) (code : lowered.Instructions)
       → v.most ≤ most
       → Later table (length w.procedures.items) v.procedures.items
       → AllMean table most now code statements left
-      → AllMean table most s code statements ps)
+      → AllMean table most s code statements ps
+  pub least : (table : List lowered.Routine) (n : ℕ) (code : lowered.Instructions)
+      (placing : Placing Label)
+      → w.most ≤ n
+      → AllMean table n record s { placing = placing } code statements ps
+      → (v.most ≤ n)
+      × (further : Placing Label)
+      × AllMean table n record now { placing = further } code statements left
+
+-- procedures are lowered, of which some are left
+pub record Goes (t : Tables) (w v : Lowering) (depth : ℕ) (ps left : Tree Label (items procedure))
+    : Type 0 where
+  pub on : (s : BlockState) (statements : Tree Label (maybe body))
+      → Ready t w.visible.sites.items depth s statements ps
+      → Reaches t w v depth s statements ps left
   pub most_grows : w.most ≤ v.most
-  pub follows : Follows w.sight v.sight
+  pub follows : Follows w.visible v.visible
   pub longer : length w.procedures.items ≤ length v.procedures.items
   pub grown : Grown w.procedures.items v.procedures.items
+
+-- the code of a block means it, where no activation has more cells than is known of then; and that
+-- many are needed, whatever code means the block, and wherever it is placed
+pub record MeansBlock (w v : Lowering) (f : Frame) (b : Tree Label block) (entry : Routine)
+    (env : TypeEnvironment Label) (p : Placed Label) (k : ℕ) : Type 0 where
+  pub means : (table : List lowered.Routine) (most : ℕ)
+      → v.most ≤ most
+      → Later table (length w.procedures.items) v.procedures.items
+      → BlockMeans (label_table table most) (slots_at f.depth) env p k entry.cells
+      (sequence_of entry.body.items) b
+  pub least : (table : List lowered.Routine) (n : ℕ) (at : ℕ → Slot) (other : Placed Label)
+      (cells : ℕ) (code : lowered.Instructions)
+      → other.cells ≡ p.cells
+      → w.most ≤ n
+      → BlockMeans (label_table table n) at env other k cells code b
+      → v.most ≤ n
 
 -- a block is lowered to its cells and its statements
 pub record LowersBlock (t : Tables) (w v : Lowering) (f : Frame) (b : Tree Label block)
     (entry : Routine) : Type 0 where
-  pub means : (env : TypeEnvironment Label) (p : Placed Label) (k : ℕ)
+  pub on : (env : TypeEnvironment Label) (p : Placed Label) (k : ℕ)
       → Matches env p.placing
-      → IsFrame w.sight.sites.items f p
+      → IsFrame w.visible.sites.items f p
       → block_fits as_labels env k b ≡ true
       → BlockDeclared (declared_in t) env k b
-      → (table : List lowered.Routine) (most : ℕ)
-      → v.most ≤ most
-      → Later table (length w.procedures.items) v.procedures.items
-      → BlockMeans table most as_labels (slots_at f.depth) env p k entry.cells
-      (sequence_of entry.body.items) b
+      → MeansBlock w v f b entry env p k
   pub most_grows : w.most ≤ v.most
-  pub follows : Follows w.sight v.sight
+  pub follows : Follows w.visible v.visible
   pub longer : length w.procedures.items ≤ length v.procedures.items
   pub grown : Grown w.procedures.items v.procedures.items

@@ -9,3 +9,4 @@ pub mod LoweredBodies
 pub mod KnownBlocks
 pub mod Placed
 pub mod Blocks
+pub mod LoweredModules

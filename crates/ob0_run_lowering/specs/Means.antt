@@ -67,7 +67,7 @@ Locates scene x path l =
     × PlaceMeans checked slots (place_of l.place) s
     (place_of_designator (label_in scene.resolved.now x) (in_labels scene.resolved.now path)))
 
--- the same of an expression that is a designator alone
+-- the place of an expression that is a designator alone
 abbrev pub LocatesAlone : Scene → Tree ℕ expression → TypedPlace → Type 0
 LocatesAlone scene e l =
     WhereSeen scene (λ checked slots. (s : Shape)

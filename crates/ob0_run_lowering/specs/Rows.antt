@@ -20,7 +20,7 @@ and_depth (truth.ComparedToVariable r v w) = 0
 and_depth (truth.Same' pointer left right) = 0
 and_depth (truth.Different' pointer left right) = 0
 
--- the same of disjunctions
+-- how many disjunctions are nested, counted in the same way
 abbrev pub or_depth : Truth → ℕ
 or_depth (truth.Constant b) = 0
 or_depth (truth.Flag p) = 0

@@ -29,7 +29,7 @@ seen_from depth (site.Procedure at index) =
 abbrev pub site_at : List Site → ℕ → Site
 site_at sites k = slice_index_or sites k site.Nowhere
 
--- the same by a label, from a scene
+-- where the declaration of a label is, as it is seen from a scene
 abbrev pub whereabouts : Scene → Label → Whereabouts
 whereabouts scene (declared k) = seen_from scene.depth (site_at scene.sites.now k)
 whereabouts scene (as_written x) = nowhere

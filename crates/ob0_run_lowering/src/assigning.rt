@@ -1,4 +1,5 @@
-//! Assignments.
+//! Assignments. Where the right side has no code, which isn't so in a well-typed module, an assignment is lowered to
+//! `WriteLine`: some instruction has to be returned.
 
 ghost use Rattle.std.specs.Prelude.{◌≡◌, IfOk};
 ghost use Rattle.ob0_tree.specs.View.{assignment_of};

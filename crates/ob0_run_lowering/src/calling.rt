@@ -1,4 +1,5 @@
-//! Calls of procedures and of the standard procedures.
+//! Calls of procedures and of the standard procedures. Calls that no well-typed module has, as of a variable or of Read
+//! without an argument, are lowered to `WriteLine`: some instruction has to be returned, and none of these is executed.
 
 ghost use Rattle.std.specs.Prelude.{◌≡◌, IfOk, Some, map, option_map, slice_get};
 ghost use Rattle.ob0_tree.specs.View.{arguments_of, call_of};
@@ -61,10 +62,10 @@ fn lower_call(
         (in_labels scene.now.resolved.now (call_of c.now))) }
 {
     let arguments = arguments(alloc, scene, formals, &c.arguments)?;
-    let (procedure, up) = scene.target(c.procedure);
+    let target = scene.target(c.procedure);
     Ok(Instruction::Call(code::ProcedureCall {
-        procedure,
-        up,
+        procedure: target.procedure,
+        up: target.up,
         arguments,
     }))
 }
@@ -146,7 +147,7 @@ fn read(
     match first(given) {
         None => Ok(Instruction::WriteLine),
         Some(e) => {
-            let at = scene.passed(alloc, e)?;
+            let at = scene.locate_argument(alloc, e)?;
             Ok(Instruction::Read(at.place))
         }
     }

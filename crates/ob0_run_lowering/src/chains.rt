@@ -103,8 +103,8 @@ fn plain(
     )
 }
 
-/// The same. Where the number is a row of operations, they are all in one row: a variable can be evaluated after what
-/// it is operated with.
+/// An operation on a variable and a number. Where the number is a row of operations, they are all in one row: a variable
+/// can be evaluated after what it is operated with.
 fn operation_on_variable(
     alloc: Global,
     operator: Operator,

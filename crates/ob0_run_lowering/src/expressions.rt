@@ -79,7 +79,7 @@ impl<'s, 'k, 't> Scene<'s, 'k, 't> {
         ensures { IfOk result (Lowers self.now (expression_of e.now)) }
     {
         self.has_small();
-        self.lowered(alloc, e)
+        self.lower_expression(alloc, e)
     }
 
     /// The numbers of the text and the constants of the module have 32 bits.
@@ -117,7 +117,7 @@ impl<'s, 'k, 't> Scene<'s, 'k, 't> {
     }
 
     /// The place of an argument for a VAR parameter: a designator alone.
-    pub fn passed(&self, alloc: Global, e: &Expression) -> Result<TypedPlace, AllocError>
+    pub fn locate_argument(&self, alloc: Global, e: &Expression) -> Result<TypedPlace, AllocError>
         ensures { IfOk result (LocatesAlone self.now (expression_of e.now)) }
     {
         match designated(e) {
@@ -136,7 +136,7 @@ impl<'s, 'k, 't> Scene<'s, 'k, 't> {
         ensures { IfOk result (LowersArgument self.now formal.now (expression_of e.now)) }
     {
         if formal.by_place {
-            let located = self.passed(alloc, e)?;
+            let located = self.locate_argument(alloc, e)?;
             Ok(Argument::Place(located.place))
         } else {
             let lowered = self.expression(alloc, e)?;

@@ -10,7 +10,8 @@ pub enum Lowered {
     Truth(Truth),
     /// The cells of an array or a record: where they begin, and their number.
     Block(Place, usize),
-    /// Of what no expression of a well-typed module is.
+    /// No code: of what no expression of a well-typed module is. A number, a truth or a place that is needed there is 0,
+    /// FALSE or the module's first cell.
     Nothing,
 }
 

@@ -18,7 +18,9 @@ ghost use Rattle.ob0_run_lowering.specs.Scenes.{object_at};
 ghost use Rattle.ob0_run_lowering.specs.Trees.{base_found, code_of, expression_code, factor_code, found_of, selected_once, selected_place, simple_code, term_code};
 
 use crate::lowered::{Lowered, TypedPlace};
-use crate::operators::{added, lower_relation, multiplied, negated, signed};
+use crate::operators::{
+    lower_addend, lower_multiplier, lower_negation, lower_relation, lower_sign,
+};
 use crate::places::{content, element};
 use crate::scene::Scene;
 use ob0_run_machine::code::{Number, Place, Truth};
@@ -70,7 +72,7 @@ impl<'s, 'k, 't> Scene<'s, 'k, 't> {
     }
 
     /// How a field's name is written. Nothing where a declaration binds the name: that isn't a field's.
-    fn written(&self, token: usize) -> &'t str
+    fn field_name(&self, token: usize) -> &'t str
         ensures { result.now ≡ label_text (label_in self.now.resolved.now token) }
     {
         match self.resolved.ordinal_at(token) {
@@ -134,7 +136,7 @@ impl<'s, 'k, 't> Scene<'s, 'k, 't> {
             (found_of (shapes_of self.now.types.now) at)) }
     {
         let TypedPlace { place, of } = at;
-        let name = self.written(name);
+        let name = self.field_name(name);
         match self.types.known().field(of, name) {
             None => Ok(None),
             Some(field) => {
@@ -213,7 +215,11 @@ impl<'s, 'k, 't> Scene<'s, 'k, 't> {
 
     /// The code of an expression.
     #[cycle(lowering)]
-    pub(crate) fn lowered(&self, alloc: Global, e: &Expression) -> Result<Lowered, AllocError>
+    pub(crate) fn lower_expression(
+        &self,
+        alloc: Global,
+        e: &Expression,
+    ) -> Result<Lowered, AllocError>
         ensures { IfOk result (λ l. code_of l
             ≡ expression_code self.now (in_labels self.now.resolved.now (expression_of e.now))) }
     {
@@ -245,10 +251,10 @@ impl<'s, 'k, 't> Scene<'s, 'k, 't> {
             ≡ simple_code self.now (in_labels self.now.resolved.now (simple_of s.now))) }
     {
         let first = self.term(alloc, &s.first)?;
-        let mut so_far = signed(alloc, s.sign, first)?;
+        let mut so_far = lower_sign(alloc, s.sign, first)?;
         for addend in &s.more {
             let term = self.term(alloc, &addend.term)?;
-            so_far = added(alloc, addend.operator, so_far, term)?;
+            so_far = lower_addend(alloc, addend.operator, so_far, term)?;
         }
         Ok(so_far)
     }
@@ -261,7 +267,7 @@ impl<'s, 'k, 't> Scene<'s, 'k, 't> {
         let mut so_far = self.factor(alloc, &t.first)?;
         for multiplier in &t.more {
             let factor = self.factor(alloc, &multiplier.factor)?;
-            so_far = multiplied(alloc, multiplier.operator, so_far, factor)?;
+            so_far = lower_multiplier(alloc, multiplier.operator, so_far, factor)?;
         }
         Ok(so_far)
     }
@@ -272,19 +278,19 @@ impl<'s, 'k, 't> Scene<'s, 'k, 't> {
             ≡ factor_code self.now (in_labels self.now.resolved.now (factor_of f.now))) }
     {
         match f {
-            Factor::Designator(d) => self.named(alloc, d),
+            Factor::Designator(d) => self.lower_designator(alloc, d),
             Factor::Integer(token) => Ok(Lowered::Number(Number::Literal(self.integer(*token)))),
-            Factor::Parenthesised(e) => self.lowered(alloc, e),
+            Factor::Parenthesised(e) => self.lower_expression(alloc, e),
             Factor::Not(f) => {
                 let operand = self.factor(alloc, f)?;
-                negated(alloc, operand)
+                lower_negation(alloc, operand)
             }
         }
     }
 
     /// A constant, or what is at a designator's place.
     #[cycle(lowering)]
-    fn named(&self, alloc: Global, d: &Designator) -> Result<Lowered, AllocError>
+    fn lower_designator(&self, alloc: Global, d: &Designator) -> Result<Lowered, AllocError>
         ensures { IfOk result (λ l. code_of l
             ≡ factor_code self.now (in_labels self.now.resolved.now (designator_of d.now))) }
     {
@@ -311,13 +317,13 @@ impl<'s, 'k, 't> Scene<'s, 'k, 't> {
     {
         let mut at = self.base(d.name);
         for selector in &d.selectors {
-            at = self.selected(alloc, at, selector)?;
+            at = self.select(alloc, at, selector)?;
         }
         Ok(at)
     }
 
     #[cycle(lowering)]
-    fn selected(
+    fn select(
         &self,
         alloc: Global,
         at: Option<TypedPlace>,
@@ -330,7 +336,7 @@ impl<'s, 'k, 't> Scene<'s, 'k, 't> {
         match s {
             Selector::Field(name) => self.field_there(alloc, at, *name),
             Selector::Index(e) => {
-                let index = self.lowered(alloc, e)?;
+                let index = self.lower_expression(alloc, e)?;
                 self.element_there(alloc, at, index)
             }
         }

@@ -41,7 +41,7 @@ fn truth_in(operand: Lowered) -> Option<Truth>
     }
 }
 
-fn operated(
+fn lower_operation(
     alloc: Global,
     operator: Operator,
     left: Lowered,
@@ -60,7 +60,7 @@ fn operated(
     Ok(Lowered::Number(number))
 }
 
-fn conjunction(alloc: Global, left: Lowered, right: Lowered) -> Result<Lowered, AllocError>
+fn lower_conjunction(alloc: Global, left: Lowered, right: Lowered) -> Result<Lowered, AllocError>
     ensures { IfOk result
         (λ l. code_of l ≡ codes.combined machine.both (code_of left) (code_of right)) }
 {
@@ -74,7 +74,7 @@ fn conjunction(alloc: Global, left: Lowered, right: Lowered) -> Result<Lowered, 
     Ok(Lowered::Truth(truth))
 }
 
-fn disjunction(alloc: Global, left: Lowered, right: Lowered) -> Result<Lowered, AllocError>
+fn lower_disjunction(alloc: Global, left: Lowered, right: Lowered) -> Result<Lowered, AllocError>
     ensures { IfOk result
         (λ l. code_of l ≡ codes.combined machine.either (code_of left) (code_of right)) }
 {
@@ -88,7 +88,7 @@ fn disjunction(alloc: Global, left: Lowered, right: Lowered) -> Result<Lowered, 
     Ok(Lowered::Truth(truth))
 }
 
-pub(crate) fn added(
+pub(crate) fn lower_addend(
     alloc: Global,
     operator: AddOperator,
     left: Lowered,
@@ -97,13 +97,13 @@ pub(crate) fn added(
     ensures { IfOk result (λ l. code_of l ≡ codes.added operator (code_of left) (code_of right)) }
 {
     match operator {
-        AddOperator::Add => operated(alloc, Operator::Sum, left, right),
-        AddOperator::Subtract => operated(alloc, Operator::Difference, left, right),
-        AddOperator::Or => disjunction(alloc, left, right),
+        AddOperator::Add => lower_operation(alloc, Operator::Sum, left, right),
+        AddOperator::Subtract => lower_operation(alloc, Operator::Difference, left, right),
+        AddOperator::Or => lower_disjunction(alloc, left, right),
     }
 }
 
-pub(crate) fn multiplied(
+pub(crate) fn lower_multiplier(
     alloc: Global,
     operator: MultiplyOperator,
     left: Lowered,
@@ -113,14 +113,14 @@ pub(crate) fn multiplied(
         (λ l. code_of l ≡ codes.multiplied operator (code_of left) (code_of right)) }
 {
     match operator {
-        MultiplyOperator::Multiply => operated(alloc, Operator::Product, left, right),
-        MultiplyOperator::Divide => operated(alloc, Operator::Quotient, left, right),
-        MultiplyOperator::Modulo => operated(alloc, Operator::Remainder, left, right),
-        MultiplyOperator::And => conjunction(alloc, left, right),
+        MultiplyOperator::Multiply => lower_operation(alloc, Operator::Product, left, right),
+        MultiplyOperator::Divide => lower_operation(alloc, Operator::Quotient, left, right),
+        MultiplyOperator::Modulo => lower_operation(alloc, Operator::Remainder, left, right),
+        MultiplyOperator::And => lower_conjunction(alloc, left, right),
     }
 }
 
-fn negative(alloc: Global, operand: Lowered) -> Result<Lowered, AllocError>
+fn lower_minus(alloc: Global, operand: Lowered) -> Result<Lowered, AllocError>
     ensures { IfOk result (λ l. code_of l ≡ codes.signed (Some signs.Minus) (code_of operand)) }
 {
     match operand {
@@ -133,7 +133,7 @@ fn negative(alloc: Global, operand: Lowered) -> Result<Lowered, AllocError>
     }
 }
 
-fn only_number(operand: Lowered) -> Lowered
+fn lower_plus(operand: Lowered) -> Lowered
     ensures { code_of result ≡ codes.signed (Some signs.Plus) (code_of operand) }
 {
     match operand {
@@ -145,7 +145,7 @@ fn only_number(operand: Lowered) -> Lowered
 }
 
 /// A term with its sign. `+` leaves a number as it is.
-pub(crate) fn signed(
+pub(crate) fn lower_sign(
     alloc: Global,
     sign: Option<Sign>,
     operand: Lowered,
@@ -155,13 +155,13 @@ pub(crate) fn signed(
     match sign {
         None => Ok(operand),
         Some(sign) => match sign {
-            Sign::Plus => Ok(only_number(operand)),
-            Sign::Minus => negative(alloc, operand),
+            Sign::Plus => Ok(lower_plus(operand)),
+            Sign::Minus => lower_minus(alloc, operand),
         },
     }
 }
 
-pub(crate) fn negated(alloc: Global, operand: Lowered) -> Result<Lowered, AllocError>
+pub(crate) fn lower_negation(alloc: Global, operand: Lowered) -> Result<Lowered, AllocError>
     ensures { IfOk result (λ l. code_of l ≡ codes.negated (code_of operand)) }
 {
     match operand {
@@ -207,7 +207,7 @@ fn compare_variable(
 }
 
 /// A relation of two numbers.
-fn compared(
+fn relate_numbers(
     alloc: Global,
     relation: Relation,
     left: Number,
@@ -227,7 +227,7 @@ fn compared(
 }
 
 /// `=` or `#` of two truths.
-fn alike(
+fn relate_truths(
     alloc: Global,
     relation: Relation,
     left: Truth,
@@ -266,7 +266,7 @@ fn compare_numbers(
     let Some(second) = number_in(right) else {
         return Ok(Lowered::Nothing);
     };
-    let truth = compared(alloc, relation, left, second)?;
+    let truth = relate_numbers(alloc, relation, left, second)?;
     Ok(Lowered::Truth(truth))
 }
 
@@ -283,7 +283,7 @@ fn compare_truths(
     let Some(second) = truth_in(right) else {
         return Ok(Lowered::Nothing);
     };
-    alike(alloc, relation, left, second)
+    relate_truths(alloc, relation, left, second)
 }
 
 pub(crate) fn lower_relation(

@@ -4,14 +4,12 @@ ghost use Rattle.std.specs.Prelude.{◌≡◌, ◌≤◌, ℕ, IfOk, OnOk, slice
 ghost use Rattle.ob0_tree.specs.Tree.{more};
 ghost use Rattle.ob0_tree.specs.View.{block_of, procedure_of};
 ghost use Rattle.ob0_tree.specs.Parsed.{named_tree_of};
-ghost use Rattle.ob0_scope_rules.specs.Names.{as_labels};
-ghost use Rattle.ob0_scope_rules.specs.Scopes.{numbered};
 ghost use Rattle.ob0_types_table.specs.KnownTables.{declared_in};
 ghost use Rattle.ob0_types_rules.specs.Bindings.{declared_object};
 ghost use Rattle.ob0_types_rules.specs.WellTyped.{WellTyped};
 ghost use Rattle.ob0_types_rules.specs.InLabels.{in_labels};
 ghost use Rattle.ob0_run_machine.specs.View.{program_of};
-ghost use Rattle.ob0_run_cells.specs.Activations.{ProgramMeans};
+ghost use Rattle.ob0_run_lowering.specs.LoweredModules.{MeansModule};
 ghost use Rattle.ob0_run_lowering.specs.Blocks.{Goes, LowersBlock};
 
 use crate::contexts::LoweringContext;
@@ -27,13 +25,13 @@ use std::alloc::{AllocError, Global};
 /// activation so far.
 #[derive(Drop)]
 pub(crate) struct Lowering {
-    pub(crate) sight: VisibleSites,
+    pub(crate) visible: VisibleSites,
     pub(crate) procedures: Vec<code::Routine>,
     pub(crate) most: usize,
 }
 
-/// The program of a module, none of whose activations has more than `most_cells` cells, those of its parameters among
-/// them.
+/// The program of a module. An activation of the module or of a procedure of it has at most `most_cells` cells, those of
+/// its parameters among them, and one has as many.
 #[derive(Drop)]
 pub struct Program {
     pub code: code::LoweredCode,
@@ -63,7 +61,7 @@ impl Lowering {
     fn keep(&mut self, index: usize, entry: code::Routine)
         ensures procedures { self.new.procedures.items
             ≡ slice_set self.old.procedures.items index entry }
-        ensures sight { self.new.sight ≡ self.old.sight }
+        ensures visible { self.new.visible ≡ self.old.visible }
         ensures most { self.new.most ≡ self.old.most }
     {
         if index < self.procedures.len() {
@@ -74,26 +72,27 @@ impl Lowering {
     /// A procedure's place in the program, which its name has from its heading on. Its code comes later.
     fn announce(
         &mut self,
-        ground: &LoweringContext<'_, '_, '_>,
+        context: &LoweringContext<'_, '_, '_>,
         depth: usize,
         name: usize,
     ) -> Result<usize, AllocError>
         ensures index { IfOk result (λ i. i ≡ length self.old.procedures.items) }
         ensures sites { IfOk result (λ i. (k : ℕ)
-            → site_at self.new.sight.sites.items k
-            ≡ put_at (ordinal_in ground.now.resolved.now.ordinals name) (site.Procedure depth i)
-            (site_at self.old.sight.sites.items) k) }
-        ensures follows { IfOk result (λ i. Follows self.old.sight self.new.sight) }
+            → site_at self.new.visible.sites.items k
+            ≡ put_at (ordinal_in context.now.resolved.now.ordinals name) (site.Procedure depth i)
+            (site_at self.old.visible.sites.items) k) }
+        ensures follows { IfOk result (λ i. Follows self.old.visible self.new.visible) }
         ensures most { IfOk result (λ i. self.new.most ≡ self.old.most) }
         ensures pushed { IfOk result (λ i. (e : code.Routine)
             × (self.new.procedures.items ≡ self.old.procedures.items ++ e ∷ [])) }
     {
         let index = self.procedures.len();
-        let ordinal = ground.resolved.ordinal_at(name);
-        self.sight.bind(ordinal, Site::Procedure(depth, index))?;
+        let ordinal = context.resolved.ordinal_at(name);
+        self.visible
+            .bind(ordinal, Site::Procedure { depth, index })?;
         self.procedures.push(code::Routine {
             cells: 0,
-            body: Vec::new(ground.alloc),
+            body: Vec::new(context.alloc),
         })?;
         Ok(index)
     }
@@ -103,27 +102,27 @@ impl Lowering {
     #[cycle(blocks)]
     fn procedure(
         &mut self,
-        ground: &LoweringContext<'_, '_, '_>,
+        context: &LoweringContext<'_, '_, '_>,
         depth: usize,
         p: &Procedure,
     ) -> Result<(), AllocError>
         ensures { OnOk result ((rest : Tree Label (items procedure))
-            → Goes ground.now.types.now self.old self.new depth
-            (more (in_labels ground.now.resolved.now (procedure_of p.now)) rest) rest) }
+            → Goes context.now.types.now self.old self.new depth
+            (more (in_labels context.now.resolved.now (procedure_of p.now)) rest) rest) }
     {
         let Some(inside) = depth.checked_add(1) else {
             return Err(AllocError);
         };
-        let index = self.announce(ground, depth, p.name)?;
-        let outside = self.sight.mark();
+        let index = self.announce(context, depth, p.name)?;
+        let outside = self.visible.mark();
         let frame = Frame {
             depth: inside,
             cells: 0,
             references: 0,
         };
-        let frame = self.sight.parameters(ground, frame, &p.formals)?;
-        let entry = self.block(ground, frame, &p.block)?;
-        self.sight.back_to(outside);
+        let frame = self.visible.parameters(context, frame, &p.formals)?;
+        let entry = self.block(context, frame, &p.block)?;
+        self.visible.back_to(outside);
         self.keep(index, entry);
         Ok(())
     }
@@ -132,25 +131,25 @@ impl Lowering {
     #[cycle(blocks)]
     fn block(
         &mut self,
-        ground: &LoweringContext<'_, '_, '_>,
+        context: &LoweringContext<'_, '_, '_>,
         frame: Frame,
         b: &Block,
     ) -> Result<code::Routine, AllocError>
-        ensures { IfOk result (LowersBlock ground.now.types.now self.old self.new frame
-            (in_labels ground.now.resolved.now (block_of b.now))) }
+        ensures { IfOk result (LowersBlock context.now.types.now self.old self.new frame
+            (in_labels context.now.resolved.now (block_of b.now))) }
     {
-        let own = self.sight.variables(ground, frame, &b.variables)?;
+        let own = self.visible.variables(context, frame, &b.variables)?;
         self.most = greater(self.most, own.cells);
         for p in &b.procedures {
-            self.procedure(ground, own.depth, p)?;
+            self.procedure(context, own.depth, p)?;
         }
         let scene = Scene {
-            resolved: ground.resolved,
-            types: ground.types,
-            sites: self.sight.sites.as_slice(),
+            resolved: context.resolved,
+            types: context.types,
+            sites: self.visible.sites.as_slice(),
             depth: own.depth,
         };
-        let body = body(ground.alloc, &scene, &b.body)?;
+        let body = body(context.alloc, &scene, &b.body)?;
         Ok(code::Routine {
             cells: own.cells - frame.cells,
             body,
@@ -171,17 +170,17 @@ pub fn lower<'t>(
     ensures { IfOk result (λ made. WellTyped (named_tree_of resolved.now.module_read)
         → ((k : ℕ)
         → declared_in known.now k ≡ declared_object (named_tree_of resolved.now.module_read) k)
-        → ProgramMeans made.most_cells as_labels (numbered (named_tree_of resolved.now.module_read))
+        → MeansModule made.most_cells (named_tree_of resolved.now.module_read)
         (program_of made.code)) }
 {
     let types = Types::new(alloc, known)?;
-    let ground = LoweringContext {
+    let context = LoweringContext {
         alloc,
         resolved,
         types: &types,
     };
     let mut lowering = Lowering {
-        sight: VisibleSites::new(alloc),
+        visible: VisibleSites::new(alloc),
         procedures: Vec::new(alloc),
         most: 0,
     };
@@ -190,7 +189,7 @@ pub fn lower<'t>(
         cells: 0,
         references: 0,
     };
-    let entry = lowering.block(&ground, frame, resolved.module().block())?;
+    let entry = lowering.block(&context, frame, resolved.module().block())?;
     let code = code::LoweredCode {
         cells: entry.cells,
         body: entry.body,

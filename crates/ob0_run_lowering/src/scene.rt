@@ -10,8 +10,8 @@ use ob0_run_machine::code::{Place, Variable};
 use ob0_scope_rules::Resolved;
 use ob0_types_table::Object;
 
-/// Where a declaration is. The first number of a place in an activation is how deep that activation is: 1 for those of
-/// the module's own procedures.
+/// Where a declaration is. `depth` says how deep an activation is: 0 for the module's, 1 for those of the module's own
+/// procedures.
 #[derive(Clone, Copy, PartialEq, Eq)]
 pub enum Site {
     /// Nowhere in lowered code: a constant or a type.
@@ -19,11 +19,30 @@ pub enum Site {
     /// A variable, at an offset in the cells of the module.
     Module(usize),
     /// A variable, at an offset in the cells of an activation.
-    Held(usize, usize),
+    Held { depth: usize, offset: usize },
     /// A VAR parameter of an activation, by its index among these.
-    ByReference(usize, usize),
-    /// A procedure that is declared in an activation (0 for the module), by its index in the program.
-    Procedure(usize, usize),
+    ByReference { depth: usize, index: usize },
+    /// A procedure that is declared in an activation, by its index in the program.
+    Procedure { depth: usize, index: usize },
+}
+
+/// Which procedure a call calls: its index, and how many levels out it is declared.
+#[derive(Clone, Copy)]
+pub struct CallTarget {
+    pub procedure: usize,
+    pub up: usize,
+}
+
+impl CallTarget {
+    /// Of what isn't a procedure.
+    fn none() -> CallTarget
+        ensures { result ≡ record { procedure = 0; up = 0 } }
+    {
+        CallTarget {
+            procedure: 0,
+            up: 0,
+        }
+    }
 }
 
 /// What lowering knows at a body: the module, its types, where each declaration is by its ordinal, and how deep the
@@ -66,17 +85,20 @@ impl<'s, 'k, 't> Scene<'s, 'k, 't> {
         }
     }
 
-    /// Which procedure a name means: its index, and how many levels out it is declared.
-    pub fn target(&self, name: usize) -> (usize, usize)
-        ensures { record { procedure = result.0; up = result.1 }
+    /// Which procedure a name means.
+    pub fn target(&self, name: usize) -> CallTarget
+        ensures { record { procedure = result.procedure; up = result.up }
             ≡ target_at self.now (label_in self.now.resolved.now name) }
     {
         match self.site(name) {
-            Site::Procedure(at, index) => (index, self.depth.saturating_sub(at)),
-            Site::Nowhere => (0, 0),
-            Site::Module(_) => (0, 0),
-            Site::Held(_, _) => (0, 0),
-            Site::ByReference(_, _) => (0, 0),
+            Site::Procedure { depth, index } => CallTarget {
+                procedure: index,
+                up: self.depth.saturating_sub(depth),
+            },
+            Site::Nowhere => CallTarget::none(),
+            Site::Module(_) => CallTarget::none(),
+            Site::Held { .. } => CallTarget::none(),
+            Site::ByReference { .. } => CallTarget::none(),
         }
     }
 
@@ -87,16 +109,18 @@ impl<'s, 'k, 't> Scene<'s, 'k, 't> {
     {
         match self.site(name) {
             Site::Module(offset) => Place::Variable(Variable::Module(offset)),
-            Site::Held(at, offset) => held(self.depth.saturating_sub(at), offset),
-            Site::ByReference(at, index) => by_reference(self.depth.saturating_sub(at), index),
+            Site::Held { depth, offset } => held_place(self.depth.saturating_sub(depth), offset),
+            Site::ByReference { depth, index } => {
+                reference_place(self.depth.saturating_sub(depth), index)
+            }
             Site::Nowhere => Place::Variable(Variable::Module(0)),
-            Site::Procedure(_, _) => Place::Variable(Variable::Module(0)),
+            Site::Procedure { .. } => Place::Variable(Variable::Module(0)),
         }
     }
 }
 
 /// A place in the cells of the activation `up` levels out.
-fn held(up: usize, offset: usize) -> Place
+fn held_place(up: usize, offset: usize) -> Place
     ensures { place_of result ≡ slot_place (slots.held up offset) }
 {
     if up == 0 {
@@ -107,7 +131,7 @@ fn held(up: usize, offset: usize) -> Place
 }
 
 /// Where a VAR parameter of the activation `up` levels out leads.
-fn by_reference(up: usize, index: usize) -> Place
+fn reference_place(up: usize, index: usize) -> Place
     ensures { place_of result ≡ slot_place (slots.by_reference up index) }
 {
     if up == 0 {

@@ -114,7 +114,11 @@ fn size_in(layouts: &[Layout], of: TypeId) -> usize
 }
 
 /// The fields of a record one after the other.
-fn laid_out(alloc: Global, layouts: &[Layout], fields: &[Field]) -> Result<RecordLayout, AllocError>
+fn lay_out_record(
+    alloc: Global,
+    layouts: &[Layout],
+    fields: &[Field],
+) -> Result<RecordLayout, AllocError>
     ensures { (shapes : List values.Shape)
         → LayOut shapes layouts.now
         → IfOk result (AreLaidOut (fields_shape shapes fields.now)) }
@@ -140,7 +144,7 @@ fn entry(alloc: Global, layouts: &[Layout], shape: &TypeEntry) -> Result<Layout,
             Ok(Layout::Array(cells))
         }
         TypeEntry::Record(record) => {
-            let layout = laid_out(alloc, layouts, record.fields.as_slice())?;
+            let layout = lay_out_record(alloc, layouts, record.fields.as_slice())?;
             Ok(Layout::Record(layout))
         }
     }
@@ -161,7 +165,8 @@ fn constant_is_small(known: &Known, ordinal: usize)
     }
 }
 
-/// The constants of a module have 32 bits.
+/// The constants of a module have 32 bits. The loop is for the proof alone: that a constant has 32 bits is known of each
+/// that is looked up, not of all at once, so each is looked up, once for a module.
 fn constants_are_small(known: &Known)
     ensures { (k : ℕ) (n : ℤ)
         → declared_in known.now k ≡ Some (a_constant (values.number n))
@@ -202,7 +207,7 @@ impl<'k> Types<'k> {
         ensures { IfOk result (λ t. t ≡ known.now) }
     {
         constants_are_small(known);
-        let layouts = all_laid_out(alloc, known)?;
+        let layouts = lay_out_all(alloc, known)?;
         Ok(Types { known, layouts })
     }
 
@@ -270,7 +275,7 @@ fn offset_in(known: &Known, layouts: &[Layout], of: TypeId, name: &str) -> usize
 }
 
 /// All types of the table, each by those before it.
-fn all_laid_out(alloc: Global, known: &Known) -> Result<Vec<Layout>, AllocError>
+fn lay_out_all(alloc: Global, known: &Known) -> Result<Vec<Layout>, AllocError>
     ensures { IfOk result (λ layouts. LayOut (shapes_of known.now) layouts.items) }
 {
     let mut layouts = Vec::new(alloc);

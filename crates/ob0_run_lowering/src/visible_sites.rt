@@ -38,7 +38,10 @@ fn next_site(frame: Frame) -> Site
     if frame.depth == 0 {
         Site::Module(frame.cells)
     } else {
-        Site::Held(frame.depth, frame.cells)
+        Site::Held {
+            depth: frame.depth,
+            offset: frame.cells,
+        }
     }
 }
 
@@ -162,28 +165,32 @@ impl VisibleSites {
     /// Places what a name declares: a VAR parameter, or else a variable, in cells of its own.
     fn place(
         &mut self,
-        ground: &LoweringContext<'_, '_, '_>,
+        context: &LoweringContext<'_, '_, '_>,
         frame: Frame,
         by_place: bool,
         name: usize,
     ) -> Result<Frame, AllocError>
         ensures { IfOk result (Places self.old self.new frame (place_one (slots_at frame.depth)
-            (declared_size ground.now.types.now) (mode_of by_place)
-            (label_in ground.now.resolved.now name))) }
+            (declared_size context.now.types.now) (mode_of by_place)
+            (label_in context.now.resolved.now name))) }
     {
-        let ordinal = ground.resolved.ordinal_at(name);
+        let ordinal = context.resolved.ordinal_at(name);
         if by_place {
             let Some(references) = frame.references.checked_add(1) else {
                 return Err(AllocError);
             };
-            self.bind(ordinal, Site::ByReference(frame.depth, frame.references))?;
+            let site = Site::ByReference {
+                depth: frame.depth,
+                index: frame.references,
+            };
+            self.bind(ordinal, site)?;
             return Ok(Frame {
                 depth: frame.depth,
                 cells: frame.cells,
                 references,
             });
         }
-        let Some(next) = frame.with(ground.size(name)) else {
+        let Some(next) = frame.with(context.size(name)) else {
             return Err(AllocError);
         };
         self.bind(ordinal, next_site(frame))?;
@@ -193,35 +200,35 @@ impl VisibleSites {
     /// Places names of one type.
     fn place_names(
         &mut self,
-        ground: &LoweringContext<'_, '_, '_>,
+        context: &LoweringContext<'_, '_, '_>,
         frame: Frame,
         by_place: bool,
         names: &NameList,
     ) -> Result<Frame, AllocError>
         ensures { IfOk result (Places self.old self.new frame (place_each (slots_at frame.depth)
-            (declared_size ground.now.types.now) (mode_of by_place)
-            (names_listed (in_labels ground.now.resolved.now (names_of names.now))))) }
+            (declared_size context.now.types.now) (mode_of by_place)
+            (names_listed (in_labels context.now.resolved.now (names_of names.now))))) }
     {
-        let mut now = self.place(ground, frame, by_place, names.first)?;
+        let mut now = self.place(context, frame, by_place, names.first)?;
         for name in &names.more {
-            now = self.place(ground, now, by_place, *name)?;
+            now = self.place(context, now, by_place, *name)?;
         }
         Ok(now)
     }
 
     fn place_groups(
         &mut self,
-        ground: &LoweringContext<'_, '_, '_>,
+        context: &LoweringContext<'_, '_, '_>,
         frame: Frame,
         groups: &[Variables],
     ) -> Result<Frame, AllocError>
         ensures { IfOk result (Places self.old self.new frame (placed.place_groups
-            (slots_at frame.depth) (declared_size ground.now.types.now)
-            (in_labels ground.now.resolved.now (items_of variable_of groups.now)))) }
+            (slots_at frame.depth) (declared_size context.now.types.now)
+            (in_labels context.now.resolved.now (items_of variable_of groups.now)))) }
     {
         let mut now = frame;
         for group in groups {
-            now = self.place_names(ground, now, false, &group.names)?;
+            now = self.place_names(context, now, false, &group.names)?;
         }
         Ok(now)
     }
@@ -229,33 +236,33 @@ impl VisibleSites {
     /// Places the variables of a block.
     pub(crate) fn variables(
         &mut self,
-        ground: &LoweringContext<'_, '_, '_>,
+        context: &LoweringContext<'_, '_, '_>,
         frame: Frame,
         section: &Option<Vec<Variables>>,
     ) -> Result<Frame, AllocError>
         ensures { IfOk result (Places self.old self.new frame (placed.place_groups
-            (slots_at frame.depth) (declared_size ground.now.types.now)
-            (section_variables (in_labels ground.now.resolved.now (variables_of section.now))))) }
+            (slots_at frame.depth) (declared_size context.now.types.now)
+            (section_variables (in_labels context.now.resolved.now (variables_of section.now))))) }
     {
         match section {
-            None => self.place_groups(ground, frame, &[]),
-            Some(groups) => self.place_groups(ground, frame, groups.as_slice()),
+            None => self.place_groups(context, frame, &[]),
+            Some(groups) => self.place_groups(context, frame, groups.as_slice()),
         }
     }
 
     fn place_sections(
         &mut self,
-        ground: &LoweringContext<'_, '_, '_>,
+        context: &LoweringContext<'_, '_, '_>,
         frame: Frame,
         sections: &[Section],
     ) -> Result<Frame, AllocError>
         ensures { IfOk result (Places self.old self.new frame (placed.place_sections
-            (slots_at frame.depth) (declared_size ground.now.types.now)
-            (in_labels ground.now.resolved.now (items_of further_section_of sections.now)))) }
+            (slots_at frame.depth) (declared_size context.now.types.now)
+            (in_labels context.now.resolved.now (items_of further_section_of sections.now)))) }
     {
         let mut now = frame;
         for section in sections {
-            now = self.place_names(ground, now, section.by_reference, &section.names)?;
+            now = self.place_names(context, now, section.by_reference, &section.names)?;
         }
         Ok(now)
     }
@@ -263,17 +270,17 @@ impl VisibleSites {
     /// Places the parameters of a procedure.
     pub(crate) fn parameters(
         &mut self,
-        ground: &LoweringContext<'_, '_, '_>,
+        context: &LoweringContext<'_, '_, '_>,
         frame: Frame,
         formals: &Option<Vec<Section>>,
     ) -> Result<Frame, AllocError>
         ensures { IfOk result (Places self.old self.new frame (placed.place_sections
-            (slots_at frame.depth) (declared_size ground.now.types.now)
-            (formal_sections (in_labels ground.now.resolved.now (formals_of formals.now))))) }
+            (slots_at frame.depth) (declared_size context.now.types.now)
+            (formal_sections (in_labels context.now.resolved.now (formals_of formals.now))))) }
     {
         match formals {
-            None => self.place_sections(ground, frame, &[]),
-            Some(sections) => self.place_sections(ground, frame, sections.as_slice()),
+            None => self.place_sections(context, frame, &[]),
+            Some(sections) => self.place_sections(context, frame, sections.as_slice()),
         }
     }
 }

@@ -16,4 +16,4 @@ returns c =
     let cs = map argument_of c.in_ok-arguments.arguments.items in
     let P : List (Tree Label expression) → Type 0 = λ es. ArgumentsLower scene (signature_in scene c.args.formals.now) cs es in
     let args = subst P (sym (given_listed r call.arguments)) c.in_ok-arguments.ensures in
-    λ declared. called scene (label_in r call.procedure) (in_labels r (arguments_of call.arguments)) (signature_in scene c.args.formals.now) cs c.target-procedure.result.0 c.target-procedure.result.1 declared args c.target-procedure.ensures
+    λ declared. called scene (label_in r call.procedure) (in_labels r (arguments_of call.arguments)) (signature_in scene c.args.formals.now) cs c.target-target.result.procedure c.target-target.result.up declared args c.target-target.ensures

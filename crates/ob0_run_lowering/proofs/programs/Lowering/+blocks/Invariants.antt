@@ -6,5 +6,5 @@ use Rattle.ob0_run_lowering.proofs.programs.Lowering.+blocks.Given as goal
 
 abbrev pub invariant-block-loop-p : goal.invariant-block-loop-p
 invariant-block-loop-p l = record {
-  goes : Goes l.ground.types.now l.initial.self l.self l.own.depth (in_labels l.ground.resolved.now (items_of procedure_of l.p-items)) (in_labels l.ground.resolved.now (items_of procedure_of (drop l.p-index l.p-items)));
+  goes : Goes l.context.types.now l.initial.self l.self l.own.depth (in_labels l.context.resolved.now (items_of procedure_of l.p-items)) (in_labels l.context.resolved.now (items_of procedure_of (drop l.p-index l.p-items)));
 }

@@ -18,7 +18,7 @@ use Rattle.ob0_run_lowering.proofs.scene.Scene.+lowering.Goals as goal
 pub factor-returns-in-Designator : goal.factor-returns-in-Designator
 factor-returns-in-Designator t c =
     let scene = c.args.self.now in
-    subst (λ z. IfOk c.named.result (λ l. code_of l ≡ factor_code scene (in_labels scene.resolved.now z))) (sym (designator_made c.in-Designator.d) ∙ sym (ap factor_of c.in-Designator.is)) c.named.ensures
+    subst (λ z. IfOk c.lower_designator.result (λ l. code_of l ≡ factor_code scene (in_labels scene.resolved.now z))) (sym (designator_made c.in-Designator.d) ∙ sym (ap factor_of c.in-Designator.is)) c.lower_designator.ensures
 
 pub locate-loop-selector-preserved : goal.locate-loop-selector-preserved
 locate-loop-selector-preserved t c =
@@ -32,13 +32,13 @@ locate-returns t c =
     ∙ ap (λ xs. selected_place scene (option_map (found_of (shapes_of scene.types.now)) c.base-at.result) (in_labels r (items_of selector_of xs))) c.deref-selector-items.ensures.value
     ∙ ap (λ o. selected_place scene o (in_labels r (items_of selector_of c.args.d.now.selectors.items))) c.base-at.ensures
 
-pub lowered-returns-in-Factor : goal.lowered-returns-in-Factor
-lowered-returns-in-Factor t c =
+pub lower_expression-returns-in-Factor : goal.lower_expression-returns-in-Factor
+lower_expression-returns-in-Factor t c =
     let scene = c.args.self.now in
     subst (λ z. IfOk c.factor.result (λ l. code_of l ≡ expression_code scene (in_labels scene.resolved.now z))) (sym (ap expression_of c.in-Factor.is)) c.factor.ensures
 
-pub lowered-returns-in-Compound : goal.lowered-returns-in-Compound
-lowered-returns-in-Compound t c =
+pub lower_expression-returns-in-Compound : goal.lower_expression-returns-in-Compound
+lower_expression-returns-in-Compound t c =
     let scene = c.args.self.now in
     subst (λ z. IfOk c.compound.result (λ l. code_of l ≡ expression_code scene (in_labels scene.resolved.now z)))
     (ap compound_of c.deref.ensures ∙ sym (ap expression_of c.in-Compound.is)) c.compound.ensures

@@ -1,5 +1,5 @@
 use Rattle.std.proofs.Common.{[], ◌∷◌, ◌++◌, sym, ap, ◌∙◌, arith}
-use Rattle.ob0_run_lowering.proofs.Sights.{back_ends, back_on}
+use Rattle.ob0_run_lowering.proofs.FollowingSites.{back_ends, back_on}
 use Rattle.ob0_run_lowering.proofs.visible_sites.VisibleSites.back_to.Goals as goal
 
 pub loop-self-preserved : goal.loop-self-preserved

@@ -1,5 +1,5 @@
 use Rattle.std.proofs.Common.{length}
-use Rattle.ob0_run_lowering.proofs.Sights.{AllBack}
+use Rattle.ob0_run_lowering.proofs.FollowingSites.{AllBack}
 use Rattle.ob0_run_lowering.proofs.visible_sites.VisibleSites.back_to.Given as goal
 
 abbrev pub invariant-loop-self : goal.invariant-loop-self

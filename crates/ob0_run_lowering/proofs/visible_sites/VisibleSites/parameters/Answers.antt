@@ -8,4 +8,4 @@ use Rattle.ob0_run_lowering.proofs.visible_sites.VisibleSites.parameters.Goals a
 
 pub returns-in-None : goal.returns-in-None
 returns-in-None c =
-    subst (λ s. IfOk c.place_sections.result (Places c.args.self.now c.place_sections.new.self c.args.frame (placed.place_sections (slots_at c.args.frame.depth) (declared_size c.args.ground.now.types.now) (formal_sections (in_labels c.args.ground.now.resolved.now (formals_of s)))))) (sym c.in-None.is) c.place_sections.ensures
+    subst (λ s. IfOk c.place_sections.result (Places c.args.self.now c.place_sections.new.self c.args.frame (placed.place_sections (slots_at c.args.frame.depth) (declared_size c.args.context.now.types.now) (formal_sections (in_labels c.args.context.now.resolved.now (formals_of s)))))) (sym c.in-None.is) c.place_sections.ensures

@@ -4,7 +4,7 @@ use Rattle.ob0_scope_rules.specs.Parts.{names_listed}
 use Rattle.ob0_types_rules.specs.InLabels.{in_labels}
 use Rattle.ob0_types_rules.specs.WellTyped.{by_value}
 use Rattle.ob0_run_lowering.specs.Placed.{declared_size, place_each, slots_at}
-use Rattle.ob0_run_lowering.proofs.Sights.{as_deep, in_begins, in_ends, in_on}
+use Rattle.ob0_run_lowering.proofs.FollowingSites.{as_deep, in_begins, in_ends, in_on}
 use Rattle.ob0_run_lowering.proofs.visible_sites.VisibleSites.place_groups.Goals as goal
 
 pub loop-group-init : goal.loop-group-init
@@ -12,8 +12,8 @@ loop-group-init c = record { placed = in_begins _ c.args.groups.now c.args.self.
 
 pub loop-group-preserved : goal.loop-group-preserved
 loop-group-preserved c =
-    let r = c.args.ground.now.resolved.now in
-    let size_of = declared_size c.args.ground.now.types.now in
+    let r = c.args.context.now.resolved.now in
+    let size_of = declared_size c.args.context.now.types.now in
     record {
       placed = in_on (λ v. place_each (slots_at c.args.frame.depth) size_of by_value (names_listed (in_labels r (names_of v.names)))) _ _ c.group-item.result c.group-item.result (λ x xs p. refl)
           c.loop-group.invariant.placed c.loop-group-test.true c.group-item.is

@@ -3,13 +3,13 @@ use Rattle.ob0_types_rules.specs.InLabels.{label_in}
 use Rattle.ob0_types_rules.proofs.Counted.{labels_listed}
 use Rattle.ob0_types_table.specs.Tables.{mode_of}
 use Rattle.ob0_run_lowering.specs.Placed.{declared_size, place_each, place_one, slots_at}
-use Rattle.ob0_run_lowering.proofs.Sights.{as_deep, in_begins, in_ends, in_on, places_as}
+use Rattle.ob0_run_lowering.proofs.FollowingSites.{as_deep, in_begins, in_ends, in_on, places_as}
 use Rattle.ob0_run_lowering.proofs.visible_sites.VisibleSites.place_names.Goals as goal
 
 pub loop-name-init : goal.loop-name-init
 loop-name-init c =
-    let r = c.args.ground.now.resolved.now in
-    let size_of = declared_size c.args.ground.now.types.now in
+    let r = c.args.context.now.resolved.now in
+    let size_of = declared_size c.args.context.now.types.now in
     record {
       placed = in_on (λ n. place_one (slots_at c.args.frame.depth) size_of (mode_of c.args.by_place) (label_in r n)) _ _ c.args.names.now.first 0 (λ x xs p. refl)
           (in_begins (λ xs. place_each (slots_at c.args.frame.depth) size_of (mode_of c.args.by_place) (map (label_in r) xs)) (c.args.names.now.first ∷ c.deref-name-items.result.now) c.args.self.now c.args.frame)
@@ -18,8 +18,8 @@ loop-name-init c =
 
 pub loop-name-preserved : goal.loop-name-preserved
 loop-name-preserved c =
-    let r = c.args.ground.now.resolved.now in
-    let size_of = declared_size c.args.ground.now.types.now in
+    let r = c.args.context.now.resolved.now in
+    let size_of = declared_size c.args.context.now.types.now in
     record {
       placed = in_on (λ n. place_one (slots_at c.args.frame.depth) size_of (mode_of c.args.by_place) (label_in r n)) _ _ (get_or c.deref-name-items.result.now c.loop-name.name-index 0) 0 (λ x xs p. refl)
           c.loop-name.invariant.placed (omega (arith, c.loop-name-test.true)) (sym (ap (λ n. get_or (c.args.names.now.first ∷ c.deref-name-items.result.now) n 0) (add-one c.loop-name.name-index)))
@@ -28,8 +28,8 @@ loop-name-preserved c =
 
 pub returns : goal.returns
 returns c =
-    let r = c.args.ground.now.resolved.now in
-    let size_of = declared_size c.args.ground.now.types.now in
+    let r = c.args.context.now.resolved.now in
+    let size_of = declared_size c.args.context.now.types.now in
     places_as c.args.self.now c.loop-name.self c.args.frame c.loop-name.now _ _
     (λ p. ap (λ ls. place_each (slots_at c.args.frame.depth) size_of (mode_of c.args.by_place) ls p) (ap (λ ys. map (label_in r) (c.args.names.now.first ∷ ys)) c.deref-name-items.ensures.value ∙ sym (labels_listed r c.args.names.now)))
     (in_ends (λ p. refl) c.loop-name.invariant.placed (omega (arith, c.loop-name-test.false)))

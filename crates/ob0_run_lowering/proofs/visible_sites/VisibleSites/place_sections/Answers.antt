@@ -4,7 +4,7 @@ use Rattle.ob0_scope_rules.specs.Parts.{names_listed}
 use Rattle.ob0_types_rules.specs.InLabels.{in_labels}
 use Rattle.ob0_types_table.specs.Tables.{mode_of}
 use Rattle.ob0_run_lowering.specs.Placed.{declared_size, place_each, slots_at}
-use Rattle.ob0_run_lowering.proofs.Sights.{as_deep, in_begins, in_ends, in_on, section_step}
+use Rattle.ob0_run_lowering.proofs.FollowingSites.{as_deep, in_begins, in_ends, in_on, section_step}
 use Rattle.ob0_run_lowering.proofs.visible_sites.VisibleSites.place_sections.Goals as goal
 
 pub loop-section-init : goal.loop-section-init
@@ -12,8 +12,8 @@ loop-section-init c = record { placed = in_begins _ c.args.sections.now c.args.s
 
 pub loop-section-preserved : goal.loop-section-preserved
 loop-section-preserved c =
-    let r = c.args.ground.now.resolved.now in
-    let size_of = declared_size c.args.ground.now.types.now in
+    let r = c.args.context.now.resolved.now in
+    let size_of = declared_size c.args.context.now.types.now in
     record {
       placed = in_on (λ s. place_each (slots_at c.args.frame.depth) size_of (mode_of s.by_reference) (names_listed (in_labels r (names_of s.names)))) _ _ c.section-item.result c.section-item.result
           (λ x xs p. section_step r (slots_at c.args.frame.depth) size_of x (in_labels r (items_of further_section_of xs)) p)

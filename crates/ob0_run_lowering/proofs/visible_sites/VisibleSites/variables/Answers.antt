@@ -8,4 +8,4 @@ use Rattle.ob0_run_lowering.proofs.visible_sites.VisibleSites.variables.Goals as
 
 pub returns-in-None : goal.returns-in-None
 returns-in-None c =
-    subst (λ s. IfOk c.place_groups.result (Places c.args.self.now c.place_groups.new.self c.args.frame (placed.place_groups (slots_at c.args.frame.depth) (declared_size c.args.ground.now.types.now) (section_variables (in_labels c.args.ground.now.resolved.now (variables_of s)))))) (sym c.in-None.is) c.place_groups.ensures
+    subst (λ s. IfOk c.place_groups.result (Places c.args.self.now c.place_groups.new.self c.args.frame (placed.place_groups (slots_at c.args.frame.depth) (declared_size c.args.context.now.types.now) (section_variables (in_labels c.args.context.now.resolved.now (variables_of s)))))) (sym c.in-None.is) c.place_groups.ensures

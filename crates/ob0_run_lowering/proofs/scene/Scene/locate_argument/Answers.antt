@@ -6,7 +6,7 @@ use Rattle.ob0_types_rules.specs.Selected.{selectors_in}
 use Rattle.ob0_types_rules.proofs.DesignatedAlone.{labelled_designator, parts_in}
 use Rattle.ob0_run_lowering.specs.Means.{Locates, LocatesAlone}
 use Rattle.ob0_run_lowering.proofs.Lowerings.{alone-by, alone-not}
-use Rattle.ob0_run_lowering.proofs.scene.Scene.passed.Goals as goal
+use Rattle.ob0_run_lowering.proofs.scene.Scene.locate_argument.Goals as goal
 
 pub returns-in-None : goal.returns-in-None
 returns-in-None c =

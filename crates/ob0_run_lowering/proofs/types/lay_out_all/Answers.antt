@@ -1,5 +1,5 @@
 use Rattle.ob0_run_lowering.proofs.LaidOut.{table_ends, table_goes_on}
-use Rattle.ob0_run_lowering.proofs.types.all_laid_out.Goals as goal
+use Rattle.ob0_run_lowering.proofs.types.lay_out_all.Goals as goal
 
 pub loop-shape-preserved : goal.loop-shape-preserved
 loop-shape-preserved c =

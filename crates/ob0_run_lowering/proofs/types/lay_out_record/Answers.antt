@@ -3,7 +3,7 @@ use Rattle.ob0_run_cells.specs.Cells.{size}
 use Rattle.ob0_types_table.specs.Tables.{type_shape}
 use Rattle.ob0_types_table.specs.declared.known.Field.{Field}
 use Rattle.ob0_run_lowering.proofs.LaidOut.{laid_begins, laid_ends, laid_goes_on}
-use Rattle.ob0_run_lowering.proofs.types.laid_out.Goals as goal
+use Rattle.ob0_run_lowering.proofs.types.lay_out_record.Goals as goal
 
 pub loop-field-init : goal.loop-field-init
 loop-field-init c = λ shapes laid. laid_begins shapes c.args.fields.now c.new-offsets.result.items c.new-offsets.ensures.items
