@@ -1,9 +1,10 @@
 //! Another name in a file's text.
 
-ghost use Rattle.std.specs.Prelude.{◌≡◌, ◌≢◌, ◌≤◌, true, IfOk, IfErr, OnOk};
+ghost use Rattle.std.specs.Prelude.{◌≡◌, ◌≢◌, ◌≤◌, true, false, IfOk, IfErr, OnOk, length};
 ghost use Rattle.ob0_commands.specs.Outputs.{IsHandedOn};
 ghost use Rattle.ob0_commands.specs.Renamed.{IsRefusal, PrintsEdited, PrintsNoName, PrintsRenamed};
-ghost use Rattle.ob0_commands.specs.Statuses.{CanNotReport, HasNoText, IsOfOutput, IsStatus, StopsPrinting, StopsPrintingFaults};
+ghost use Rattle.ob0_commands.specs.Statuses.{AllocatesFor, CanNotReport, HasNoText, IsOfOutput, IsStatus, PrintsNothing, StopsPrinting, StopsPrintingFaults};
+ghost use Rattle.ob0_scan.specs.Scanned.{max_text};
 
 use crate::checking::{analyse, print_diagnoses, text_of};
 use crate::faults::{FileFault, print_fault};
@@ -34,6 +35,8 @@ pub fn rename_text<O: Output, E: Output>(
     ensures readable { result ≢ 4 → ¬ HasNoText file.now }
     ensures unfailed { result ≢ 4 → O.has_failed out.new ≡ O.has_failed out.old }
     ensures unreported { result ≡ 4 → CanNotReport file.now (O.has_failed out.new) }
+    ensures memory { result ≡ 5 → length file.now ≤ max_text }
+    ensures unprinted { ¬ (result ≤ 1) → O.has_failed out.new ≡ false → out.new ≡ out.old }
 {
     match rename_file(alloc, file, position, new, out, err) {
         Ok(status) => status,
@@ -62,6 +65,8 @@ fn rename_file<O: Output, E: Output>(
     ensures fault { IfErr result (StopsPrintingFaults file.now) }
     ensures failed { IfErr result
         (IsOfOutput (O.has_failed out.old) (O.has_failed out.new)) }
+    ensures memory { IfErr result (AllocatesFor file.now) }
+    ensures kept { IfErr result (PrintsNothing out.old out.new) }
 {
     let Some(text) = text_of(file, out)? else {
         return Ok(1);
@@ -89,6 +94,7 @@ fn rename_in_text<O: Output, E: Output>(
     ensures fault { IfErr result StopsPrinting }
     ensures failed { IfErr result
         (IsOfOutput (O.has_failed out.old) (O.has_failed out.new)) }
+    ensures kept { IfErr result (PrintsNothing out.old out.new) }
 {
     let store = Lines::from_str(alloc, text)?;
     let analysis = analyse(alloc, text)?;
@@ -121,6 +127,7 @@ pub fn print_edited<T: TextStore, O: Output, E: Output>(
     ensures fault { IfErr result StopsPrinting }
     ensures failed { IfErr result
         (IsOfOutput (O.has_failed out.old) (O.has_failed out.new)) }
+    ensures kept { IfErr result (PrintsNothing out.old out.new) }
 {
     match edits {
         Ok(edits) => match patch(alloc, store, edits.as_slice()) {

@@ -1,14 +1,16 @@
 //! Running a file's module: its input, and what a run outputs.
 
-ghost use Rattle.std.specs.Prelude.{◌≡◌, ◌≢◌, ◌≤◌, ◌++◌, true, IfOk, IfErr, IfNone, MatchOption, MatchResult, OnOk, option_map, string_bytes};
+ghost use Rattle.std.specs.Prelude.{◌≡◌, ◌≢◌, ◌≤◌, ◌++◌, true, false, IfOk, IfErr, IfNone, MatchOption, MatchResult, OnOk, length, option_map, string_bytes};
 ghost use Rattle.std.specs.Io.KnownBytes.{Appends};
 ghost use Rattle.ob0_tree.specs.Parsed.{named_tree_of};
+ghost use Rattle.ob0_scan.specs.Scanned.{max_text};
+ghost use Rattle.ob0_analysis.specs.Diagnosed.{IsWellTypedModule};
 ghost use Rattle.ob0_run.specs.Outcomes.{run_of};
 ghost use Rattle.ob0_run.specs.Programs as lowered;
 ghost use Rattle.ob0_run.specs.States.{item_of, items_out};
 ghost use Rattle.ob0_commands.specs.Inputs.{TakesAtMost};
 ghost use Rattle.ob0_commands.specs.Printed.{IsWrittenBut, PrintsFaults, end_line, output_text, written_text};
-ghost use Rattle.ob0_commands.specs.Statuses.{CanNotRun, HasNoText, IsOfInput, IsOfOutput, IsStatus, StopsPrinting, StopsRunning, status_at};
+ghost use Rattle.ob0_commands.specs.Statuses.{AllocatesFor, CanNotRun, HasNoText, IsOfInput, IsOfOutput, IsStatus, PrintsNoOutput, PrintsNothing, StopsPrinting, StopsRunning, status_at};
 ghost use Rattle.ob0_commands.specs.TextRuns.{IsLoweredTo, PrintsDone, PrintsOther, TextRunsAs};
 
 use crate::checking::{print_diagnoses, text_of};
@@ -64,6 +66,9 @@ pub fn run_text<R: Input, O: Output, E: Output>(
     ensures unfailed { result ≢ 4 → O.has_failed out.new ≡ O.has_failed out.old }
     ensures unreported { result ≡ 4 → CanNotRun file.now (R.remaining input.old)
         (R.has_failed input.new) (O.has_failed out.new) }
+    ensures memory { result ≡ 5 → length file.now ≤ max_text }
+    ensures unread { ¬ IsWellTypedModule file.now → input.new ≡ input.old }
+    ensures unprinted { result ≡ 4 → O.has_failed out.new ≡ false → out.new ≡ out.old }
 {
     match run_file(alloc, file, input, calls, turns, out, err) {
         Ok(status) => status,
@@ -97,6 +102,9 @@ fn run_file<R: Input, O: Output, E: Output>(
         (StopsRunning file.now (R.remaining input.old) (R.has_failed input.new)) }
     ensures failed { IfErr result
         (IsOfOutput (O.has_failed out.old) (O.has_failed out.new)) }
+    ensures memory { IfErr result (AllocatesFor file.now) }
+    ensures kept { IfErr result (PrintsNoOutput out.old out.new) }
+    ensures unread { ¬ IsWellTypedModule file.now → input.new ≡ input.old }
 {
     let Some(text) = text_of(file, out)? else {
         return Ok(1);
@@ -123,6 +131,7 @@ fn lower_text<O: Output>(
     ensures fault { IfErr result StopsPrinting }
     ensures failed { IfErr result
         (IsOfOutput (O.has_failed out.old) (O.has_failed out.new)) }
+    ensures kept { IfErr result (PrintsNothing out.old out.new) }
 {
     let analysis = Analysis::of(alloc, text)?;
     match ask(alloc, &analysis, &LoweringQuestion {})? {

@@ -12,4 +12,5 @@ returns g c =
       unfailed = refl;
       fault = tt;
       failed = tt;
+      kept = tt;
     }
