@@ -4,6 +4,7 @@ ghost use Rattle.std.specs.Prelude.{◌≡◌, ◌≢◌, ◌<◌, ◌≤◌, �
 ghost use Rattle.std.specs.Io.KnownBytes.{Appends};
 ghost use Rattle.std.specs.Mem.{manually_drop_value};
 ghost use Rattle.ob0_commands.specs.Printed.{PrintsFaults, complaint_lines, line_at, lines_at};
+ghost use Rattle.ob0_commands.specs.Said.{NamesFault, Says};
 ghost use Rattle.ob0_commands.specs.Statuses.{AllocatesFor, CanNotReport, HasNoText, IsOfOutput, IsStatus, PrintsNothing, StopsPrinting, StopsPrintingFaults};
 ghost use Rattle.ob0_commands.specs.declared.faults.FileFault.TheVariants as faults;
 ghost use Rattle.ob0_scan.specs.Scanned.{max_text};
@@ -33,6 +34,11 @@ pub fn check_text<O: Output, E: Output>(alloc: Global, file: &[u8], out: &mut O,
     ensures unreported { result ≡ 4 → CanNotReport file.now (O.has_failed out.new) }
     ensures memory { result ≡ 5 → length file.now ≤ max_text }
     ensures unprinted { ¬ (result ≤ 1) → O.has_failed out.new ≡ false → out.new ≡ out.old }
+    ensures silent { result ≤ 1 → err.new ≡ err.old }
+    ensures named { ¬ (result ≤ 1) → NamesFault result
+        (λ fault. StopsPrintingFaults file.now fault
+        × IsOfOutput (O.has_failed out.old) (O.has_failed out.new) fault)
+        (Says E.contents E.has_failed err.old err.new) }
 {
     match check(alloc, file, out) {
         Ok(Some(_text)) => 0,
