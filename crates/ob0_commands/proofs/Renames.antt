@@ -29,6 +29,6 @@ prints_renamed text place new (Ok edits) before after h p = record { edits = edi
 prints_renamed text place new (Err refusal) before after h p = absurd p
 
 pub refuses_name : (text : List ℕ) (place : Position) (new : List ℕ) (outcome : Result (Vec Edit Global) EditRefusal) (before after : Option (List ℕ))
-    → FindsNewName Utf16 (chars text) place new (Some outcome) → IsRefusal outcome → after ≡ before → RefusesName text place new before after
-refuses_name text place new (Ok edits) before after h p e = absurd p
-refuses_name text place new (Err refusal) before after h p e = record { refusal = refusal; refused = h; nothing = e }
+    → FindsNewName Utf16 (chars text) place new (Some outcome) → (Said : Option (List ℕ) → Type 0) → IsRefusal outcome Said → after ≡ before → RefusesName text place new before after Said
+refuses_name text place new (Ok edits) before after h Said p e = absurd p
+refuses_name text place new (Err refusal) before after h Said p e = record { refusal = refusal; refused = h; nothing = e; said = p }

@@ -1,5 +1,5 @@
 -- What is printed of a text's run is printed of the file's run.
-use Rattle.std.proofs.Common.{◌≡◌, ◌≢◌, ℕ, ℤ, Bool, List, Option, Result, Ok, Err, IfOk, IfSome, OnOk, inl, inr, refl, subst, arith}
+use Rattle.std.proofs.Common.{◌≡◌, ◌≢◌, ℕ, ℤ, Bool, List, Option, None, Result, Ok, Err, IfOk, IfSome, OnOk, inl, inr, refl, subst, arith}
 use Rattle.std.specs.Io.KnownBytes.{Appends}
 use Rattle.ob0_analysis.specs.Diagnosed.{IsWellTypedModule}
 use Rattle.ob0_run_lowering.specs.declared.programs.Program.{Program}
@@ -12,7 +12,7 @@ use Rattle.ob0_run.specs.States.{items_out}
 use Rattle.ob0_commands.specs.declared.faults.FileFault.{FileFault}
 use Rattle.ob0_commands.specs.declared.faults.FileFault.TheVariants as fault
 use Rattle.ob0_commands.specs.Numbers.{HasNoNumbers, IsInputOf}
-use Rattle.ob0_commands.specs.Printed.{PrintsFaults, output_text}
+use Rattle.ob0_commands.specs.Printed.{PrintsFaults, end_line, output_text}
 use Rattle.ob0_commands.specs.Statuses.{HasNoText, StopsFor, StopsRunning, status_at}
 use Rattle.ob0_commands.specs.TextRuns.{IsLoweredTo, PrintsDone, PrintsOther, PrintsRun, TextRunsAs}
 
@@ -51,12 +51,14 @@ pub prints_done : (file : List ℕ) (given : Option (List ℕ)) (c t n : ℕ) (b
 prints_done file given c t n before after o printed is zero = (run_of o, printed, done o.end n is zero)
 
 pub prints_other : (file : List ℕ) (given : Option (List ℕ)) (c t n : ℕ) (before after : Option (List ℕ)) (o : Outcome) → PrintsRun file given c t before after (run_of o) → n ≡ status_at o.end → n ≡ 1
-    → PrintsOther file given c t before after
-prints_other file given c t n before after o printed is one = inr (run_of o, printed, ended_otherwise o.end n is one)
+    → (Said : Option (List ℕ) → Type 0) → Said (end_line o.end) → PrintsOther file given c t before after Said
+prints_other file given c t n before after o printed is one Said says =
+    inr (record { r = run_of o; prints = printed; otherwise = ended_otherwise o.end n is one; last = o.end; ends = refl; said = says })
 
-pub prints_wrong : (file text : List ℕ) (given : Option (List ℕ)) (c t : ℕ) (before mid after : Option (List ℕ)) → text ≡ file → mid ≡ before → PrintsFaults text mid after → PrintsOther file given c t before after
-prints_wrong file text given c t before mid after same kept wrong =
-    inl (subst (λ (b : Option (List ℕ)). PrintsFaults file b after) kept (subst (λ (f : List ℕ). PrintsFaults f mid after) same wrong))
+pub prints_wrong : (file text : List ℕ) (given : Option (List ℕ)) (c t : ℕ) (before mid after : Option (List ℕ)) → text ≡ file → mid ≡ before → PrintsFaults text mid after
+    → (Said : Option (List ℕ) → Type 0) → Said None → PrintsOther file given c t before after Said
+prints_wrong file text given c t before mid after same kept wrong Said silent =
+    inl (subst (λ (b : Option (List ℕ)). PrintsFaults file b after) kept (subst (λ (f : List ℕ). PrintsFaults f mid after) same wrong), silent)
 
 -- there is no input for a run
 pub stops_reading : (file text : List ℕ) (program : Program) (given : Option (List ℕ)) (failed : Bool) (Otherwise : Type 0) (f : FileFault) → text ≡ file → IsLoweredTo text program → ¬ (HasNoText file)
@@ -65,6 +67,11 @@ stops_reading file text program given failed Otherwise f same lowered readable (
     let module_there : IsWellTypedModule text = record { tree = lowered.tree; text_of = lowered.text_of; well_typed = lowered.well_typed } in
     inl (none.0, (subst IsWellTypedModule same module_there, none.1))
 stops_reading file text program given failed Otherwise f same lowered readable (inr memory) = inr (inr (inr memory.0, readable))
+
+-- what follows from three facts of a value
+pub from_all : {X E A B : Type 0} {P Q : X → Type 0} (r : Result X E) → ((x : X) → P x → A → B → Q x) → IfOk r P → OnOk r A → OnOk r B → IfOk r Q
+from_all (Ok x) f p a b = f x p a b
+from_all (Err e) f p a b = tt
 
 -- what follows from two facts of a value
 pub from_both : {X E A : Type 0} {P Q : X → Type 0} (r : Result X E) → ((x : X) → P x → A → Q x) → IfOk r P → OnOk r A → IfOk r Q

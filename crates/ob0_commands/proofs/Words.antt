@@ -5,7 +5,7 @@ use Rattle.std.proofs.lemmas.Bool.Decides.{nat_tests}
 use Rattle.std.proofs.lemmas.Str.Parse.{digit_from_value}
 use Rattle.std.specs.Bool.{⊤}
 use Rattle.std.specs.List.{position_or_len}
-use Rattle.std.specs.Str.Parse.{AllDigits, IsNumeral, without_leading_sign}
+use Rattle.std.specs.Str.Parse.{AllDigits, IsNumeral}
 use Rattle.ob0_commands.specs.Numbers.{EndsWord, IsListOfNumbers, WritesNumber, WritesNumbers, nothing, number, space}
 use Rattle.ob0_scan.specs.Classes.{is_space}
 

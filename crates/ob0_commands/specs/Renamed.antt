@@ -1,6 +1,6 @@
 -- What is printed of a file's text with another name.
 -- Rule: docs/PROTOCOL.md, The program 3.
-use Rattle.std.specs.Prelude.{◌≡◌, ◌⊎◌, ⊤, ℕ, List, Option, Some, Result, Ok, Err, Vec}
+use Rattle.std.specs.Prelude.{◌≡◌, ◌⊎◌, ℕ, List, Option, Some, None, Result, Ok, Err, Vec}
 use Rattle.std.specs.declared.alloc.Global.{Global}
 use Rattle.std.specs.Io.KnownBytes.{Appends}
 use Rattle.std.specs.Str.{chars}
@@ -13,6 +13,7 @@ use Rattle.ob0_text.specs.declared.position_types.Unit.TheVariants.{Utf16}
 use Rattle.ob0_text.specs.declared.refusals.EditRefusal.{EditRefusal}
 use Rattle.ob0_rename.specs.InTexts.{IsRefusedIn, RenamesIn}
 use Rattle.ob0_commands.specs.Printed.{PrintsFaults}
+use Rattle.ob0_commands.specs.Said.{refused_line}
 
 -- known bytes grow by the text that edits make
 pub record PrintsPatched (unit : Unit) (content : List ℕ) (edits : List Edit)
@@ -32,10 +33,12 @@ PrintsEdited unit content (Ok edits) before after =
     PrintsPatched unit content edits.items before after
 PrintsEdited unit content (Err refusal) before after = ⊥
 
--- there are no edits, for a reason
-abbrev pub IsRefusal : Result (Vec Edit Global) EditRefusal → Type 0
-IsRefusal (Ok edits) = ⊥
-IsRefusal (Err refusal) = ⊤
+-- there are no edits, for a reason, and it is named
+abbrev pub IsRefusal : Result (Vec Edit Global) EditRefusal
+    → (Option (List ℕ) → Type 0)
+    → Type 0
+IsRefusal (Ok edits) Said = ⊥
+IsRefusal (Err refusal) Said = Said (Some (refused_line refusal))
 
 -- Edits write the name in the file's text, in positions that count UTF-16 units, and the text that
 -- they make is printed.
@@ -45,14 +48,22 @@ pub record PrintsRenamed (file : List ℕ) (position : Position) (new : List ℕ
   pub rename : RenamesIn Utf16 (chars file) position new edits
   pub prints : PrintsPatched Utf16 (chars file) edits before after
 
--- the name is refused, and nothing printed
+-- the name is refused, the refusal named, and no text printed
 pub record RefusesName (file : List ℕ) (position : Position) (new : List ℕ)
-    (before after : Option (List ℕ)) : Type 0 where
+    (before after : Option (List ℕ)) (Said : Option (List ℕ) → Type 0) : Type 0 where
   pub refusal : EditRefusal
   pub refused : IsRefusedIn Utf16 (chars file) position new refusal
   pub nothing : after ≡ before
+  pub said : Said (Some (refused_line refusal))
 
--- the name is refused, or it is reported what is wrong with the file
-abbrev pub PrintsNoName : List ℕ → Position → List ℕ → Option (List ℕ) → Option (List ℕ) → Type 0
-PrintsNoName file position new before after =
-    PrintsFaults file before after ⊎ RefusesName file position new before after
+-- the name is refused, or it is reported what is wrong with the file, and no refusal named
+abbrev pub PrintsNoName : List ℕ
+    → Position
+    → List ℕ
+    → Option (List ℕ)
+    → Option (List ℕ)
+    → (Option (List ℕ) → Type 0)
+    → Type 0
+PrintsNoName file position new before after Said =
+    (PrintsFaults file before after × Said None)
+    ⊎ RefusesName file position new before after Said

@@ -1,6 +1,6 @@
 -- The run of the module that a text is, and how it is printed.
 -- Rule: docs/PROTOCOL.md, The program 2.
-use Rattle.std.specs.Prelude.{◌≡◌, ◌≢◌, ◌⊎◌, ℕ, ℤ, List, Option, IfSome}
+use Rattle.std.specs.Prelude.{◌≡◌, ◌≢◌, ◌⊎◌, ℕ, ℤ, List, Option, None, IfSome}
 use Rattle.std.specs.Io.KnownBytes.{Appends}
 use Rattle.ob0_tree.specs.Tree.{Tree, module_text}
 use Rattle.ob0_scope_rules.specs.Names.{Name}
@@ -10,9 +10,10 @@ use Rattle.ob0_analysis.specs.Diagnosed.{IsTextOf}
 use Rattle.ob0_run.specs.Outcomes.{end_in}
 use Rattle.ob0_run.specs.Programs as lowered
 use Rattle.ob0_run_lowering.specs.declared.programs.Program.{Program}
+use Rattle.ob0_run.specs.declared.running.End.{End}
 use Rattle.ob0_run.specs.declared.running.End.TheVariants as end
 use Rattle.ob0_commands.specs.Numbers.{IsInputOf}
-use Rattle.ob0_commands.specs.Printed.{PrintsFaults, output_text}
+use Rattle.ob0_commands.specs.Printed.{PrintsFaults, end_line, output_text}
 
 -- the text is a well-typed module, and this is its run
 pub record TextRunsAs (text : List ℕ) (input : List ℤ) (c t : ℕ) (r : Run) : Type 0 where
@@ -48,14 +49,26 @@ abbrev pub PrintsDone : List ℕ
 PrintsDone file given c t before after =
     (r : Run) × PrintsRun file given c t before after r × (r.ending ≡ end_in end.Done)
 
--- a run that ends otherwise is printed, or what is wrong with the file
+-- a run that ends otherwise is printed, and its end is named
+pub record PrintsEnded (file : List ℕ) (given : Option (List ℕ)) (c t : ℕ)
+    (before after : Option (List ℕ)) (Said : Option (List ℕ) → Type 0) : Type 0 where
+  pub r : Run
+  pub prints : PrintsRun file given c t before after r
+  pub otherwise : r.ending ≢ end_in end.Done
+  pub last : End
+  pub ends : r.ending ≡ end_in last
+  pub said : Said (end_line last)
+
+-- a run that ends otherwise is printed, and its end is named,
+-- or what is wrong with the file is printed, and no end is named
 abbrev pub PrintsOther : List ℕ
     → Option (List ℕ)
     → ℕ
     → ℕ
     → Option (List ℕ)
     → Option (List ℕ)
+    → (Option (List ℕ) → Type 0)
     → Type 0
-PrintsOther file given c t before after =
-    PrintsFaults file before after
-    ⊎ ((r : Run) × PrintsRun file given c t before after r × (r.ending ≢ end_in end.Done))
+PrintsOther file given c t before after Said =
+    (PrintsFaults file before after × Said None)
+    ⊎ PrintsEnded file given c t before after Said

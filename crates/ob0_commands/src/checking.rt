@@ -1,10 +1,12 @@
 //! Printing what is wrong with a file.
 
-ghost use Rattle.std.specs.Prelude.{◌≡◌, ◌≢◌, ◌<◌, ◌≤◌, ◌++◌, [], true, IfOk, IfNone, MatchOption, OnOk, IfErr, codes, length, map, string_bytes};
+ghost use Rattle.std.specs.Prelude.{◌≡◌, ◌≢◌, ◌<◌, ◌≤◌, ◌++◌, [], true, false, IfOk, IfNone, IfSome, MatchOption, OnOk, IfErr, codes, length, map, string_bytes};
 ghost use Rattle.std.specs.Io.KnownBytes.{Appends};
 ghost use Rattle.std.specs.Mem.{manually_drop_value};
 ghost use Rattle.ob0_commands.specs.Printed.{PrintsFaults, complaint_lines, line_at, lines_at};
-ghost use Rattle.ob0_commands.specs.Statuses.{CanNotReport, HasNoText, IsOfOutput, IsStatus, StopsPrinting, StopsPrintingFaults};
+ghost use Rattle.ob0_commands.specs.Said.{NamesFault, Says};
+ghost use Rattle.ob0_commands.specs.Statuses.{AllocatesFor, CanNotReport, HasNoText, IsOfOutput, IsStatus, PrintsNothing, StopsPrinting, StopsPrintingFaults};
+ghost use Rattle.ob0_commands.specs.declared.faults.FileFault.TheVariants as faults;
 ghost use Rattle.ob0_scan.specs.Scanned.{max_text};
 ghost use Rattle.ob0_analysis.specs.Diagnosed.{Reports, complaint_in};
 
@@ -30,6 +32,13 @@ pub fn check_text<O: Output, E: Output>(alloc: Global, file: &[u8], out: &mut O,
     ensures readable { result ≢ 4 → ¬ HasNoText file.now }
     ensures unfailed { result ≢ 4 → O.has_failed out.new ≡ O.has_failed out.old }
     ensures unreported { result ≡ 4 → CanNotReport file.now (O.has_failed out.new) }
+    ensures memory { result ≡ 5 → length file.now ≤ max_text }
+    ensures unprinted { ¬ (result ≤ 1) → O.has_failed out.new ≡ false → out.new ≡ out.old }
+    ensures silent { result ≤ 1 → err.new ≡ err.old }
+    ensures named { ¬ (result ≤ 1) → NamesFault result
+        (λ fault. StopsPrintingFaults file.now fault
+        × IsOfOutput (O.has_failed out.old) (O.has_failed out.new) fault)
+        (Says E.contents E.has_failed err.old err.new) }
 {
     match check(alloc, file, out) {
         Ok(Some(_text)) => 0,
@@ -54,6 +63,8 @@ pub fn check<'f, O: Output>(
     ensures fault { IfErr result (StopsPrintingFaults file.entry.now) }
     ensures failed { IfErr result
         (IsOfOutput (O.has_failed out.old) (O.has_failed out.new)) }
+    ensures memory { IfErr result (AllocatesFor file.entry.now) }
+    ensures kept { IfErr result (PrintsNothing out.old out.new) }
 {
     let Some(text) = text_of(file, out)? else {
         return Ok(None);
@@ -94,6 +105,9 @@ pub fn text_of<'f, O: Output>(file: &'f [u8], out: &mut O) -> Result<Option<&'f 
     ensures fault { IfErr result (StopsPrintingFaults file.entry.now) }
     ensures failed { IfErr result
         (IsOfOutput (O.has_failed out.old) (O.has_failed out.new)) }
+    ensures short { IfOk result (λ found. IfSome found (λ _. length file.entry.now ≤ max_text)) }
+    ensures memory { IfErr result (λ fault. fault ≢ faults.Memory) }
+    ensures kept { IfErr result (PrintsNothing out.old out.new) }
 {
     if file.len() >= MAX_FILE {
         print(out, "0:0: TooLong: text too long\n")?;
@@ -119,6 +133,7 @@ pub fn print_diagnoses<O: Output>(
     ensures fault { IfErr result StopsPrinting }
     ensures failed { IfErr result
         (IsOfOutput (O.has_failed out.old) (O.has_failed out.new)) }
+    ensures kept { IfErr result (PrintsNothing out.old out.new) }
 {
     print(out, lines_of(alloc, text, reported)?.as_str())
 }

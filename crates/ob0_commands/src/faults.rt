@@ -1,7 +1,8 @@
 //! Why a command on a file failed.
 
-ghost use Rattle.std.specs.Prelude.{◌≡◌, ◌≤◌};
+ghost use Rattle.std.specs.Prelude.{◌≡◌, ◌≤◌, Some};
 ghost use Rattle.ob0_commands.specs.Printed.{fault_line};
+ghost use Rattle.ob0_commands.specs.Said.{Says};
 ghost use Rattle.ob0_commands.specs.Statuses.{status_of};
 
 use crate::printing::{Output, print};
@@ -74,6 +75,7 @@ impl<T: Drop> From<AllocFailed<T>> for FileFault {
 pub fn print_fault<E: Output>(fault: FileFault, err: &mut E) -> u8
     ensures status { result ≡ status_of fault }
     ensures fails { 4 ≤ result }
+    ensures said { Says E.contents E.has_failed err.old err.new (Some (fault_line fault)) }
 {
     let _ = print(err, fault.line());
     fault.status()

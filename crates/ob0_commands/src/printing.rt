@@ -1,10 +1,11 @@
 //! Printing whole texts.
 
-ghost use Rattle.std.specs.Prelude.{◌≡◌, ◌||◌, Bool, true, false, is_err, OnOk, OnErr, IfErr};
+ghost use Rattle.std.specs.Prelude.{◌≡◌, ◌≢◌, ◌||◌, [], Bool, Some, true, false, is_err, OnOk, OnErr, IfErr};
 ghost use Rattle.std.specs.Io.{WritesAtMost};
 ghost use Rattle.std.specs.Io.KnownBytes.{Appends, Keeps, WriteAppends};
 ghost use Rattle.ob0_commands.specs.declared.faults.FileFault.TheVariants as faults;
 ghost use Rattle.ob0_commands.specs.Outputs.{output_device, output_failed, has_flushed};
+ghost use Rattle.ob0_commands.specs.Said.{Says};
 
 use crate::faults::FileFault;
 use std::io::{self, Write};
@@ -21,6 +22,7 @@ pub trait Output: Write {
     fn put_all(&mut self, bytes: &[u8]) -> io::Result<()>
         ensures bytes { OnOk result
             (Appends (Self.contents self.old) (Self.contents self.new) bytes.now) }
+        ensures unflushed { bytes.now ≢ [] → is_flushed self.new ≡ false }
         ensures failed { has_failed self.new ≡ (has_failed self.old || is_err result) };
 
     /// Flushes, and remembers whether this succeeded.
@@ -61,12 +63,18 @@ impl<W: Write> Write for Flushed<W> {
         ensures bytes { WriteAppends (W.contents (output_device self.old))
             (W.contents (output_device self.new)) result buf.now }
         ensures flushed { has_flushed self.new ≡ false }
+        ensures kept { output_failed self.new ≡ output_failed self.old }
     {
         self.has_flushed = false;
         self.device.write(buf)
     }
 
-    fn flush(&mut self) -> io::Result<()> {
+    fn flush(&mut self) -> io::Result<()>
+        ensures bytes { Keeps (W.contents (output_device self.old))
+            (W.contents (output_device self.new)) }
+        ensures flushed { has_flushed self.new ≡ has_flushed self.old }
+        ensures kept { output_failed self.new ≡ output_failed self.old }
+    {
         self.device.flush()
     }
 }
@@ -121,6 +129,7 @@ pub fn print<W: Output>(out: &mut W, text: &str) -> Result<(), FileFault>
     ensures unfailed { OnOk result (W.has_failed out.new ≡ W.has_failed out.old) }
     ensures fault { IfErr result (λ fault. fault ≡ faults.Write) }
     ensures failed { OnErr result (W.has_failed out.new ≡ true) }
+    ensures said { Says W.contents W.has_failed out.old out.new (Some text.now) }
 {
     write(out, text)?;
     match out.hand_on() {

@@ -1,9 +1,11 @@
 //! Another name in a file's text.
 
-ghost use Rattle.std.specs.Prelude.{◌≡◌, ◌≢◌, ◌≤◌, true, IfOk, IfErr, OnOk};
+ghost use Rattle.std.specs.Prelude.{◌≡◌, ◌≢◌, ◌≤◌, true, false, IfOk, IfErr, OnOk, OnErr, length};
 ghost use Rattle.ob0_commands.specs.Outputs.{IsHandedOn};
 ghost use Rattle.ob0_commands.specs.Renamed.{IsRefusal, PrintsEdited, PrintsNoName, PrintsRenamed};
-ghost use Rattle.ob0_commands.specs.Statuses.{CanNotReport, HasNoText, IsOfOutput, IsStatus, StopsPrinting, StopsPrintingFaults};
+ghost use Rattle.ob0_commands.specs.Said.{NamesFault, Says};
+ghost use Rattle.ob0_commands.specs.Statuses.{AllocatesFor, CanNotReport, HasNoText, IsOfOutput, IsStatus, PrintsNothing, StopsPrinting, StopsPrintingFaults};
+ghost use Rattle.ob0_scan.specs.Scanned.{max_text};
 
 use crate::checking::{analyse, print_diagnoses, text_of};
 use crate::faults::{FileFault, print_fault};
@@ -27,13 +29,21 @@ pub fn rename_text<O: Output, E: Output>(
     ensures renamed { result ≡ 0
         → PrintsRenamed file.now position new.now (O.contents out.old) (O.contents out.new) }
     ensures other { result ≡ 1
-        → PrintsNoName file.now position new.now (O.contents out.old) (O.contents out.new) }
+        → PrintsNoName file.now position new.now (O.contents out.old) (O.contents out.new)
+        (Says E.contents E.has_failed err.old err.new) }
     ensures flushed { result ≡ 0 → O.is_flushed out.new ≡ true }
     ensures handed_on { result ≡ 1 → IsHandedOn (O.is_flushed out.new) out.old out.new }
     ensures statuses { IsStatus result }
     ensures readable { result ≢ 4 → ¬ HasNoText file.now }
     ensures unfailed { result ≢ 4 → O.has_failed out.new ≡ O.has_failed out.old }
     ensures unreported { result ≡ 4 → CanNotReport file.now (O.has_failed out.new) }
+    ensures memory { result ≡ 5 → length file.now ≤ max_text }
+    ensures unprinted { ¬ (result ≤ 1) → O.has_failed out.new ≡ false → out.new ≡ out.old }
+    ensures silent { result ≡ 0 → err.new ≡ err.old }
+    ensures named { ¬ (result ≤ 1) → NamesFault result
+        (λ fault. StopsPrintingFaults file.now fault
+        × IsOfOutput (O.has_failed out.old) (O.has_failed out.new) fault)
+        (Says E.contents E.has_failed err.old err.new) }
 {
     match rename_file(alloc, file, position, new, out, err) {
         Ok(status) => status,
@@ -52,7 +62,8 @@ fn rename_file<O: Output, E: Output>(
     ensures renamed { IfOk result (λ status. status ≡ 0
         → PrintsRenamed file.now position new.now (O.contents out.old) (O.contents out.new)) }
     ensures other { IfOk result (λ status. status ≡ 1
-        → PrintsNoName file.now position new.now (O.contents out.old) (O.contents out.new)) }
+        → PrintsNoName file.now position new.now (O.contents out.old) (O.contents out.new)
+        (Says E.contents E.has_failed err.old err.new)) }
     ensures flushed { IfOk result (λ status. status ≡ 0 → O.is_flushed out.new ≡ true) }
     ensures handed_on { IfOk result
         (λ status. status ≡ 1 → IsHandedOn (O.is_flushed out.new) out.old out.new) }
@@ -62,6 +73,10 @@ fn rename_file<O: Output, E: Output>(
     ensures fault { IfErr result (StopsPrintingFaults file.now) }
     ensures failed { IfErr result
         (IsOfOutput (O.has_failed out.old) (O.has_failed out.new)) }
+    ensures memory { IfErr result (AllocatesFor file.now) }
+    ensures kept { IfErr result (PrintsNothing out.old out.new) }
+    ensures silent { IfOk result (λ status. status ≡ 0 → err.new ≡ err.old) }
+    ensures unsaid { OnErr result (err.new ≡ err.old) }
 {
     let Some(text) = text_of(file, out)? else {
         return Ok(1);
@@ -80,7 +95,8 @@ fn rename_in_text<O: Output, E: Output>(
     ensures renamed { IfOk result (λ status. status ≡ 0
         → PrintsRenamed text.now position new.now (O.contents out.old) (O.contents out.new)) }
     ensures other { IfOk result (λ status. status ≡ 1
-        → PrintsNoName text.now position new.now (O.contents out.old) (O.contents out.new)) }
+        → PrintsNoName text.now position new.now (O.contents out.old) (O.contents out.new)
+        (Says E.contents E.has_failed err.old err.new)) }
     ensures flushed { IfOk result (λ status. status ≡ 0 → O.is_flushed out.new ≡ true) }
     ensures handed_on { IfOk result
         (λ status. status ≡ 1 → IsHandedOn (O.is_flushed out.new) out.old out.new) }
@@ -89,6 +105,9 @@ fn rename_in_text<O: Output, E: Output>(
     ensures fault { IfErr result StopsPrinting }
     ensures failed { IfErr result
         (IsOfOutput (O.has_failed out.old) (O.has_failed out.new)) }
+    ensures kept { IfErr result (PrintsNothing out.old out.new) }
+    ensures silent { IfOk result (λ status. status ≡ 0 → err.new ≡ err.old) }
+    ensures unsaid { OnErr result (err.new ≡ err.old) }
 {
     let store = Lines::from_str(alloc, text)?;
     let analysis = analyse(alloc, text)?;
@@ -114,13 +133,17 @@ pub fn print_edited<T: TextStore, O: Output, E: Output>(
     ensures edited { IfOk result (λ status. status ≡ 0
         → PrintsEdited (T.unit_of store.now) (T.content store.now) edits (O.contents out.old)
         (O.contents out.new)) }
-    ensures refused { IfOk result (λ status. status ≡ 1 → IsRefusal edits × (out.new ≡ out.old)) }
+    ensures refused { IfOk result (λ status. status ≡ 1
+        → IsRefusal edits (Says E.contents E.has_failed err.old err.new) × (out.new ≡ out.old)) }
     ensures flushed { IfOk result (λ status. status ≡ 0 → O.is_flushed out.new ≡ true) }
     ensures ends { IfOk result (λ status. status ≤ 1) }
     ensures unfailed { OnOk result (O.has_failed out.new ≡ O.has_failed out.old) }
     ensures fault { IfErr result StopsPrinting }
     ensures failed { IfErr result
         (IsOfOutput (O.has_failed out.old) (O.has_failed out.new)) }
+    ensures kept { IfErr result (PrintsNothing out.old out.new) }
+    ensures silent { IfOk result (λ status. status ≡ 0 → err.new ≡ err.old) }
+    ensures unsaid { OnErr result (err.new ≡ err.old) }
 {
     match edits {
         Ok(edits) => match patch(alloc, store, edits.as_slice()) {

@@ -1,14 +1,17 @@
 //! Running a file's module: its input, and what a run outputs.
 
-ghost use Rattle.std.specs.Prelude.{◌≡◌, ◌≢◌, ◌≤◌, ◌++◌, true, IfOk, IfErr, IfNone, MatchOption, MatchResult, OnOk, option_map, string_bytes};
+ghost use Rattle.std.specs.Prelude.{◌≡◌, ◌≢◌, ◌≤◌, ◌++◌, true, false, IfOk, IfErr, IfNone, MatchOption, MatchResult, OnOk, OnErr, length, option_map, string_bytes};
 ghost use Rattle.std.specs.Io.KnownBytes.{Appends};
 ghost use Rattle.ob0_tree.specs.Parsed.{named_tree_of};
+ghost use Rattle.ob0_scan.specs.Scanned.{max_text};
+ghost use Rattle.ob0_analysis.specs.Diagnosed.{IsWellTypedModule};
 ghost use Rattle.ob0_run.specs.Outcomes.{run_of};
 ghost use Rattle.ob0_run.specs.Programs as lowered;
 ghost use Rattle.ob0_run.specs.States.{item_of, items_out};
 ghost use Rattle.ob0_commands.specs.Inputs.{TakesAtMost};
 ghost use Rattle.ob0_commands.specs.Printed.{IsWrittenBut, PrintsFaults, end_line, output_text, written_text};
-ghost use Rattle.ob0_commands.specs.Statuses.{CanNotRun, HasNoText, IsOfInput, IsOfOutput, IsStatus, StopsPrinting, StopsRunning, status_at};
+ghost use Rattle.ob0_commands.specs.Said.{NamesFault, Says};
+ghost use Rattle.ob0_commands.specs.Statuses.{AllocatesFor, CanNotRun, HasNoText, IsOfInput, IsOfOutput, IsStatus, PrintsNoOutput, PrintsNothing, StopsPrinting, StopsRunning, status_at};
 ghost use Rattle.ob0_commands.specs.TextRuns.{IsLoweredTo, PrintsDone, PrintsOther, TextRunsAs};
 
 use crate::checking::{print_diagnoses, text_of};
@@ -55,7 +58,7 @@ pub fn run_text<R: Input, O: Output, E: Output>(
         (O.contents out.new) }
     ensures other { result ≡ 1
         → PrintsOther file.now (R.remaining input.old) calls turns (O.contents out.old)
-        (O.contents out.new) }
+        (O.contents out.new) (Says E.contents E.has_failed err.old err.new) }
     ensures flushed { result ≤ 1 → O.is_flushed out.new ≡ true }
     ensures statuses { IsStatus result }
     ensures readable { result ≢ 4 → ¬ HasNoText file.now }
@@ -64,6 +67,14 @@ pub fn run_text<R: Input, O: Output, E: Output>(
     ensures unfailed { result ≢ 4 → O.has_failed out.new ≡ O.has_failed out.old }
     ensures unreported { result ≡ 4 → CanNotRun file.now (R.remaining input.old)
         (R.has_failed input.new) (O.has_failed out.new) }
+    ensures memory { result ≡ 5 → length file.now ≤ max_text }
+    ensures unread { ¬ IsWellTypedModule file.now → input.new ≡ input.old }
+    ensures unprinted { result ≡ 4 → O.has_failed out.new ≡ false → out.new ≡ out.old }
+    ensures silent { result ≡ 0 → err.new ≡ err.old }
+    ensures named { ¬ (result ≤ 1) → NamesFault result
+        (λ fault. StopsRunning file.now (R.remaining input.old) (R.has_failed input.new) fault
+        × IsOfOutput (O.has_failed out.old) (O.has_failed out.new) fault)
+        (Says E.contents E.has_failed err.old err.new) }
 {
     match run_file(alloc, file, input, calls, turns, out, err) {
         Ok(status) => status,
@@ -85,7 +96,7 @@ fn run_file<R: Input, O: Output, E: Output>(
         (O.contents out.new)) }
     ensures other { IfOk result (λ status. status ≡ 1
         → PrintsOther file.now (R.remaining input.old) calls turns (O.contents out.old)
-        (O.contents out.new)) }
+        (O.contents out.new) (Says E.contents E.has_failed err.old err.new)) }
     ensures flushed { OnOk result (O.is_flushed out.new ≡ true) }
     ensures ends { IfOk result (λ status. status ≤ 1) }
     ensures readable { OnOk result (¬ HasNoText file.now) }
@@ -97,6 +108,11 @@ fn run_file<R: Input, O: Output, E: Output>(
         (StopsRunning file.now (R.remaining input.old) (R.has_failed input.new)) }
     ensures failed { IfErr result
         (IsOfOutput (O.has_failed out.old) (O.has_failed out.new)) }
+    ensures memory { IfErr result (AllocatesFor file.now) }
+    ensures kept { IfErr result (PrintsNoOutput out.old out.new) }
+    ensures unread { ¬ IsWellTypedModule file.now → input.new ≡ input.old }
+    ensures silent { IfOk result (λ status. status ≡ 0 → err.new ≡ err.old) }
+    ensures unsaid { OnErr result (err.new ≡ err.old) }
 {
     let Some(text) = text_of(file, out)? else {
         return Ok(1);
@@ -123,6 +139,7 @@ fn lower_text<O: Output>(
     ensures fault { IfErr result StopsPrinting }
     ensures failed { IfErr result
         (IsOfOutput (O.has_failed out.old) (O.has_failed out.new)) }
+    ensures kept { IfErr result (PrintsNothing out.old out.new) }
 {
     let analysis = Analysis::of(alloc, text)?;
     match ask(alloc, &analysis, &LoweringQuestion {})? {
@@ -183,6 +200,9 @@ pub fn print_outcome<O: Output, E: Output>(
     ensures fault { IfErr result StopsPrinting }
     ensures failed { IfErr result
         (IsOfOutput (O.has_failed out.old) (O.has_failed out.new)) }
+    ensures said { OnOk result (Says E.contents E.has_failed err.old err.new (end_line end)) }
+    ensures silent { IfOk result (λ status. status ≡ 0 → err.new ≡ err.old) }
+    ensures unsaid { OnErr result (err.new ≡ err.old) }
 {
     print_items(alloc, output, out)?;
     match line_of(end) {

@@ -14,4 +14,6 @@ returns g c =
       unfailed = c.in_ok-print_diagnoses.ensures.unfailed ∙ c.in_ok-text.ensures.unfailed;
       fault = tt;
       failed = tt;
+      memory = tt;
+      kept = tt;
     }

@@ -1,4 +1,7 @@
-use Rattle.std.proofs.Common.{refl, sym, subst, arith}
+use Rattle.std.proofs.Common.{Result, Vec, Global, refl, sym, subst, arith, rules}
+use Rattle.ob0_text.specs.declared.edits.Edit.{Edit}
+use Rattle.ob0_text.specs.declared.refusals.EditRefusal.{EditRefusal}
+use Rattle.ob0_commands.specs.Said.{Says}
 use Rattle.ob0_commands.specs.Renamed.{IsRefusal}
 use Rattle.ob0_commands.proofs.renaming.print_edited.Goals as goal
 
@@ -6,10 +9,13 @@ pub returns : goal.returns
 returns g c =
     record {
       edited = λ no. absurd (omega (arith, no));
-      refused = λ one. (subst IsRefusal (sym c.in-Err.is) tt, refl);
+      refused = λ one. (subst (λ (r : Result (Vec Edit Global) EditRefusal). IsRefusal r (Says g.E.Write.contents g.E.Output.has_failed c.args.err.now c.print-in-Err.new.out)) (sym c.in-Err.is) (search rules), refl);
       flushed = λ no. absurd (omega (arith, no));
       ends = omega arith;
       unfailed = refl;
       fault = tt;
       failed = tt;
+      kept = tt;
+      silent = λ no. absurd (omega (arith, no));
+      unsaid = tt;
     }
