@@ -10,7 +10,7 @@ ghost use Rattle.ob0_parse_kept.specs.KeptTokens.{AreKept, CarriesAll, CarriesMa
 
 use crate::moving::{self, Move};
 use ob0_scan::SameTokens;
-use ob0_tree::{Block, ModuleTree, Procedure};
+use ob0_tree::{ModuleTree, Procedure};
 use std::alloc::{AllocError, Global};
 
 /// A procedure that an earlier parse made. Its tokens are those from `at` up to `next`, in which its leaves are moved by
@@ -46,20 +46,8 @@ impl Kept {
     pub fn of(alloc: Global, tree: ModuleTree) -> Kept
         ensures { (s : Scanned) → IsParsed (parsed_by s tree) → AreKept s.tokens result }
     {
-        let ModuleTree {
-            name: _,
-            block,
-            closing: _,
-        } = tree;
-        let Block {
-            constants: _,
-            types: _,
-            variables: _,
-            procedures,
-            body: _,
-        } = block;
         Kept {
-            made: procedures,
+            made: tree.into_block().into_procedures(),
             waiting: Vec::new(alloc),
         }
     }

@@ -9,7 +9,7 @@ use Rattle.ob0_tree.specs.declared.tree.AddOperator.TheVariants as add_operator
 use Rattle.ob0_tree.specs.declared.tree.MultiplyOperator.{MultiplyOperator}
 use Rattle.ob0_tree.specs.declared.tree.MultiplyOperator.TheVariants as multiply_operator
 use Rattle.ob0_types_rules.specs.Expressions.{element_step}
-use Rattle.ob0_values.specs.Values.{Index, Outcome, Overflow, Step, Stuck, Value, add, add_is_settled, at_index, compare_numbers, count_values, divided_by, elements, ends, fits, gives, in_range, multiply, multiply_is_settled, negated, number, or_stuck, quotient, relate, remainder, same_truth, signed, truth, ◌>>=◌}
+use Rattle.ob0_values.specs.Values.{Index, Outcome, Overflow, Step, Stuck, Value, add, add_is_settled, at_index, compare_numbers, count_values, divided, divided_by, elements, ends, fits, gives, in_range, multiply, multiply_is_settled, negated, number, or_stuck, quotient, relate, remainder, same_truth, signed, truth, ◌>>=◌}
 use Rattle.ob0_types_fields.specs.Fields.{FieldNames}
 use Rattle.ob0_rename_laws.proofs.Values.{Finds, count_values-by, step_by, tagged, to_index, value_by}
 
@@ -40,10 +40,9 @@ ValuesFollow l = Follows (value_by tagged) (value_by l)
 pub in_range-follows : (l : FieldNames) (n : ℤ) → ValuesFollow l (in_range n) (in_range n)
 in_range-follows l n = elim (fits n) as (λ b. ValuesFollow l (if b then gives (number n) else ends Overflow) (if b then gives (number n) else ends Overflow)) [ true ↦ (number n, refl, refl) | false ↦ inr refl ]
 
-pub divided_by-follows : (l : FieldNames) (result : ℕ → ℤ) (n : ℤ) → ValuesFollow l (divided_by (λ d. in_range (result d)) n) (divided_by (λ d. in_range (result d)) n)
-divided_by-follows l result (pos zero) = inr refl
-divided_by-follows l result (pos (suc d)) = in_range-follows l (result (suc d))
-divided_by-follows l result (negsuc d) = inr refl
+pub divided_by-follows : (l : FieldNames) (result : Option ℤ) → ValuesFollow l (divided_by result) (divided_by result)
+divided_by-follows l None = inr refl
+divided_by-follows l (Some n) = in_range-follows l n
 
 pub add-follows : (l : FieldNames) (o : AddOperator) (v w : Value) → ValuesFollow l (add o (value_by tagged v) (value_by tagged w)) (add o (value_by l v) (value_by l w))
 add-follows l add_operator.Add (number a) (number b) = in_range-follows l (a +ℤ b)
@@ -53,8 +52,8 @@ add-follows l _ _ _ = inl refl
 
 pub multiply-follows : (l : FieldNames) (o : MultiplyOperator) (v w : Value) → ValuesFollow l (multiply o (value_by tagged v) (value_by tagged w)) (multiply o (value_by l v) (value_by l w))
 multiply-follows l multiply_operator.Multiply (number a) (number b) = in_range-follows l (a *ℤ b)
-multiply-follows l multiply_operator.Divide (number a) (number b) = divided_by-follows l (quotient a) b
-multiply-follows l multiply_operator.Modulo (number a) (number b) = divided_by-follows l (remainder a) b
+multiply-follows l multiply_operator.Divide (number a) (number b) = divided_by-follows l (divided quotient a b)
+multiply-follows l multiply_operator.Modulo (number a) (number b) = divided_by-follows l (divided remainder a b)
 multiply-follows l multiply_operator.And (truth a) (truth b) = (truth _, refl, refl)
 multiply-follows l _ _ _ = inl refl
 

@@ -12,7 +12,7 @@ use Rattle.ob0_tree.specs.Tree.{Tree, addend, adds, compares, designator, end, e
 use Rattle.ob0_scope_rules.specs.Names.{Name}
 use Rattle.ob0_types_rules.specs.Expressions.{Meanings, Object, a_constant, evaluate, evaluate_addends, evaluate_factor, evaluate_multipliers, evaluate_simple, evaluate_term, follow, object_value}
 use Rattle.ob0_types_rules.specs.Typing.{constant_of, constant_value, constants_only, given_value, type_of}
-use Rattle.ob0_values.specs.Values.{Outcome, Overflow, Place, Shape, Step, Value, add, add_is_settled, at_path, divided_by, elements, ends, fits, gives, in_range, members, multiply, multiply_is_settled, negated, number, or_stuck, quotient, relate, remainder, signed, truth, ◌>>=◌}
+use Rattle.ob0_values.specs.Values.{Outcome, Overflow, Place, Shape, Step, Value, add, add_is_settled, at_path, divided, divided_by, elements, ends, fits, gives, in_range, members, multiply, multiply_is_settled, negated, number, or_stuck, quotient, relate, remainder, signed, truth, ◌>>=◌}
 use Rattle.ob0_rename_laws.proofs.RefieldedExpressions.{Scalar, logical, scalar_value, whole}
 use Rattle.ob0_types_fields.proofs.NamesMeant.{named}
 
@@ -38,10 +38,9 @@ holds-with Q P (ends e) next h each = tt
 in_range-scalar : (n : ℤ) → Holds IsScalarValue (in_range n)
 in_range-scalar n = elim (fits n) as (λ b. Holds IsScalarValue (if b then gives (number n) else ends Overflow)) [ true ↦ tt | false ↦ tt ]
 
-divided_by-scalar : (result : ℕ → ℤ) (n : ℤ) → Holds IsScalarValue (divided_by (λ d. in_range (result d)) n)
-divided_by-scalar result (pos zero) = tt
-divided_by-scalar result (pos (suc d)) = in_range-scalar (result (suc d))
-divided_by-scalar result (negsuc d) = tt
+divided_by-scalar : (result : Option ℤ) → Holds IsScalarValue (divided_by result)
+divided_by-scalar None = tt
+divided_by-scalar (Some n) = in_range-scalar n
 
 add-scalar : (o : AddOperator) (v w : Value) → Holds IsScalarValue (add o v w)
 add-scalar add_operator.Add (number a) (number b) = in_range-scalar (a +ℤ b)
@@ -51,8 +50,8 @@ add-scalar _ _ _ = tt
 
 multiply-scalar : (o : MultiplyOperator) (v w : Value) → Holds IsScalarValue (multiply o v w)
 multiply-scalar multiply_operator.Multiply (number a) (number b) = in_range-scalar (a *ℤ b)
-multiply-scalar multiply_operator.Divide (number a) (number b) = divided_by-scalar (quotient a) b
-multiply-scalar multiply_operator.Modulo (number a) (number b) = divided_by-scalar (remainder a) b
+multiply-scalar multiply_operator.Divide (number a) (number b) = divided_by-scalar (divided quotient a b)
+multiply-scalar multiply_operator.Modulo (number a) (number b) = divided_by-scalar (divided remainder a b)
 multiply-scalar multiply_operator.And (truth a) (truth b) = tt
 multiply-scalar _ _ _ = tt
 

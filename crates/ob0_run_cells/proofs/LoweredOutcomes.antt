@@ -6,7 +6,7 @@ use Rattle.ob0_tree.specs.declared.tree.Relation.TheVariants as relation
 use Rattle.ob0_tree.specs.declared.tree.Sign.TheVariants as sign
 use Rattle.ob0_tree.specs.declared.tree.AddOperator.TheVariants as add_operator
 use Rattle.ob0_tree.specs.declared.tree.MultiplyOperator.TheVariants as multiply_operator
-use Rattle.ob0_values.specs.Values.{End, Outcome, Overflow, Place, Shape, Value, add, divided_by, ends, fits, gives, in_range, multiply, number, or_stuck, quotient, relate, remainder, same_truth, signed, truth, ◌>>=◌}
+use Rattle.ob0_values.specs.Values.{End, Outcome, Overflow, Place, Shape, Value, add, divided, divided_by, ends, fits, gives, in_range, multiply, number, or_stuck, quotient, relate, remainder, same_truth, signed, truth, ◌>>=◌}
 use Rattle.ob0_run_rules.specs.Fitting.{PlaceFits, StoreTyping}
 use Rattle.ob0_run_machine.specs.Evaluation as machine
 use Rattle.ob0_run_machine.specs.Lowered as lowered
@@ -54,30 +54,20 @@ in_range-same n = range-same n (machine.fits n) ∙ ap (λ b. if b then gives (n
 pub in_range-bits : (n : ℤ) → Has32Bits (machine.in_range n)
 in_range-bits n = (elim (machine.fits n) as (λ b. machine.fits n ≡ b → Has32Bits (if b then machine.gives n else machine.ends machine.Overflow)) [ true ↦ λ e. e | false ↦ λ e. tt ]) refl
 
-pub quotient-same : (a : ℤ) (b : ℕ) → machine.quotient_of a b ≡ quotient a b
-quotient-same (pos a) b = refl
-quotient-same (negsuc a) b = refl
+pub divided-same : (result : Option ℤ) → outcome_of number (machine.divided_by result) ≡ divided_by result
+divided-same None = refl
+divided-same (Some n) = in_range-same n
 
-pub remainder-same : (a : ℤ) (b : ℕ) → machine.remainder_of a b ≡ remainder a b
-remainder-same (pos a) b = refl
-remainder-same (negsuc a) b = refl
-
-pub divided-same : (f : ℤ → ℕ → ℤ) (g : ℤ → ℕ → ℤ) → ((a : ℤ) (b : ℕ) → f a b ≡ g a b) → (a b : ℤ) → outcome_of number (machine.divided_by f a b) ≡ divided_by (λ d. in_range (g a d)) b
-divided-same f g same a (pos zero) = refl
-divided-same f g same a (pos (suc b)) = in_range-same (f a (suc b)) ∙ ap in_range (same a (suc b))
-divided-same f g same a (negsuc b) = refl
-
-pub divided-bits : (f : ℤ → ℕ → ℤ) (a b : ℤ) → Has32Bits (machine.divided_by f a b)
-divided-bits f a (pos zero) = tt
-divided-bits f a (pos (suc b)) = in_range-bits (f a (suc b))
-divided-bits f a (negsuc b) = tt
+pub divided-bits : (result : Option ℤ) → Has32Bits (machine.divided_by result)
+divided-bits None = tt
+divided-bits (Some n) = in_range-bits n
 
 pub operate-bits : (o : lowered.Operator) (a b : ℤ) → Has32Bits (machine.operate o a b)
 operate-bits lowered.sum a b = in_range-bits (a +ℤ b)
 operate-bits lowered.difference a b = in_range-bits (a -ℤ b)
 operate-bits lowered.product a b = in_range-bits (a *ℤ b)
-operate-bits lowered.quotient a b = divided-bits machine.quotient_of a b
-operate-bits lowered.remainder a b = divided-bits machine.remainder_of a b
+operate-bits lowered.quotient a b = divided-bits (divided quotient a b)
+operate-bits lowered.remainder a b = divided-bits (divided remainder a b)
 
 -- operators between values, by those of lowered code
 abbrev pub Operates : lowered.Operator → (Value → Value → Outcome Value) → Type 0
@@ -93,10 +83,10 @@ pub product-operates : Operates lowered.product (multiply multiply_operator.Mult
 product-operates a b = in_range-same (a *ℤ b)
 
 pub quotient-operates : Operates lowered.quotient (multiply multiply_operator.Divide)
-quotient-operates a b = divided-same machine.quotient_of quotient quotient-same a b
+quotient-operates a b = divided-same (divided quotient a b)
 
 pub remainder-operates : Operates lowered.remainder (multiply multiply_operator.Modulo)
-remainder-operates a b = divided-same machine.remainder_of remainder remainder-same a b
+remainder-operates a b = divided-same (divided remainder a b)
 
 pub compare-same : (r : Relation) (a b : ℤ) → gives (truth (machine.compare (relation_of r) a b)) ≡ relate r (number a) (number b)
 compare-same relation.Equal a b = refl

@@ -1,7 +1,9 @@
 -- The value of places, numbers and truths of lowered code, in activations and over cells.
 -- Rule: none; for contracts of the machine: what lowered expressions mean,
 -- by the rules of docs/LANGUAGE.md, Runs 2 to 4.
-use Rattle.std.specs.Prelude.{ℕ, zero, suc, ◌+◌, ◌-◌, ◌*◌, ◌/◌, ◌%◌, ◌^◌, Bool, true, false, not, ◌&&◌, List, [], ◌∷◌, ℤ, pos, negsuc, ◌+ℤ◌, ◌-ℤ◌, ◌*ℤ◌, neg_ℤ, if◌then◌else◌, nat_lt, slice_index_or, int_lt, int_le, drop}
+use Rattle.std.specs.Prelude.{ℕ, suc, zero, ◌+◌, ◌*◌, ◌%◌, ◌^◌, Bool, true, false, not, ◌&&◌, List, [], ◌∷◌, Option, None, Some, ℤ, pos, negsuc, ◌+ℤ◌, ◌-ℤ◌, ◌*ℤ◌, neg_ℤ, if◌then◌else◌, nat_lt, slice_index_or, int_lt, int_le, drop}
+use Rattle.ob0_run_division.specs.Division as division
+use Rattle.ob0_run_division.specs.Division.{divided}
 use Rattle.ob0_run_machine.specs.Lowered.{Place, in_module, here, outside, passed, element, part, Number, literal, cell, negative, operation, Operator, sum, difference, product, quotient, remainder, Comparator, equal, not_equal, less, less_equal, greater, greater_equal, Truth, constant, flag, negation, both, either, related, same, different}
 
 infixl 20 ◌>>=◌
@@ -60,29 +62,18 @@ fits (negsuc n) = nat_lt n (2 ^ 31)
 abbrev pub in_range : ℤ → StepResult ℤ
 in_range n = if fits n then gives n else ends Overflow
 
--- DIV rounds down, for a divisor above 0
-abbrev pub quotient_of : ℤ → ℕ → ℤ
-quotient_of (pos a) b = pos (a / b)
-quotient_of (negsuc a) b = negsuc (a / b)
-
--- MOD, which is never negative for a divisor above 0
-abbrev pub remainder_of : ℤ → ℕ → ℤ
-remainder_of (pos a) b = pos (a % b)
-remainder_of (negsuc a) b = pos (b - suc (a % b))
-
 -- by a divisor below 1 nothing is divided
-abbrev pub divided_by : (ℤ → ℕ → ℤ) → ℤ → ℤ → StepResult ℤ
-divided_by result a (pos zero) = ends Divisor
-divided_by result a (pos (suc b)) = in_range (result a (suc b))
-divided_by result a (negsuc b) = ends Divisor
+abbrev pub divided_by : Option ℤ → StepResult ℤ
+divided_by None = ends Divisor
+divided_by (Some n) = in_range n
 
 -- an operator on two numbers
 abbrev pub operate : Operator → ℤ → ℤ → StepResult ℤ
 operate sum a b = in_range (a +ℤ b)
 operate difference a b = in_range (a -ℤ b)
 operate product a b = in_range (a *ℤ b)
-operate quotient a b = divided_by quotient_of a b
-operate remainder a b = divided_by remainder_of a b
+operate quotient a b = divided_by (divided division.quotient a b)
+operate remainder a b = divided_by (divided division.remainder a b)
 
 abbrev mutual
   -- the address of a place among all cells; Index where an element isn't there

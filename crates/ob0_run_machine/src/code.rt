@@ -255,9 +255,19 @@ pub struct Routine {
 }
 
 /// A module. It has `cells` cells of its own.
-#[derive(Drop)]
 pub struct LoweredCode {
     pub cells: usize,
     pub body: Vec<Instruction>,
     pub procedures: Vec<Routine>,
+}
+
+// Written out, since a derived one is proved again in each crate that drops such a value.
+impl Drop for LoweredCode {
+    fn drop(self) {
+        let LoweredCode {
+            cells: _cells,
+            body: _body,
+            procedures: _procedures,
+        } = self;
+    }
 }

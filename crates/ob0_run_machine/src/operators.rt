@@ -2,7 +2,7 @@
 
 ghost use Rattle.std.specs.Prelude.{◌≡◌, neg_ℤ};
 ghost use Rattle.ob0_run_machine.specs.Answers.{if_there, outcome_of_result};
-ghost use Rattle.ob0_run_machine.specs.Evaluation.{alike, compare, element_at, forward, in_range, is_true, as_cell, operate};
+ghost use Rattle.ob0_run_machine.specs.Evaluation.{alike, compare, divided_by, element_at, forward, in_range, is_true, as_cell, operate};
 ghost use Rattle.ob0_run_machine.specs.Lowered.{difference, product, quotient, remainder, sum};
 ghost use Rattle.ob0_run_machine.specs.View.{operator_of, relation_of};
 
@@ -20,15 +20,23 @@ fn in_range(number: Option<i32>) -> Result<i32, Ending>
     }
 }
 
+/// What a division gives, else the end Divisor.
+#[inline(always)]
+fn of_division(number: Option<i32>) -> Result<i32, Ending>
+    ensures { outcome_of_result result ≡ divided_by number }
+{
+    match number {
+        Some(number) => Ok(number),
+        None => Err(Ending::Divisor),
+    }
+}
+
 /// DIV, which rounds down, for a divisor from 1 on.
 #[inline(always)]
 pub(crate) fn divide(left: i32, right: i32) -> Result<i32, Ending>
     ensures { outcome_of_result result ≡ operate quotient left right }
 {
-    if right < 1 {
-        return Err(Ending::Divisor);
-    }
-    Ok(left.div_euclid(right))
+    of_division(ob0_run_division::divide(left, right))
 }
 
 /// MOD, the rest from 0 on, for a divisor from 1 on.
@@ -36,10 +44,7 @@ pub(crate) fn divide(left: i32, right: i32) -> Result<i32, Ending>
 pub(crate) fn modulo(left: i32, right: i32) -> Result<i32, Ending>
     ensures { outcome_of_result result ≡ operate remainder left right }
 {
-    if right < 1 {
-        return Err(Ending::Divisor);
-    }
-    Ok(left.rem_euclid(right))
+    of_division(ob0_run_division::modulo(left, right))
 }
 
 /// The sum; the end Overflow where it isn't of 32 bits. So are the difference and the product.

@@ -12,7 +12,7 @@ use Rattle.ob0_tree.specs.Tree.{Tree, addend, adds, compares, designator, end, e
 use Rattle.ob0_scope_rules.specs.Names.{Name, same_name}
 use Rattle.ob0_types_rules.specs.Expressions.{Meanings, Object, a_constant, a_procedure, a_standard, a_type, a_variable, element_step, evaluate, evaluate_addends, evaluate_factor, evaluate_multipliers, evaluate_simple, evaluate_term, follow, object_value}
 use Rattle.ob0_types_rules.specs.Typing.{add_type, complement_type, element_type, field_type, multiply_type, object_type, relation_type, shape_of_field, sign_type, type_at, type_of, type_of_addends, type_of_factor, type_of_multipliers, type_of_simple, type_of_term, value_type}
-use Rattle.ob0_values.specs.Values.{FieldShapes, Index, Members, Outcome, Overflow, Place, Shape, Step, Store, Value, Values, add, add_is_settled, array_shape, at_field, at_index, at_path, boolean_shape, count_values, divided_by, elements, ends, fits, gives, in_range, integer_shape, members, multiply, multiply_is_settled, named_member, negated, next_field_shape, next_member, next_value, no_field_shape, no_member, no_value, nth_value, number, or_stuck, part, quotient, read_place, record_shape, relate, remainder, signed, truth, ◌>>=◌}
+use Rattle.ob0_values.specs.Values.{FieldShapes, Index, Members, Outcome, Overflow, Place, Shape, Step, Store, Value, Values, add, add_is_settled, array_shape, at_field, at_index, at_path, boolean_shape, count_values, divided, divided_by, elements, ends, fits, gives, in_range, integer_shape, members, multiply, multiply_is_settled, named_member, negated, next_field_shape, next_member, next_value, no_field_shape, no_member, no_value, nth_value, number, or_stuck, part, quotient, read_place, record_shape, relate, remainder, signed, truth, ◌>>=◌}
 use Rattle.ob0_types_rules.specs.WellTyped.{Mode, Signature, Typed}
 use Rattle.ob0_types_rules.proofs.Conditions.{of_some}
 use Rattle.ob0_run_rules.specs.Fitting.{EachHasShape, HasShape, HaveShapes, MeaningsFit, ObjectFits, PlaceFits, StoreFits, StoreTyping, part_shape, shape_at_path}
@@ -59,15 +59,14 @@ add-fits add_operator.Subtract integer_shape integer_shape z v w e hv hw = of_so
 add-fits add_operator.Or boolean_shape boolean_shape z v w e hv hw = of_some (λ z. OutcomeFits (λ u. HasShape u z) (add add_operator.Or v w)) e (on_truths (add add_operator.Or) boolean_shape (λ a b. tt) v w hv hw)
 add-fits _ _ _ z v w e hv hw = absurd (cc)
 
-pub divided_by-fits : (result : ℕ → Outcome Value) → ((d : ℕ) → OutcomeFits (λ v. HasShape v integer_shape) (result d)) → (n : ℤ) → OutcomeFits (λ v. HasShape v integer_shape) (divided_by result n)
-divided_by-fits result each (pos zero) = λ e. cc
-divided_by-fits result each (pos (suc d)) = each (suc d)
-divided_by-fits result each (negsuc d) = λ e. cc
+pub divided_by-fits : (result : Option ℤ) → OutcomeFits (λ v. HasShape v integer_shape) (divided_by result)
+divided_by-fits None = λ e. cc
+divided_by-fits (Some n) = in_range-fits n
 
 pub multiply-fits : (o : MultiplyOperator) (x y z : Shape) (v w : Value) → multiply_type o x y ≡ Some z → HasShape v x → HasShape w y → OutcomeFits (λ u. HasShape u z) (multiply o v w)
 multiply-fits multiply_operator.Multiply integer_shape integer_shape z v w e hv hw = of_some (λ z. OutcomeFits (λ u. HasShape u z) (multiply multiply_operator.Multiply v w)) e (on_numbers (multiply multiply_operator.Multiply) integer_shape (λ m n. in_range-fits (m *ℤ n)) v w hv hw)
-multiply-fits multiply_operator.Divide integer_shape integer_shape z v w e hv hw = of_some (λ z. OutcomeFits (λ u. HasShape u z) (multiply multiply_operator.Divide v w)) e (on_numbers (multiply multiply_operator.Divide) integer_shape (λ m n. divided_by-fits (λ d. in_range (quotient m d)) (λ d. in_range-fits (quotient m d)) n) v w hv hw)
-multiply-fits multiply_operator.Modulo integer_shape integer_shape z v w e hv hw = of_some (λ z. OutcomeFits (λ u. HasShape u z) (multiply multiply_operator.Modulo v w)) e (on_numbers (multiply multiply_operator.Modulo) integer_shape (λ m n. divided_by-fits (λ d. in_range (remainder m d)) (λ d. in_range-fits (remainder m d)) n) v w hv hw)
+multiply-fits multiply_operator.Divide integer_shape integer_shape z v w e hv hw = of_some (λ z. OutcomeFits (λ u. HasShape u z) (multiply multiply_operator.Divide v w)) e (on_numbers (multiply multiply_operator.Divide) integer_shape (λ m n. divided_by-fits (divided quotient m n)) v w hv hw)
+multiply-fits multiply_operator.Modulo integer_shape integer_shape z v w e hv hw = of_some (λ z. OutcomeFits (λ u. HasShape u z) (multiply multiply_operator.Modulo v w)) e (on_numbers (multiply multiply_operator.Modulo) integer_shape (λ m n. divided_by-fits (divided remainder m n)) v w hv hw)
 multiply-fits multiply_operator.And boolean_shape boolean_shape z v w e hv hw = of_some (λ z. OutcomeFits (λ u. HasShape u z) (multiply multiply_operator.And v w)) e (on_truths (multiply multiply_operator.And) boolean_shape (λ a b. tt) v w hv hw)
 multiply-fits _ _ _ z v w e hv hw = absurd (cc)
 

@@ -13,7 +13,7 @@ use Rattle.ob0_tree.specs.declared.tree.Sign.TheVariants as sign
 use Rattle.ob0_tree.specs.Places.{text_at}
 use Rattle.ob0_types_rules.specs.Selected.{both}
 use Rattle.ob0_types_rules.specs.Typing.{add_type, complement_type, element_type, field_type, given_value, multiply_type, relation_type, shape_of_field, sign_type, value_type}
-use Rattle.ob0_values.specs.Values.{Overflow, Shape, Value, add, add_is_settled, boolean_shape, divided_by, ends, gives, in_range, integer_shape, multiply, multiply_is_settled, negated, number, quotient, relate, remainder, truth}
+use Rattle.ob0_values.specs.Values.{Overflow, Shape, Value, add, add_is_settled, boolean_shape, divided, divided_by, ends, gives, in_range, integer_shape, multiply, multiply_is_settled, negated, number, quotient, relate, remainder, truth}
 use Rattle.ob0_values.specs.Values as values
 use Rattle.ob0_types_check.specs.Known.{Facts, Form, Operand, Reported, a_record, a_scalar, an_array, unknown_form}
 use Rattle.ob0_types_check.specs.Operations.{add_operands, required, required_both, at_operand, complement_operand, element_in, element_selected, field_in, field_selected, fits, found_field, multiply_operands, relate_operands, sign_operand, comparison_type, required_by_add, required_by_equality, required_by_multiply, required_by_relation}
@@ -47,10 +47,9 @@ in_range-of n =
     elim (values.fits n) as (λ b. IsOf integer_shape (given_value (if b then gives (number n) else ends Overflow)))
     [ true ↦ some-of integer_shape (number n) refl | false ↦ none-of integer_shape ]
 
-divided_by-of : (result : ℕ → ℤ) (n : ℤ) → IsOf integer_shape (given_value (divided_by (λ d. in_range (result d)) n))
-divided_by-of result (pos zero) = none-of integer_shape
-divided_by-of result (pos (suc d)) = in_range-of (result (suc d))
-divided_by-of result (negsuc d) = none-of integer_shape
+divided_by-of : (result : Option ℤ) → IsOf integer_shape (given_value (divided_by result))
+divided_by-of None = none-of integer_shape
+divided_by-of (Some n) = in_range-of n
 
 add-of : (o : AddOperator) (v w : Value) → IsOf (shape_added o) (given_value (add o v w))
 add-of add_operator.Add (number a) (number b) = in_range-of (a +ℤ b)
@@ -60,8 +59,8 @@ add-of _ _ _ = none-of _
 
 multiply-of : (o : MultiplyOperator) (v w : Value) → IsOf (shape_multiplied o) (given_value (multiply o v w))
 multiply-of multiply_operator.Multiply (number a) (number b) = in_range-of (a *ℤ b)
-multiply-of multiply_operator.Divide (number a) (number b) = divided_by-of (quotient a) b
-multiply-of multiply_operator.Modulo (number a) (number b) = divided_by-of (remainder a) b
+multiply-of multiply_operator.Divide (number a) (number b) = divided_by-of (divided quotient a b)
+multiply-of multiply_operator.Modulo (number a) (number b) = divided_by-of (divided remainder a b)
 multiply-of multiply_operator.And (truth a) (truth b) = some-of boolean_shape (truth _) refl
 multiply-of _ _ _ = none-of _
 

@@ -50,6 +50,11 @@ abbrev pub made_shape : List Shape → code.TypeEntry → Shape
 made_shape shapes (made.Array a) = array_shape a.ordinal a.length (type_shape shapes a.element)
 made_shape shapes (made.Record r) = record_shape r.ordinal (fields_shape shapes r.fields)
 
+-- the type of an entry by its place in the table, so no two entries have the same
+abbrev pub type_at : code.TypeEntry → ℕ → TypeId
+type_at (made.Array a) place = type.Array place
+type_at (made.Record r) place = type.Record place
+
 -- the shapes of a table, each made over those before it
 abbrev pub shapes_from : List Shape → List code.TypeEntry → List Shape
 shapes_from known [] = known

@@ -1,6 +1,7 @@
 //! What is known of a module: the table of its types and of what its declarations are; and the operators of constants.
 #![tactic(auto)]
 
+mod entries;
 mod field_table;
 mod known;
 mod numbers;
@@ -8,6 +9,7 @@ pub mod operators;
 mod type_parts;
 mod types;
 
+pub use entries::add_entry;
 pub use field_table::FieldTable;
 pub use known::{
     ArrayShape, Field, FieldOf, Formal, Known, MOST_DEPTH, MOST_SCALARS, Object, RecordShape,

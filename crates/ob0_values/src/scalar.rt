@@ -1,7 +1,7 @@
 //! Numbers and truths, and what the operators give of them (Wirth, Compiler Construction, Oberon-0).
 
 ghost use Rattle.std.specs.Prelude.{◌≡◌};
-ghost use Rattle.ob0_values.specs.Values.{add, add_is_settled, compare_numbers, in_range, multiply, multiply_is_settled, negated, number, relate, signed, truth};
+ghost use Rattle.ob0_values.specs.Values.{add, add_is_settled, compare_numbers, divided_by, in_range, multiply, multiply_is_settled, negated, number, relate, signed, truth};
 ghost use Rattle.ob0_values.specs.Scalars.{number_outcome, scalar_outcome, scalar_value};
 ghost use Rattle.ob0_tree.specs.declared.tree.MultiplyOperator.TheVariants.{Divide, Modulo};
 
@@ -36,24 +36,28 @@ fn in_range(number: Option<i32>) -> Result<Scalar, OperatorFault>
     }
 }
 
+/// What a division gives, else the fault Divisor.
+fn of_division(number: Option<i32>) -> Result<Scalar, OperatorFault>
+    ensures { scalar_outcome result ≡ divided_by number }
+{
+    match number {
+        Some(number) => Ok(Scalar::Number(number)),
+        None => Err(OperatorFault::Divisor),
+    }
+}
+
 /// DIV, which rounds down, for a divisor from 1 on.
 fn divide(left: i32, right: i32) -> Result<Scalar, OperatorFault>
     ensures { scalar_outcome result ≡ multiply Divide (number left) (number right) }
 {
-    if right < 1 {
-        return Err(OperatorFault::Divisor);
-    }
-    Ok(Scalar::Number(left.div_euclid(right)))
+    of_division(ob0_run_division::divide(left, right))
 }
 
 /// MOD, the rest from 0 on, for a divisor from 1 on.
 fn modulo(left: i32, right: i32) -> Result<Scalar, OperatorFault>
     ensures { scalar_outcome result ≡ multiply Modulo (number left) (number right) }
 {
-    if right < 1 {
-        return Err(OperatorFault::Divisor);
-    }
-    Ok(Scalar::Number(left.rem_euclid(right)))
+    of_division(ob0_run_division::modulo(left, right))
 }
 
 /// `left + right`, `left - right` or `left OR right`.

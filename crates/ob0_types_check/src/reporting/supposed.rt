@@ -5,14 +5,14 @@ ghost use Rattle.ob0_types_table.specs.declared.types.TypeId.TheVariants as type
 ghost use Rattle.ob0_tree.specs.Places.{text_at};
 ghost use Rattle.ob0_types_check.specs.Known.{a_procedure};
 ghost use Rattle.ob0_types_check.specs.Operations.{ReportsAfter, fault_between, token_after};
-ghost use Rattle.ob0_types_check.specs.SoFar.{define, is_within, make, predeclared_meanings, size_at, type_with, with_declared};
+ghost use Rattle.ob0_types_check.specs.SoFar.{define, is_within, make, predeclared_meanings, size_at, with_declared};
 ghost use Rattle.ob0_types_check.specs.SupposedFacts.{counted, supposed_meaning_at, elements_of, field_of, made_type_of, known_meaning, size_of, so_far_in};
 ghost use Rattle.ob0_types_check.specs.WrittenTypeFaults.{array_size, beside, ordinal_here, record_size};
 
 use ob0_scan::{Code, Fault, Span};
 use ob0_scope_rules::{Resolved, token_span};
 use ob0_tree::text_at;
-use ob0_types_table::{Formal, MOST_DEPTH, MOST_SCALARS, TypeEntry, TypeId};
+use ob0_types_table::{Formal, MOST_DEPTH, MOST_SCALARS, TypeEntry, TypeId, add_entry};
 use ob0_values::Scalar;
 use std::alloc::{AllocError, Global};
 
@@ -307,9 +307,7 @@ impl<'t> Supposed<'t> {
             self.report_at(faults, Code::TypeTooLarge, token)?;
             return Ok(TypeId::Unknown);
         }
-        let of = type_with(&entry, self.composites.len());
-        self.composites.push(entry)?;
-        Ok(of)
+        add_entry(&mut self.composites, entry)
     }
 }
 
@@ -326,15 +324,5 @@ fn size_of_entry(entry: &TypeEntry) -> Size
             scalars: record.scalars,
             depth: record.depth,
         },
-    }
-}
-
-/// The type of an array or record that is put at this place.
-fn type_with(entry: &TypeEntry, place: usize) -> TypeId
-    ensures { result ≡ type_with (made_type_of entry.now).parts place }
-{
-    match entry {
-        TypeEntry::Array(_) => TypeId::Array(place),
-        TypeEntry::Record(_) => TypeId::Record(place),
     }
 }

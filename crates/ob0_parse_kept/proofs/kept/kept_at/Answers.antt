@@ -12,9 +12,6 @@ returns-then-kept-at-clause-placed c = λ ts h.
     let all = subst (λ (l : List KeptProcedure). Each (IsWaiting ts) l) c.in-Some.ensures.rest (c.loop-kept.invariant ts h) in
     subst (λ i. IsTakenAt ts i c.placed.result) c.if-kept-at.true (c.placed.ensures ts (each_following (IsWaiting ts) c.pop_by.new.waiting.items (c.in-Some.kept ∷ []) all).0)
 
-pub loop-kept-preserved-else-kept-at : goal.loop-kept-preserved-else-kept-at
-loop-kept-preserved-else-kept-at c = λ ts h. each_before (IsWaiting ts) c.pop_by.new.waiting.items _ (subst (λ (l : List KeptProcedure). Each (IsWaiting ts) l) c.pop_by.ensures.rest (c.loop-kept.invariant ts h))
-
 pub loop-kept-preserved : goal.loop-kept-preserved
 loop-kept-preserved c = λ ts h. each_before (IsWaiting ts) c.pop_by.new.waiting.items _ (subst (λ (l : List KeptProcedure). Each (IsWaiting ts) l) c.pop_by.ensures.rest (c.loop-kept.invariant ts h))
 
