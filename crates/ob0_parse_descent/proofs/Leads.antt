@@ -7,6 +7,7 @@ use Rattle.ob0_scan.specs.declared.lexeme.Symbol.TheVariants as symbol
 use Rattle.ob0_scan.specs.declared.lexeme.Token.{Token}
 use Rattle.ob0_tree.specs.Lexeme.{Terminal, Name, Number, Mark, EndOfText}
 use Rattle.ob0_parse_descent.specs.declared.refusal.Expected.{Expected}
+use Rattle.ob0_parse_descent.specs.declared.refusal.ParseRefusal.{ParseRefusal}
 use Rattle.ob0_parse_descent.specs.declared.refusal.ParseRefusal.TheVariants.{Syntax}
 use Rattle.ob0_tree.specs.Tree.{Sort, Tree, spell}
 use Rattle.ob0_parse_descent.specs.Follow.{rank, kind_rank, level, Starts, Stops}
@@ -14,7 +15,7 @@ use Rattle.ob0_parse_descent.proofs.Unique.{same}
 use Rattle.ob0_parse_descent.specs.Reading.{rest, Part, token, name, Begins, StopsIn, FailsToRead, Other, NoName}
 use Rattle.ob0_parse_descent.specs.Descent.{IsPart, expected_part, Expects, Descends, other}
 use Rattle.ob0_parse_descent.specs.declared.refusal.Expected.TheVariants as expected
-use Rattle.ob0_parse_descent.proofs.Refusals.{at_once}
+use Rattle.ob0_parse_descent.proofs.Refusals.{at_once, fails_by, in_name, in_token}
 
 -- the only token of a rank
 abbrev pub leader : ℕ → Option TokenKind
@@ -103,6 +104,13 @@ fails_token o = fails_here o.fault o.within o.here (stops_here _ _ o.here o.diff
 
 pub fails_name : {ts : List Token} {at : ℕ} → NoName ts at → FailsToRead (name ∷ []) ts at (Syntax at expected.Identifier)
 fails_name o = fails_here o.fault o.within o.here (stops_here _ _ o.here (λ p. o.ranked (ap rank p.1)) refl) (λ u b. let is : o.fault ≡ Name b.0 = cc (b.2) in o.ranked (ap rank is))
+
+-- a token that is missing is missing from all parts that begin with it
+pub fails_in_token : {k : TokenKind} {ps : List Part} {ts : List Token} {at : ℕ} {e : ParseRefusal} → Other (Mark k) ts at × (e ≡ Syntax at (expected.Token k)) → FailsToRead (token k ∷ ps) ts at e
+fails_in_token {k = k} {ps = ps} {ts = ts} {at = at} q = subst (λ e. FailsToRead (token k ∷ ps) ts at e) (sym q.1) (fails_by (λ o r more. r (ps ++ more)) (λ after r. in_token r) (fails_token q.0))
+
+pub fails_in_name : {ps : List Part} {ts : List Token} {at : ℕ} {e : ParseRefusal} → NoName ts at × (e ≡ Syntax at expected.Identifier) → FailsToRead (name ∷ ps) ts at e
+fails_in_name {ps = ps} {ts = ts} {at = at} q = subst (λ e. FailsToRead (name ∷ ps) ts at e) (sym q.1) (fails_by (λ o r more. r (ps ++ more)) (λ after r. in_name r) (fails_name q.0))
 
 positive : (x : Terminal ℕ) → 0 < rank x
 positive (Name n) = omega arith

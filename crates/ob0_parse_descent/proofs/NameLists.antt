@@ -6,11 +6,14 @@ use Rattle.ob0_scan.specs.declared.lexeme.Token.{Token}
 use Rattle.ob0_tree.specs.Lexeme.{Terminal, Name, Mark}
 use Rattle.ob0_tree.specs.Tree.{item, items, further_name, names, Tree, end, more, listed, then_name, spell, nesting}
 use Rattle.ob0_parse_descent.specs.Follow.{Stops, Starts}
-use Rattle.ob0_parse_descent.specs.Reading.{rest, name, node, Begins, SameHead, Taken, FailsToRead, ItemFails}
+use Rattle.ob0_parse_descent.specs.Reading.{rest, name, node, Begins, SameHead, Taken, FailsToRead, ItemFails, NoName}
 use Rattle.ob0_parse_descent.proofs.Descent.{both, by, read_name, read_made, read_led}
+use Rattle.ob0_parse_descent.specs.declared.refusal.Expected.TheVariants as expected
 use Rattle.ob0_parse_descent.specs.declared.refusal.ParseRefusal.{ParseRefusal}
+use Rattle.ob0_parse_descent.specs.declared.refusal.ParseRefusal.TheVariants.{Syntax}
 use Rattle.ob0_parse_descent.proofs.Unique.{tail_of, name_of}
-use Rattle.ob0_parse_descent.proofs.Refusals.{fails_weaken, fails_following, fails_in_name, fails_pass_name}
+use Rattle.ob0_parse_descent.proofs.Refusals.{fails_weaken, fails_following, fails_pass_name}
+use Rattle.ob0_parse_descent.proofs.Leads.{fails_in_name}
 use Rattle.ob0_parse_descent.proofs.Items.{Taking, taking_fails}
 
 then_name_only : (i : ℕ) (u : Tree ℕ (item further_name)) (z w : List (Terminal ℕ)) → spell u ++ z ≡ Mark (kind.Symbol symbol.Comma) ∷ Name i ∷ w → (u ≡ then_name i) × (z ≡ w)
@@ -51,7 +54,7 @@ nameless (more (then_name n) ts) = let h = nameless ts in omega arith
 names_parts : (w : List (Terminal ℕ)) → Begins (node names 0 ∷ []) w → Begins (name ∷ node (items further_name) 0 ∷ []) w
 names_parts w (listed k us, z, e, l, s, b) = (k, spell us ++ z, e, (us, z, refl, nameless us, s, tt))
 
-pub names_fails_first : {ts : List Token} {at : ℕ} {e : ParseRefusal} → FailsToRead (name ∷ []) ts at e → FailsToRead (node names 0 ∷ []) ts at e
+pub names_fails_first : {ts : List Token} {at : ℕ} {e : ParseRefusal} → NoName ts at × (e ≡ Syntax at expected.Identifier) → FailsToRead (node names 0 ∷ []) ts at e
 names_fails_first q = fails_weaken {qs = name ∷ node (items further_name) 0 ∷ []} (read_made refl) (λ w h b. names_parts w b) (fails_in_name q)
 
 pub names_fails_more : {ts : List Token} {at m n : ℕ} {e : ParseRefusal} (others : Tree ℕ (items further_name)) → rest ts at ≡ Name at ∷ rest ts m → m ≡ at + 1 → Taking others 0 ts m n → ItemFails further_name 0 ts n e → FailsToRead (node names 0 ∷ []) ts at e

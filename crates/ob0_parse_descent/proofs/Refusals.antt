@@ -111,12 +111,6 @@ fails_weaken g f q = fails_by (λ o r more. g.on o more (r more)) (λ after r. s
 pub fails_in : {s : Sort} {room : ℕ} {ps : List Part} {ts : List Token} {at : ℕ} {e : ParseRefusal} → FailsToRead (node s room ∷ []) ts at e → FailsToRead (node s room ∷ ps) ts at e
 fails_in {ps = ps} q = fails_by (λ o r more. r (ps ++ more)) (λ after r. in_node r) q
 
-pub fails_in_token : {k : TokenKind} {ps : List Part} {ts : List Token} {at : ℕ} {e : ParseRefusal} → FailsToRead (token k ∷ []) ts at e → FailsToRead (token k ∷ ps) ts at e
-fails_in_token {ps = ps} q = fails_by (λ o r more. r (ps ++ more)) (λ after r. in_token r) q
-
-pub fails_in_name : {ps : List Part} {ts : List Token} {at : ℕ} {e : ParseRefusal} → FailsToRead (name ∷ []) ts at e → FailsToRead (name ∷ ps) ts at e
-fails_in_name {ps = ps} q = fails_by (λ o r more. r (ps ++ more)) (λ after r. in_name r) q
-
 pub fails_pass : {s : Sort} {room : ℕ} {ps : List Part} {ts : List Token} {at next : ℕ} {e : ParseRefusal} (t : Tree ℕ s) → Taken t room ts at next → FailsToRead ps ts next e → FailsToRead (node s room ∷ ps) ts at e
 fails_pass {ps = ps} t p q = fails_by (λ o r more. p.reads.on o (ps ++ more) (r more)) (λ after r. pass_node t p r) q
 

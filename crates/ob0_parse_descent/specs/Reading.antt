@@ -19,6 +19,7 @@ use Rattle.ob0_tree.specs.View.{items_of, selector_of, names_of, type_of}
 pub use Rattle.ob0_parse_descent.specs.Descent.{Part, token, name, number, node, finish}
 use Rattle.ob0_parse_descent.specs.Descent.{Stop, Expects, Deep, Descends, is_section_next}
 use Rattle.ob0_parse_descent.specs.Follow.{rank, kind_rank, item_rank, level, Stops, Starts}
+use Rattle.ob0_parse_descent.specs.declared.refusal.Expected.TheVariants as expected
 use Rattle.ob0_parse_descent.specs.declared.refusal.ParseRefusal.{ParseRefusal}
 use Rattle.ob0_parse_descent.specs.declared.refusal.ParseRefusal.TheVariants.{Syntax, TooDeep, Memory}
 
@@ -137,17 +138,19 @@ abbrev pub NameIs : List Token → ℕ → Bool → Type 0
 NameIs ts at true = (rest ts at ≡ Name at ∷ rest ts (at + 1)) × (at < length ts)
 NameIs ts at false = NoName ts at
 
--- a reserved word or symbol at this place, and the index after it
+-- A reserved word or symbol at this place, and the index after it. Where another token is here, the refusal says that
+-- this one is expected here.
 abbrev pub ReadsToken : TokenKind → List Token → ℕ → Result ℕ ParseRefusal → Type 0
 ReadsToken k ts at (Ok next) =
     (rest ts at ≡ Mark k ∷ rest ts next) × (at < length ts) × (next ≡ at + 1)
-ReadsToken k ts at (Err e) = FailsToRead (token k ∷ []) ts at e
+ReadsToken k ts at (Err e) = Other (Mark k) ts at × (e ≡ Syntax at (expected.Token k))
 
--- an identifier is read, or it is missing
+-- An identifier at this place, and the index after it. Where another token is here, the refusal says that an
+-- identifier is expected here.
 abbrev pub ReadsName : List Token → ℕ → Result (ℕ × ℕ) ParseRefusal → Type 0
 ReadsName ts at (Ok x) =
     (rest ts at ≡ Name at ∷ rest ts x.1) × (at < length ts) × (x.0 ≡ at) × (x.1 ≡ at + 1)
-ReadsName ts at (Err e) = FailsToRead (name ∷ []) ts at e
+ReadsName ts at (Err e) = NoName ts at × (e ≡ Syntax at expected.Identifier)
 
 -- one level less, or too deep where none is left
 abbrev pub Opens : ℕ → ℕ → Result ℕ ParseRefusal → Type 0

@@ -1,12 +1,13 @@
 //! Lists that grow from room for one item.
 
-ghost use Rattle.std.specs.Prelude.{◌≡◌, ◌≤◌, ◌++◌, ◌∷◌, [], OnOk};
+ghost use Rattle.std.specs.Prelude.{◌≡◌, ◌≤◌, ◌++◌, ◌∷◌, [], OnErr, OnOk};
 
 use std::alloc::AllocError;
 
 /// Puts an item after the others. Most lists of a tree hold one item, so there is room for 1, 2, 4, 8 and so on.
 pub fn add<T: Drop>(list: &mut Vec<T>, item: T) -> Result<(), AllocError>
-    ensures { OnOk result (list.new.items ≡ list.old.items ++ item ∷ []) }
+    ensures added { OnOk result (list.new.items ≡ list.old.items ++ item ∷ []) }
+    ensures same { OnErr result (list.new.items ≡ list.old.items) }
 {
     let room = room_to_add(list.len(), list.capacity());
     list.reserve_exact(room)?;

@@ -1,7 +1,7 @@
 //! Recursive descent, one function for each production. Each is given where it begins and how many levels of
 //! nesting are left, and returns what it made with the index of the token after it.
 
-ghost use Rattle.std.specs.Prelude.{true, ◌≡◌, ◌+◌, ◌<◌, ◌≤◌, ◌∷◌, length, IfSome, IfNone, IfOk};
+ghost use Rattle.std.specs.Prelude.{true, ◌≡◌, ◌+◌, ◌<◌, ◌≤◌, ◌∷◌, length, IfSome, IfNone, IfOk, IfErr};
 ghost use Rattle.ob0_scan.specs.declared.lexeme.TokenKind.TheVariants as kind;
 ghost use Rattle.ob0_scan.specs.declared.lexeme.Symbol.TheVariants as symbol;
 ghost use Rattle.ob0_tree.specs.Lexeme.{add_mark, multiply_mark, relation_mark};
@@ -9,6 +9,7 @@ ghost use Rattle.ob0_tree.specs.Tree.{then_name, compares, none};
 ghost use Rattle.ob0_tree.specs.View.{names_of, expression_of, comparison_of, simple_of, addend_of, term_of, multiplier_of, factor_of, selector_of};
 ghost use Rattle.ob0_parse_descent.specs.Follow.{binding};
 ghost use Rattle.ob0_parse_descent.specs.Reading.{lexeme_at, rest, Reads, ReadsItem, ReadsToken, ReadsName, TokenIs, NameIs, SignTaken, ReadsDesignator, IsMarkOf, IsLone, Opens};
+ghost use Rattle.ob0_parse_descent.specs.declared.refusal.Expected.TheVariants as expected;
 ghost use Rattle.ob0_parse_descent.specs.declared.refusal.ParseRefusal.TheVariants.{Syntax};
 
 use crate::growth::add;
@@ -112,7 +113,8 @@ impl<'t> Parser<'t> {
     /// `"," identifier`
     fn further_name(&self, at: usize) -> ParsedItem<usize>
         requires { at ≤ length self.now.tokens.now }
-        ensures { ReadsItem then_name 0 self.now.tokens.now at result }
+        ensures read { ReadsItem then_name 0 self.now.tokens.now at result }
+        ensures refusal { IfErr result (λ e. e ≡ Syntax (at + 1) expected.Identifier) }
     {
         if self.at_symbol(at, Symbol::Comma) {
             let (name, next) = self.identifier(at + 1)?;

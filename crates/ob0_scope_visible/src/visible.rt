@@ -1,6 +1,6 @@
 //! The names that are visible at a place of a module.
 
-ghost use Rattle.std.specs.Prelude.{◌≡◌, [], ◌∷◌, OnOk, IfOk, length, drop, ◌-◌};
+ghost use Rattle.std.specs.Prelude.{◌≡◌, [], ◌∷◌, OnErr, OnOk, IfOk, length, drop, ◌-◌};
 ghost use Rattle.ob0_scope_visible.specs.Shadowing.{with_scope};
 ghost use Rattle.ob0_scope_rules.specs.Names.{as_names};
 ghost use Rattle.ob0_scope_rules.specs.Scopes.{ordinal_of};
@@ -82,16 +82,18 @@ impl<'t> Visible<'t> {
 
     /// Binds the new name.
     pub fn declare_new(&mut self, ordinal: usize) -> Result<(), AllocError>
-        ensures { OnOk result
+        ensures bound { OnOk result
             (self.new ≡ with_scope self.old ((self.old.new_name, ordinal) ∷ self.old.scope)) }
+        ensures err { OnErr result (self.new ≡ self.old) }
     {
         self.declare(self.new_name, ordinal)
     }
 
     /// Binds a name; what it was bound to before is hidden.
     pub fn declare(&mut self, name: &'t str, ordinal: usize) -> Result<(), AllocError>
-        ensures { OnOk result
+        ensures bound { OnOk result
             (self.new ≡ with_scope self.old ((name.entry.now, ordinal) ∷ self.old.scope)) }
+        ensures err { OnErr result (self.new ≡ self.old) }
     {
         self.bindings.reserve(1)?;
         let place = self.newest.place(name)?;

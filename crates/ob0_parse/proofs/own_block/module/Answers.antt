@@ -1,7 +1,8 @@
 use Rattle.std.proofs.Common.{sym, arith}
 use Rattle.std.proofs.lemmas.Result.{err_from_is_err_and}
 use Rattle.ob0_parse.specs.OwnBlock.{own_block_of}
-use Rattle.ob0_parse_descent.proofs.Refusals.{fails_in, fails_in_token, fails_in_name, fails_pass, fails_pass_token, fails_pass_name}
+use Rattle.ob0_parse_descent.proofs.Leads.{fails_in_token, fails_in_name}
+use Rattle.ob0_parse_descent.proofs.Refusals.{fails_in, fails_pass, fails_pass_token, fails_pass_name}
 use Rattle.ob0_parse_descent.proofs.DeclarationParts.{taken_module, module_fails, ends_not}
 use Rattle.ob0_parse.proofs.OwnProcedures.{stays}
 use Rattle.ob0_parse.proofs.own_block.module.Goals as goal

@@ -1,7 +1,8 @@
 use Rattle.std.proofs.Common.{arith}
 use Rattle.std.proofs.lemmas.Result.{err_from_is_err_and}
 use Rattle.ob0_tree.specs.View.{items_of, constants_of, types_of, variables_of, procedures_in, procedure_of, block_of, body_of, formals_of}
-use Rattle.ob0_parse_descent.proofs.Refusals.{fails_in, fails_in_token, fails_in_name, fails_pass, fails_pass_token, fails_pass_name}
+use Rattle.ob0_parse_descent.proofs.Leads.{fails_in_token, fails_in_name}
+use Rattle.ob0_parse_descent.proofs.Refusals.{fails_in, fails_pass, fails_pass_token, fails_pass_name}
 use Rattle.ob0_parse_descent.proofs.Items.{taking_none, taking_more, taking_done, taking_fails}
 use Rattle.ob0_parse_descent.proofs.DeclarationParts.{taken_block, block_fails, taken_procedure, procedure_fails, procedure_too_deep}
 use Rattle.ob0_tree.specs.Tree.{procedure}
@@ -49,7 +50,7 @@ procedures-returns-in_err-procedure t c =
 pub procedures-loop-procedures-preserved : goal.procedures-loop-procedures-preserved
 procedures-loop-procedures-preserved t c =
     let item = rw c.in-Some.is at c.in_ok-procedure.ensures in
-    rw c.in_ok-add.ensures (taking_more procedure_of c.loop-procedures.procedures.items _ _ _ _ _ _ c.loop-procedures.invariant item.0)
+    rw c.in_ok-add.ensures.added (taking_more procedure_of c.loop-procedures.procedures.items _ _ _ _ _ _ c.loop-procedures.invariant item.0)
 
 pub procedures-returns : goal.procedures-returns
 procedures-returns t c =
@@ -94,7 +95,7 @@ procedure-returns-in_err-closing t c =
 pub procedure-returns-in_err-end : goal.procedure-returns-in_err-end
 procedure-returns-in_err-end t c =
     let p = err_from_is_err_and c.from_residual-in_err-end.result c.from_residual-in_err-end.ensures.1 in
-    rw (p.1, p.2) (procedure_fails c.in_ok-inner.ensures c.if-not-at_word.ensures.0 (fails_pass_name c.in_ok-name.ensures.0 c.in_ok-name.ensures.3 (fails_pass (formals_of c.in_ok-formals.formals) c.in_ok-formals.ensures (fails_pass_token c.in_ok-start.ensures.0 c.in_ok-start.ensures.2 (fails_pass (block_of c.in_ok-block.block) c.in_ok-block.ensures (fails_pass_token c.in_ok-last.ensures.0 c.in_ok-last.ensures.2 (fails_pass_name c.in_ok-closing.ensures.0 c.in_ok-closing.ensures.3 c.in_err-end.ensures)))))))
+    rw (p.1, p.2) (procedure_fails c.in_ok-inner.ensures c.if-not-at_word.ensures.0 (fails_pass_name c.in_ok-name.ensures.0 c.in_ok-name.ensures.3 (fails_pass (formals_of c.in_ok-formals.formals) c.in_ok-formals.ensures (fails_pass_token c.in_ok-start.ensures.0 c.in_ok-start.ensures.2 (fails_pass (block_of c.in_ok-block.block) c.in_ok-block.ensures (fails_pass_token c.in_ok-last.ensures.0 c.in_ok-last.ensures.2 (fails_pass_name c.in_ok-closing.ensures.0 c.in_ok-closing.ensures.3 (fails_in_token c.in_err-end.ensures))))))))
 
 pub procedure-returns : goal.procedure-returns
 procedure-returns t c =

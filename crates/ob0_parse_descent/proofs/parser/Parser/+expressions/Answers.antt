@@ -3,7 +3,7 @@ use Rattle.std.proofs.lemmas.Result.{err_from_is_err_and}
 use Rattle.ob0_tree.specs.Tree.{selector, multiplier, addend, comparison}
 use Rattle.ob0_tree.specs.View.{items_of, simple_of, addend_of, term_of, multiplier_of, factor_of, selector_of, expression_of}
 use Rattle.ob0_tree.proofs.Viewed.{compound_made, comparison_made, addend_made, simple_made, term_made, designator_made}
-use Rattle.ob0_parse_descent.proofs.Refusals.{fails_in_name}
+use Rattle.ob0_parse_descent.proofs.Leads.{fails_in_token, fails_in_name}
 use Rattle.ob0_parse_descent.proofs.Items.{taking_none, taking_more, taking_done}
 use Rattle.ob0_parse_descent.proofs.Lone.{lone_simple, lone_term, lone_expression}
 use Rattle.ob0_parse_descent.proofs.Expressions.{taken_no_item, taken_item, expression_fails_left, expression_fails_comparison, comparison_fails_right, simple_fails_first, simple_fails_addend, addend_fails_term, term_fails_first, term_fails_multiplier, multiplier_fails_factor, taken_compares, taken_sum, taken_product, taken_relates, taken_adds, taken_multiplies, taken_integer, taken_designator, taken_parenthesised, taken_negation, factor_missing, other_kind, factor_fails_open, factor_fails_not, factor_fails_inner, factor_fails_close, factor_fails_negated, factor_fails_designator, designator_fails_selector, no_selector, taken_field, taken_index, selector_fails_field, selector_fails_open, selector_fails_inner, selector_fails_close}
@@ -60,7 +60,7 @@ simple-returns-in_err-addend t c =
 pub simple-loop-more-preserved : goal.simple-loop-more-preserved
 simple-loop-more-preserved t c =
     let item = rw c.in-Some.is at c.in_ok-addend.ensures in
-    rw c.in_ok-add.ensures (taking_more addend_of c.loop-more.more.items _ _ _ _ _ _ c.loop-more.invariant item.0)
+    rw c.in_ok-add.ensures.added (taking_more addend_of c.loop-more.more.items _ _ _ _ _ _ c.loop-more.invariant item.0)
 
 pub simple-returns : goal.simple-returns
 simple-returns t c =
@@ -81,7 +81,7 @@ term-returns-in_err-multiplier t c =
 pub term-loop-more-preserved : goal.term-loop-more-preserved
 term-loop-more-preserved t c =
     let item = rw c.in-Some.is at c.in_ok-multiplier.ensures in
-    (rw c.in_ok-add.ensures (taking_more multiplier_of c.loop-more.more.items _ _ _ _ _ _ c.loop-more.invariant.0 item.0), c.loop-more.invariant.1)
+    (rw c.in_ok-add.ensures.added (taking_more multiplier_of c.loop-more.more.items _ _ _ _ _ _ c.loop-more.invariant.0 item.0), c.loop-more.invariant.1)
 
 pub term-returns : goal.term-returns
 term-returns t c =
@@ -126,7 +126,7 @@ designator-loop-selectors-init t c = rw c.new-selectors.ensures.items (taking_no
 pub designator-loop-selectors-preserved : goal.designator-loop-selectors-preserved
 designator-loop-selectors-preserved t c =
     let item = rw c.in-Some.is at c.in_ok-selector.ensures in
-    rw c.in_ok-add.ensures (taking_more selector_of c.loop-selectors.selectors.items _ _ _ _ _ _ c.loop-selectors.invariant item.0)
+    rw c.in_ok-add.ensures.added (taking_more selector_of c.loop-selectors.selectors.items _ _ _ _ _ _ c.loop-selectors.invariant item.0)
 
 pub designator-returns : goal.designator-returns
 designator-returns t c =
@@ -184,7 +184,7 @@ parenthesised-returns-in_err-expression t c =
 pub parenthesised-returns-in_err-next : goal.parenthesised-returns-in_err-next
 parenthesised-returns-in_err-next t c =
     let p = err_from_is_err_and c.from_residual-in_err-next.result c.from_residual-in_err-next.ensures.1 in
-    rw (p.1, p.2) (factor_fails_close (expression_of c.in_ok-expression.expression) c.in_ok-inner.ensures c.requires.0 c.in_ok-expression.ensures c.in_err-next.ensures)
+    rw (p.1, p.2) (factor_fails_close (expression_of c.in_ok-expression.expression) c.in_ok-inner.ensures c.requires.0 c.in_ok-expression.ensures (fails_in_token c.in_err-next.ensures))
 
 pub negation-returns : goal.negation-returns
 negation-returns t c = rw c.in_ok-boxed.ensures.ok (taken_negation _ c.in_ok-inner.ensures c.requires.0 c.in_ok-factor.ensures)
@@ -213,7 +213,7 @@ selector-returns-then-at_symbol-2 t c =
 pub selector-returns-in_err-name : goal.selector-returns-in_err-name
 selector-returns-in_err-name t c =
     let p = err_from_is_err_and c.from_residual.result c.from_residual.ensures.1 in
-    rw (p.1, p.2) (selector_fails_field c.if-at_symbol.ensures.0 c.in_err-name.ensures)
+    rw (p.1, p.2) (selector_fails_field c.if-at_symbol.ensures.0 (fails_in_name c.in_err-name.ensures))
 
 pub selector-returns-in_err-inner : goal.selector-returns-in_err-inner
 selector-returns-in_err-inner t c =
@@ -228,4 +228,4 @@ selector-returns-in_err-index t c =
 pub selector-returns-in_err-next : goal.selector-returns-in_err-next
 selector-returns-in_err-next t c =
     let p = err_from_is_err_and c.from_residual-in_err-next.result c.from_residual-in_err-next.ensures.1 in
-    rw (p.1, p.2) (selector_fails_close (expression_of c.in_ok-index.index) c.in_ok-inner.ensures c.if-at_symbol-2.ensures.0 c.in_ok-index.ensures c.in_err-next.ensures)
+    rw (p.1, p.2) (selector_fails_close (expression_of c.in_ok-index.index) c.in_ok-inner.ensures c.if-at_symbol-2.ensures.0 c.in_ok-index.ensures (fails_in_token c.in_err-next.ensures))

@@ -1,11 +1,11 @@
 use Rattle.std.proofs.Common.{arith, refl}
 use Rattle.std.proofs.lemmas.Result.{err_from_is_err_and}
 use Rattle.ob0_tree.specs.View.{items_of, expression_of, statement_of, further_statement_of, sequence_in, elsif_of, elsifs_in, else_in}
-use Rattle.ob0_parse_descent.proofs.Refusals.{fails_in, fails_in_token, fails_pass, fails_pass_token, fails_maybe}
+use Rattle.ob0_parse_descent.proofs.Refusals.{fails_in, fails_pass, fails_pass_token, fails_maybe}
 use Rattle.ob0_parse_descent.proofs.Expressions.{taken_item, taken_no_item}
 use Rattle.ob0_parse_descent.proofs.Items.{taking_none, taking_more, taking_done, taking_fails}
 use Rattle.ob0_parse_descent.proofs.Lists.{listing_one, listing_more, listing_done, listing_fails}
-use Rattle.ob0_parse_descent.proofs.Leads.{no_item}
+use Rattle.ob0_parse_descent.proofs.Leads.{no_item, fails_in_token}
 use Rattle.ob0_parse_descent.proofs.Led.{taken_led, led_fails, leads_then_statement, leads_else_branch}
 use Rattle.ob0_tree.specs.Tree.{elsif_part, else_part}
 use Rattle.ob0_tree.proofs.Viewed.{while_made, repeat_made, if_made}
@@ -33,7 +33,7 @@ sequence-returns-in_err-first t c =
 
 pub sequence-loop-statements-init : goal.sequence-loop-statements-init
 sequence-loop-statements-init t c =
-    rw (c.in_ok-add.ensures, c.new-statements.ensures.items) (listing_one statement_of further_statement_of c.in_ok-first.first c.in_ok-first.ensures)
+    rw (c.in_ok-add.ensures.added, c.new-statements.ensures.items) (listing_one statement_of further_statement_of c.in_ok-first.first c.in_ok-first.ensures)
 
 pub sequence-returns-in_err-statement : goal.sequence-returns-in_err-statement
 sequence-returns-in_err-statement t c =
@@ -43,7 +43,7 @@ sequence-returns-in_err-statement t c =
 pub sequence-loop-statements-preserved : goal.sequence-loop-statements-preserved
 sequence-loop-statements-preserved t c =
     let item = rw c.in-Some.is at c.in_ok-statement.ensures in
-    rw c.in_ok-add-2.ensures (listing_more statement_of further_statement_of c.loop-statements.statements.items _ c.loop-statements.invariant item.0)
+    rw c.in_ok-add-2.ensures.added (listing_more statement_of further_statement_of c.loop-statements.statements.items _ c.loop-statements.invariant item.0)
 
 pub sequence-returns : goal.sequence-returns
 sequence-returns t c =
@@ -82,7 +82,7 @@ branches-returns-in_err-otherwise t c =
 pub branches-returns-in_err-end : goal.branches-returns-in_err-end
 branches-returns-in_err-end t c =
     let p = err_from_is_err_and c.from_residual-in_err-end.result c.from_residual-in_err-end.ensures.1 in
-    rw (p.1, p.2) (branches_fail c.in_ok-inner.ensures c.requires.0 (fails_pass (expression_of c.in_ok-condition.condition) c.in_ok-condition.ensures (fails_pass_token c.in_ok-start.ensures.0 c.in_ok-start.ensures.2 (fails_pass (sequence_in c.in_ok-then.then) c.in_ok-then.ensures (fails_pass (elsifs_in c.in_ok-elsifs.elsifs) c.in_ok-elsifs.ensures (fails_pass (else_in c.in_ok-otherwise.otherwise) c.in_ok-otherwise.ensures c.in_err-end.ensures))))))
+    rw (p.1, p.2) (branches_fail c.in_ok-inner.ensures c.requires.0 (fails_pass (expression_of c.in_ok-condition.condition) c.in_ok-condition.ensures (fails_pass_token c.in_ok-start.ensures.0 c.in_ok-start.ensures.2 (fails_pass (sequence_in c.in_ok-then.then) c.in_ok-then.ensures (fails_pass (elsifs_in c.in_ok-elsifs.elsifs) c.in_ok-elsifs.ensures (fails_pass (else_in c.in_ok-otherwise.otherwise) c.in_ok-otherwise.ensures (fails_in_token c.in_err-end.ensures)))))))
 
 pub branches-returns : goal.branches-returns
 branches-returns t c =
@@ -100,7 +100,7 @@ elsifs-returns-in_err-elsif t c =
 pub elsifs-loop-elsifs-preserved : goal.elsifs-loop-elsifs-preserved
 elsifs-loop-elsifs-preserved t c =
     let item = rw c.in-Some.is at c.in_ok-elsif.ensures in
-    rw c.in_ok-add.ensures (taking_more elsif_of c.loop-elsifs.elsifs.items _ _ _ _ _ _ c.loop-elsifs.invariant item.0)
+    rw c.in_ok-add.ensures.added (taking_more elsif_of c.loop-elsifs.elsifs.items _ _ _ _ _ _ c.loop-elsifs.invariant item.0)
 
 pub elsifs-returns : goal.elsifs-returns
 elsifs-returns t c =
@@ -162,7 +162,7 @@ while_loop-returns-in_err-body t c =
 pub while_loop-returns-in_err-end : goal.while_loop-returns-in_err-end
 while_loop-returns-in_err-end t c =
     let p = err_from_is_err_and c.from_residual-in_err-end.result c.from_residual-in_err-end.ensures.1 in
-    rw (p.1, p.2) (while_fails c.in_ok-inner.ensures c.requires.0 (fails_pass (expression_of c.in_ok-condition.condition) c.in_ok-condition.ensures (fails_pass_token c.in_ok-start.ensures.0 c.in_ok-start.ensures.2 (fails_pass (sequence_in c.in_ok-body.body) c.in_ok-body.ensures c.in_err-end.ensures))))
+    rw (p.1, p.2) (while_fails c.in_ok-inner.ensures c.requires.0 (fails_pass (expression_of c.in_ok-condition.condition) c.in_ok-condition.ensures (fails_pass_token c.in_ok-start.ensures.0 c.in_ok-start.ensures.2 (fails_pass (sequence_in c.in_ok-body.body) c.in_ok-body.ensures (fails_in_token c.in_err-end.ensures)))))
 
 pub while_loop-returns : goal.while_loop-returns
 while_loop-returns t c =

@@ -2,7 +2,8 @@ use Rattle.std.proofs.Common.{arith}
 use Rattle.std.proofs.lemmas.Result.{err_from_is_err_and}
 use Rattle.ob0_tree.specs.View.{expression_of, type_of, fields_of, names_of, further_fields_of_group}
 use Rattle.ob0_tree.proofs.Viewed.{record_made}
-use Rattle.ob0_parse_descent.proofs.Refusals.{fails_in, fails_in_token, fails_pass, fails_pass_token}
+use Rattle.ob0_parse_descent.proofs.Leads.{fails_in_token}
+use Rattle.ob0_parse_descent.proofs.Refusals.{fails_in, fails_pass, fails_pass_token}
 use Rattle.ob0_parse_descent.proofs.Lists.{listing_one, listing_more, listing_done, listing_fails, listed_pass}
 use Rattle.ob0_parse_descent.proofs.Led.{taken_led, led_fails, leads_then_fields}
 use Rattle.ob0_parse_descent.proofs.TypeParts.{taken_named, type_missing, taken_array, array_fails, array_too_deep, taken_record, record_fails, record_too_deep, taken_no_fields, taken_fields, fields_fail}
@@ -76,7 +77,7 @@ record_type-returns-in_err-first t c =
 
 pub record_type-loop-groups-init : goal.record_type-loop-groups-init
 record_type-loop-groups-init t c =
-    rw (c.in_ok-add.ensures, c.new-groups.ensures.items) (listing_one fields_of further_fields_of_group c.in_ok-first.first c.in_ok-first.ensures)
+    rw (c.in_ok-add.ensures.added, c.new-groups.ensures.items) (listing_one fields_of further_fields_of_group c.in_ok-first.first c.in_ok-first.ensures)
 
 pub record_type-returns-in_err-fields : goal.record_type-returns-in_err-fields
 record_type-returns-in_err-fields t c =
@@ -86,12 +87,12 @@ record_type-returns-in_err-fields t c =
 pub record_type-loop-groups-preserved : goal.record_type-loop-groups-preserved
 record_type-loop-groups-preserved t c =
     let item = rw c.in-Some.is at c.in_ok-fields.ensures in
-    rw c.in_ok-add-2.ensures (listing_more fields_of further_fields_of_group c.loop-groups.groups.items _ c.loop-groups.invariant item.0)
+    rw c.in_ok-add-2.ensures.added (listing_more fields_of further_fields_of_group c.loop-groups.groups.items _ c.loop-groups.invariant item.0)
 
 pub record_type-returns-in_err-end : goal.record_type-returns-in_err-end
 record_type-returns-in_err-end t c =
     let p = err_from_is_err_and c.from_residual-in_err-end.result c.from_residual-in_err-end.ensures.1 in
-    rw (p.1, p.2) (record_fails c.in_ok-inner.ensures c.requires.0 (listed_pass (listing_done c.loop-groups.invariant (rw c.in_default.is at c.in_ok-fields.ensures)) c.in_err-end.ensures))
+    rw (p.1, p.2) (record_fails c.in_ok-inner.ensures c.requires.0 (listed_pass (listing_done c.loop-groups.invariant (rw c.in_default.is at c.in_ok-fields.ensures)) (fails_in_token c.in_err-end.ensures)))
 
 pub record_type-returns : goal.record_type-returns
 record_type-returns t c =

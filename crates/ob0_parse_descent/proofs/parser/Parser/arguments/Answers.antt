@@ -1,5 +1,6 @@
 use Rattle.std.proofs.Common.{◌∙◌, sym, arith}
 use Rattle.std.proofs.lemmas.Result.{err_from_is_err_and}
+use Rattle.ob0_parse_descent.proofs.Leads.{fails_in_token}
 use Rattle.ob0_parse_descent.proofs.Refusals.{fails_in_both}
 use Rattle.ob0_parse_descent.proofs.Lists.{listed_pass}
 use Rattle.ob0_parse_descent.proofs.Arguments.{arguments_fail_none, arguments_fail, taken_no_arguments, taken_arguments}
@@ -8,7 +9,7 @@ use Rattle.ob0_parse_descent.proofs.parser.Parser.arguments.Goals as goal
 pub returns-in_err-end : goal.returns-in_err-end
 returns-in_err-end c =
     let p = err_from_is_err_and c.from_residual.result c.from_residual.ensures.1 in
-    rw (p.1, p.2) (arguments_fail_none c.kind.result (sym c.opens_expression.ensures ∙ c.if-not-opens_expression.true) c.kind.ensures.here c.if-not-at_symbol.ensures.0 c.in_err-end.ensures)
+    rw (p.1, p.2) (arguments_fail_none c.kind.result (sym c.opens_expression.ensures ∙ c.if-not-opens_expression.true) c.kind.ensures.here c.if-not-at_symbol.ensures.0 (fails_in_token c.in_err-end.ensures))
 
 pub returns-then-not-opens_expression : goal.returns-then-not-opens_expression
 returns-then-not-opens_expression c =
@@ -22,7 +23,7 @@ returns-in_err-arguments c =
 pub returns-in_err-end-2 : goal.returns-in_err-end-2
 returns-in_err-end-2 c =
     let p = err_from_is_err_and c.from_residual-in_err-end-2.result c.from_residual-in_err-end-2.ensures.1 in
-    rw (p.1, p.2) (arguments_fail c.kind.result (sym c.opens_expression.ensures ∙ c.if-not-opens_expression.false) c.kind.ensures.here c.if-not-at_symbol.ensures.0 (listed_pass c.in_ok-arguments.ensures c.in_err-end-2.ensures))
+    rw (p.1, p.2) (arguments_fail c.kind.result (sym c.opens_expression.ensures ∙ c.if-not-opens_expression.false) c.kind.ensures.here c.if-not-at_symbol.ensures.0 (listed_pass c.in_ok-arguments.ensures (fails_in_token c.in_err-end-2.ensures)))
 
 pub returns : goal.returns
 returns c =

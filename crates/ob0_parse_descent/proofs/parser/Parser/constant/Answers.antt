@@ -1,8 +1,8 @@
 use Rattle.std.proofs.Common.{arith, refl}
 use Rattle.std.proofs.lemmas.Result.{err_from_is_err_and}
 use Rattle.ob0_tree.specs.View.{expression_of}
-use Rattle.ob0_parse_descent.proofs.Refusals.{fails_in, fails_in_token, fails_pass, fails_pass_token, fails_pass_name}
-use Rattle.ob0_parse_descent.proofs.Leads.{no_named_item}
+use Rattle.ob0_parse_descent.proofs.Refusals.{fails_in, fails_pass, fails_pass_token, fails_pass_name}
+use Rattle.ob0_parse_descent.proofs.Leads.{no_named_item, fails_in_token}
 use Rattle.ob0_parse_descent.proofs.DeclarationParts.{taken_constant, constant_fails}
 use Rattle.ob0_parse_descent.proofs.parser.Parser.constant.Goals as goal
 
@@ -19,7 +19,7 @@ returns-in_err-value c =
 pub returns-in_err-end : goal.returns-in_err-end
 returns-in_err-end c =
     let p = err_from_is_err_and c.from_residual-in_err-end.result c.from_residual-in_err-end.ensures.1 in
-    rw (p.1, p.2) (constant_fails c.if-not-at_name.ensures.0 (fails_pass_name c.if-not-at_name.ensures.0 refl (fails_pass_token c.in_ok-start.ensures.0 c.in_ok-start.ensures.2 (fails_pass (expression_of c.in_ok-value.value) c.in_ok-value.ensures c.in_err-end.ensures))))
+    rw (p.1, p.2) (constant_fails c.if-not-at_name.ensures.0 (fails_pass_name c.if-not-at_name.ensures.0 refl (fails_pass_token c.in_ok-start.ensures.0 c.in_ok-start.ensures.2 (fails_pass (expression_of c.in_ok-value.value) c.in_ok-value.ensures (fails_in_token c.in_err-end.ensures)))))
 
 pub returns : goal.returns
 returns c =

@@ -4,7 +4,7 @@ use Rattle.ob0_tree.specs.View.{formals_listed}
 use Rattle.ob0_parse_descent.proofs.Refusals.{fails_in_both, fails_maybe}
 use Rattle.ob0_parse_descent.proofs.Expressions.{taken_item, taken_no_item}
 use Rattle.ob0_parse_descent.proofs.Lists.{listed_pass}
-use Rattle.ob0_parse_descent.proofs.Leads.{no_item}
+use Rattle.ob0_parse_descent.proofs.Leads.{no_item, fails_in_token}
 use Rattle.ob0_parse_descent.proofs.DeclarationParts.{formals_fail_none, formals_fail, taken_no_formals, taken_formals}
 use Rattle.ob0_tree.specs.Tree.{formals, no_formals}
 use Rattle.ob0_parse_descent.proofs.parser.Parser.formals.Goals as goal
@@ -16,7 +16,7 @@ returns-then-not-at_symbol c =
 pub returns-in_err-end : goal.returns-in_err-end
 returns-in_err-end c =
     let p = err_from_is_err_and c.from_residual.result c.from_residual.ensures.1 in
-    rw (p.1, p.2) (fails_maybe (formals_fail_none c.if-not-section_may_begin.ensures.0 c.if-not-section_may_begin.ensures.1 c.if-not-at_symbol.ensures.0 c.in_err-end.ensures))
+    rw (p.1, p.2) (fails_maybe (formals_fail_none c.if-not-section_may_begin.ensures.0 c.if-not-section_may_begin.ensures.1 c.if-not-at_symbol.ensures.0 (fails_in_token c.in_err-end.ensures)))
 
 pub returns-then-not-section_may_begin : goal.returns-then-not-section_may_begin
 returns-then-not-section_may_begin c =
@@ -30,7 +30,7 @@ returns-in_err-sections c =
 pub returns-in_err-end-2 : goal.returns-in_err-end-2
 returns-in_err-end-2 c =
     let p = err_from_is_err_and c.from_residual-in_err-end-2.result c.from_residual-in_err-end-2.ensures.1 in
-    rw (p.1, p.2) (fails_maybe (formals_fail c.if-not-section_may_begin.ensures c.if-not-at_symbol.ensures.0 (listed_pass c.in_ok-sections.ensures c.in_err-end-2.ensures)))
+    rw (p.1, p.2) (fails_maybe (formals_fail c.if-not-section_may_begin.ensures c.if-not-at_symbol.ensures.0 (listed_pass c.in_ok-sections.ensures (fails_in_token c.in_err-end-2.ensures))))
 
 pub returns : goal.returns
 returns c =

@@ -11,7 +11,7 @@ returns-in_err-first c =
 
 pub loop-sections-init : goal.loop-sections-init
 loop-sections-init c =
-    rw (c.in_ok-add.ensures, c.new-sections.ensures.items) (listing_one section_of further_section_of c.in_ok-first.first c.in_ok-first.ensures)
+    rw (c.in_ok-add.ensures.added, c.new-sections.ensures.items) (listing_one section_of further_section_of c.in_ok-first.first c.in_ok-first.ensures)
 
 pub returns-in_err-section : goal.returns-in_err-section
 returns-in_err-section c =
@@ -21,7 +21,7 @@ returns-in_err-section c =
 pub loop-sections-preserved : goal.loop-sections-preserved
 loop-sections-preserved c =
     let item = rw c.in-Some.is at c.in_ok-section.ensures in
-    rw c.in_ok-add-2.ensures (listing_more section_of further_section_of c.loop-sections.sections.items _ c.loop-sections.invariant item.0)
+    rw c.in_ok-add-2.ensures.added (listing_more section_of further_section_of c.loop-sections.sections.items _ c.loop-sections.invariant item.0)
 
 pub returns : goal.returns
 returns c =

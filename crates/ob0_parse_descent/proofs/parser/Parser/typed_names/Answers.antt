@@ -1,6 +1,7 @@
 use Rattle.std.proofs.lemmas.Result.{err_from_is_err_and}
 use Rattle.ob0_tree.specs.View.{names_of, type_of}
-use Rattle.ob0_parse_descent.proofs.Refusals.{fails_in, fails_in_token, fails_pass, fails_pass_token}
+use Rattle.ob0_parse_descent.proofs.Leads.{fails_in_token}
+use Rattle.ob0_parse_descent.proofs.Refusals.{fails_in, fails_pass, fails_pass_token}
 use Rattle.ob0_parse_descent.proofs.TypeParts.{taken_fields}
 use Rattle.ob0_parse_descent.proofs.parser.Parser.typed_names.Goals as goal
 
