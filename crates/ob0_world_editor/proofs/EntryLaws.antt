@@ -1,6 +1,6 @@
 -- What a change of the stored documents is in the model.
 use Rattle.std.proofs.Common.{◌≡◌, ℕ, Bool, true, false, cond, List, [], ◌∷◌, map, refl, sym, ap, ◌∙◌}
-use Rattle.std.specs.Prelude.{Option, Some, None, String, string_bytes}
+use Rattle.std.specs.Prelude.{Option, Some, None, Result, Ok, Err, OnErr, String, string_bytes}
 use Rattle.std.specs.Option.{option_map}
 use Rattle.std.specs.Ordering.{nat_cmp, is_eq, eq_by_cmp}
 use Rattle.std.specs.Cmp.{eq_by_cmp_equiv}
@@ -12,6 +12,7 @@ use Rattle.std.specs.BTreeMap.{BTreeMap, is_at}
 use Rattle.std.specs.BTreeMap as tree
 use Rattle.std.specs.FinMap as map_of
 use Rattle.std.proofs.lemmas.Map.Text.{btree_map_updates_text, is_eq-slice_cmp}
+use Rattle.ob0_world_rules.specs.Ends.{EditorDocuments}
 use Rattle.ob0_world_editor.specs.declared.documents.Open as stored
 use Rattle.ob0_world_editor.specs.Entries.{open_document, editor_documents}
 
@@ -54,3 +55,8 @@ module _ {A : Type 0} where
     documents-remove u =
         map_of.same_map nat_list_cmp_total (map_of.slice_cmp-IsAntisymmetric map_of.nat_cmp-IsAntisymmetric) _ _
         (λ q. get_after None u q ∙ sym (map_of.get-remove nat_list_cmp_total _ bs q))
+
+  -- where an entry can't be put in, the model stays
+  pub documents-unchanged : {T E : Type 0} (m n : BTreeMap (String A) stored.Open) (r : Result T E) (old : EditorDocuments) → tree.IsUnchanged m n → editor_documents m.entries ≡ old → OnErr r (editor_documents n.entries ≡ old)
+  documents-unchanged m n (Ok x) old same is = tt
+  documents-unchanged m n (Err e) old same is = ap (λ es. editor_documents es) same ∙ is

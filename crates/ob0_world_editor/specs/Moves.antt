@@ -85,7 +85,12 @@ IsRewritten e (drops_answer f) (Some r) = ⊥
 IsRewritten e (makes f a message) None = ⊥
 IsRewritten e (makes f a message) (Some r) = Rewrites e f a message r
 
--- it got it, and this content is the notification
+-- the editor has it, and this content is the notification
+abbrev pub IsTaken : Editor → rewritten.Rewritten → Vec ℕ Global → Editor → Type 0
+IsTaken old r content new =
+    (new ≡ with_text old r) × SaysToServer new.requested (text_sent r) content.items
+
+-- the edit was made, and this content is the notification
 abbrev pub IsMade : Editor → rewritten.Rewritten → applying.Applying → Editor → Type 0
 IsMade old r applying.TheVariants.NotHeld new = ⊥
 IsMade old r applying.TheVariants.Dropped new = ⊥

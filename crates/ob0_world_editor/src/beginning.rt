@@ -1,11 +1,12 @@
 //! How an editor begins.
-ghost use Rattle.std.specs.Prelude.{◌≡◌, [], ◌∷◌, ◌++◌, Some, IfOk, OnOk, codes};
-ghost use Rattle.serde_json.specs.Data.{member, no_members, object};
+ghost use Rattle.std.specs.Prelude.{◌≡◌, [], ◌∷◌, ◌++◌, Some, IfOk, OnOk};
+ghost use Rattle.serde_json.specs.Data.{no_members, object};
 ghost use Rattle.ob0_rpc.specs.Messages.{ReadsContent};
-ghost use Rattle.ob0_world_editor.specs.Beginning.{actions_supported, actions_taken, capabilities_for, initialize_message, utf8_offered, versions_supported, versions_taken};
+ghost use Rattle.ob0_world_editor.specs.Beginning.{capabilities_for, initialize_message};
 
+use crate::objects::{three_members, two_members};
 use crate::params::Request;
-use ob0_rpc::{Written, content_of, end_object, first_member, next_member};
+use ob0_rpc::{OneMember, Written, content_of};
 use ob0_text::Unit;
 use std::alloc::{AllocError, Global};
 
@@ -15,25 +16,12 @@ pub fn initialize(alloc: Global, unit: Unit) -> Result<Vec<u8>, AllocError>
     ensures { IfOk result (λ content. ReadsContent content.items (Some (initialize_message unit))) }
 {
     let capabilities = ClientCapabilities { unit };
-    let params = &InitializeParams { capabilities };
+    let params = &OneMember {
+        key: "capabilities",
+        value: capabilities,
+    };
     let (id, method) = ("initialize", "initialize");
     content_of(alloc, &Request { id, method, params })
-}
-
-/// What an editor says of itself.
-#[derive(Drop)]
-struct InitializeParams {
-    capabilities: ClientCapabilities,
-}
-
-impl Written for InitializeParams {
-    ghost value = { λ p. object (member (codes "capabilities")
-        (object (capabilities_for p.capabilities.unit)) no_members) };
-
-    fn write(&self, out: &mut Vec<u8>) -> Result<(), AllocError> {
-        first_member(out, "capabilities", &self.capabilities)?;
-        end_object(out)
-    }
 }
 
 /// What an editor can do.
@@ -46,59 +34,41 @@ impl Written for ClientCapabilities {
     ghost value = { λ c. object (capabilities_for c.unit) };
 
     fn write(&self, out: &mut Vec<u8>) -> Result<(), AllocError> {
+        // It takes code actions that aren't commands, of whatever kind.
+        let actions = OneMember {
+            key: "codeAction",
+            value: OneMember {
+                key: "codeActionLiteralSupport",
+                value: Nothing {},
+            },
+        };
+        // It takes edits with the versions of the documents that they are for.
+        let edits = OneMember {
+            key: "workspaceEdit",
+            value: OneMember {
+                key: "documentChanges",
+                value: true,
+            },
+        };
         match self.unit {
-            Unit::Utf16 => {
-                first_member(out, "textDocument", &DocumentSupport {})?;
-                next_member(out, "workspace", &WorkspaceSupport {})?;
-                end_object(out)
-            }
+            Unit::Utf16 => two_members(out, "textDocument", &actions, "workspace", &edits),
             Unit::Utf8 => {
-                first_member(out, "general", &GeneralSupport {})?;
-                next_member(out, "textDocument", &DocumentSupport {})?;
-                next_member(out, "workspace", &WorkspaceSupport {})?;
-                end_object(out)
+                let encodings = ["utf-8"];
+                let general = OneMember {
+                    key: "positionEncodings",
+                    value: encodings.as_slice(),
+                };
+                three_members(
+                    out,
+                    "general",
+                    &general,
+                    "textDocument",
+                    &actions,
+                    "workspace",
+                    &edits,
+                )
             }
         }
-    }
-}
-
-/// It offers bytes of UTF-8.
-#[derive(Drop)]
-struct GeneralSupport {}
-
-impl Written for GeneralSupport {
-    ghost value = { λ _. utf8_offered };
-
-    fn write(&self, out: &mut Vec<u8>) -> Result<(), AllocError> {
-        let encodings = ["utf-8"];
-        first_member(out, "positionEncodings", &encodings.as_slice())?;
-        end_object(out)
-    }
-}
-
-/// It takes code actions that aren't commands.
-#[derive(Drop)]
-struct DocumentSupport {}
-
-impl Written for DocumentSupport {
-    ghost value = { λ _. actions_taken };
-
-    fn write(&self, out: &mut Vec<u8>) -> Result<(), AllocError> {
-        first_member(out, "codeAction", &CodeActionSupport {})?;
-        end_object(out)
-    }
-}
-
-/// It takes code actions that aren't commands, of whatever kind.
-#[derive(Drop)]
-struct CodeActionSupport {}
-
-impl Written for CodeActionSupport {
-    ghost value = { λ _. actions_supported };
-
-    fn write(&self, out: &mut Vec<u8>) -> Result<(), AllocError> {
-        first_member(out, "codeActionLiteralSupport", &Nothing {})?;
-        end_object(out)
     }
 }
 
@@ -118,30 +88,4 @@ fn write_braces(out: &mut Vec<u8>) -> Result<(), AllocError>
     ensures { OnOk result (out.new.items ≡ out.old.items ++ 123 ∷ 125 ∷ []) }
 {
     out.extend_from_slice(b"{}")
-}
-
-/// It takes edits with the versions of the documents that they are for.
-#[derive(Drop)]
-struct WorkspaceSupport {}
-
-impl Written for WorkspaceSupport {
-    ghost value = { λ _. versions_taken };
-
-    fn write(&self, out: &mut Vec<u8>) -> Result<(), AllocError> {
-        first_member(out, "workspaceEdit", &EditSupport {})?;
-        end_object(out)
-    }
-}
-
-/// It takes edits with versions.
-#[derive(Drop)]
-struct EditSupport {}
-
-impl Written for EditSupport {
-    ghost value = { λ _. versions_supported };
-
-    fn write(&self, out: &mut Vec<u8>) -> Result<(), AllocError> {
-        first_member(out, "documentChanges", &true)?;
-        end_object(out)
-    }
 }

@@ -1,6 +1,7 @@
 //! The documents that are open in the editor.
-ghost use Rattle.std.specs.Prelude.{◌≡◌, OnOk, string_bytes};
+ghost use Rattle.std.specs.Prelude.{◌≡◌, IfOk, OnErr, OnOk};
 ghost use Rattle.std.specs.Option.{option_map};
+ghost use Rattle.std.specs.Str.{chars};
 ghost use Rattle.std.specs.FinMap as map_of;
 ghost use Rattle.ob0_world_editor.specs.Entries.{open_document};
 
@@ -15,6 +16,26 @@ pub struct Open {
     pub text: String,
     /// No two openings have one number.
     pub opening: u64,
+}
+
+impl Open {
+    /// A document with a copy of this text.
+    pub fn with_text(
+        alloc: Global,
+        version: u64,
+        text: &str,
+        opening: u64,
+    ) -> Result<Open, AllocError>
+        ensures { IfOk result (λ d. open_document d
+            ≡ record { version = version; text = chars text.now; opening = opening }) }
+    {
+        let text = String::from_str(alloc, text)?;
+        Ok(Open {
+            version,
+            text,
+            opening,
+        })
+    }
 }
 
 /// The open documents, by their uris.
@@ -52,10 +73,12 @@ impl OpenDocuments {
     }
 
     /// Opens a document, or replaces an open one.
-    pub fn put(&mut self, uri: String, document: Open) -> Result<(), AllocError>
-        ensures { OnOk result
-            (self.new ≡ map_of.insert self.old (string_bytes uri) (open_document document)) }
+    pub fn put(&mut self, alloc: Global, uri: &str, document: Open) -> Result<(), AllocError>
+        ensures ok { OnOk result
+            (self.new ≡ map_of.insert self.old uri.now (open_document document)) }
+        ensures err { OnErr result (self.new ≡ self.old) }
     {
+        let uri = String::from_str(alloc, uri)?;
         self.by_uri.insert(uri, document)?;
         Ok(())
     }

@@ -1,15 +1,16 @@
 //! What an editor keeps, and what it does.
-ghost use Rattle.std.specs.Prelude.{◌≡◌, IfOk, OnOk, OnErr, map, option_map, is_some, ◌<◌, ◌^◌};
+ghost use Rattle.std.specs.Prelude.{◌≡◌, IfOk, OnOk, OnErr, map, option_map, is_some, ◌<◌, ◌-◌, ◌^◌, string_bytes};
 ghost use Rattle.std.specs.Str.{chars};
 ghost use Rattle.ob0_text.specs.OpenDocuments.{reported_change};
 ghost use Rattle.ob0_world_rules.specs.Ends.{new_editor, request_numbered, open_at};
-ghost use Rattle.ob0_world_rules.specs.Editing.{opens_document, changes_document, closes_document, asks_about, has_edits, keeps, kept_answer, without_answer, applies_requested, applies_answer};
-ghost use Rattle.ob0_world_editor.specs.Code.{ask_of, message_of};
-ghost use Rattle.ob0_world_rules.specs.Edited.{replacements};
-ghost use Rattle.ob0_world_editor.specs.Moves.{AreFew, Moves, ComesOf, IsRewritten, IsMade, IsPlaceOf};
+ghost use Rattle.ob0_world_rules.specs.Editing.{opens_document, changes_document, closes_document, asks_about, has_edits, keeps, kept_answer, without_answer, applies_text, applies_requested, applies_answer};
+ghost use Rattle.ob0_world_editor.specs.Code.{ask_of, message_of, requested_of};
+ghost use Rattle.ob0_world_editor.specs.Entries.{open_document};
+ghost use Rattle.ob0_world_rules.specs.Edited.{edited, replacements};
+ghost use Rattle.ob0_world_editor.specs.Moves.{AreFew, Moves, ComesOf, IsRewritten, IsMade, IsTaken, IsPlaceOf};
 ghost use Rattle.ob0_world_editor.specs.Understood.{understood};
 
-use crate::applied::{Applied, Applying};
+use crate::applied::{Applied, Applying, applied_to};
 use crate::asks::{Ask, copy_of};
 use crate::documents::{Open, OpenDocuments};
 use crate::reading::{Message, numbered_ask, read_message};
@@ -95,23 +96,15 @@ impl Editor {
         ensures ok { IfOk result (λ content. Moves
             (opens_document self.old uri.now (chars text.now) (open_at self.old uri.now)) self.old
             content self.new) }
-        ensures err { OnErr result (self.new.requested ≡ self.old.requested) }
+        ensures err { OnErr result (self.new ≡ self.old) }
     {
         if self.documents.get(uri).is_some() {
             return Ok(None);
         }
-        let content = did_open(self.alloc, uri, 1, text)?;
-        let key = String::from_str(self.alloc, uri)?;
-        let text = String::from_str(self.alloc, text)?;
         let opening = self.openings + 1;
-        self.documents.put(
-            key,
-            Open {
-                version: 1,
-                text,
-                opening,
-            },
-        )?;
+        let content = did_open(self.alloc, uri, 1, text)?;
+        let document = Open::with_text(self.alloc, 1, text, opening)?;
+        self.documents.put(self.alloc, uri, document)?;
         self.openings = opening;
         Ok(Some(content))
     }
@@ -122,24 +115,21 @@ impl Editor {
         ensures ok { IfOk result (λ content. Moves (changes_document self.old uri.now
             (map reported_change changes.now) (open_at self.old uri.now)) self.old content
             self.new) }
-        ensures err { OnErr result (self.new.requested ≡ self.old.requested) }
+        ensures err { OnErr result (self.new ≡ self.old) }
     {
         let Some(open) = self.documents.get(uri) else {
             return Ok(None);
         };
-        let text = apply_changes::<Whole>(self.alloc, self.unit, open.text.as_str(), changes)?;
         let version = open.version + 1;
         let opening = open.opening;
+        let text = apply_changes::<Whole>(self.alloc, self.unit, open.text.as_str(), changes)?;
         let content = did_change(self.alloc, uri, version, changes)?;
-        let key = String::from_str(self.alloc, uri)?;
-        self.documents.put(
-            key,
-            Open {
-                version,
-                text,
-                opening,
-            },
-        )?;
+        let document = Open {
+            version,
+            text,
+            opening,
+        };
+        self.documents.put(self.alloc, uri, document)?;
         Ok(Some(content))
     }
 
@@ -148,7 +138,7 @@ impl Editor {
         ensures ok { IfOk result (λ content. Moves
             (closes_document self.old uri.now (open_at self.old uri.now)) self.old content
             self.new) }
-        ensures err { OnErr result (self.new.requested ≡ self.old.requested) }
+        ensures err { OnErr result (self.new ≡ self.old) }
     {
         if self.documents.get(uri).is_none() {
             return Ok(None);
@@ -164,7 +154,7 @@ impl Editor {
         ensures ok { IfOk result (λ content. Moves
             (asks_about self.old uri.now (ask_of ask.now) (open_at self.old uri.now)) self.old
             content self.new) }
-        ensures err { OnErr result (self.new.requested ≡ self.old.requested) }
+        ensures err { OnErr result (self.new ≡ self.old) }
     {
         let Some(open) = self.documents.get(uri) else {
             return Ok(None);
@@ -172,14 +162,8 @@ impl Editor {
         let (version, opening) = (open.version, open.opening);
         let number = self.requested.len() as u64 + 1;
         let content = request(self.alloc, number, uri, ask)?;
-        let ask = copy_of(self.alloc, ask)?;
-        let uri = String::from_str(self.alloc, uri)?;
-        self.requested.push(SentAsk {
-            ask,
-            uri,
-            opening,
-            version,
-        })?;
+        let sent = sent_ask(self.alloc, ask, uri, opening, version)?;
+        self.requested.push(sent)?;
         Ok(Some(content))
     }
 
@@ -195,7 +179,7 @@ impl Editor {
     pub fn keep(&mut self, number: u64, edits: Vec<Edit>) -> Result<bool, AllocError>
         ensures kept { OnOk result (self.new ≡ keeps self.old number (replacements edits.items)) }
         ensures some { IfOk result (λ kept. kept ≡ has_edits (replacements edits.items)) }
-        ensures err { OnErr result (self.new.requested ≡ self.old.requested) }
+        ensures err { OnErr result (self.new ≡ self.old) }
     {
         if edits.is_empty() {
             return Ok(false);
@@ -205,18 +189,20 @@ impl Editor {
     }
 
     /// Makes the edits of answer `k`, where the document is the same opening with the same version as when it was
-    /// requested about; the content is the notification. Else the answer is dropped.
+    /// requested about; the content is the notification. Else, and on an error, the answer is dropped.
     pub fn apply(&mut self, k: u64) -> Result<Applying, AllocError>
         requires { AreFew self.old }
         ensures ok { IfOk result (λ applying. ComesOf
             (applies_answer self.old k (kept_answer k self.old.answers)) self.old applying
             self.new) }
-        ensures err { OnErr result (self.new.requested ≡ self.old.requested) }
+        ensures err { OnErr result (self.new ≡ without_answer self.old k) }
     {
         let Some(edits) = self.drop_document(k) else {
             return Ok(Applying::NotHeld);
         };
-        match self.rewrite(k, edits.as_slice())? {
+        let rewritten = self.rewrite(k, edits.as_slice());
+        drop(edits);
+        match rewritten? {
             Some(rewritten) => self.make(rewritten),
             None => Ok(Applying::Dropped),
         }
@@ -258,19 +244,30 @@ impl Editor {
         if document.opening != requested.opening || document.version != requested.version {
             return Ok(None);
         }
-        let Some(after) = apply_edits::<Whole>(
-            self.alloc,
-            self.unit,
-            document.text.as_str(),
-            edits,
-        )?
-        else {
+        self.rewrite_document(requested.uri.as_str(), document, edits)
+    }
+
+    /// A document with these edits made; None where they can't be made.
+    fn rewrite_document(
+        &self,
+        uri: &str,
+        document: &Open,
+        edits: &[Edit],
+    ) -> Result<Option<Rewritten>, AllocError>
+        requires { document.now.version < 2 ^ 63 - 1 }
+        ensures { IfOk result (λ rewritten. IsRewritten self.now
+            (applies_text self.now uri.now (open_document document.now)
+            (edited self.now.unit (chars (string_bytes document.now.text))
+            (replacements edits.now)))
+            rewritten) }
+    {
+        let before = document.text.as_str();
+        let Some(after) = apply_edits::<Whole>(self.alloc, self.unit, before, edits)? else {
             return Ok(None);
         };
-        let uri = String::from_str(self.alloc, requested.uri.as_str())?;
-        let before = String::from_str(self.alloc, document.text.as_str())?;
+        let applied = applied_to(self.alloc, uri, before, after)?;
         Ok(Some(Rewritten {
-            applied: Applied { uri, before, after },
+            applied,
             version: document.version + 1,
             opening: document.opening,
         }))
@@ -280,29 +277,50 @@ impl Editor {
     fn make(&mut self, rewritten: Rewritten) -> Result<Applying, AllocError>
         requires { rewritten.version < 2 ^ 63 }
         ensures ok { IfOk result (λ applying. IsMade self.old rewritten applying self.new) }
-        ensures err { OnErr result (self.new.requested ≡ self.old.requested) }
+        ensures err { OnErr result (self.new ≡ self.old) }
     {
-        let applied = rewritten.applied;
-        let version = rewritten.version;
-        let opening = rewritten.opening;
-        let content = did_rewrite(
-            self.alloc,
-            applied.uri.as_str(),
-            version,
-            applied.after.as_str(),
-        )?;
-        let key = String::from_str(self.alloc, applied.uri.as_str())?;
-        let text = String::from_str(self.alloc, applied.after.as_str())?;
-        self.documents.put(
-            key,
-            Open {
-                version,
-                text,
-                opening,
-            },
-        )?;
-        Ok(Applying::Made { applied, content })
+        let content = self.take_text(&rewritten)?;
+        Ok(Applying::Made {
+            applied: rewritten.applied,
+            content,
+        })
     }
+
+    /// Takes a copy of a document's new text; the content is the notification.
+    fn take_text(&mut self, rewritten: &Rewritten) -> Result<Vec<u8>, AllocError>
+        requires { rewritten.now.version < 2 ^ 63 }
+        ensures ok { IfOk result (λ content. IsTaken self.old rewritten.now content self.new) }
+        ensures err { OnErr result (self.new ≡ self.old) }
+    {
+        let uri = rewritten.applied.uri.as_str();
+        let text = rewritten.applied.after.as_str();
+        let version = rewritten.version;
+        let content = did_rewrite(self.alloc, uri, version, text)?;
+        let document = Open::with_text(self.alloc, version, text, rewritten.opening)?;
+        self.documents.put(self.alloc, uri, document)?;
+        Ok(content)
+    }
+}
+
+/// What is requested of a document.
+fn sent_ask(
+    alloc: Global,
+    ask: &Ask,
+    uri: &str,
+    opening: u64,
+    version: u64,
+) -> Result<SentAsk, AllocError>
+    ensures { IfOk result (λ sent. requested_of sent ≡ record
+        { ask = ask_of ask.now; uri = uri.now; opening = opening; version = version }) }
+{
+    let uri = String::from_str(alloc, uri)?;
+    let ask = copy_of(alloc, ask)?;
+    Ok(SentAsk {
+        ask,
+        uri,
+        opening,
+        version,
+    })
 }
 
 /// Where the first answer to ask `k` is.

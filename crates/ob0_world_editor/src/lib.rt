@@ -6,6 +6,7 @@ mod asks;
 mod beginning;
 mod documents;
 mod editor;
+mod objects;
 mod params;
 mod reading;
 mod texts;

@@ -4,9 +4,12 @@ ghost use Rattle.serde_json.specs.Data.{array, member, no_members, object};
 ghost use Rattle.serde_json.specs.View.{items_of};
 ghost use Rattle.ob0_rpc.specs.Appending.{AppendsEach};
 ghost use Rattle.ob0_rpc.specs.Shapes.{json_rpc, text as text_data};
-ghost use Rattle.ob0_world_editor.specs.Shapes.{actions_params, change_object, change_value, close_params, diagnostics_of_none, document_value, open_params, opened_value, options_by, options_value, rename_params, versioned_value};
+ghost use Rattle.ob0_world_editor.specs.Shapes.{actions_params, change_object, change_value, document_value, opened_value, options_by, options_value, rename_params, versioned_value};
 
-use ob0_rpc::{Written, begin_list, end_list, end_object, first_member, next_member, write_item};
+use crate::objects::{three_members, two_members};
+use ob0_rpc::{
+    OneMember, Written, begin_list, end_list, end_object, first_member, next_member, write_item,
+};
 use ob0_text::{Change, Indent, Position, Range};
 use std::alloc::AllocError;
 
@@ -43,8 +46,8 @@ impl<'a> Written for DocumentId<'a> {
     ghost value = { λ d. document_value d.uri.now };
 
     fn write(&self, out: &mut Vec<u8>) -> Result<(), AllocError> {
-        first_member(out, "uri", &self.uri)?;
-        end_object(out)
+        let (key, value) = ("uri", self.uri);
+        OneMember { key, value }.write(out)
     }
 }
 
@@ -59,9 +62,7 @@ impl<'a> Written for DocumentVersion<'a> {
     ghost value = { λ d. versioned_value d.uri.now d.version };
 
     fn write(&self, out: &mut Vec<u8>) -> Result<(), AllocError> {
-        first_member(out, "uri", &self.uri)?;
-        next_member(out, "version", &self.version)?;
-        end_object(out)
+        two_members(out, "uri", &self.uri, "version", &self.version)
     }
 }
 
@@ -85,21 +86,6 @@ impl<'a> Written for OpenedDocument<'a> {
     }
 }
 
-/// That a document was opened.
-#[derive(Drop)]
-pub struct DidOpenParams<'a> {
-    pub document: OpenedDocument<'a>,
-}
-
-impl<'a> Written for DidOpenParams<'a> {
-    ghost value = { λ p. open_params p.document.uri.now p.document.version p.document.text.now };
-
-    fn write(&self, out: &mut Vec<u8>) -> Result<(), AllocError> {
-        first_member(out, "textDocument", &self.document)?;
-        end_object(out)
-    }
-}
-
 /// A new text of a range, or of the whole document.
 #[derive(Drop)]
 pub struct ContentChange<'a> {
@@ -112,14 +98,10 @@ impl<'a> Written for ContentChange<'a> {
 
     fn write(&self, out: &mut Vec<u8>) -> Result<(), AllocError> {
         match self.range {
-            Some(range) => {
-                first_member(out, "range", &range)?;
-                next_member(out, "text", &self.text)?;
-                end_object(out)
-            }
+            Some(range) => two_members(out, "range", &range, "text", &self.text),
             None => {
-                first_member(out, "text", &self.text)?;
-                end_object(out)
+                let (key, value) = ("text", self.text);
+                OneMember { key, value }.write(out)
             }
         }
     }
@@ -168,24 +150,13 @@ impl<'a, C: Written> Written for DidChangeParams<'a, C> {
         no_members)) };
 
     fn write(&self, out: &mut Vec<u8>) -> Result<(), AllocError> {
-        first_member(out, "contentChanges", &self.changes)?;
-        next_member(out, "textDocument", &self.document)?;
-        end_object(out)
-    }
-}
-
-/// That a document was closed.
-#[derive(Drop)]
-pub struct DidCloseParams<'a> {
-    pub document: DocumentId<'a>,
-}
-
-impl<'a> Written for DidCloseParams<'a> {
-    ghost value = { λ p. close_params p.document.uri.now };
-
-    fn write(&self, out: &mut Vec<u8>) -> Result<(), AllocError> {
-        first_member(out, "textDocument", &self.document)?;
-        end_object(out)
+        two_members(
+            out,
+            "contentChanges",
+            &self.changes,
+            "textDocument",
+            &self.document,
+        )
     }
 }
 
@@ -201,24 +172,15 @@ impl<'a> Written for RenameParams<'a> {
     ghost value = { λ p. rename_params p.document.uri.now p.position p.new_name.now };
 
     fn write(&self, out: &mut Vec<u8>) -> Result<(), AllocError> {
-        first_member(out, "newName", &self.new_name)?;
-        next_member(out, "position", &self.position)?;
-        next_member(out, "textDocument", &self.document)?;
-        end_object(out)
-    }
-}
-
-/// Which diagnostics actions are for: none.
-#[derive(Drop)]
-pub struct ActionContext {}
-
-impl Written for ActionContext {
-    ghost value = { λ _. diagnostics_of_none };
-
-    fn write(&self, out: &mut Vec<u8>) -> Result<(), AllocError> {
-        let none: [Range; 0] = [];
-        first_member(out, "diagnostics", &none.as_slice())?;
-        end_object(out)
+        three_members(
+            out,
+            "newName",
+            &self.new_name,
+            "position",
+            &self.position,
+            "textDocument",
+            &self.document,
+        )
     }
 }
 
@@ -233,14 +195,24 @@ impl<'a> Written for CodeActionParams<'a> {
     ghost value = { λ p. actions_params p.document.uri.now p.position };
 
     fn write(&self, out: &mut Vec<u8>) -> Result<(), AllocError> {
+        let none: [Range; 0] = [];
+        let context = OneMember {
+            key: "diagnostics",
+            value: none.as_slice(),
+        };
         let range = Range {
             start: self.position,
             end: self.position,
         };
-        first_member(out, "context", &ActionContext {})?;
-        next_member(out, "range", &range)?;
-        next_member(out, "textDocument", &self.document)?;
-        end_object(out)
+        three_members(
+            out,
+            "context",
+            &context,
+            "range",
+            &range,
+            "textDocument",
+            &self.document,
+        )
     }
 }
 
@@ -255,9 +227,13 @@ impl Written for FormattingOptions {
     ghost value = { λ o. options_by o.insert_spaces o.tab_size };
 
     fn write(&self, out: &mut Vec<u8>) -> Result<(), AllocError> {
-        first_member(out, "insertSpaces", &self.insert_spaces)?;
-        next_member(out, "tabSize", &self.tab_size)?;
-        end_object(out)
+        two_members(
+            out,
+            "insertSpaces",
+            &self.insert_spaces,
+            "tabSize",
+            &self.tab_size,
+        )
     }
 }
 
@@ -292,8 +268,12 @@ impl<'a> Written for FormattingParams<'a> {
         (member (codes "textDocument") (document_value p.document.uri.now) no_members)) };
 
     fn write(&self, out: &mut Vec<u8>) -> Result<(), AllocError> {
-        first_member(out, "options", &self.options)?;
-        next_member(out, "textDocument", &self.document)?;
-        end_object(out)
+        two_members(
+            out,
+            "options",
+            &self.options,
+            "textDocument",
+            &self.document,
+        )
     }
 }

@@ -57,9 +57,13 @@ pub fn apply_edits<T: TextStore>(
         ≡ option_map (λ s. chars (string_bytes s)) new) }
 {
     let store = T::from_str_in(alloc, text, unit)?;
-    match patch(alloc, &store, edits) {
+    let patched = patch(alloc, &store, edits);
+    drop(store);
+    match patched {
         Ok(new) => Ok(Some(new)),
-        Err(PatchFault::Overlap) => Ok(None),
-        Err(PatchFault::Memory) => Err(AllocError),
+        Err(fault) => match fault {
+            PatchFault::Overlap => Ok(None),
+            PatchFault::Memory => Err(AllocError),
+        },
     }
 }

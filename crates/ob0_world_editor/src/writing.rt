@@ -11,11 +11,10 @@ ghost use Rattle.ob0_world_editor.specs.Shapes.{request_message};
 
 use crate::asks::Ask;
 use crate::params::{
-    CodeActionParams, ContentChange, ContentChanges, DidChangeParams, DidCloseParams,
-    DidOpenParams, DocumentId, DocumentVersion, FormattingOptions, FormattingParams,
-    OpenedDocument, RenameParams, Request,
+    CodeActionParams, ContentChange, ContentChanges, DidChangeParams, DocumentId, DocumentVersion,
+    FormattingOptions, FormattingParams, OpenedDocument, RenameParams, Request,
 };
-use ob0_rpc::{Written, content_of, notify};
+use ob0_rpc::{OneMember, Written, content_of, notify};
 use ob0_text::Change;
 use std::alloc::{AllocError, Global};
 
@@ -25,8 +24,9 @@ pub fn did_open(alloc: Global, uri: &str, version: u64, text: &str) -> Result<Ve
     ensures { IfOk result
         (λ content. IsNote (Opened uri.now (pos version) (chars text.now)) content.items) }
 {
-    let document = OpenedDocument { uri, version, text };
-    notify(alloc, "textDocument/didOpen", &DidOpenParams { document })
+    let value = OpenedDocument { uri, version, text };
+    let key = "textDocument";
+    notify(alloc, "textDocument/didOpen", &OneMember { key, value })
 }
 
 /// Notifies how a document was changed.
@@ -74,8 +74,9 @@ pub fn did_rewrite(
 pub fn did_close(alloc: Global, uri: &str) -> Result<Vec<u8>, AllocError>
     ensures { IfOk result (λ content. IsNote (Closed uri.now) content.items) }
 {
-    let document = DocumentId { uri };
-    notify(alloc, "textDocument/didClose", &DidCloseParams { document })
+    let value = DocumentId { uri };
+    let key = "textDocument";
+    notify(alloc, "textDocument/didClose", &OneMember { key, value })
 }
 
 /// Requests this of a document; both ways of inlining request the actions at their place.

@@ -9,7 +9,7 @@ returns-in-Ok g c =
     edited_as_patched c.args.unit _ c.args.edits.now
     ∙ sym (λ i. patches.patched (width_of (c.in_ok-store.ensures.unit i)) (c.in_ok-store.ensures.content i) c.args.edits.now) ∙ c.in-Ok.ensures.ok
 
-pub returns-in-Err-Overlap : goal.returns-in-Err-Overlap
-returns-in-Err-Overlap g c =
+pub returns-in-Overlap : goal.returns-in-Overlap
+returns-in-Overlap g c =
     edited_as_patched c.args.unit _ c.args.edits.now
-    ∙ sym (λ i. patches.patched (width_of (c.in_ok-store.ensures.unit i)) (c.in_ok-store.ensures.content i) c.args.edits.now) ∙ c.in-Err-Overlap.ensures.overlap (ap Err c.in-Err-Overlap.field-0-is)
+    ∙ sym (λ i. patches.patched (width_of (c.in_ok-store.ensures.unit i)) (c.in_ok-store.ensures.content i) c.args.edits.now) ∙ c.in-Err.ensures.overlap (ap Err c.in-Overlap.is)

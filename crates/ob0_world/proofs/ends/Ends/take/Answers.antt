@@ -16,7 +16,8 @@ invariant_of-self-in-Published g c =
 
 pub invariant_of-self-in_err-edits-in-Answered : goal.invariant_of-self-in_err-edits-in-Answered
 invariant_of-self-in_err-edits-in-Answered g c =
-    same_sound c.self.inside.editor c.keep.new.self c.self.inside.to_server.items c.pop_front.new.self.items c.self.inside.session c.in_err-edits-in-Answered.ensures.err
+    same_sound c.self.inside.editor c.keep.new.self c.self.inside.to_server.items c.pop_front.new.self.items c.self.inside.session
+    (ap (λ (e : Editor). e.requested) c.in_err-edits-in-Answered.ensures.err)
     (taken_sound c.self.inside.editor.requested c.self.inside.to_server.items c.self.inside.to_editor.items c.pop_front.new.self.items c.self.inside.session c.in-Some.content c.in-Some.ensures.items c.self.invariant)
 
 pub invariant_of-self-in-Answered : goal.invariant_of-self-in-Answered

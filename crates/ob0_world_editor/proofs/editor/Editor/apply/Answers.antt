@@ -10,5 +10,5 @@ returns-in_default-clause-ok c =
     subst (λ e. ComesOf (applies_answer c.args.self.now c.args.k (kept_answer c.args.k c.args.self.now.answers)) c.args.self.now applying.TheVariants.NotHeld e) (sym c.in_default.ensures.after)
     (comes_not_held c.args.self.now c.args.k _ c.in_default.ensures.edits refl)
 
-pub rewrite-requires : goal.rewrite-requires
-rewrite-requires c = subst AreFew (sym c.in-Some.ensures.after) (few_without c.args.self.now c.args.k c.requires)
+pub rewrite-rewritten-requires : goal.rewrite-rewritten-requires
+rewrite-rewritten-requires c = subst AreFew (sym c.in-Some.ensures.after) (few_without c.args.self.now c.args.k c.requires)

@@ -9,8 +9,6 @@ pub returns-clause-ok : goal.returns-clause-ok
 returns-clause-ok c =
     let at : open_at c.args.self.now c.args.uri.now ≡ Some (open_document c.in-Some.open.now) = sym (c.in-Some.ensures ∙ ap (λ (e : Editor). open_at e c.args.uri.now) c.self.view_is) in
     asks_once_more c.args.self.now _ c.args.uri.now (ask_of c.args.ask.now) (open_document c.in-Some.open.now) c.in_ok-content.content c.len.result c.self.inside.requested.items
-    (record { ask = c.in_ok-ask.ask; uri = c.in_ok-uri.uri; opening = c.in-Some.open.now.opening; version = c.in-Some.open.now.version })
-    at (ap (λ (e : Editor). e.requested) c.self.view_is) (c.len.ensures ∙ c.self.inside.requested.ok.0)
-    (λ i. record { ask = c.in_ok-ask.ensures i; uri = c.in_ok-uri.ensures.ok i; opening = c.in-Some.open.now.opening; version = c.in-Some.open.now.version })
+    c.in_ok-sent.sent at (ap (λ (e : Editor). e.requested) c.self.view_is) (c.len.ensures ∙ c.self.inside.requested.ok.0) c.in_ok-sent.ensures
     ((λ i. record (c.self.view_is i) { requested = map requested_of (c.in_ok-push.ensures.items i) }))
     c.in_ok-content.ensures

@@ -1,0 +1,44 @@
+//! Objects of two and three members. A name is written as it is, so it is one that needs no escape.
+ghost use Rattle.std.specs.Prelude.{OnOk};
+ghost use Rattle.serde_json.specs.Data.{member, no_members};
+ghost use Rattle.ob0_rpc.specs.Appending.{AppendsMembers};
+
+use ob0_rpc::{Written, end_object, first_member, next_member};
+use std::alloc::AllocError;
+
+/// Writes an object of two members.
+pub fn two_members<A: Written, B: Written>(
+    out: &mut Vec<u8>,
+    name: &str,
+    value: &A,
+    second_name: &str,
+    second: &B,
+) -> Result<(), AllocError>
+    ensures { OnOk result (AppendsMembers 123
+        (member name.now (A.value value.now) (member second_name.now (B.value second.now)
+        no_members)) out.old.items out.new.items) }
+{
+    first_member(out, name, value)?;
+    next_member(out, second_name, second)?;
+    end_object(out)
+}
+
+/// Writes an object of three members.
+pub fn three_members<A: Written, B: Written, C: Written>(
+    out: &mut Vec<u8>,
+    name: &str,
+    value: &A,
+    second_name: &str,
+    second: &B,
+    third_name: &str,
+    third: &C,
+) -> Result<(), AllocError>
+    ensures { OnOk result (AppendsMembers 123
+        (member name.now (A.value value.now) (member second_name.now (B.value second.now)
+        (member third_name.now (C.value third.now) no_members))) out.old.items out.new.items) }
+{
+    first_member(out, name, value)?;
+    next_member(out, second_name, second)?;
+    next_member(out, third_name, third)?;
+    end_object(out)
+}
