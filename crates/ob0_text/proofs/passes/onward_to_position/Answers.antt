@@ -5,7 +5,7 @@ use Rattle.std.proofs.lemmas.Bool.{ltb-true, ltb-false}
 use Rattle.ob0_text.specs.Texts.{ends_line}
 use Rattle.ob0_text.specs.Units.{width_of}
 use Rattle.ob0_text.proofs.PositionSteps.{rest_border}
-use Rattle.ob0_text.proofs.PlaceSteps.{sought_past_end, sought_on, sought_past_char, sought_at_break, sought_at_full, sought_at_end}
+use Rattle.ob0_text.proofs.PlaceSteps.{true_not_false, sought_past_end, sought_on, sought_past_char, sought_at_break, sought_at_full, sought_at_end}
 use Rattle.ob0_text.proofs.passes.onward_to_position.Goals as goal
 use Rattle.ob0_text.proofs.passes.onward_to_position.Goals.{then-line-position+then-ends_line, then-line-position+else-ends_line, else-line-position+else-position-character, then-is_line_break, else-is_line_break}
 
@@ -28,7 +28,7 @@ loop-c-preserved c =
             rw (w.line-is, w.character-is) (sought_on width _ _ _ _ _ _ h c.in-Some.c (chars_rest c.next.new.self) begins w.if-line-position.true goes_on)
         | else-line-position+else-position-character w ↦
             elim w.if-is_line_break.branch [
-              | then-is_line_break v ↦ absurd (cc)
+              | then-is_line_break v ↦ absurd (true_not_false (sym v.if-is_line_break.true ∙ sym v.value-is ∙ w.if-position-character.false))
               | else-is_line_break v ↦
                   let plain = sym w.is_line_break.ensures ∙ v.if-is_line_break.false in
                   let fits : width c.in-Some.c ≤ c.args.position.character - c.loop-c.character = subst (λ k. k ≤ c.args.position.character - c.loop-c.character) v.width.ensures (ltb-false _ _ (sym v.value-is ∙ w.if-position-character.false)) in

@@ -1,0 +1,14 @@
+use Rattle.std.proofs.Common.{◌∙◌}
+use Rattle.std.specs.Str.{chars}
+use Rattle.ob0_text.specs.Texts.{offset_of}
+use Rattle.ob0_text.specs.Units.{width_of}
+use Rattle.ob0_text.proofs.Collecting.{one_more}
+use Rattle.ob0_text.proofs.line_lookups.offsets_in.Goals as goal
+
+pub loop-position-preserved : goal.loop-position-preserved
+loop-position-preserved c = record {
+  place = c.place_after-place.ensures.place;
+  done = c.in_ok-push.ensures.items
+      ∙ one_more (offset_of (width_of c.args.unit) (chars c.args.text.now)) c.args.positions.now c.loop-position.position-index (record { line = 0; character = 0 }) c.loop-position.offsets.items c.place_after-place.result.offset
+      c.loop-position-test.true c.loop-position.invariant.done c.place_after-place.ensures.offset;
+}
