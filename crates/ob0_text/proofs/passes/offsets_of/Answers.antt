@@ -1,4 +1,5 @@
-use Rattle.std.proofs.Common.{◌∙◌}
+use Rattle.std.proofs.Common.{map, ap, ◌∙◌}
+use Rattle.std.proofs.lemmas.List.{take_all}
 use Rattle.std.specs.Str.{chars}
 use Rattle.ob0_text.specs.Texts.{offset_of}
 use Rattle.ob0_text.specs.Units.{width_of}
@@ -12,3 +13,8 @@ loop-position-preserved c = record {
       ∙ one_more (offset_of (width_of c.args.unit) (chars c.args.text.now)) c.args.positions.now c.loop-position.position-index (record { line = 0; character = 0 }) c.loop-position.offsets.items c.onward_to_position-place.result.offset
       c.loop-position-test.true c.loop-position.invariant.done c.onward_to_position-place.ensures.offset;
 }
+
+pub returns : goal.returns
+returns c =
+    c.loop-position.invariant.done
+    ∙ ap (map (offset_of (width_of c.args.unit) (chars c.args.text.now))) (take_all c.loop-position.position-index c.args.positions.now c.loop-position-test.false)
