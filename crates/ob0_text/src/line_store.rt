@@ -15,7 +15,7 @@ use std::alloc::{AllocError, Global};
 use std::marker::Model;
 
 /// A text with the table of its lines. A look-up costs what its line does.
-#[derive(Debug, Drop)]
+#[derive(Drop)]
 pub struct Lines {
     text: String,
     table: LineTable,

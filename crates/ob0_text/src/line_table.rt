@@ -11,7 +11,7 @@ use std::marker::Model;
 /// The offsets where a text's lines start, in bytes and in order. Those before the last change are kept
 /// as they are; those after it are kept as distances from the text's end, the last line's first. So a
 /// change moves no start but those between it and the change before.
-#[derive(Debug, Drop)]
+#[derive(Drop)]
 pub struct LineTable {
     front: Vec<usize>,
     back: Vec<usize>,

@@ -252,10 +252,15 @@ pub fn onward_to_position(text: &str, unit: Unit, from: PassState, position: Pos
                 line += 1;
                 character = 0;
             }
-        } else if is_line_break(c) || position.character - character < width(c, unit) {
-            break;
         } else {
-            character += width(c, unit);
+            if is_line_break(c) {
+                break;
+            }
+            let units = width(c, unit);
+            if position.character - character < units {
+                break;
+            }
+            character += units;
         }
         reached += c.len_utf8();
     }

@@ -9,7 +9,7 @@ use crate::stores::TextStore;
 use std::alloc::{AllocError, Global};
 
 /// A text without a table of its lines: each look-up begins at its start. The plain store.
-#[derive(Debug, Drop)]
+#[derive(Drop)]
 pub struct Whole {
     text: String,
     unit: Unit,

@@ -1,13 +1,27 @@
-use Rattle.std.proofs.Common.{◌≡◌, ◌-◌, ℕ, List, length, refl, sym, ap, ap₂, ◌∙◌, subst, take, drop}
+use Rattle.std.proofs.Common.{◌≡◌, ◌+◌, ◌-◌, ℕ, List, length, refl, sym, ap, ap₂, ◌∙◌, subst, take, drop, arith}
 use Rattle.ob0_scan.specs.declared.lexeme.Token.{Token}
-use Rattle.ob0_scan.specs.Scanned.{Scanned}
-use Rattle.ob0_scan.specs.Reused.{kinds, names_in}
+use Rattle.ob0_scan.specs.Scanned.{Scanned, IsScanOf}
+use Rattle.ob0_scan.specs.Reused.{kinds, names_in, Reuses}
 use Rattle.ob0_scan.proofs.Alike.{kinds_stay}
 use Rattle.ob0_scan.proofs.Named.{names_stay}
 use Rattle.ob0_scan.proofs.SameKinds.{joined_tokens, same_tokens}
 use Rattle.ob0_scan.specs.SameKinds.{HasSameTokens}
 use Rattle.ob0_scan.specs.declared.tokens.SameTokens.{SameTokens}
 use Rattle.ob0_scan.proofs.rescanning.rescan_in_place.Goals as goal
+
+pub with-requires : goal.with-requires
+with-requires c = c.in-Ok.ensures.ok
+
+pub returns-in_ok-tokens-in-Ok-clause-ok : goal.returns-in_ok-tokens-in-Ok-clause-ok
+returns-in_ok-tokens-in-Ok-clause-ok c =
+    subst (λ (s : Scanned). IsScanOf c.args.new_text.now s) (sym c.in_ok-tokens-in-Ok.ensures) (record { of = refl; scan = c.in-Ok.ensures.ok.scan })
+
+pub returns-in_ok-tokens-in-Ok-clause-reused : goal.returns-in_ok-tokens-in-Ok-clause-reused
+returns-in_ok-tokens-in-Ok-clause-reused c =
+    let b = c.in-Ok.between in
+    let read : c.len.result + c.len-in-Ok.result ≡ length b.tokens.items + length b.comments.items = omega (arith, c.len.ensures, c.len-in-Ok.ensures, b.tokens.ok, b.comments.ok) in
+    subst (λ (n : ℕ). Reuses c.args.old c.in_ok-tokens-in-Ok.tokens c.args.from c.args.removed c.args.added n) (sym read)
+    (subst (λ (s : Scanned). Reuses c.args.old s c.args.from c.args.removed c.args.added (length b.tokens.items + length b.comments.items)) (sym c.in_ok-tokens-in-Ok.ensures) c.in-Ok.ensures.ok.reuses)
 
 pub returns-in_ok-tokens-in-Ok-clause-alike : goal.returns-in_ok-tokens-in-Ok-clause-alike
 returns-in_ok-tokens-in-Ok-clause-alike c =

@@ -1,5 +1,24 @@
+use Rattle.std.proofs.Common.{map, ap, ◌∙◌}
+use Rattle.std.proofs.lemmas.List.{take_all}
+use Rattle.std.specs.Str.{chars}
+use Rattle.ob0_text.specs.Texts.{position_of}
+use Rattle.ob0_text.specs.Units.{width_of}
+use Rattle.ob0_text.proofs.Collecting.{one_more}
 use Rattle.ob0_text.proofs.line_lookups.positions_in.Goals as goal
 
 pub onward_to_offset-place-requires-clause-place : goal.onward_to_offset-place-requires-clause-place
 onward_to_offset-place-requires-clause-place c =
     c.nearest_before-from.ensures.place c.args.unit c.loop-offset.invariant.place
+
+pub loop-offset-preserved : goal.loop-offset-preserved
+loop-offset-preserved c = record {
+  place = c.onward_to_offset-place.ensures.place;
+  done = c.in_ok-push.ensures.items
+      ∙ one_more (position_of (width_of c.args.unit) (chars c.args.text.now)) c.args.offsets.now c.loop-offset.offset-index 0 c.loop-offset.positions.items c.position_at.result
+      c.loop-offset-test.true c.loop-offset.invariant.done (c.position_at.ensures ∙ c.onward_to_offset-place.ensures.position);
+}
+
+pub returns : goal.returns
+returns c =
+    c.loop-offset.invariant.done
+    ∙ ap (map (position_of (width_of c.args.unit) (chars c.args.text.now))) (take_all c.loop-offset.offset-index c.args.offsets.now c.loop-offset-test.false)

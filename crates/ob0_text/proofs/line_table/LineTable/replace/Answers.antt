@@ -16,6 +16,26 @@ move_left-requires c =
     subst (λ n. AllUnder (n + 1) (starts_in c.self.inside.len c.self.inside.front.items c.self.inside.back.items)) (sym long)
     (subst (AllUnder (length bytes + 1)) (sym starts) (all_within bytes (IsUtf8-string_bytes c.args.text.now)))
 
+pub returns-in_err-move_left-clause-table : goal.returns-in_err-move_left-clause-table
+returns-in_err-move_left-clause-table c = record {
+  starts = c.move_left.ensures.same ∙ ap (λ (t : Table). t.starts) c.self.view_is ∙ c.requires.table.starts;
+  len = ap (λ (t : Table). t.len) c.self.view_is ∙ c.requires.table.len;
+}
+
+pub returns-in_err-move_right-clause-table : goal.returns-in_err-move_right-clause-table
+returns-in_err-move_right-clause-table c = record {
+  starts = c.move_right.ensures.same ∙ c.move_left.ensures.same ∙ ap (λ (t : Table). t.starts) c.self.view_is ∙ c.requires.table.starts;
+  len = ap (λ (t : Table). t.len) c.self.view_is ∙ c.requires.table.len;
+}
+
+pub returns-in_err-reserve-clause-table : goal.returns-in_err-reserve-clause-table
+returns-in_err-reserve-clause-table c = record {
+  starts =
+      ap (λ f. starts_in c.self.inside.len f c.move_right.new.back.items) c.reserve.ensures.items
+      ∙ c.move_right.ensures.same ∙ c.move_left.ensures.same ∙ ap (λ (t : Table). t.starts) c.self.view_is ∙ c.requires.table.starts;
+  len = ap (λ (t : Table). t.len) c.self.view_is ∙ c.requires.table.len;
+}
+
 pub returns-clause-table : goal.returns-clause-table
 returns-clause-table c =
     let bytes = string_bytes c.args.text.now in
