@@ -58,10 +58,6 @@ some_named : (token ordinal : ℕ) (found : Option ℕ) (ordinals : List (Option
 some_named token ordinal None ordinals e = absurd (cc)
 some_named token ordinal (Some i) ordinals e = go (ordinal_in ordinals i) refl e
   where
-    named_back : Option named.Named → named.Named
-    named_back None = record { token = 0; ordinal = 0 }
-    named_back (Some n) = n
-
     go : (o : Option ℕ) → ordinal_in ordinals i ≡ o → option_map {U = named.Named} (λ ordinal. record { token = i; ordinal = ordinal }) o ≡ Some (record { token = token; ordinal = ordinal }) → ordinal_in ordinals token ≡ Some ordinal
     go None q e = absurd (cc)
     go (Some k) q e =

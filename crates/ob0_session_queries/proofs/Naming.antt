@@ -1,7 +1,7 @@
 -- What is found about the name at a position, and that it can be sent.
 use Rattle.std.proofs.Common.{◌≡◌, ◌≤◌, ℕ, List, [], ◌∷◌, Option, Some, None, map, subst, arith}
 use Rattle.std.specs.Str.{chars, IsUtf8}
-use Rattle.serde_json.specs.Data.{Data, null, array, items_depth}
+use Rattle.serde_json.specs.Data.{null, array, items_depth}
 use Rattle.serde_json.specs.View.{items_of}
 use Rattle.ob0_rpc.specs.Writing.{CanBeSent}
 use Rattle.ob0_scan.specs.declared.lexeme.Span.{Span}

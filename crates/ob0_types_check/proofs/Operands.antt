@@ -1,5 +1,5 @@
 -- Operations of which nothing is reported: the types of their operands are those that are required, and so is their own.
-use Rattle.std.proofs.Common.{◌≡◌, ℕ, Bool, true, false, ◌||◌, cond, [], if◌then◌else◌, Option, Some, None, option_and_then, option_map, zero, suc, ℤ, pos, negsuc, ◌+ℤ◌, ◌-ℤ◌, ◌*ℤ◌, neg_ℤ, refl, sym, ap, ◌∙◌, subst}
+use Rattle.std.proofs.Common.{◌≡◌, ℕ, Bool, true, false, ◌||◌, cond, [], if◌then◌else◌, Option, Some, None, option_and_then, option_map, ℤ, ◌+ℤ◌, ◌-ℤ◌, ◌*ℤ◌, neg_ℤ, refl, sym, ap, ◌∙◌, subst}
 use Rattle.ob0_scan.specs.declared.fault.Code.TheVariants as code
 use Rattle.ob0_types_table.specs.Operators.{product_value, sum_value}
 use Rattle.ob0_tree.specs.declared.tree.AddOperator.{AddOperator}

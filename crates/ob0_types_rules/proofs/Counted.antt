@@ -1,6 +1,6 @@
 -- How many ARRAY and RECORD are in a tree doesn't hang on what represents its names.
 use Rattle.std.proofs.Common.{◌≡◌, ℕ, map, List, [], ◌∷◌, refl, ap}
-use Rattle.ob0_tree.specs.Tree.{items, more, then_name}
+use Rattle.ob0_tree.specs.Tree.{then_name}
 use Rattle.ob0_tree.specs.View.{items_of, names_of}
 use Rattle.ob0_tree.specs.declared.tree.Names as tree_names
 use Rattle.ob0_scope_rules.specs.Parts.{further_names, names_listed}
