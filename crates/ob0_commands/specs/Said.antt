@@ -1,6 +1,6 @@
 -- What the commands print on standard error, in bytes of UTF-8.
 -- Rule: docs/PROTOCOL.md, The program 2, 3, 5, 6 and 7.
-use Rattle.std.specs.Prelude.{◌≡◌, ◌++◌, ℕ, List, Option, Some, None, Bool, false, codes}
+use Rattle.std.specs.Prelude.{◌≡◌, ◌++◌, ℕ, List, Option, Some, None, Bool, true, false, codes}
 use Rattle.std.specs.Io.KnownBytes.{Appends}
 use Rattle.ob0_text.specs.RefusalTexts.{refusal_text}
 use Rattle.ob0_text.specs.declared.refusals.EditRefusal.{EditRefusal}
@@ -8,16 +8,17 @@ use Rattle.ob0_commands.specs.Printed.{fault_line}
 use Rattle.ob0_commands.specs.Statuses.{status_of}
 use Rattle.ob0_commands.specs.declared.faults.FileFault.{FileFault}
 
--- nothing is printed, or a line, unless the output has failed
+-- nothing is printed, or a line is printed and flushed, unless the output has failed
 abbrev pub Says : {E : Type 0}
     → (contents : E → Option (List ℕ))
-    → (has_failed : E → Bool)
+    → (is_flushed has_failed : E → Bool)
     → (before after : E)
     → Option (List ℕ)
     → Type 0
-Says contents has_failed before after None = after ≡ before
-Says contents has_failed before after (Some line) =
-    has_failed after ≡ false → Appends (contents before) (contents after) line
+Says contents is_flushed has_failed before after None = after ≡ before
+Says contents is_flushed has_failed before after (Some line) =
+    has_failed after ≡ false
+    → Appends (contents before) (contents after) line × (is_flushed after ≡ true)
 
 -- the line that names a refusal
 abbrev pub refused_line : EditRefusal → List ℕ

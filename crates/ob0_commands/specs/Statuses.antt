@@ -39,10 +39,6 @@ AllocatesFor file f = f ≡ fault.Memory → length file ≤ max_text
 abbrev pub PrintsNothing : {O : Type 0} → (before after : O) → FileFault → Type 0
 PrintsNothing before after f = f ≢ fault.Write → after ≡ before
 
--- nothing was printed, unless the fault is that printing failed or that memory ran out
-abbrev pub PrintsNoOutput : {O : Type 0} → (before after : O) → FileFault → Type 0
-PrintsNoOutput before after f = f ≢ fault.Memory → PrintsNothing before after f
-
 -- why reading fails: for a reason, for which there is one name,
 -- or an allocation failed and something else holds
 abbrev pub StopsFor : (name : FileFault) → (reason otherwise : Type 0) → FileFault → Type 0

@@ -38,7 +38,7 @@ pub fn check_text<O: Output, E: Output>(alloc: Global, file: &[u8], out: &mut O,
     ensures named { ¬ (result ≤ 1) → NamesFault result
         (λ fault. StopsPrintingFaults file.now fault
         × IsOfOutput (O.has_failed out.old) (O.has_failed out.new) fault)
-        (Says E.contents E.has_failed err.old err.new) }
+        (Says E.contents E.is_flushed E.has_failed err.old err.new) }
 {
     match check(alloc, file, out) {
         Ok(Some(_text)) => 0,

@@ -75,7 +75,8 @@ impl<T: Drop> From<AllocFailed<T>> for FileFault {
 pub fn print_fault<E: Output>(fault: FileFault, err: &mut E) -> u8
     ensures status { result ≡ status_of fault }
     ensures fails { 4 ≤ result }
-    ensures said { Says E.contents E.has_failed err.old err.new (Some (fault_line fault)) }
+    ensures said { Says E.contents E.is_flushed E.has_failed err.old err.new
+        (Some (fault_line fault)) }
 {
     let _ = print(err, fault.line());
     fault.status()

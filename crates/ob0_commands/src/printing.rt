@@ -129,7 +129,7 @@ pub fn print<W: Output>(out: &mut W, text: &str) -> Result<(), FileFault>
     ensures unfailed { OnOk result (W.has_failed out.new ≡ W.has_failed out.old) }
     ensures fault { IfErr result (λ fault. fault ≡ faults.Write) }
     ensures failed { OnErr result (W.has_failed out.new ≡ true) }
-    ensures said { Says W.contents W.has_failed out.old out.new (Some text.now) }
+    ensures said { Says W.contents W.is_flushed W.has_failed out.old out.new (Some text.now) }
 {
     write(out, text)?;
     match out.hand_on() {

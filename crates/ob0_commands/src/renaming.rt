@@ -30,7 +30,7 @@ pub fn rename_text<O: Output, E: Output>(
         → PrintsRenamed file.now position new.now (O.contents out.old) (O.contents out.new) }
     ensures other { result ≡ 1
         → PrintsNoName file.now position new.now (O.contents out.old) (O.contents out.new)
-        (Says E.contents E.has_failed err.old err.new) }
+        (Says E.contents E.is_flushed E.has_failed err.old err.new) }
     ensures flushed { result ≡ 0 → O.is_flushed out.new ≡ true }
     ensures handed_on { result ≡ 1 → IsHandedOn (O.is_flushed out.new) out.old out.new }
     ensures statuses { IsStatus result }
@@ -43,7 +43,7 @@ pub fn rename_text<O: Output, E: Output>(
     ensures named { ¬ (result ≤ 1) → NamesFault result
         (λ fault. StopsPrintingFaults file.now fault
         × IsOfOutput (O.has_failed out.old) (O.has_failed out.new) fault)
-        (Says E.contents E.has_failed err.old err.new) }
+        (Says E.contents E.is_flushed E.has_failed err.old err.new) }
 {
     match rename_file(alloc, file, position, new, out, err) {
         Ok(status) => status,
@@ -63,7 +63,7 @@ fn rename_file<O: Output, E: Output>(
         → PrintsRenamed file.now position new.now (O.contents out.old) (O.contents out.new)) }
     ensures other { IfOk result (λ status. status ≡ 1
         → PrintsNoName file.now position new.now (O.contents out.old) (O.contents out.new)
-        (Says E.contents E.has_failed err.old err.new)) }
+        (Says E.contents E.is_flushed E.has_failed err.old err.new)) }
     ensures flushed { IfOk result (λ status. status ≡ 0 → O.is_flushed out.new ≡ true) }
     ensures handed_on { IfOk result
         (λ status. status ≡ 1 → IsHandedOn (O.is_flushed out.new) out.old out.new) }
@@ -96,7 +96,7 @@ fn rename_in_text<O: Output, E: Output>(
         → PrintsRenamed text.now position new.now (O.contents out.old) (O.contents out.new)) }
     ensures other { IfOk result (λ status. status ≡ 1
         → PrintsNoName text.now position new.now (O.contents out.old) (O.contents out.new)
-        (Says E.contents E.has_failed err.old err.new)) }
+        (Says E.contents E.is_flushed E.has_failed err.old err.new)) }
     ensures flushed { IfOk result (λ status. status ≡ 0 → O.is_flushed out.new ≡ true) }
     ensures handed_on { IfOk result
         (λ status. status ≡ 1 → IsHandedOn (O.is_flushed out.new) out.old out.new) }
@@ -134,7 +134,8 @@ pub fn print_edited<T: TextStore, O: Output, E: Output>(
         → PrintsEdited (T.unit_of store.now) (T.content store.now) edits (O.contents out.old)
         (O.contents out.new)) }
     ensures refused { IfOk result (λ status. status ≡ 1
-        → IsRefusal edits (Says E.contents E.has_failed err.old err.new) × (out.new ≡ out.old)) }
+        → IsRefusal edits (Says E.contents E.is_flushed E.has_failed err.old err.new)
+        × (out.new ≡ out.old)) }
     ensures flushed { IfOk result (λ status. status ≡ 0 → O.is_flushed out.new ≡ true) }
     ensures ends { IfOk result (λ status. status ≤ 1) }
     ensures unfailed { OnOk result (O.has_failed out.new ≡ O.has_failed out.old) }

@@ -1,7 +1,8 @@
 //! Running a file's module: its input, and what a run outputs.
 
-ghost use Rattle.std.specs.Prelude.{◌≡◌, ◌≢◌, ◌≤◌, ◌++◌, true, false, IfOk, IfErr, IfNone, MatchOption, MatchResult, OnOk, OnErr, length, option_map, string_bytes};
+ghost use Rattle.std.specs.Prelude.{◌≡◌, ◌≢◌, ◌+◌, ◌≤◌, ◌++◌, true, false, IfOk, IfErr, IfNone, MatchOption, MatchResult, OnOk, OnErr, length, option_map};
 ghost use Rattle.std.specs.Io.KnownBytes.{Appends};
+ghost use Rattle.arrayvec.specs.ArrayString.{array_string_len};
 ghost use Rattle.ob0_tree.specs.Parsed.{named_tree_of};
 ghost use Rattle.ob0_scan.specs.Scanned.{max_text};
 ghost use Rattle.ob0_analysis.specs.Diagnosed.{IsWellTypedModule};
@@ -11,7 +12,8 @@ ghost use Rattle.ob0_run.specs.States.{item_of, items_out};
 ghost use Rattle.ob0_commands.specs.Inputs.{TakesAtMost};
 ghost use Rattle.ob0_commands.specs.Printed.{IsWrittenBut, PrintsFaults, end_line, output_text, written_text};
 ghost use Rattle.ob0_commands.specs.Said.{NamesFault, Says};
-ghost use Rattle.ob0_commands.specs.Statuses.{AllocatesFor, CanNotRun, HasNoText, IsOfInput, IsOfOutput, IsStatus, PrintsNoOutput, PrintsNothing, StopsPrinting, StopsRunning, status_at};
+ghost use Rattle.ob0_commands.specs.Statuses.{AllocatesFor, CanNotRun, HasNoText, IsOfInput, IsOfOutput, IsStatus, PrintsNothing, StopsPrinting, StopsRunning, status_at};
+ghost use Rattle.ob0_commands.specs.declared.faults.FileFault.TheVariants as faults;
 ghost use Rattle.ob0_commands.specs.TextRuns.{IsLoweredTo, PrintsDone, PrintsOther, TextRunsAs};
 
 use crate::checking::{print_diagnoses, text_of};
@@ -19,6 +21,7 @@ use crate::faults::{FileFault, print_fault};
 use crate::numbers::read_numbers;
 use crate::printing::{Output, print, write};
 use crate::reading::Input;
+use arrayvec::ArrayString;
 use itoa::Buffer;
 use ob0_analysis::{Analysis, Question, WellTyped, ask};
 use ob0_run::{End, Item, Outcome, Program, execute, lower};
@@ -58,7 +61,7 @@ pub fn run_text<R: Input, O: Output, E: Output>(
         (O.contents out.new) }
     ensures other { result ≡ 1
         → PrintsOther file.now (R.remaining input.old) calls turns (O.contents out.old)
-        (O.contents out.new) (Says E.contents E.has_failed err.old err.new) }
+        (O.contents out.new) (Says E.contents E.is_flushed E.has_failed err.old err.new) }
     ensures flushed { result ≤ 1 → O.is_flushed out.new ≡ true }
     ensures statuses { IsStatus result }
     ensures readable { result ≢ 4 → ¬ HasNoText file.now }
@@ -69,12 +72,12 @@ pub fn run_text<R: Input, O: Output, E: Output>(
         (R.has_failed input.new) (O.has_failed out.new) }
     ensures memory { result ≡ 5 → length file.now ≤ max_text }
     ensures unread { ¬ IsWellTypedModule file.now → input.new ≡ input.old }
-    ensures unprinted { result ≡ 4 → O.has_failed out.new ≡ false → out.new ≡ out.old }
+    ensures unprinted { ¬ (result ≤ 1) → O.has_failed out.new ≡ false → out.new ≡ out.old }
     ensures silent { result ≡ 0 → err.new ≡ err.old }
     ensures named { ¬ (result ≤ 1) → NamesFault result
         (λ fault. StopsRunning file.now (R.remaining input.old) (R.has_failed input.new) fault
         × IsOfOutput (O.has_failed out.old) (O.has_failed out.new) fault)
-        (Says E.contents E.has_failed err.old err.new) }
+        (Says E.contents E.is_flushed E.has_failed err.old err.new) }
 {
     match run_file(alloc, file, input, calls, turns, out, err) {
         Ok(status) => status,
@@ -96,7 +99,7 @@ fn run_file<R: Input, O: Output, E: Output>(
         (O.contents out.new)) }
     ensures other { IfOk result (λ status. status ≡ 1
         → PrintsOther file.now (R.remaining input.old) calls turns (O.contents out.old)
-        (O.contents out.new) (Says E.contents E.has_failed err.old err.new)) }
+        (O.contents out.new) (Says E.contents E.is_flushed E.has_failed err.old err.new)) }
     ensures flushed { OnOk result (O.is_flushed out.new ≡ true) }
     ensures ends { IfOk result (λ status. status ≤ 1) }
     ensures readable { OnOk result (¬ HasNoText file.now) }
@@ -109,7 +112,7 @@ fn run_file<R: Input, O: Output, E: Output>(
     ensures failed { IfErr result
         (IsOfOutput (O.has_failed out.old) (O.has_failed out.new)) }
     ensures memory { IfErr result (AllocatesFor file.now) }
-    ensures kept { IfErr result (PrintsNoOutput out.old out.new) }
+    ensures kept { IfErr result (PrintsNothing out.old out.new) }
     ensures unread { ¬ IsWellTypedModule file.now → input.new ≡ input.old }
     ensures silent { IfOk result (λ status. status ≡ 0 → err.new ≡ err.old) }
     ensures unsaid { OnErr result (err.new ≡ err.old) }
@@ -122,7 +125,7 @@ fn run_file<R: Input, O: Output, E: Output>(
     };
     let numbers = read_numbers(alloc, input)?;
     let outcome = execute_module(alloc, text, &program, numbers.as_slice(), calls, turns)?;
-    print_outcome(alloc, outcome.output.as_slice(), outcome.end, out, err)
+    print_outcome(outcome.output.as_slice(), outcome.end, out, err)
 }
 
 /// The program that a text is lowered to; else what is wrong with the text is printed.
@@ -185,7 +188,6 @@ fn line_of(end: End) -> Option<&'static str>
 /// Prints what a run output to `out`, and an end other than `Done` to `err`. Returns the status with which the program
 /// ends: 0 for `Done`, else 1.
 pub fn print_outcome<O: Output, E: Output>(
-    alloc: Global,
     output: &[Item],
     end: End,
     out: &mut O,
@@ -197,14 +199,14 @@ pub fn print_outcome<O: Output, E: Output>(
     ensures status { IfOk result (λ status. status ≡ status_at end) }
     ensures ends { IfOk result (λ status. status ≤ 1) }
     ensures unfailed { OnOk result (O.has_failed out.new ≡ O.has_failed out.old) }
-    ensures fault { IfErr result StopsPrinting }
-    ensures failed { IfErr result
-        (IsOfOutput (O.has_failed out.old) (O.has_failed out.new)) }
-    ensures said { OnOk result (Says E.contents E.has_failed err.old err.new (end_line end)) }
+    ensures fault { IfErr result (λ fault. fault ≡ faults.Write) }
+    ensures failed { OnErr result (O.has_failed out.new ≡ true) }
+    ensures said { OnOk result
+        (Says E.contents E.is_flushed E.has_failed err.old err.new (end_line end)) }
     ensures silent { IfOk result (λ status. status ≡ 0 → err.new ≡ err.old) }
     ensures unsaid { OnErr result (err.new ≡ err.old) }
 {
-    print_items(alloc, output, out)?;
+    print_items(output, out)?;
     match line_of(end) {
         Some(line) => {
             let _ = print(err, line);
@@ -214,23 +216,23 @@ pub fn print_outcome<O: Output, E: Output>(
     }
 }
 
-/// How many bytes of text are put together before they are written.
+/// How many bytes of text are put together, at most, before they are written.
 const PIECE_SIZE: usize = 8192;
 
 /// A space, a sign and ten digits.
 const LONGEST_ITEM: usize = 12;
 
-/// Prints items and flushes. Their text is written in pieces, so that no text of all of them is stored.
-fn print_items<O: Output>(alloc: Global, output: &[Item], out: &mut O) -> Result<(), FileFault>
+/// Prints items and flushes. Their text is written in pieces, so that no text of all of them is stored, and each is put
+/// together on the stack, so that nothing is allocated once something is printed.
+fn print_items<O: Output>(output: &[Item], out: &mut O) -> Result<(), FileFault>
     ensures printed { OnOk result
         (Appends (O.contents out.old) (O.contents out.new) (output_text (items_out output.now))) }
     ensures flushed { OnOk result (O.is_flushed out.new ≡ true) }
     ensures unfailed { OnOk result (O.has_failed out.new ≡ O.has_failed out.old) }
-    ensures fault { IfErr result StopsPrinting }
-    ensures failed { IfErr result
-        (IsOfOutput (O.has_failed out.old) (O.has_failed out.new)) }
+    ensures fault { IfErr result (λ fault. fault ≡ faults.Write) }
+    ensures failed { OnErr result (O.has_failed out.new ≡ true) }
 {
-    let mut text = String::with_capacity(alloc, PIECE_SIZE + LONGEST_ITEM)?;
+    let mut text = ArrayString::<PIECE_SIZE>::new();
     let mut digits = Buffer::new();
     for item in output {
         append_item(&mut text, &mut digits, *item, out)?;
@@ -238,38 +240,36 @@ fn print_items<O: Output>(alloc: Global, output: &[Item], out: &mut O) -> Result
     print(out, text.as_str())
 }
 
-/// Puts an item at the end of a text, which is written where it is long.
+/// Puts an item at the end of a text, which is written first where the item might not fit.
 fn append_item<O: Output>(
-    text: &mut String,
+    text: &mut ArrayString<PIECE_SIZE>,
     digits: &mut Buffer,
     item: Item,
     out: &mut O,
 ) -> Result<(), FileFault>
     ensures written { OnOk result (IsWrittenBut (O.contents out.old) (O.contents out.new)
-        (string_bytes text.old ++ written_text (item_of item)) (string_bytes text.new)) }
+        (text.old.bytes ++ written_text (item_of item)) text.new.bytes) }
     ensures unfailed { OnOk result (O.has_failed out.new ≡ O.has_failed out.old) }
-    ensures fault { IfErr result StopsPrinting }
-    ensures failed { IfErr result
-        (IsOfOutput (O.has_failed out.old) (O.has_failed out.new)) }
+    ensures fault { IfErr result (λ fault. fault ≡ faults.Write) }
+    ensures failed { OnErr result (O.has_failed out.new ≡ true) }
 {
-    push_item(text, digits, item)?;
-    if text.len() < PIECE_SIZE {
-        return Ok(());
+    if text.remaining_capacity() < LONGEST_ITEM {
+        write(out, text.as_str())?;
+        text.clear();
     }
-    write(out, text.as_str())?;
-    text.clear();
+    push_item(text, digits, item);
     Ok(())
 }
 
 /// A number is a space and its digits, a line a line ending.
-fn push_item(text: &mut String, digits: &mut Buffer, item: Item) -> Result<(), AllocError>
-    ensures { OnOk result
-        (string_bytes text.new ≡ string_bytes text.old ++ written_text (item_of item)) }
+fn push_item(text: &mut ArrayString<PIECE_SIZE>, digits: &mut Buffer, item: Item)
+    requires { array_string_len text.old + 12 ≤ 8192 }
+    ensures { text.new.bytes ≡ text.old.bytes ++ written_text (item_of item) }
 {
     match item {
         Item::Number(number) => {
-            text.push_str(" ")?;
-            text.push_str(digits.format(number))
+            text.push_str(" ");
+            text.push_str(digits.format(number));
         }
         Item::Line => text.push_str("\n"),
     }

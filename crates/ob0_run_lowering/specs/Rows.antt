@@ -1,8 +1,10 @@
 -- How deeply conjunctions, and disjunctions, are nested on the left of a truth of the code.
 -- Rule: none; for contracts of lowering.
-use Rattle.std.specs.Prelude.{ℕ, suc}
+use Rattle.std.specs.Prelude.{◌≤◌, ℕ, suc, max}
 use Rattle.ob0_run_machine.specs.declared.code.Truth as truth
 use Rattle.ob0_run_machine.specs.declared.code.Truth.{Truth}
+use Rattle.ob0_run_lowering.specs.declared.lowered.Lowered.{Lowered}
+use Rattle.ob0_run_lowering.specs.declared.lowered.Lowered.TheVariants as code
 
 -- how many conjunctions are nested: the truth, its first operand, the first operand of that, and so on
 abbrev pub and_depth : Truth → ℕ
@@ -35,3 +37,26 @@ or_depth (truth.ComparedToLiteral r v n) = 0
 or_depth (truth.ComparedToVariable r v w) = 0
 or_depth (truth.Same' pointer left right) = 0
 or_depth (truth.Different' pointer left right) = 0
+
+-- the same of the code of an expression, where that is a truth
+abbrev pub and_depth_of : Lowered → ℕ
+and_depth_of (code.Number n) = 0
+and_depth_of (code.Truth t) = and_depth t
+and_depth_of (code.Block q n) = 0
+and_depth_of code.Nothing = 0
+
+abbrev pub or_depth_of : Lowered → ℕ
+or_depth_of (code.Number n) = 0
+or_depth_of (code.Truth t) = or_depth t
+or_depth_of (code.Block q n) = 0
+or_depth_of code.Nothing = 0
+
+-- the first operand of a conjunction isn't one, nor that of a disjunction
+pub record IsFlat (l : Lowered) : Type 0 where
+  pub ands : and_depth_of l ≤ 1
+  pub ors : or_depth_of l ≤ 1
+
+-- a row with one operand more is nested as deeply as before, or once
+pub record GoesOnFlat (left whole : Lowered) : Type 0 where
+  pub ands : and_depth_of whole ≤ max 1 (and_depth_of left)
+  pub ors : or_depth_of whole ≤ max 1 (or_depth_of left)

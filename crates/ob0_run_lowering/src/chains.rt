@@ -153,6 +153,7 @@ fn all_of(alloc: Global, several: Several, right: Truth) -> Result<Truth, AllocE
     ensures meaning { IfOk result
         (λ t. truth_of t ≡ machine.both (all_in several) (truth_of right)) }
     ensures depth { IfOk result (λ t. and_depth t ≡ suc (and_depth (out-Several several).first)) }
+    ensures other { IfOk result (λ t. or_depth t ≡ 0) }
 {
     let Several { first, mut rest } = several;
     rest.push(right)?;
@@ -165,6 +166,7 @@ fn any_of(alloc: Global, several: Several, right: Truth) -> Result<Truth, AllocE
     ensures meaning { IfOk result
         (λ t. truth_of t ≡ machine.either (any_in several) (truth_of right)) }
     ensures depth { IfOk result (λ t. or_depth t ≡ suc (or_depth (out-Several several).first)) }
+    ensures other { IfOk result (λ t. and_depth t ≡ 0) }
 {
     let Several { first, mut rest } = several;
     rest.push(right)?;
@@ -182,6 +184,7 @@ fn three_in_all(
     ensures meaning { IfOk result (λ t. truth_of t
         ≡ machine.both (machine.both (truth_of first) (truth_of second)) (truth_of third)) }
     ensures depth { IfOk result (λ t. and_depth t ≡ suc (and_depth first)) }
+    ensures other { IfOk result (λ t. or_depth t ≡ 0) }
 {
     let mut rest = Vec::new(alloc);
     rest.push(second)?;
@@ -198,6 +201,7 @@ fn three_in_any(
     ensures meaning { IfOk result (λ t. truth_of t
         ≡ machine.either (machine.either (truth_of first) (truth_of second)) (truth_of third)) }
     ensures depth { IfOk result (λ t. or_depth t ≡ suc (or_depth first)) }
+    ensures other { IfOk result (λ t. and_depth t ≡ 0) }
 {
     let mut rest = Vec::new(alloc);
     rest.push(second)?;
@@ -206,7 +210,8 @@ fn three_in_any(
 
 /// The negation of a truth: of a flag it is one node.
 pub(crate) fn negation(alloc: Global, truth: Truth) -> Result<Truth, AllocError>
-    ensures { IfOk result (λ t. truth_of t ≡ machine.negation (truth_of truth)) }
+    ensures meaning { IfOk result (λ t. truth_of t ≡ machine.negation (truth_of truth)) }
+    ensures flat { IfOk result (λ t. (and_depth t ≡ 0) × (or_depth t ≡ 0)) }
 {
     match truth {
         Truth::Flag(place) => Ok(Truth::Unset(place)),
@@ -218,6 +223,7 @@ fn pair_of_both(alloc: Global, left: Truth, right: Truth) -> Result<Truth, Alloc
     ensures meaning { IfOk result
         (λ t. truth_of t ≡ machine.both (truth_of left) (truth_of right)) }
     ensures depth { IfOk result (λ t. and_depth t ≡ suc (and_depth left)) }
+    ensures other { IfOk result (λ t. or_depth t ≡ 0) }
 {
     Ok(Truth::Both(Box::new(alloc, Truths { left, right })?))
 }
@@ -226,6 +232,7 @@ fn pair_of_either(alloc: Global, left: Truth, right: Truth) -> Result<Truth, All
     ensures meaning { IfOk result
         (λ t. truth_of t ≡ machine.either (truth_of left) (truth_of right)) }
     ensures depth { IfOk result (λ t. or_depth t ≡ suc (or_depth left)) }
+    ensures other { IfOk result (λ t. and_depth t ≡ 0) }
 {
     Ok(Truth::Either(Box::new(alloc, Truths { left, right })?))
 }
@@ -235,6 +242,7 @@ pub(crate) fn both(alloc: Global, left: Truth, right: Truth) -> Result<Truth, Al
     ensures meaning { IfOk result
         (λ t. truth_of t ≡ machine.both (truth_of left) (truth_of right)) }
     ensures flat { IfOk result (λ t. and_depth t ≤ max 1 (and_depth left)) }
+    ensures other { IfOk result (λ t. or_depth t ≡ 0) }
 {
     match left {
         Truth::All(several) => all_of(alloc, Box::into_inner(several), right),
@@ -276,6 +284,7 @@ pub(crate) fn either(alloc: Global, left: Truth, right: Truth) -> Result<Truth, 
     ensures meaning { IfOk result
         (λ t. truth_of t ≡ machine.either (truth_of left) (truth_of right)) }
     ensures flat { IfOk result (λ t. or_depth t ≤ max 1 (or_depth left)) }
+    ensures other { IfOk result (λ t. and_depth t ≡ 0) }
 {
     match left {
         Truth::Any(several) => any_of(alloc, Box::into_inner(several), right),

@@ -6,7 +6,9 @@ ghost use Rattle.ob0_tree.specs.declared.tree.Designator.{out-Designator};
 ghost use Rattle.ob0_types_rules.specs.Selected.{selectors_in};
 ghost use Rattle.ob0_run_lowering.specs.Means.{Locates, LocatesAlone, Lowers, LowersArgument, LowersNumber, LowersTruth};
 ghost use Rattle.ob0_run_lowering.specs.Parts.{IsNumberOf, IsTypedPlaceOf, IsTruthOf, IsValueOf};
+ghost use Rattle.ob0_run_lowering.specs.Rows.{IsFlat};
 ghost use Rattle.ob0_run_lowering.specs.Scenes.{HasSmall};
+ghost use Rattle.ob0_run_lowering.specs.declared.lowered.Lowered.TheVariants as code;
 
 use crate::lowered::{Lowered, TypedPlace};
 use crate::scene::Scene;
@@ -30,7 +32,8 @@ fn number_of(lowered: Lowered) -> Number
 
 /// The truth that a code is.
 fn truth_of(lowered: Lowered) -> Truth
-    ensures { IsTruthOf lowered result }
+    ensures taken { IsTruthOf lowered result }
+    ensures flat { IsFlat lowered → IsFlat (code.Truth result) }
 {
     match lowered {
         Lowered::Truth(truth) => truth,
@@ -76,7 +79,8 @@ impl<'s, 'k, 't> Scene<'s, 'k, 't> {
     ///
     /// Out of memory, as for all that follows.
     pub fn expression(&self, alloc: Global, e: &Expression) -> Result<Lowered, AllocError>
-        ensures { IfOk result (Lowers self.now (expression_of e.now)) }
+        ensures lowers { IfOk result (Lowers self.now (expression_of e.now)) }
+        ensures flat { IfOk result IsFlat }
     {
         self.has_small();
         self.lower_expression(alloc, e)
@@ -101,7 +105,8 @@ impl<'s, 'k, 't> Scene<'s, 'k, 't> {
 
     /// The code of a condition.
     pub fn truth(&self, alloc: Global, e: &Expression) -> Result<Truth, AllocError>
-        ensures { IfOk result (LowersTruth self.now (expression_of e.now)) }
+        ensures lowers { IfOk result (LowersTruth self.now (expression_of e.now)) }
+        ensures flat { IfOk result (λ t. IsFlat (code.Truth t)) }
     {
         let lowered = self.expression(alloc, e)?;
         Ok(truth_of(lowered))

@@ -13,6 +13,7 @@ ghost use Rattle.ob0_types_rules.specs.Selected.{selectors_in};
 ghost use Rattle.ob0_types_rules.specs.Typing.{constant_of};
 ghost use Rattle.ob0_values.specs.Scalars.{scalar_value};
 ghost use Rattle.ob0_run_machine.specs.View.{number_of};
+ghost use Rattle.ob0_run_lowering.specs.Rows.{IsFlat};
 ghost use Rattle.ob0_run_lowering.specs.Codes.{a_number, constant_code, element_found, element_of, field_found, code_at_place, code_at};
 ghost use Rattle.ob0_run_lowering.specs.Scenes.{object_at};
 ghost use Rattle.ob0_run_lowering.specs.Trees.{base_found, code_of, expression_code, factor_code, found_of, selected_once, selected_place, simple_code, term_code};
@@ -32,7 +33,8 @@ use ob0_values::Scalar;
 use std::alloc::{AllocError, Global};
 
 fn constant(value: Scalar) -> Lowered
-    ensures { code_of result ≡ constant_code (scalar_value value) }
+    ensures code { code_of result ≡ constant_code (scalar_value value) }
+    ensures flat { IsFlat result }
 {
     match value {
         Scalar::Number(number) => Lowered::Number(Number::Literal(number)),
@@ -100,9 +102,10 @@ impl<'s, 'k, 't> Scene<'s, 'k, 't> {
 
     /// What is at a place.
     fn code_at_place(&self, at: TypedPlace) -> Lowered
-        ensures { code_of result
+        ensures code { code_of result
             ≡ code_at_place (found_of (shapes_of self.now.types.now) at).place
             (found_of (shapes_of self.now.types.now) at).shape }
+        ensures flat { IsFlat result }
     {
         let TypedPlace { place, of } = at;
         match of {
@@ -115,8 +118,9 @@ impl<'s, 'k, 't> Scene<'s, 'k, 't> {
     }
 
     fn code_at(&self, at: Option<TypedPlace>) -> Lowered
-        ensures { code_of result
+        ensures code { code_of result
             ≡ code_at (option_map (found_of (shapes_of self.now.types.now)) at) }
+        ensures flat { IsFlat result }
     {
         match at {
             None => Lowered::Nothing,
@@ -220,8 +224,9 @@ impl<'s, 'k, 't> Scene<'s, 'k, 't> {
         alloc: Global,
         e: &Expression,
     ) -> Result<Lowered, AllocError>
-        ensures { IfOk result (λ l. code_of l
+        ensures code { IfOk result (λ l. code_of l
             ≡ expression_code self.now (in_labels self.now.resolved.now (expression_of e.now))) }
+        ensures flat { IfOk result IsFlat }
     {
         match e {
             Expression::Factor(f) => self.factor(alloc, f),
@@ -231,8 +236,9 @@ impl<'s, 'k, 't> Scene<'s, 'k, 't> {
 
     #[cycle(lowering)]
     fn compound(&self, alloc: Global, c: &Compound) -> Result<Lowered, AllocError>
-        ensures { IfOk result (λ l. code_of l
+        ensures code { IfOk result (λ l. code_of l
             ≡ expression_code self.now (in_labels self.now.resolved.now (compound_of c.now))) }
+        ensures flat { IfOk result IsFlat }
     {
         let left = self.simple(alloc, &c.left)?;
         match &c.compared {
@@ -247,8 +253,9 @@ impl<'s, 'k, 't> Scene<'s, 'k, 't> {
 
     #[cycle(lowering)]
     fn simple(&self, alloc: Global, s: &Simple) -> Result<Lowered, AllocError>
-        ensures { IfOk result (λ l. code_of l
+        ensures code { IfOk result (λ l. code_of l
             ≡ simple_code self.now (in_labels self.now.resolved.now (simple_of s.now))) }
+        ensures flat { IfOk result IsFlat }
     {
         let first = self.term(alloc, &s.first)?;
         let mut so_far = lower_sign(alloc, s.sign, first)?;
@@ -261,8 +268,9 @@ impl<'s, 'k, 't> Scene<'s, 'k, 't> {
 
     #[cycle(lowering)]
     fn term(&self, alloc: Global, t: &Term) -> Result<Lowered, AllocError>
-        ensures { IfOk result (λ l. code_of l
+        ensures code { IfOk result (λ l. code_of l
             ≡ term_code self.now (in_labels self.now.resolved.now (term_of t.now))) }
+        ensures flat { IfOk result IsFlat }
     {
         let mut so_far = self.factor(alloc, &t.first)?;
         for multiplier in &t.more {
@@ -274,8 +282,9 @@ impl<'s, 'k, 't> Scene<'s, 'k, 't> {
 
     #[cycle(lowering)]
     fn factor(&self, alloc: Global, f: &Factor) -> Result<Lowered, AllocError>
-        ensures { IfOk result (λ l. code_of l
+        ensures code { IfOk result (λ l. code_of l
             ≡ factor_code self.now (in_labels self.now.resolved.now (factor_of f.now))) }
+        ensures flat { IfOk result IsFlat }
     {
         match f {
             Factor::Designator(d) => self.lower_designator(alloc, d),
@@ -291,8 +300,9 @@ impl<'s, 'k, 't> Scene<'s, 'k, 't> {
     /// A constant, or what is at a designator's place.
     #[cycle(lowering)]
     fn lower_designator(&self, alloc: Global, d: &Designator) -> Result<Lowered, AllocError>
-        ensures { IfOk result (λ l. code_of l
+        ensures code { IfOk result (λ l. code_of l
             ≡ factor_code self.now (in_labels self.now.resolved.now (designator_of d.now))) }
+        ensures flat { IfOk result IsFlat }
     {
         match self.constant(d.name) {
             Some(value) => Ok(constant(value)),

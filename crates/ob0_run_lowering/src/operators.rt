@@ -8,6 +8,7 @@ ghost use Rattle.ob0_run_cells.specs.Lowering.{relation_of};
 ghost use Rattle.ob0_run_machine.specs.View as view;
 ghost use Rattle.ob0_run_lowering.specs.Codes as codes;
 ghost use Rattle.ob0_run_lowering.specs.Parts.{number_in, truth_in};
+ghost use Rattle.ob0_run_lowering.specs.Rows.{GoesOnFlat, IsFlat, and_depth, or_depth};
 ghost use Rattle.ob0_run_lowering.specs.Trees.{code_of};
 
 use crate::chains::{both, either, negation, operation};
@@ -47,8 +48,9 @@ fn lower_operation(
     left: Lowered,
     right: Lowered,
 ) -> Result<Lowered, AllocError>
-    ensures { IfOk result
+    ensures code { IfOk result
         (λ l. code_of l ≡ codes.operated (operator_of operator) (code_of left) (code_of right)) }
+    ensures flat { IfOk result (GoesOnFlat left) }
 {
     let Some(first) = number_in(left) else {
         return Ok(Lowered::Nothing);
@@ -61,8 +63,9 @@ fn lower_operation(
 }
 
 fn lower_conjunction(alloc: Global, left: Lowered, right: Lowered) -> Result<Lowered, AllocError>
-    ensures { IfOk result
+    ensures code { IfOk result
         (λ l. code_of l ≡ codes.combined machine.both (code_of left) (code_of right)) }
+    ensures flat { IfOk result (GoesOnFlat left) }
 {
     let Some(first) = truth_in(left) else {
         return Ok(Lowered::Nothing);
@@ -75,8 +78,9 @@ fn lower_conjunction(alloc: Global, left: Lowered, right: Lowered) -> Result<Low
 }
 
 fn lower_disjunction(alloc: Global, left: Lowered, right: Lowered) -> Result<Lowered, AllocError>
-    ensures { IfOk result
+    ensures code { IfOk result
         (λ l. code_of l ≡ codes.combined machine.either (code_of left) (code_of right)) }
+    ensures flat { IfOk result (GoesOnFlat left) }
 {
     let Some(first) = truth_in(left) else {
         return Ok(Lowered::Nothing);
@@ -94,7 +98,9 @@ pub(crate) fn lower_addend(
     left: Lowered,
     right: Lowered,
 ) -> Result<Lowered, AllocError>
-    ensures { IfOk result (λ l. code_of l ≡ codes.added operator (code_of left) (code_of right)) }
+    ensures code { IfOk result
+        (λ l. code_of l ≡ codes.added operator (code_of left) (code_of right)) }
+    ensures flat { IfOk result (GoesOnFlat left) }
 {
     match operator {
         AddOperator::Add => lower_operation(alloc, Operator::Sum, left, right),
@@ -109,8 +115,9 @@ pub(crate) fn lower_multiplier(
     left: Lowered,
     right: Lowered,
 ) -> Result<Lowered, AllocError>
-    ensures { IfOk result
+    ensures code { IfOk result
         (λ l. code_of l ≡ codes.multiplied operator (code_of left) (code_of right)) }
+    ensures flat { IfOk result (GoesOnFlat left) }
 {
     match operator {
         MultiplyOperator::Multiply => lower_operation(alloc, Operator::Product, left, right),
@@ -121,7 +128,9 @@ pub(crate) fn lower_multiplier(
 }
 
 fn lower_minus(alloc: Global, operand: Lowered) -> Result<Lowered, AllocError>
-    ensures { IfOk result (λ l. code_of l ≡ codes.signed (Some signs.Minus) (code_of operand)) }
+    ensures code { IfOk result
+        (λ l. code_of l ≡ codes.signed (Some signs.Minus) (code_of operand)) }
+    ensures flat { IfOk result (GoesOnFlat operand) }
 {
     match operand {
         Lowered::Number(number) => {
@@ -134,7 +143,8 @@ fn lower_minus(alloc: Global, operand: Lowered) -> Result<Lowered, AllocError>
 }
 
 fn lower_plus(operand: Lowered) -> Lowered
-    ensures { code_of result ≡ codes.signed (Some signs.Plus) (code_of operand) }
+    ensures code { code_of result ≡ codes.signed (Some signs.Plus) (code_of operand) }
+    ensures flat { GoesOnFlat operand result }
 {
     match operand {
         Lowered::Number(number) => Lowered::Number(number),
@@ -150,7 +160,8 @@ pub(crate) fn lower_sign(
     sign: Option<Sign>,
     operand: Lowered,
 ) -> Result<Lowered, AllocError>
-    ensures { IfOk result (λ l. code_of l ≡ codes.signed sign (code_of operand)) }
+    ensures code { IfOk result (λ l. code_of l ≡ codes.signed sign (code_of operand)) }
+    ensures flat { IfOk result (GoesOnFlat operand) }
 {
     match sign {
         None => Ok(operand),
@@ -162,7 +173,8 @@ pub(crate) fn lower_sign(
 }
 
 pub(crate) fn lower_negation(alloc: Global, operand: Lowered) -> Result<Lowered, AllocError>
-    ensures { IfOk result (λ l. code_of l ≡ codes.negated (code_of operand)) }
+    ensures code { IfOk result (λ l. code_of l ≡ codes.negated (code_of operand)) }
+    ensures flat { IfOk result IsFlat }
 {
     match operand {
         Lowered::Truth(truth) => Ok(Lowered::Truth(negation(alloc, truth)?)),
@@ -192,8 +204,9 @@ fn compare_variable(
     variable: Variable,
     right: Number,
 ) -> Result<Truth, AllocError>
-    ensures { IfOk result
+    ensures code { IfOk result
         (λ t. truth_of t ≡ view.compared_by relation variable (number_of right)) }
+    ensures flat { IfOk result (λ t. (and_depth t ≡ 0) × (or_depth t ≡ 0)) }
 {
     match right {
         Number::Literal(n) => Ok(Truth::ComparedToLiteral(relation, variable, n)),
@@ -213,8 +226,9 @@ fn relate_numbers(
     left: Number,
     right: Number,
 ) -> Result<Truth, AllocError>
-    ensures { IfOk result (λ t. truth_of t
+    ensures code { IfOk result (λ t. truth_of t
         ≡ machine.related (relation_of relation) (number_of left) (number_of right)) }
+    ensures flat { IfOk result (λ t. (and_depth t ≡ 0) × (or_depth t ≡ 0)) }
 {
     let relation = relation_in(relation);
     match left {
@@ -233,8 +247,9 @@ fn relate_truths(
     left: Truth,
     right: Truth,
 ) -> Result<Lowered, AllocError>
-    ensures { IfOk result (λ l. code_of l
+    ensures code { IfOk result (λ l. code_of l
         ≡ codes.related relation (codes.a_truth (truth_of left)) (codes.a_truth (truth_of right))) }
+    ensures flat { IfOk result IsFlat }
 {
     let truths = Truths { left, right };
     match relation {
@@ -260,8 +275,9 @@ fn compare_numbers(
     left: Number,
     right: Lowered,
 ) -> Result<Lowered, AllocError>
-    ensures { IfOk result (λ l. code_of l
+    ensures code { IfOk result (λ l. code_of l
         ≡ codes.related relation (codes.a_number (number_of left)) (code_of right)) }
+    ensures flat { IfOk result IsFlat }
 {
     let Some(second) = number_in(right) else {
         return Ok(Lowered::Nothing);
@@ -277,8 +293,9 @@ fn compare_truths(
     left: Truth,
     right: Lowered,
 ) -> Result<Lowered, AllocError>
-    ensures { IfOk result
+    ensures code { IfOk result
         (λ l. code_of l ≡ codes.related relation (codes.a_truth (truth_of left)) (code_of right)) }
+    ensures flat { IfOk result IsFlat }
 {
     let Some(second) = truth_in(right) else {
         return Ok(Lowered::Nothing);
@@ -292,7 +309,9 @@ pub(crate) fn lower_relation(
     left: Lowered,
     right: Lowered,
 ) -> Result<Lowered, AllocError>
-    ensures { IfOk result (λ l. code_of l ≡ codes.related relation (code_of left) (code_of right)) }
+    ensures code { IfOk result
+        (λ l. code_of l ≡ codes.related relation (code_of left) (code_of right)) }
+    ensures flat { IfOk result IsFlat }
 {
     match left {
         Lowered::Number(number) => compare_numbers(alloc, relation, number, right),

@@ -17,7 +17,7 @@ pub returns-clause-other : goal.returns-clause-other
 returns-clause-other g c =
     let here = rw c.in-Some.is at c.in_ok-text.ensures.found in
     let after = g.O.Write.contents c.rename_in_text.new.out in
-    let said = Says g.E.Write.contents g.E.Output.has_failed c.args.err.now c.rename_in_text.new.err in
+    let said = Says g.E.Write.contents g.E.Output.is_flushed g.E.Output.has_failed c.args.err.now c.rename_in_text.new.err in
     IfOk-weaker c.rename_in_text.result _ _ (λ status h one.
     subst (λ (t : List ℕ). PrintsNoName t c.args.position c.args.new.now (g.O.Write.contents c.args.out.now) after said) here.0
     (subst (λ (b : Option (List ℕ)). PrintsNoName c.in-Some.text.now c.args.position c.args.new.now b after said) (ap g.O.Write.contents here.1) (h one))) c.rename_in_text.ensures.other

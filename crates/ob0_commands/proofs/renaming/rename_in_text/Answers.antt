@@ -17,7 +17,7 @@ pub returns-in-Some-clause-other : goal.returns-in-Some-clause-other
 returns-in-Some-clause-other g c =
     let found = found_in_text _ _ c.args.text.now c.args.position c.args.new.now c.in_ok-outcome.field-0 c.in-Some.outcome c.in_ok-store.ensures.unit c.in_ok-store.ensures.content c.in-Some.is c.in_ok-outcome.ensures in
     IfOk-weaker c.print_edited.result _ _ (λ status refused one.
-    inr (refuses_name c.args.text.now c.args.position c.args.new.now c.in-Some.outcome _ _ found (Says g.E.Write.contents g.E.Output.has_failed c.args.err.now c.print_edited.new.err) (refused one).0 (ap g.O.Write.contents (refused one).1))) c.print_edited.ensures.refused
+    inr (refuses_name c.args.text.now c.args.position c.args.new.now c.in-Some.outcome _ _ found (Says g.E.Write.contents g.E.Output.is_flushed g.E.Output.has_failed c.args.err.now c.print_edited.new.err) (refused one).0 (ap g.O.Write.contents (refused one).1))) c.print_edited.ensures.refused
 
 pub returns-clause-other : goal.returns-clause-other
 returns-clause-other g c =

@@ -1,4 +1,4 @@
-use Rattle.std.proofs.Common.{◌≡◌, ◌++◌, drop, string_bytes}
+use Rattle.std.proofs.Common.{◌≡◌, ◌++◌, drop}
 use Rattle.ob0_run.specs.States.{items_out}
 use Rattle.ob0_commands.specs.Printed.{IsWrittenBut, output_text}
 use Rattle.ob0_commands.proofs.running.print_items.Given as goal
@@ -6,6 +6,6 @@ use Rattle.ob0_commands.proofs.running.print_items.Given as goal
 -- what was output so far is written but for the text that waits, and nothing failed
 abbrev pub invariant-loop-item : goal.invariant-loop-item
 invariant-loop-item g l = record {
-  written : IsWrittenBut (g.O.Write.contents l.fn.out) (g.O.Write.contents l.out) (output_text (items_out l.output)) (string_bytes l.text ++ output_text (items_out (drop l.item-index l.output)));
+  written : IsWrittenBut (g.O.Write.contents l.fn.out) (g.O.Write.contents l.out) (output_text (items_out l.output)) (l.text.bytes ++ output_text (items_out (drop l.item-index l.output)));
   unfailed : g.O.Output.has_failed l.out ≡ g.O.Output.has_failed l.fn.out;
 }

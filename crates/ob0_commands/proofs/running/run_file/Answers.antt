@@ -9,7 +9,7 @@ returns-in_default-2-clause-other g c =
     let here = rw c.in-Some.is at c.in_ok-text.ensures.found in
     let wrong = rw c.in_default-2.is at c.in_ok-program.ensures.found in
     λ one. prints_wrong c.args.file.now c.in-Some.text.now (g.R.Read.remaining c.args.input.now) c.args.calls c.args.turns (g.O.Write.contents c.args.out.now) (g.O.Write.contents c.text_of.new.out) (g.O.Write.contents c.lower_text.new.out)
-    here.0 (ap g.O.Write.contents here.1) wrong (Says g.E.Write.contents g.E.Output.has_failed c.args.err.now c.args.err.now) refl
+    here.0 (ap g.O.Write.contents here.1) wrong (Says g.E.Write.contents g.E.Output.is_flushed g.E.Output.has_failed c.args.err.now c.args.err.now) refl
 
 pub returns-in_err-numbers-clause-fault : goal.returns-in_err-numbers-clause-fault
 returns-in_err-numbers-clause-fault g c =
@@ -43,5 +43,5 @@ returns-clause-other g c =
     let o = c.in_ok-outcome.outcome in
     from_all c.print_outcome.result (λ status is printed says one. prints_other c.args.file.now given c.args.calls c.args.turns status before after o
     (prints_run c.args.file.now c.in-Some.text.now given c.args.calls c.args.turns before mid after c.in_ok-numbers.numbers.items c.as_slice.result.now o c.as_slice-2.result.now
-    here.0 (ap g.O.Write.contents (lowered.1 ∙ here.1)) c.as_slice.ensures.value c.in_ok-numbers.ensures.numbers c.in_ok-outcome.ensures c.as_slice-2.ensures.value printed) is one (Says g.E.Write.contents g.E.Output.has_failed c.args.err.now c.print_outcome.new.err) says)
+    here.0 (ap g.O.Write.contents (lowered.1 ∙ here.1)) c.as_slice.ensures.value c.in_ok-numbers.ensures.numbers c.in_ok-outcome.ensures c.as_slice-2.ensures.value printed) is one (Says g.E.Write.contents g.E.Output.is_flushed g.E.Output.has_failed c.args.err.now c.print_outcome.new.err) says)
     c.print_outcome.ensures.status c.print_outcome.ensures.printed c.print_outcome.ensures.said

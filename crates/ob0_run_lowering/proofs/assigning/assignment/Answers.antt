@@ -16,7 +16,7 @@ returns-in-Number c =
     let P : Lowered → Type 0 = λ l. Lowers c.args.scene.now (expression_of a.value) l in
     let tree = in_labels c.args.scene.now.resolved.now (assignment_of a) in
     let code = lowered.stores_number (place_of c.in_ok-target.target.place) (number_of c.in-Number.n) in
-    let means : StatementLowers c.args.scene.now code tree = number_assigned c.args.scene.now a.target.name (items_of selector_of a.target.selectors.items) a.value c.in_ok-target.target c.in-Number.n c.in_ok-target.ensures (subst P c.in-Number.is c.in_ok-n.ensures) in
+    let means : StatementLowers c.args.scene.now code tree = number_assigned c.args.scene.now a.target.name (items_of selector_of a.target.selectors.items) a.value c.in_ok-target.target c.in-Number.n c.in_ok-target.ensures (subst P c.in-Number.is c.in_ok-n.ensures.lowers) in
     IfOk-weaker c.store_number.result (λ made. statement_of made ≡ code) (λ made. StatementLowers c.args.scene.now (statement_of made) tree)
     (λ made same. subst (λ k. StatementLowers c.args.scene.now k tree) (sym same) means) c.store_number.ensures
 
@@ -24,16 +24,16 @@ pub returns-in-Truth : goal.returns-in-Truth
 returns-in-Truth c =
     let a = c.args.a.now in
     let P : Lowered → Type 0 = λ l. Lowers c.args.scene.now (expression_of a.value) l in
-    truth_assigned c.args.scene.now a.target.name (items_of selector_of a.target.selectors.items) a.value c.in_ok-target.target c.in-Truth.t c.in_ok-target.ensures (subst P c.in-Truth.is c.in_ok-n.ensures)
+    truth_assigned c.args.scene.now a.target.name (items_of selector_of a.target.selectors.items) a.value c.in_ok-target.target c.in-Truth.t c.in_ok-target.ensures (subst P c.in-Truth.is c.in_ok-n.ensures.lowers)
 
 pub returns-in-Block : goal.returns-in-Block
 returns-in-Block c =
     let a = c.args.a.now in
     let P : Lowered → Type 0 = λ l. Lowers c.args.scene.now (expression_of a.value) l in
-    block_assigned c.args.scene.now a.target.name (items_of selector_of a.target.selectors.items) a.value c.in_ok-target.target c.in-Block.from c.in-Block.cells c.in_ok-target.ensures (subst P c.in-Block.is c.in_ok-n.ensures)
+    block_assigned c.args.scene.now a.target.name (items_of selector_of a.target.selectors.items) a.value c.in_ok-target.target c.in-Block.from c.in-Block.cells c.in_ok-target.ensures (subst P c.in-Block.is c.in_ok-n.ensures.lowers)
 
 pub returns-in-Nothing : goal.returns-in-Nothing
 returns-in-Nothing c =
     let a = c.args.a.now in
     let P : Lowered → Type 0 = λ l. Lowers c.args.scene.now (expression_of a.value) l in
-    nothing_assigned c.args.scene.now a.target.name (items_of selector_of a.target.selectors.items) a.value c.in_ok-target.target _ (subst P c.in-Nothing.is c.in_ok-n.ensures)
+    nothing_assigned c.args.scene.now a.target.name (items_of selector_of a.target.selectors.items) a.value c.in_ok-target.target _ (subst P c.in-Nothing.is c.in_ok-n.ensures.lowers)

@@ -1,4 +1,4 @@
-use Rattle.std.proofs.Common.{◌≡◌, IfOk, option_map, sym, ap, ◌∙◌, subst}
+use Rattle.std.proofs.Common.{◌≡◌, IfOk, option_map, refl, sym, ap, ◌∙◌, subst}
 use Rattle.ob0_tree.proofs.Viewed.{designator_made, simple_parts, term_parts}
 use Rattle.ob0_tree.specs.declared.tree.Addend.{out-Addend}
 use Rattle.ob0_tree.specs.declared.tree.Comparison.{out-Comparison}
@@ -13,12 +13,13 @@ use Rattle.ob0_types_rules.proofs.TreeParts.{addend_parts, compound_alone, compo
 use Rattle.ob0_run_lowering.specs.Codes.{added, multiplied, related, signed}
 use Rattle.ob0_run_lowering.specs.Trees.{addends_code, code_of, expression_code, factor_code, found_of, multipliers_code, selected_place, simple_code, term_code}
 use Rattle.ob0_run_lowering.proofs.CodeChains.{added_fold, added_once, fold_ends, fold_goes_on, multiplied_fold, selected_fold}
+use Rattle.ob0_run_lowering.proofs.Rows.{still_flat}
 use Rattle.ob0_run_lowering.proofs.scene.Scene.+lowering.Goals as goal
 
-pub factor-returns-in-Designator : goal.factor-returns-in-Designator
-factor-returns-in-Designator t c =
+pub factor-returns-in-Designator-clause-code : goal.factor-returns-in-Designator-clause-code
+factor-returns-in-Designator-clause-code t c =
     let scene = c.args.self.now in
-    subst (λ z. IfOk c.lower_designator.result (λ l. code_of l ≡ factor_code scene (in_labels scene.resolved.now z))) (sym (designator_made c.in-Designator.d) ∙ sym (ap factor_of c.in-Designator.is)) c.lower_designator.ensures
+    subst (λ z. IfOk c.lower_designator.result (λ l. code_of l ≡ factor_code scene (in_labels scene.resolved.now z))) (sym (designator_made c.in-Designator.d) ∙ sym (ap factor_of c.in-Designator.is)) c.lower_designator.ensures.code
 
 pub locate-loop-selector-preserved : goal.locate-loop-selector-preserved
 locate-loop-selector-preserved t c =
@@ -32,67 +33,78 @@ locate-returns t c =
     ∙ ap (λ xs. selected_place scene (option_map (found_of (shapes_of scene.types.now)) c.base-at.result) (in_labels r (items_of selector_of xs))) c.deref-selector-items.ensures.value
     ∙ ap (λ o. selected_place scene o (in_labels r (items_of selector_of c.args.d.now.selectors.items))) c.base-at.ensures
 
-pub lower_expression-returns-in-Factor : goal.lower_expression-returns-in-Factor
-lower_expression-returns-in-Factor t c =
+pub lower_expression-returns-in-Factor-clause-code : goal.lower_expression-returns-in-Factor-clause-code
+lower_expression-returns-in-Factor-clause-code t c =
     let scene = c.args.self.now in
-    subst (λ z. IfOk c.factor.result (λ l. code_of l ≡ expression_code scene (in_labels scene.resolved.now z))) (sym (ap expression_of c.in-Factor.is)) c.factor.ensures
+    subst (λ z. IfOk c.factor.result (λ l. code_of l ≡ expression_code scene (in_labels scene.resolved.now z))) (sym (ap expression_of c.in-Factor.is)) c.factor.ensures.code
 
-pub lower_expression-returns-in-Compound : goal.lower_expression-returns-in-Compound
-lower_expression-returns-in-Compound t c =
+pub lower_expression-returns-in-Compound-clause-code : goal.lower_expression-returns-in-Compound-clause-code
+lower_expression-returns-in-Compound-clause-code t c =
     let scene = c.args.self.now in
     subst (λ z. IfOk c.compound.result (λ l. code_of l ≡ expression_code scene (in_labels scene.resolved.now z)))
-    (ap compound_of c.deref.ensures ∙ sym (ap expression_of c.in-Compound.is)) c.compound.ensures
+    (ap compound_of c.deref.ensures ∙ sym (ap expression_of c.in-Compound.is)) c.compound.ensures.code
 
-pub compound-returns-in-None : goal.compound-returns-in-None
-compound-returns-in-None t c =
+pub compound-returns-in-None-clause-code : goal.compound-returns-in-None-clause-code
+compound-returns-in-None-clause-code t c =
     let scene = c.args.self.now in
-    c.in_ok-left.ensures ∙ sym (ap (λ e. expression_code scene (in_labels scene.resolved.now e)) (compound_alone c.args.c.now c.in-None.is))
+    c.in_ok-left.ensures.code ∙ sym (ap (λ e. expression_code scene (in_labels scene.resolved.now e)) (compound_alone c.args.c.now c.in-None.is))
 
-pub compound-returns-in_ok-right-in-Some : goal.compound-returns-in_ok-right-in-Some
-compound-returns-in_ok-right-in-Some t c =
+pub compound-returns-in_ok-right-in-Some-clause-code : goal.compound-returns-in_ok-right-in-Some-clause-code
+compound-returns-in_ok-right-in-Some-clause-code t c =
     let scene = c.args.self.now in
     let r = scene.resolved.now in
     let compared = out-Comparison c.deref-compared.result.now in
     let left = simple_of (out-Compound c.args.c.now).left in
     subst (λ z. IfOk c.lower_relation.result (λ l. code_of l ≡ z))
-    (ap (λ a. related compared.relation a (code_of c.in_ok-right-in-Some.right)) c.in_ok-left.ensures
-    ∙ ap (related compared.relation (simple_code scene (in_labels r left))) c.in_ok-right-in-Some.ensures
+    (ap (λ a. related compared.relation a (code_of c.in_ok-right-in-Some.right)) c.in_ok-left.ensures.code
+    ∙ ap (related compared.relation (simple_code scene (in_labels r left))) c.in_ok-right-in-Some.ensures.code
     ∙ ap (λ k. expression_code scene (in_labels r (compares left (one (relates (out-Comparison k).relation (simple_of (out-Comparison k).right)))))) c.deref-compared.ensures
     ∙ sym (ap (λ e. expression_code scene (in_labels r e)) (compound_related c.args.c.now c.in-Some.compared c.in-Some.is)))
-    c.lower_relation.ensures
+    c.lower_relation.ensures.code
+
+pub simple-loop-addend-init : goal.simple-loop-addend-init
+simple-loop-addend-init t c = record { made = record { so_far = refl }; flat = still_flat c.in_ok-so_far.ensures.flat c.in_ok-first.ensures.flat }
 
 pub simple-loop-addend-preserved : goal.simple-loop-addend-preserved
 simple-loop-addend-preserved t c =
     let scene = c.args.self.now in
     let a = c.addend-item.result in
-    fold_goes_on a _ (added_fold scene) c.loop-addend.invariant c.loop-addend-test.true c.addend-item.is
-    (c.in_ok-so_far-2.ensures
-    ∙ ap (added (out-Addend a).operator (code_of c.loop-addend.so_far)) c.in_ok-term.ensures
-    ∙ ap (λ z. added_once scene (code_of c.loop-addend.so_far) (in_labels scene.resolved.now z)) (sym (addend_parts a)))
+    record {
+      made =
+          fold_goes_on a _ (added_fold scene) c.loop-addend.invariant.made c.loop-addend-test.true c.addend-item.is
+          (c.in_ok-so_far-2.ensures.code
+          ∙ ap (added (out-Addend a).operator (code_of c.loop-addend.so_far)) c.in_ok-term.ensures.code
+          ∙ ap (λ z. added_once scene (code_of c.loop-addend.so_far) (in_labels scene.resolved.now z)) (sym (addend_parts a)));
+      flat = still_flat c.in_ok-so_far-2.ensures.flat c.loop-addend.invariant.flat;
+    }
 
-pub simple-returns : goal.simple-returns
-simple-returns t c =
+pub simple-returns-clause-code : goal.simple-returns-clause-code
+simple-returns-clause-code t c =
     let scene = c.args.self.now in
     let r = scene.resolved.now in
     let s = out-Simple c.args.s.now in
-    fold_ends (added_fold scene) c.loop-addend.invariant c.loop-addend-test.false
+    fold_ends (added_fold scene) c.loop-addend.invariant.made c.loop-addend-test.false
     ∙ ap (λ xs. addends_code scene (code_of c.in_ok-so_far.so_far) (in_labels r (items_of addend_of xs))) c.deref-addend-items.ensures.value
-    ∙ ap (λ k. addends_code scene k (in_labels r (items_of addend_of s.more.items))) (c.in_ok-so_far.ensures ∙ ap (signed s.sign) c.in_ok-first.ensures)
+    ∙ ap (λ k. addends_code scene k (in_labels r (items_of addend_of s.more.items))) (c.in_ok-so_far.ensures.code ∙ ap (signed s.sign) c.in_ok-first.ensures.code)
     ∙ sym (ap (λ z. simple_code scene (in_labels r z)) (simple_parts c.args.s.now))
 
 pub term-loop-multiplier-preserved : goal.term-loop-multiplier-preserved
 term-loop-multiplier-preserved t c =
     let scene = c.args.self.now in
     let a = c.multiplier-item.result in
-    fold_goes_on a _ (multiplied_fold scene) c.loop-multiplier.invariant c.loop-multiplier-test.true c.multiplier-item.is
-    (c.in_ok-so_far-2.ensures ∙ ap (multiplied a.operator (code_of c.loop-multiplier.so_far)) c.in_ok-factor.ensures)
+    record {
+      made =
+          fold_goes_on a _ (multiplied_fold scene) c.loop-multiplier.invariant.made c.loop-multiplier-test.true c.multiplier-item.is
+          (c.in_ok-so_far-2.ensures.code ∙ ap (multiplied a.operator (code_of c.loop-multiplier.so_far)) c.in_ok-factor.ensures.code);
+      flat = still_flat c.in_ok-so_far-2.ensures.flat c.loop-multiplier.invariant.flat;
+    }
 
-pub term-returns : goal.term-returns
-term-returns t c =
+pub term-returns-clause-code : goal.term-returns-clause-code
+term-returns-clause-code t c =
     let scene = c.args.self.now in
     let r = scene.resolved.now in
     let s = out-Term c.args.t.now in
-    fold_ends (multiplied_fold scene) c.loop-multiplier.invariant c.loop-multiplier-test.false
+    fold_ends (multiplied_fold scene) c.loop-multiplier.invariant.made c.loop-multiplier-test.false
     ∙ ap (λ xs. multipliers_code scene (code_of c.in_ok-so_far.so_far) (in_labels r (items_of multiplier_of xs))) c.deref-multiplier-items.ensures.value
-    ∙ ap (λ k. multipliers_code scene k (in_labels r (items_of multiplier_of s.more.items))) c.in_ok-so_far.ensures
+    ∙ ap (λ k. multipliers_code scene k (in_labels r (items_of multiplier_of s.more.items))) c.in_ok-so_far.ensures.code
     ∙ sym (ap (λ z. term_code scene (in_labels r z)) (term_parts c.args.t.now))

@@ -1,6 +1,7 @@
 use Rattle.std.proofs.Common.{option_map}
 use Rattle.ob0_tree.specs.View.{addend_of, multiplier_of, selector_of}
 use Rattle.ob0_types_table.specs.KnownTables.{shapes_of}
+use Rattle.ob0_run_lowering.specs.Rows.{IsFlat}
 use Rattle.ob0_run_lowering.specs.Trees.{addends_code, code_of, found_of, multipliers_code, selected_place}
 use Rattle.ob0_run_lowering.proofs.CodeChains.{Folded}
 use Rattle.ob0_run_lowering.proofs.scene.Scene.+lowering.Given as goal
@@ -10,7 +11,13 @@ invariant-locate-loop-selector l =
     Folded (selected_place l.self) l.self.resolved.now selector_of (option_map (found_of (shapes_of l.self.types.now)) l.initial.at) l.selector-items l.selector-index (option_map (found_of (shapes_of l.self.types.now)) l.at)
 
 abbrev pub invariant-simple-loop-addend : goal.invariant-simple-loop-addend
-invariant-simple-loop-addend l = Folded (addends_code l.self) l.self.resolved.now addend_of (code_of l.initial.so_far) l.addend-items l.addend-index (code_of l.so_far)
+invariant-simple-loop-addend l = record {
+  made : Folded (addends_code l.self) l.self.resolved.now addend_of (code_of l.initial.so_far) l.addend-items l.addend-index (code_of l.so_far);
+  flat : IsFlat l.so_far;
+}
 
 abbrev pub invariant-term-loop-multiplier : goal.invariant-term-loop-multiplier
-invariant-term-loop-multiplier l = Folded (multipliers_code l.self) l.self.resolved.now multiplier_of (code_of l.initial.so_far) l.multiplier-items l.multiplier-index (code_of l.so_far)
+invariant-term-loop-multiplier l = record {
+  made : Folded (multipliers_code l.self) l.self.resolved.now multiplier_of (code_of l.initial.so_far) l.multiplier-items l.multiplier-index (code_of l.so_far);
+  flat : IsFlat l.so_far;
+}

@@ -7,8 +7,8 @@ use Rattle.ob0_run_lowering.specs.Trees.{code_of, expression_code}
 use Rattle.ob0_run_lowering.proofs.Lowerings.{lowers-by}
 use Rattle.ob0_run_lowering.proofs.scene.Scene.expression.Goals as goal
 
-pub returns : goal.returns
-returns c =
+pub returns-clause-lowers : goal.returns-clause-lowers
+returns-clause-lowers c =
     let scene = c.args.self.now in
     let e = expression_of c.args.e.now in
-    IfOk-weaker c.lower_expression.result (λ l. code_of l ≡ expression_code scene (in_labels scene.resolved.now e)) (Lowers scene e) (λ l same. lowers-by scene e l c.has_small.ensures same) c.lower_expression.ensures
+    IfOk-weaker c.lower_expression.result (λ l. code_of l ≡ expression_code scene (in_labels scene.resolved.now e)) (Lowers scene e) (λ l same. lowers-by scene e l c.has_small.ensures same) c.lower_expression.ensures.code
