@@ -19,7 +19,7 @@ PREDECLARED = {"INTEGER", "BOOLEAN", "TRUE", "FALSE", "Read", "Write", "WriteLn"
 @functools.lru_cache(None)
 def reserved():
     """The reserved words, as the scanner has them."""
-    found = re.findall(r'b"([A-Z]+)" => Some\(Reserved::', text_of("crates", "ob0_scan", "src", "lexeme.rt"))
+    found = re.findall(r'Reserved::[A-Z][a-z]+ => "([A-Z]+)"', text_of("crates", "ob0_scan", "src", "lexeme.rt"))
     return sorted(found)
 
 
