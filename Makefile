@@ -13,7 +13,7 @@
 #   make editors           installs the editors and tools that the end-to-end tests want, by apt-get
 #   make try               the tables of check, run and rename, with the program compiled without its proofs, in two to four minutes
 #   make end-to-end        the end-to-end tests alone, on bin/ob0
-#   make faults            what takes longer: memory refused at each allocation, two long conversations, many random runs; WORDS=".." names some
+#   make faults            what takes longer: each allocation fails in turn, two long conversations, many random changes, texts and runs; WORDS=".." names some
 #   make wrong-bodies      tries each crate's mutants, all at once where that can be; CRATE="NAME.." names some
 #   make surface           the public functions, who uses them and their mutants: docs/SURFACE.md, and how many mutants: README.md
 #   make statement         all definitions that the headline is made of, in reading order: docs/STATEMENT.md
