@@ -4,7 +4,7 @@ use Rattle.ob0_tree.specs.Tree.{Tree, arguments, assigns, branches, calls, compa
 use Rattle.ob0_scope_rules.specs.Names.{Name}
 use Rattle.ob0_types_rules.specs.Arguments.{arguments_listed, further_arguments}
 use Rattle.ob0_types_rules.specs.Expressions.{Object, a_constant, a_procedure, a_standard, a_type, a_variable}
-use Rattle.ob0_types_rules.specs.Typing.{designated, object_type, type_at, type_of}
+use Rattle.ob0_types_rules.specs.Typing.{lone_designator, object_type, type_at, type_of}
 use Rattle.ob0_types_rules.specs.WellTyped.{Formal, Mode, Signature, Typed, agree, argument_fits, arguments_fit, by_place, by_value, call_fits, condition_fits, else_fits, elsifs_fit, sequence_fits, signature_of, statement_fits, statements_fit, variable_type}
 use Rattle.ob0_values.specs.Values.{Shape, boolean_shape}
 use Rattle.ob0_types_fields.specs.Fields.{FieldNames, refield}
@@ -16,7 +16,7 @@ use Rattle.ob0_rename_laws.proofs.RefieldedTypes.{type_at-refield, type_of-refie
 abbrev pub refield_designator : FieldNames → Typed Name → Name × Tree Name (items selector) → Name × Tree Name (items selector)
 refield_designator l meaning d = (d.0, refield l meaning (object_type (meaning.object_for d.0)) d.1)
 
-pub designated-refield : (l : FieldNames) (meaning : Typed Name) (e : Tree Name expression) → designated (refield l meaning None e) ≡ option_map (refield_designator l meaning) (designated e)
+pub designated-refield : (l : FieldNames) (meaning : Typed Name) (e : Tree Name expression) → lone_designator (refield l meaning None e) ≡ option_map (refield_designator l meaning) (lone_designator e)
 designated-refield l meaning (compares (sum None (product (designator x path) end) end) none) = refl
 designated-refield l meaning _ = refl
 
@@ -49,12 +49,12 @@ pub argument_fits-refield : (l : FieldNames) → KeepsApart l → (stands : Name
 unfolding argument_fits
 argument_fits-refield l apart stands f e = go f.mode
   where
-    go : (m : Mode) → agree (Some (shape_by l f.shape)) (elim m [ by_value ↦ type_of (named_by l stands) (refield l (named stands) None e) | by_place ↦ variable_type (named_by l stands) (designated (refield l (named stands) None e)) ])
-        ≡ agree (Some f.shape) (elim m [ by_value ↦ type_of (named stands) e | by_place ↦ variable_type (named stands) (designated e) ])
+    go : (m : Mode) → agree (Some (shape_by l f.shape)) (elim m [ by_value ↦ type_of (named_by l stands) (refield l (named stands) None e) | by_place ↦ variable_type (named_by l stands) (lone_designator (refield l (named stands) None e)) ])
+        ≡ agree (Some f.shape) (elim m [ by_value ↦ type_of (named stands) e | by_place ↦ variable_type (named stands) (lone_designator e) ])
     go by_value = ap (agree (Some (shape_by l f.shape))) (type_of-refield l apart stands e) ∙ agree-by l apart (Some f.shape) (type_of (named stands) e)
     go by_place =
-        ap (agree (Some (shape_by l f.shape))) (ap (variable_type (named_by l stands)) (designated-refield l (named stands) e) ∙ variable_type-refield l apart stands (designated e))
-        ∙ agree-by l apart (Some f.shape) (variable_type (named stands) (designated e))
+        ap (agree (Some (shape_by l f.shape))) (ap (variable_type (named_by l stands)) (designated-refield l (named stands) e) ∙ variable_type-refield l apart stands (lone_designator e))
+        ∙ agree-by l apart (Some f.shape) (variable_type (named stands) (lone_designator e))
 
 pub arguments_fit-refield : (l : FieldNames) → KeepsApart l → (stands : Name → Option (Object Shape Signature)) (fs : Signature) (es : List (Tree Name expression))
     → arguments_fit (named_by l stands) (map (formal_by l) fs) (map (refield l (named stands) None) es) ≡ arguments_fit (named stands) fs es

@@ -16,7 +16,7 @@ use Rattle.ob0_types_rules.specs.InLabels.{in_labels}
 use Rattle.ob0_types_rules.proofs.Parts.{all_listed}
 use Rattle.ob0_types_rules.specs.Arguments.{arguments_listed}
 use Rattle.ob0_types_rules.specs.Expressions.{Object, a_procedure, a_standard, reads, writes, writes_line}
-use Rattle.ob0_types_rules.specs.Typing.{designated, type_of}
+use Rattle.ob0_types_rules.specs.Typing.{lone_designator, type_of}
 use Rattle.ob0_types_rules.specs.WellTyped.{Formal, Signature, Typed, argument_fits, arguments_fit, by_place, by_value, call_fits, signature_of, statement_fits, variable_type}
 use Rattle.ob0_values.specs.Values.{Shape, integer_shape}
 use Rattle.ob0_types_rules.proofs.Conditions.{agree-true, both_true}
@@ -100,9 +100,9 @@ unfolding arguments_fit
 no_argument_fits checked [] h = refl
 no_argument_fits checked (e ∷ es) h = absurd (cc)
 
-placed : (checked : Typed Label) (e : Tree Label expression) → argument_fits checked (record { mode = by_place; shape = integer_shape }) e ≡ true → variable_type checked (designated e) ≡ Some integer_shape
+placed : (checked : Typed Label) (e : Tree Label expression) → argument_fits checked (record { mode = by_place; shape = integer_shape }) e ≡ true → variable_type checked (lone_designator e) ≡ Some integer_shape
 unfolding argument_fits
-placed checked e h = let (s, hs, ht) = agree-true (Some integer_shape) (variable_type checked (designated e)) h in ht ∙ sym hs
+placed checked e h = let (s, hs, ht) = agree-true (Some integer_shape) (variable_type checked (lone_designator e)) h in ht ∙ sym hs
 
 valued : (checked : Typed Label) (e : Tree Label expression) → argument_fits checked (record { mode = by_value; shape = integer_shape }) e ≡ true → type_of checked e ≡ Some integer_shape
 unfolding argument_fits

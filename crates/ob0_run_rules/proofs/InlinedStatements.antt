@@ -7,7 +7,7 @@ use Rattle.ob0_values.specs.Values.{Outcome, Place, Store, Stuck, Value, at_path
 use Rattle.ob0_types_rules.specs.Arguments.{arguments_listed, further_arguments}
 use Rattle.ob0_types_rules.specs.Expressions.{Meanings, Object, a_constant, a_procedure, a_standard, a_type, a_variable, designate, evaluate, evaluate_factor, follow, object_place, object_value}
 use Rattle.ob0_types_rules.specs.Laws.{UsesAre}
-use Rattle.ob0_types_rules.specs.Typing.{designated}
+use Rattle.ob0_types_rules.specs.Typing.{lone_designator}
 use Rattle.ob0_types_rules.specs.WellTyped.{Mode, by_place, by_value}
 use Rattle.ob0_types_rules.proofs.FitInlined.{alone, compared-no_designator, product-no_designator, sum-no_designator}
 use Rattle.ob0_types_rules.proofs.Inlined.{Stands, evaluate-inlined, follow-inlined, uses-split}
@@ -48,7 +48,7 @@ has_value-no_place (Some (a_variable p)) next w e = absurd (cc)
 has_value-no_place (Some (a_procedure s)) next w e = refl
 has_value-no_place (Some (a_standard s)) next w e = refl
 
-pub written-no_place : (meaning : Meanings Name Place (List Mode)) (v : Tree Name factor) (w : Value) → Worth meaning v w → (store : Store) → place_at meaning store (designated (alone v)) ≡ ends Stuck
+pub written-no_place : (meaning : Meanings Name Place (List Mode)) (v : Tree Name factor) (w : Value) → Worth meaning v w → (store : Store) → place_at meaning store (lone_designator (alone v)) ≡ ends Stuck
 unfolding designate evaluate
 written-no_place meaning (designator x path) w h store =
     ap (λ o. o >>= (λ p. or_stuck (read_place store p) >>= (λ z. follow meaning store z path >>= (λ steps. gives record { variable = p.variable; path = p.path ++ steps }))))
@@ -63,9 +63,9 @@ use-no_place meaning x w store e =
     ap (λ o. o >>= (λ p. or_stuck (read_place store p) >>= (λ z. follow meaning store z end >>= (λ steps. gives record { variable = p.variable; path = p.path ++ steps })))) (constant-no_place (meaning.object_for x) w e)
 
 pub place-written : (meaning : Meanings Name Place (List Mode)) (uses : Uses) (v : Tree Name factor) (w : Value) → Worth meaning v w → (store : Store) (k : ℕ) (e : Tree Name expression)
-    → IsUse meaning w uses k (occurrences e) → place_at meaning store (designated (inline_in uses v k e)) ≡ place_at meaning store (designated e)
+    → IsUse meaning w uses k (occurrences e) → place_at meaning store (lone_designator (inline_in uses v k e)) ≡ place_at meaning store (lone_designator e)
 place-written meaning uses v w h store k (compares (sum None (product (designator x end) end) end) none) u =
-    (elim (uses k) as (λ b. uses k ≡ b → place_at meaning store (designated (alone (if b then v else designator x end))) ≡ place_at meaning store (Some (x, end)))
+    (elim (uses k) as (λ b. uses k ≡ b → place_at meaning store (lone_designator (alone (if b then v else designator x end))) ≡ place_at meaning store (Some (x, end)))
     [ true ↦ λ e. written-no_place meaning v w h store ∙ sym (use-no_place meaning x w store (u.0 e)) | false ↦ λ e. refl ]) refl
 place-written meaning uses v w h store k (compares (sum None (product (designator x (more s rest)) end) end) none) u =
     designate-written meaning uses v w h store (suc k) x (more s rest) (uses-split uses (Stands meaning w) (suc k) (occurrences (more s rest)) [] (uses-split uses (Stands meaning w) (suc k) (occurrences (more s rest) ++ []) [] (uses-split uses (Stands meaning w) (suc k) ((occurrences (more s rest) ++ []) ++ []) [] u.1).0).0).0
@@ -82,7 +82,7 @@ pub argument-written : (meaning : Meanings Name Place (List Mode)) (uses : Uses)
 unfolding evaluate_argument
 argument-written meaning uses v w h store by_value k e u = λ i. evaluate-written meaning uses v w h store k e u i >>= (λ z. gives (value_argument z))
 argument-written meaning uses v w h store by_place k e u =
-    by_steps (designated (inline_in uses v k e)) ∙ ((λ i. place-written meaning uses v w h store k e u i >>= (λ p. gives (place_argument p))) ∙ sym (by_steps (designated e)))
+    by_steps (lone_designator (inline_in uses v k e)) ∙ ((λ i. place-written meaning uses v w h store k e u i >>= (λ p. gives (place_argument p))) ∙ sym (by_steps (lone_designator e)))
   where
     by_steps : (d : Option (Name × Tree Name (items selector))) → or_stuck d >>= (λ d. designate meaning store d.0 d.1 >>= (λ p. gives (place_argument p))) ≡ place_at meaning store d >>= (λ p. gives (place_argument p))
     by_steps None = refl

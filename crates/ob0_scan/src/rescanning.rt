@@ -39,7 +39,7 @@ impl ReplacedRange {
     }
 
     /// Where a span of the old text that lies after the change is now.
-    fn moved(self, span: Span) -> Span
+    fn moved_span(self, span: Span) -> Span
         requires { IsMovable self.removed self.added span }
         ensures { result ≡ moved self.removed self.added span }
     {
@@ -355,7 +355,7 @@ pub fn rescan(
     ensures err { IfErr result (IsRightRefusal new_text.now) }
     ensures reused { IfOk result (λ r. Reuses old.now r.tokens from removed added r.read) }
 {
-    match rescan_in_place(alloc, old.copied(alloc)?, new_text, from, removed, added) {
+    match rescan_in_place(alloc, old.copy(alloc)?, new_text, from, removed, added) {
         Ok(found) => Ok(found.rescan),
         Err(refusal) => match refusal {
             NotRescanned::Faults(faults, _) => Err(ScanRefusal::Faults(faults)),
@@ -558,7 +558,7 @@ fn move_tokens(tokens: &mut Vec<Token>, first: usize, change: ReplacedRange)
         let Token { kind, span } = tokens[index];
         tokens[index] = Token {
             kind,
-            span: change.moved(span),
+            span: change.moved_span(span),
         };
     }
 }
@@ -573,6 +573,6 @@ fn move_comments(comments: &mut Vec<Span>, first: usize, change: ReplacedRange)
         ++ map (moved change.removed change.added) (drop first comments.old.items) }
 {
     for index in first..comments.len() {
-        comments[index] = change.moved(comments[index]);
+        comments[index] = change.moved_span(comments[index]);
     }
 }

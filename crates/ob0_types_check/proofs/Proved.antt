@@ -11,7 +11,7 @@ use Rattle.ob0_types_check.specs.ExpressionFaults.{reported_expression}
 use Rattle.ob0_types_check.specs.Known.{Facts, Operand}
 use Rattle.ob0_types_check.specs.Operations.{required, right}
 use Rattle.ob0_types_check.specs.SoFar.{facts_at}
-use Rattle.ob0_types_check.specs.TypeFaults.{evaluated, in_bounds, length_given, length_of, reported_constant, valued}
+use Rattle.ob0_types_check.specs.TypeFaults.{operand_value, in_bounds, length_given, length_of, reported_constant, valued}
 use Rattle.ob0_types_check.specs.Agreement.{Agrees, TypesAgree, shape_in}
 use Rattle.ob0_types_check.specs.ReportLaws.{ConstantsFit, ExpressionsFit, LengthsFit, OperandFits, meaning_here}
 use Rattle.ob0_types_check.proofs.FittingExpressions.{FitsExpression, expression-fits}
@@ -61,7 +61,7 @@ value-there : {T : Type 0} (facts : Facts T) (o : Operand T) (c : Option Value) 
 value-there facts o None e h = absurd (cc)
 value-there facts o (Some v) e h = record { value = v; known = refl; there = e }
 
-pub evaluated-there : {T : Type 0} (facts : Facts T) (o : Operand T) → facts.types.same o.of facts.types.unknown ≡ false → (evaluated facts o).faults ≡ [] → IsWorth o (evaluated facts o).known
+pub evaluated-there : {T : Type 0} (facts : Facts T) (o : Operand T) → facts.types.same o.of facts.types.unknown ≡ false → (operand_value facts o).faults ≡ [] → IsWorth o (operand_value facts o).known
 evaluated-there facts o known h =
     let w = value-there facts o o.value refl (sym (ap (λ b. (if b then right None else valued facts o o.value).faults) known) ∙ h) in
     record { value = w.value; known = ap (λ b. (if b then right None else valued facts o o.value).known) known ∙ w.known; there = w.there }

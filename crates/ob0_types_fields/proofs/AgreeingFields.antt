@@ -7,7 +7,7 @@ use Rattle.ob0_scope_rules.specs.Names.{Name, same_name}
 use Rattle.ob0_scope_rules.specs.Parts.{further_names, names_listed}
 use Rattle.ob0_types_rules.specs.Arguments.{arguments_listed, further_arguments}
 use Rattle.ob0_types_rules.specs.Expressions.{Object, a_constant, a_procedure, a_standard, a_type, a_variable}
-use Rattle.ob0_types_rules.specs.Typing.{add_type, array_length, complement_type, constant_value, denoted, denoted_group, denoted_groups, depth, designated, element_type, field_type, group_constructors, multiply_type, object_type, relation_type, scalars, shape_of_field, sign_type, type_at, type_of, type_of_addends, type_of_factor, type_of_multipliers, type_of_name, type_of_simple, type_of_term, value_type, with_fields, within_limits}
+use Rattle.ob0_types_rules.specs.Typing.{add_type, array_length, complement_type, constant_value, denoted, denoted_group, denoted_groups, depth, lone_designator, element_type, field_type, group_constructors, multiply_type, object_type, relation_type, scalars, shape_of_field, sign_type, type_at, type_of, type_of_addends, type_of_factor, type_of_multipliers, type_of_name, type_of_simple, type_of_term, value_type, with_fields, within_limits}
 use Rattle.ob0_types_rules.specs.WellTyped.{Formal, Mode, Signature, Typed, agree, argument_fits, arguments_fit, by_place, by_value, condition_fits, else_fits, elsifs_fit, sequence_fits, signature_of, statement_fits, statements_fit, variable_type}
 use Rattle.ob0_types_rules.proofs.Conditions.{agree-true, both_true, call-typed, of_some, same_name-true, variable-typed}
 use Rattle.ob0_types_rules.proofs.Literals.{some_inverse}
@@ -164,7 +164,7 @@ mutual
 
 -- arguments
 
-pub designated-typed : (stands : Name → Option (Object Shape Signature)) (e : Tree Name expression) (s : Shape) → variable_type (named stands) (designated e) ≡ Some s → type_of (named stands) e ≡ Some s
+pub designated-typed : (stands : Name → Option (Object Shape Signature)) (e : Tree Name expression) (s : Shape) → variable_type (named stands) (lone_designator e) ≡ Some s → type_of (named stands) e ≡ Some s
 unfolding type_of variable_type
 designated-typed stands (compares (sum None (product (designator x path) end) end) none) s h =
     let (t, et, h₁) = variable-typed (named stands) x path s h in
@@ -176,9 +176,9 @@ argument-alike : (p q : FieldNames) (stands : Name → Option (Object Shape Sign
 unfolding argument_fits
 argument-alike p q stands known f e h = go f.mode h
   where
-    go : (m : Mode) → agree (Some f.shape) (elim m [ by_value ↦ type_of (named stands) e | by_place ↦ variable_type (named stands) (designated e) ]) ≡ true → refield p (named stands) None e ≡ refield q (named stands) None e
+    go : (m : Mode) → agree (Some f.shape) (elim m [ by_value ↦ type_of (named stands) e | by_place ↦ variable_type (named stands) (lone_designator e) ]) ≡ true → refield p (named stands) None e ≡ refield q (named stands) None e
     go by_value h = let (t, et, ht) = agree-true (Some f.shape) (type_of (named stands) e) h in expression-alike p q stands known e t ht
-    go by_place h = let (t, et, ht) = agree-true (Some f.shape) (variable_type (named stands) (designated e)) h in expression-alike p q stands known e t (designated-typed stands e t ht)
+    go by_place h = let (t, et, ht) = agree-true (Some f.shape) (variable_type (named stands) (lone_designator e)) h in expression-alike p q stands known e t (designated-typed stands e t ht)
 
 abbrev EachAlike : FieldNames → FieldNames → Typed Name → List (Tree Name expression) → Type 0
 EachAlike p q meaning [] = Unit {0}

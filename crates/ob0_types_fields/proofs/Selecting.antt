@@ -6,7 +6,7 @@ use Rattle.ob0_types_rules.specs.Arguments.{arguments_listed, further_arguments}
 use Rattle.ob0_types_table.specs.declared.known.FieldOf.{FieldOf}
 use Rattle.ob0_types_rules.specs.Expressions.{Meanings, Object}
 use Rattle.ob0_types_table.specs.FieldPlaces.{place_of_field}
-use Rattle.ob0_types_rules.specs.Typing.{add_type, complement_type, designated, element_type, field_type, multiply_type, object_type, relation_type, shape_of_field, sign_type, type_at, type_of, type_of_addends, type_of_factor, type_of_multipliers, type_of_simple, type_of_term}
+use Rattle.ob0_types_rules.specs.Typing.{add_type, complement_type, lone_designator, element_type, field_type, multiply_type, object_type, relation_type, shape_of_field, sign_type, type_at, type_of, type_of_addends, type_of_factor, type_of_multipliers, type_of_simple, type_of_term}
 use Rattle.ob0_types_rules.specs.WellTyped.{Formal, Mode, Signature, TypeEnvironment, agree, argument_fits, arguments_fit, body_fits, by_place, by_value, condition_fits, else_fits, elsifs_fit, sequence_fits, signature_of, statement_fits, statements_fit, variable_type}
 use Rattle.ob0_types_rules.proofs.Conditions.{agree-true, both_true, call-typed, variable-typed}
 use Rattle.ob0_types_rules.proofs.TypedElsewhere.{then_some}
@@ -99,9 +99,9 @@ module _ (stands : Name → Option (Object Shape Signature)) (text : ℕ → Nam
   unfolding argument_fits
   argument-selects f e h = go f.mode h
     where
-      go : (m : Mode) → agree (Some f.shape) (elim m [ by_value ↦ type_of (named stands) (mapped text value e) | by_place ↦ variable_type (named stands) (designated (mapped text value e)) ]) ≡ true → owned here None e ≡ recorded here None e
+      go : (m : Mode) → agree (Some f.shape) (elim m [ by_value ↦ type_of (named stands) (mapped text value e) | by_place ↦ variable_type (named stands) (lone_designator (mapped text value e)) ]) ≡ true → owned here None e ≡ recorded here None e
       go by_value h = let (t, et, ht) = agree-true (Some f.shape) (type_of (named stands) (mapped text value e)) h in expression-selects e t ht
-      go by_place h = let (t, et, ht) = agree-true (Some f.shape) (variable_type (named stands) (designated (mapped text value e))) h in expression-selects e t (designated-typed stands (mapped text value e) t ht)
+      go by_place h = let (t, et, ht) = agree-true (Some f.shape) (variable_type (named stands) (lone_designator (mapped text value e))) h in expression-selects e t (designated-typed stands (mapped text value e) t ht)
 
   further-select : (fs : Signature) (es : Tree ℕ (items further_argument)) → arguments_fit (named stands) fs (further_arguments (mapped text value es)) ≡ true → owned here None es ≡ recorded here None es
   unfolding arguments_fit

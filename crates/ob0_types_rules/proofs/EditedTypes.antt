@@ -13,7 +13,7 @@ use Rattle.ob0_types_rules.specs.Declarations.{after_types, after_variables, dec
 use Rattle.ob0_types_rules.specs.EditLaws.{IsScalar}
 use Rattle.ob0_types_rules.specs.Environments.{meanings}
 use Rattle.ob0_types_rules.specs.Expressions.{Meanings, a_procedure, a_variable}
-use Rattle.ob0_types_rules.specs.Typing.{constructors, denoted, designated, type_at}
+use Rattle.ob0_types_rules.specs.Typing.{constructors, denoted, lone_designator, type_at}
 use Rattle.ob0_types_rules.specs.WellTyped.{Mode, Signature, TypeEnvironment, Typed, TypedParameter, bind_names, bind_typed, block_fits, body_fits, declare_typed, heading, some_and, procedure_fits, procedures_fit, section_mode, sequence_fits, typed_parameters, variable_type}
 use Rattle.ob0_types_rules.specs.Written.{written_value}
 use Rattle.ob0_types_rules.proofs.Agreeing.{Agree, agree-then}
@@ -43,17 +43,17 @@ Checked edit w n marks = Sound edit w anything n marks
 abbrev pub LeftTyped : Edit → Value → ℕ → Scope Name → Option Known → Marks Shape Signature → Type 0
 LeftTyped edit w = Left edit w anything
 
-pub literal-no_variable : (meaning : Typed Name) (v : Tree Name factor) (w : Value) → written_value w ≡ Some v → IsScalar w → IsSeen meaning w → variable_type meaning (designated (alone v)) ≡ None
+pub literal-no_variable : (meaning : Typed Name) (v : Tree Name factor) (w : Value) → written_value w ≡ Some v → IsScalar w → IsSeen meaning w → variable_type meaning (lone_designator (alone v)) ≡ None
 unfolding variable_type
-literal-no_variable meaning v (number (pos n)) e h seen = subst (λ v. variable_type meaning (designated (alone v)) ≡ None) (some_inverse e) refl
+literal-no_variable meaning v (number (pos n)) e h seen = subst (λ v. variable_type meaning (lone_designator (alone v)) ≡ None) (some_inverse e) refl
 literal-no_variable meaning v (number (negsuc n)) e h seen =
-    subst (λ v. variable_type meaning (designated (alone v)) ≡ None) (some_inverse e)
-    (elim (nat_lt n 2147483647) as (λ b. variable_type meaning (designated (alone (if b then parenthesised (compares (sum (Some sign.Minus) (product (integer (suc n)) end) end) none) else parenthesised (compares (sum (Some sign.Minus) (product (integer 2147483647) end) (more (adds add_operator.Subtract (product (integer 1) end)) end)) none)))) ≡ None)
+    subst (λ v. variable_type meaning (lone_designator (alone v)) ≡ None) (some_inverse e)
+    (elim (nat_lt n 2147483647) as (λ b. variable_type meaning (lone_designator (alone (if b then parenthesised (compares (sum (Some sign.Minus) (product (integer (suc n)) end) end) none) else parenthesised (compares (sum (Some sign.Minus) (product (integer 2147483647) end) (more (adds add_operator.Subtract (product (integer 1) end)) end)) none)))) ≡ None)
     [ true ↦ refl | false ↦ refl ])
 literal-no_variable meaning v (truth true) e h seen =
-    subst (λ v. variable_type meaning (designated (alone v)) ≡ None) (some_inverse e) (ap (λ o. elim o [ Some (a_variable s) ↦ type_at meaning s end | _ ↦ None ]) seen)
+    subst (λ v. variable_type meaning (lone_designator (alone v)) ≡ None) (some_inverse e) (ap (λ o. elim o [ Some (a_variable s) ↦ type_at meaning s end | _ ↦ None ]) seen)
 literal-no_variable meaning v (truth false) e h seen =
-    subst (λ v. variable_type meaning (designated (alone v)) ≡ None) (some_inverse e) (ap (λ o. elim o [ Some (a_variable s) ↦ type_at meaning s end | _ ↦ None ]) seen)
+    subst (λ v. variable_type meaning (lone_designator (alone v)) ≡ None) (some_inverse e) (ap (λ o. elim o [ Some (a_variable s) ↦ type_at meaning s end | _ ↦ None ]) seen)
 literal-no_variable meaning v (elements vs) e h seen = absurd h
 literal-no_variable meaning v (members k ms) e h seen = absurd h
 

@@ -3,7 +3,7 @@ use Rattle.std.proofs.Common.{List, Some, [], add-zero, ap, arith, false, if◌t
 use Rattle.ob0_tree.specs.Tree.{Tree, addend, adds, compares, designator, end, expression, factor, field, index, integer, items, more, multiplier, multiplies, negation, none, occurrences, one, parenthesised, product, relates, selector, simple, sum, term}
 use Rattle.ob0_scope_rules.specs.Inlining.{Uses, inline_in}
 use Rattle.ob0_scope_rules.specs.Names.{Name}
-use Rattle.ob0_values.specs.Values.{Place, Store, Value, add, add_is_settled, at_field, at_path, gives, multiply, multiply_is_settled, negated, or_stuck, part, relate, signed, ◌>>=◌}
+use Rattle.ob0_values.specs.Values.{Place, Store, Value, add, add_is_settled, at_field, at_path, gives, multiply, multiply_is_settled, negate, or_stuck, part, relate, apply_sign, ◌>>=◌}
 use Rattle.ob0_types_rules.specs.Expressions.{Meanings, a_constant, element_step, evaluate, evaluate_addends, evaluate_factor, evaluate_multipliers, evaluate_simple, evaluate_term, follow, object_value}
 use Rattle.ob0_types_rules.specs.Laws.{InliningKeepsEvaluation, UsesAre}
 
@@ -33,7 +33,7 @@ mutual
   pub evaluate_simple-inlined : {P : Type 0} (meaning : Meanings Name Place P) (store : Store) (uses : Uses) (v : Tree Name factor) (w : Value) → Writing meaning store v w → (k : ℕ) (a : Tree Name simple) → UsesAre uses (Stands meaning w) k (occurrences a) → evaluate_simple meaning store (inline_in uses v k a) ≡ evaluate_simple meaning store a
   evaluate_simple-inlined meaning store uses v w h k (sum sign t rest) u =
       let s = uses-split uses (Stands meaning w) k (occurrences t) (occurrences rest) u in
-      λ i. evaluate_term-inlined meaning store uses v w h k t s.0 i >>= (λ x. signed sign x >>= (λ y. evaluate_addends-inlined meaning store uses v w h (k + length (occurrences t)) y rest s.1 i))
+      λ i. evaluate_term-inlined meaning store uses v w h k t s.0 i >>= (λ x. apply_sign sign x >>= (λ y. evaluate_addends-inlined meaning store uses v w h (k + length (occurrences t)) y rest s.1 i))
 
   pub evaluate_addends-inlined : {P : Type 0} (meaning : Meanings Name Place P) (store : Store) (uses : Uses) (v : Tree Name factor) (w : Value) → Writing meaning store v w → (k : ℕ) (x : Value) (a : Tree Name (items addend)) → UsesAre uses (Stands meaning w) k (occurrences a) → evaluate_addends meaning store x (inline_in uses v k a) ≡ evaluate_addends meaning store x a
   evaluate_addends-inlined meaning store uses v w h k x end u = refl
@@ -60,7 +60,7 @@ mutual
       object_value store (meaning.object_for x) >>= (λ z. follow-inlined meaning store uses v w h (suc k) z (more step rest) u.1 i >>= (λ steps. or_stuck (at_path steps z)))
   evaluate_factor-inlined meaning store uses v w h k (integer n) u = refl
   evaluate_factor-inlined meaning store uses v w h k (parenthesised e) u = evaluate-inlined meaning store uses v w h k e u
-  evaluate_factor-inlined meaning store uses v w h k (negation f) u = λ i. evaluate_factor-inlined meaning store uses v w h k f u i >>= negated
+  evaluate_factor-inlined meaning store uses v w h k (negation f) u = λ i. evaluate_factor-inlined meaning store uses v w h k f u i >>= negate
 
   pub follow-inlined : {P : Type 0} (meaning : Meanings Name Place P) (store : Store) (uses : Uses) (v : Tree Name factor) (w : Value) → Writing meaning store v w → (k : ℕ) (z : Value) (a : Tree Name (items selector)) → UsesAre uses (Stands meaning w) k (occurrences a) → follow meaning store z (inline_in uses v k a) ≡ follow meaning store z a
   follow-inlined meaning store uses v w h k z end u = refl

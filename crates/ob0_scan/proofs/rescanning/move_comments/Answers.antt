@@ -9,4 +9,4 @@ loop-index-preserved c =
     let here = c.index.result.now in
     let inside : c.loop-index.index < length c.args.comments.now.items = omega (arith, c.loop-index-test.true, c.len-index-end.ensures, c.args.comments.now.ok) in
     changed_on change c.args.comments.now.items c.args.first c.requires.inside c.loop-index.index c.loop-index.comments.items here inside c.loop-index.invariant _
-    (c.moved.ensures ∙ ap change c.index.ensures)
+    (c.moved_span.ensures ∙ ap change c.index.ensures)
