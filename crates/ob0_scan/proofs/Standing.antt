@@ -11,7 +11,7 @@ use Rattle.ob0_scan.specs.declared.lexeme.Span.{Span}
 use Rattle.ob0_scan.specs.declared.lexeme.Token.{Token}
 use Rattle.ob0_scan.specs.Lexed.{Lexeme, joined, AreLexemes}
 use Rattle.ob0_scan.specs.Scanned.{span_from, token_at, comment_at, tokens_from, comments_from}
-use Rattle.ob0_scan.specs.Reused.{moved, moved_token}
+use Rattle.ob0_scan.specs.Reused.{move_span, moved_token}
 use Rattle.ob0_scan.proofs.Cuts.{nonempty}
 
 -- what is where lexemes do: each lexeme has at most one of it, at the lexeme's place
@@ -253,18 +253,18 @@ make_span start end = record { start = start; end = end }
 
 -- where lexemes are moved, so are their tokens and comments
 module _ (removed added : ℕ) where
-  moved_span : (at place n : ℕ) → at + removed ≡ place + added → removed ≤ place → span_from at n ≡ moved removed added (span_from place n)
+  moved_span : (at place n : ℕ) → at + removed ≡ place + added → removed ≤ place → span_from at n ≡ move_span removed added (span_from place n)
   moved_span at place n e h =
       let start : at ≡ place + added - removed = omega arith in
       let end : at + n ≡ place + n + added - removed = omega arith in
       ap₂ make_span start end
 
-  token_moved : (k : LexemeKind) (here there : Span) → here ≡ moved removed added there → token_at k here ≡ map (moved_token removed added) (token_at k there)
+  token_moved : (k : LexemeKind) (here there : Span) → here ≡ move_span removed added there → token_at k here ≡ map (moved_token removed added) (token_at k there)
   token_moved lexeme.Space here there e = refl
   token_moved lexeme.Comment here there e = refl
   token_moved (lexeme.Token k) here there e = ap (token_at (lexeme.Token k)) e
 
-  comment_moved : (k : LexemeKind) (here there : Span) → here ≡ moved removed added there → comment_at k here ≡ map (moved removed added) (comment_at k there)
+  comment_moved : (k : LexemeKind) (here there : Span) → here ≡ move_span removed added there → comment_at k here ≡ map (move_span removed added) (comment_at k there)
   comment_moved lexeme.Space here there e = refl
   comment_moved lexeme.Comment here there e = ap (comment_at lexeme.Comment) e
   comment_moved (lexeme.Token k) here there e = refl
@@ -275,8 +275,8 @@ module _ (removed added : ℕ) where
       ap₂ (λ xs ys. xs ++ ys) (token_moved l.kind (span_from at (length l.text)) (span_from place (length l.text)) (moved_span at place (length l.text) e h)) (tokens_moved (at + length l.text) (place + length l.text) ls (omega arith) (omega arith))
       ∙ sym (map-append (moved_token removed added) (token_at l.kind (span_from place (length l.text))) (tokens_from (place + length l.text) ls))
 
-  pub comments_moved : (at place : ℕ) (ls : List Lexeme) → at + removed ≡ place + added → removed ≤ place → comments_from at ls ≡ map (moved removed added) (comments_from place ls)
+  pub comments_moved : (at place : ℕ) (ls : List Lexeme) → at + removed ≡ place + added → removed ≤ place → comments_from at ls ≡ map (move_span removed added) (comments_from place ls)
   comments_moved at place [] e h = refl
   comments_moved at place (l ∷ ls) e h =
       ap₂ (λ xs ys. xs ++ ys) (comment_moved l.kind (span_from at (length l.text)) (span_from place (length l.text)) (moved_span at place (length l.text) e h)) (comments_moved (at + length l.text) (place + length l.text) ls (omega arith) (omega arith))
-      ∙ sym (map-append (moved removed added) (comment_at l.kind (span_from place (length l.text))) (comments_from (place + length l.text) ls))
+      ∙ sym (map-append (move_span removed added) (comment_at l.kind (span_from place (length l.text))) (comments_from (place + length l.text) ls))

@@ -119,7 +119,7 @@ struct Found {
 }
 
 /// How a conversation ends over this writer.
-fn conversed(alloc: Global, end: &ServeEnd, count: &mut Count) -> Found {
+fn converse(alloc: Global, end: &ServeEnd, count: &mut Count) -> Found {
     let mut reader = Noted::new(Source {
         bytes: &end.bytes[..end.len.min(end.bytes.len())],
         most: end.given,
@@ -145,7 +145,7 @@ fn broke_by(end: Result<u8, ServeFault>, fault: ServeFault) -> bool {
 /// Whether a conversation ends by a write that failed, where only `flushes` flushes succeed.
 fn breaks_off(alloc: Global, end: &ServeEnd, flushes: u32) -> bool {
     let mut count = Count::new(end.room, flushes);
-    broke_by(conversed(alloc, end, &mut count).result, ServeFault::Write)
+    broke_by(converse(alloc, end, &mut count).result, ServeFault::Write)
 }
 
 /// Whether the devices know afterwards that all was flushed and which of them failed.
@@ -159,7 +159,7 @@ fn is_reported(found: Found) -> bool {
 /// succeed.
 fn ends_flushed(alloc: Global, end: &ServeEnd) -> bool {
     let mut count = Count::new(end.room, end.flushes);
-    let found = conversed(alloc, end, &mut count);
+    let found = converse(alloc, end, &mut count);
     found.result == end.result && is_reported(found) && count.handed_on == count.written
 }
 
