@@ -63,15 +63,15 @@ relate-follows l relation.Equal (truth a) (truth b) = (truth (same_truth a b), r
 relate-follows l relation.NotEqual (truth a) (truth b) = (truth _, refl, refl)
 relate-follows l _ _ _ = inl refl
 
-pub signed-follows : (l : FieldNames) (s : Option Sign) (v : Value) → ValuesFollow l (apply_sign s (value_by tagged v)) (apply_sign s (value_by l v))
-signed-follows l None v = (v, refl, refl)
-signed-follows l (Some sign.Plus) (number a) = in_range-follows l a
-signed-follows l (Some sign.Minus) (number a) = in_range-follows l (neg_ℤ a)
-signed-follows l _ _ = inl refl
+pub apply_sign-follows : (l : FieldNames) (s : Option Sign) (v : Value) → ValuesFollow l (apply_sign s (value_by tagged v)) (apply_sign s (value_by l v))
+apply_sign-follows l None v = (v, refl, refl)
+apply_sign-follows l (Some sign.Plus) (number a) = in_range-follows l a
+apply_sign-follows l (Some sign.Minus) (number a) = in_range-follows l (neg_ℤ a)
+apply_sign-follows l _ _ = inl refl
 
-pub negated-follows : (l : FieldNames) (v : Value) → ValuesFollow l (negate (value_by tagged v)) (negate (value_by l v))
-negated-follows l (truth b) = (truth _, refl, refl)
-negated-follows l _ = inl refl
+pub negate-follows : (l : FieldNames) (v : Value) → ValuesFollow l (negate (value_by tagged v)) (negate (value_by l v))
+negate-follows l (truth b) = (truth _, refl, refl)
+negate-follows l _ = inl refl
 
 -- an operation that its left side settles is settled in both runs
 

@@ -23,7 +23,7 @@ use Rattle.ob0_run_cells.proofs.PlacedDeclarations.{FramePlaced, block-placed, p
 use Rattle.ob0_run_cells.proofs.PlacedEnvironments.{from-placed, inward-fits, slots-fit}
 use Rattle.ob0_run_cells.proofs.Places.{store-size}
 use Rattle.ob0_run_cells.proofs.Represented.{numbers-append, numbers-take}
-use Rattle.ob0_run_cells.proofs.Variables.{variables_are_given_up-holds}
+use Rattle.ob0_run_cells.proofs.Variables.{variables_are_dropped-holds}
 
 pub numbers-zero : (n : ℕ) → HaveNumbers (replicate n (pos 0))
 numbers-zero zero i = refl
@@ -31,9 +31,9 @@ numbers-zero (suc n) zero = refl
 numbers-zero (suc n) (suc i) = numbers-zero n i
 
 -- what a call has of its own is given up in both
-pub give_up-represents : (typing now others : StoreTyping) (old : Store) (base : ℕ) (p : execution.MachineProgress) (q : Progress) → now ≡ typing ++ others → StoreFits typing old → base ≡ length (all_cells old) → ProgressRepresents now p q → ProgressRepresents typing (execution.drop_variables base p) (drop_variables (length old) q)
-give_up-represents typing now others old base (execution.running low) (running s) e fits is h =
-    let (kept, cells) = variables_are_given_up-holds typing others old s.store fits (subst (λ all. StoreFits all s.store) e h.store_fits) in
+pub drop_variables-represents : (typing now others : StoreTyping) (old : Store) (base : ℕ) (p : execution.MachineProgress) (q : Progress) → now ≡ typing ++ others → StoreFits typing old → base ≡ length (all_cells old) → ProgressRepresents now p q → ProgressRepresents typing (execution.drop_variables base p) (drop_variables (length old) q)
+drop_variables-represents typing now others old base (execution.running low) (running s) e fits is h =
+    let (kept, cells) = variables_are_dropped-holds typing others old s.store fits (subst (λ all. StoreFits all s.store) e h.store_fits) in
     record {
       store_fits = kept;
       same_cells = (λ i. take (is i) (h.same_cells i)) ∙ sym cells;
@@ -42,9 +42,9 @@ give_up-represents typing now others old base (execution.running low) (running s
       cells_have_numbers = numbers-take base low.cells h.cells_have_numbers;
       input_has_numbers = h.input_has_numbers;
     }
-give_up-represents typing now others old base (execution.stopped x out) (stopped y written) e fits is h = h
-give_up-represents typing now others old base (execution.running low) (stopped y written) e fits is h = absurd h
-give_up-represents typing now others old base (execution.stopped x out) (running s) e fits is h = absurd h
+drop_variables-represents typing now others old base (execution.stopped x out) (stopped y written) e fits is h = h
+drop_variables-represents typing now others old base (execution.running low) (stopped y written) e fits is h = absurd h
+drop_variables-represents typing now others old base (execution.stopped x out) (running s) e fits is h = absurd h
 
 module _ {N : Type 0} (table : RoutineTable N) where
   abbrev pub body_of : ℕ → ℕ → StoreTyping → Levels → Activation N → Body N
@@ -113,10 +113,10 @@ module _ {N : Type 0} (table : RoutineTable N) where
           } in
           let does = body-represents c t known rest.typing_now (l ∷ seen) after q₂.placing k.env rest.frame.environment_fits rest.frame.placing_fits room entry.body (block_statements b) body_means low₂ s₂ represents in
           let grown : rest.typing_now ≡ typing ++ (part.others ++ rest.others) = rest.is_grown ∙ (ap (λ l. l ++ rest.others) part.is_grown ∙ append_assoc typing part.others rest.others) in
-          let gives_up = give_up-represents typing rest.typing_now (part.others ++ rest.others) s.store l.base (execution.execute_all (execution.call table.routines c t) t (l ∷ seen) entry.body low₂) (execute_body table.naming k.env (call_freeing table.naming c t k.env) t (block_statements b) s₂) grown h.store_fits (ap length h.same_cells) does in
+          let drops = drop_variables-represents typing rest.typing_now (part.others ++ rest.others) s.store l.base (execution.execute_all (execution.call table.routines c t) t (l ∷ seen) entry.body low₂) (execute_body table.naming k.env (call_freeing table.naming c t k.env) t (block_statements b) s₂) grown h.store_fits (ap length h.same_cells) does in
           let frames = ap (λ l. option_and_then (declare_block table.naming (j + formals_constructors (formal_sections fs)) b) (bind_parameters l args f)) (parameters-of_typed table.naming checked j (formal_sections fs) ps eps) ∙ (ap (option_and_then (declare_block table.naming (j + formals_constructors (formal_sections fs)) b)) eg ∙ ek) in
           subst (λ o. ProgressRepresents typing (execution.drop_variables l.base (execution.activate (execution.call table.routines c t) t (l ∷ seen) o record low { cells = p.cells })) (drop_variables (length s.store) (activate table.naming (call_freeing table.naming c t) t ((y, a_procedure record { first_constructor = j; text = text }) ∷ active) args s))) (sym et)
-          (subst (λ frame. ProgressRepresents typing (execution.drop_variables l.base (execution.execute_all (execution.call table.routines c t) t (l ∷ seen) entry.body low₂)) (drop_variables (length s.store) (in_frame s frame (λ f. execute_body table.naming f.env (call_freeing table.naming c t f.env) t (block_statements b))))) (sym frames) gives_up)
+          (subst (λ frame. ProgressRepresents typing (execution.drop_variables l.base (execution.execute_all (execution.call table.routines c t) t (l ∷ seen) entry.body low₂)) (drop_variables (length s.store) (in_frame s frame (λ f. execute_body table.naming f.env (call_freeing table.naming c t f.env) t (block_statements b))))) (sym frames) drops)
 
       of_objects : (o : Object Shape Signature) (w : Whereabouts) (r : Object Place (ProcedureText N)) → BindingFits table.naming typing checked x o r → IsPlaced table typing ls checked (λ ls placing. PlacingFits table typing ls checked placing active) x o w r → o ≡ a_procedure signature
           → ProgressRepresents typing (execution.call table.routines (suc c) t (target_of w).procedure (execution.entered ls (length low.cells) (target_of w).up p) record low { cells = p.cells }) (drop_variables (length s.store) (activate table.naming (call_freeing table.naming c t) t ((y, r) ∷ active) args s))

@@ -32,10 +32,10 @@ finished-same typing (execution.stopped x out) (stopped y written) h = λ i. rec
 finished-same typing (execution.running low) (stopped y written) h = absurd h
 finished-same typing (execution.stopped x out) (running s) h = absurd h
 
-run-given_up : {N : Type 0} (naming : Naming N) (m : Tree N module_text) (program : lowered.LoweredCode) (most c t : ℕ) (input : List ℤ) → fits_over naming m ≡ true → ProgramMeans most naming m program → suc c * most < 2 ^ 64 → HaveNumbers input
+run-freed : {N : Type 0} (naming : Naming N) (m : Tree N module_text) (program : lowered.LoweredCode) (most c t : ℕ) (input : List ℤ) → fits_over naming m ≡ true → ProgramMeans most naming m program → suc c * most < 2 ^ 64 → HaveNumbers input
     → run_of (execution.run program input c t) ≡ run_freeing naming m input c t
 unfolding execution.run run_freeing fits_over
-run-given_up {N} naming (is_module x b closing) program most c t input fits means few numbers =
+run-freed {N} naming (is_module x b closing) program most c t input fits means few numbers =
     let start : State = record { store = []; input = input; output = [] } in
     let low : execution.MachineState = record { cells = execution.zeros program.cells; input = input; output = [] } in
     let p : Placed N = record { placing = outermost_placing naming; cells = 0; reference_places = 0 } in
@@ -65,7 +65,7 @@ run-given_up {N} naming (is_module x b closing) program most c t input fits mean
 -- of the store that keeps every variable too: no run reads again what a call failed
 pub run-lowered : {N : Type 0} (naming : Naming N) (m : Tree N module_text) (program : lowered.LoweredCode) (most c t : ℕ) (input : List ℤ) → fits_over naming m ≡ true → ProgramMeans most naming m program → suc c * most < 2 ^ 64 → HaveNumbers input
     → run_of (execution.run program input c t) ≡ run_over naming m input c t
-run-lowered naming m program most c t input fits means few numbers = run-given_up naming m program most c t input fits means few numbers ∙ freeing-keeps naming m input c t
+run-lowered naming m program most c t input fits means few numbers = run-freed naming m program most c t input fits means few numbers ∙ freeing-keeps naming m input c t
 
 pub runs_lowered-holds : RunsLowered
 unfolding WellTyped run_numbered

@@ -68,10 +68,10 @@ signed checked signature es h = h
 pub called : (scene : Scene) (x : Label) (es : Tree Label (maybe arguments)) (signature : Signature) (cs : List lowered.LoweredArgument) (procedure up : ℕ) → object_at scene.types.now x ≡ Some (a_procedure signature) → ArgumentsLower scene signature cs (arguments_listed es)
     → record { procedure = procedure; up = up } ≡ target_at scene x → StatementLowers scene (lowered.calls procedure up cs) (calls x es)
 called scene x es signature cs procedure up declared hs there checked slots targets sees fits =
-    let stands = called_as scene x es (Some (a_procedure signature)) declared checked slots targets sees fits in
+    let is_there = called_as scene x es (Some (a_procedure signature)) declared checked slots targets sees fits in
     let args = hs checked slots targets sees (signed checked signature (arguments_listed es) (called_with scene x es (Some (a_procedure signature)) declared checked slots targets sees fits)) in
     let P : Target → Type 0 = λ t. StatementMeans checked slots targets (lowered.calls t.procedure t.up cs) (calls x es) in
-    subst P (sees.procedures x signature stands ∙ sym there) (calls_lower-holds checked slots targets x es signature cs stands args)
+    subst P (sees.procedures x signature is_there ∙ sym there) (calls_lower-holds checked slots targets x es signature cs is_there args)
 
 -- arguments as they are written
 pub given_listed : (r : Resolution) (given : Option (Vec Expression Global)) → arguments_listed (in_labels r (arguments_of given)) ≡ all_in_labels r (given_in given)

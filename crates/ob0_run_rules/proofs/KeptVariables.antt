@@ -241,7 +241,7 @@ module _ {N : Type 0} (naming : Naming N) where
   body-alike enter enter' known t at env other none h s u is = is
   body-alike enter enter' known t at env other (one (begins statements)) h s u is =
       execute_all-alike at (statement_meanings naming env) (statement_meanings naming other) (enter env) (enter' other)
-      record { stand_for = λ x. passing-is at (newest (from_binding naming env x)) (newest (from_binding naming other x)) (newest-is at (from_binding naming env x) (from_binding naming other x) (from_binding-is naming at env other x h)); are_written = λ x. refl }
+      record { mean_same = λ x. passing-is at (newest (from_binding naming env x)) (newest (from_binding naming other x)) (newest-is at (from_binding naming env x) (from_binding naming other x) (from_binding-is naming at env other x h)); are_written = λ x. refl }
       (known at env other h) t statements s u is
 
   -- what a run goes on with, with new variables after those at the given places
@@ -285,12 +285,12 @@ module _ {N : Type 0} (naming : Naming N) where
       go (a_standard v) (a_standard w) is = ([], (refl, h.same_output))
       go _ _ is = absurd is
 
-  give_up-is : (at others : List ℕ) (s u : State) (p q : Progress) → StateIs at s u → ProgressIs (at ++ others) p q → ProgressIs at (drop_variables (length s.store) p) q
-  give_up-is at others s u (running s₁) (running u₁) h is =
+  drop_variables-is : (at others : List ℕ) (s u : State) (p q : Progress) → StateIs at s u → ProgressIs (at ++ others) p q → ProgressIs at (drop_variables (length s.store) p) q
+  drop_variables-is at others s u (running s₁) (running u₁) h is =
       record { same_variables = variables-cut at others s.store s₁.store u.store u₁.store h.same_variables is.same_variables; same_input = is.same_input; same_output = is.same_output }
-  give_up-is at others s u (stopped e out) (stopped x written) h is = is
-  give_up-is at others s u (running s₁) (stopped x written) h is = absurd is
-  give_up-is at others s u (stopped e out) (running u₁) h is = absurd is
+  drop_variables-is at others s u (stopped e out) (stopped x written) h is = is
+  drop_variables-is at others s u (running s₁) (stopped x written) h is = absurd is
+  drop_variables-is at others s u (stopped e out) (running u₁) h is = absurd is
 
   -- by induction on how many calls may be open
   calls-alike : (c t : ℕ) → CallsAlike (call_freeing naming c t) (call naming c t)
@@ -298,7 +298,7 @@ module _ {N : Type 0} (naming : Naming N) where
   calls-alike zero t at env other h x args others s u are is = (refl, is.same_output)
   calls-alike (suc c) t at env other h x args others s u are is =
       let (new, same) = activate-alike (call_freeing naming c t) (call naming c t) (calls-alike c t) t at (from_binding naming env x) (from_binding naming other x) args others s u (from_binding-is naming at env other x h) are is in
-      give_up-is at new s u (activate naming (call_freeing naming c t) t (from_binding naming env x) args s) (activate naming (call naming c t) t (from_binding naming other x) others u) is same
+      drop_variables-is at new s u (activate naming (call_freeing naming c t) t (from_binding naming env x) args s) (activate naming (call naming c t) t (from_binding naming other x) others u) is same
 
   finished-same : (at : List ℕ) (p q : Progress) → ProgressIs at p q → finished p ≡ finished q
   finished-same at (running s) (running u) h = ap (λ out. record { output = out; ending = (finished (running s)).ending }) h.same_output

@@ -209,12 +209,12 @@ module _ {N P : Type 0} (here there : Meanings N Place P) (small large : Store) 
 
 -- what names mean in both stores
 pub record NamesAre {N P : Type 0} (at : List ℕ) (here there : Meanings N Place P) : Type 0 where
-  pub stand_for : (x : N) → MeaningIs at (here.object_for x) (there.object_for x)
+  pub mean_same : (x : N) → MeaningIs at (here.object_for x) (there.object_for x)
   pub are_written : (x : N) → here.written x ≡ there.written x
 
 pub evaluate-is : {N P : Type 0} (at : List ℕ) (here there : Meanings N Place P) (small large : Store) → NamesAre at here there → StoreIs at small large → (e : Tree N expression) → evaluate here small e ≡ evaluate there large e
 evaluate-is at here there small large names h e =
-    evaluate-same here there small large (λ x. value-same at small large (here.object_for x) (there.object_for x) h (names.stand_for x)) names.are_written e
+    evaluate-same here there small large (λ x. value-same at small large (here.object_for x) (there.object_for x) h (names.mean_same x)) names.are_written e
 
 pub designate-is : {N P : Type 0} (at : List ℕ) (here there : Meanings N Place P) (small large : Store) → NamesAre at here there → StoreIs at small large → (x : N) (path : Tree N (items selector)) → OutcomeIs (PlaceIs at) (designate here small x path) (designate there large x path)
 unfolding designate
@@ -222,12 +222,12 @@ designate-is at here there small large names h x path =
     outcome-then (PlaceIs at) (PlaceIs at) (object_place (here.object_for x)) (object_place (there.object_for x))
     (λ p. or_stuck (read_place small p) >>= (λ v. follow here small v path >>= (λ steps. gives record { variable = p.variable; path = p.path ++ steps })))
     (λ p. or_stuck (read_place large p) >>= (λ v. follow there large v path >>= (λ steps. gives record { variable = p.variable; path = p.path ++ steps })))
-    (place-is at (here.object_for x) (there.object_for x) (names.stand_for x))
+    (place-is at (here.object_for x) (there.object_for x) (names.mean_same x))
     (λ p q is. same-then (PlaceIs at) (or_stuck (read_place small p)) (or_stuck (read_place large q))
     (λ v. follow here small v path >>= (λ steps. gives record { variable = p.variable; path = p.path ++ steps })) (λ v. follow there large v path >>= (λ steps. gives record { variable = q.variable; path = q.path ++ steps }))
     (ap or_stuck (read-same at small large p q h is))
     (λ v. same-then (PlaceIs at) (follow here small v path) (follow there large v path) (λ steps. gives record { variable = p.variable; path = p.path ++ steps }) (λ steps. gives record { variable = q.variable; path = q.path ++ steps })
-    (follow-same here there small large (λ x. value-same at small large (here.object_for x) (there.object_for x) h (names.stand_for x)) names.are_written v path)
+    (follow-same here there small large (λ x. value-same at small large (here.object_for x) (there.object_for x) h (names.mean_same x)) names.are_written v path)
     (λ steps. record { variable_is = is.variable_is; same_path = ap (λ l. l ++ steps) is.same_path })))
 
 -- arguments
@@ -454,9 +454,9 @@ module _ {N : Type 0} (at : List ℕ) (here there : Meanings N Place (List Mode)
   calls-alike x es s u h =
       use_in-is at (ArgumentsAre at) s u (modes_of (here.object_for x) >>= (λ modes. evaluate_arguments here s.store modes es)) (modes_of (there.object_for x) >>= (λ modes. evaluate_arguments there u.store modes es))
       (λ args. perform (here.object_for x) (enter x) args s) (λ args. perform (there.object_for x) (enter' x) args u) h.same_output
-      (same-then (ArgumentsAre at) (modes_of (here.object_for x)) (modes_of (there.object_for x)) (λ modes. evaluate_arguments here s.store modes es) (λ modes. evaluate_arguments there u.store modes es) (modes-same at (here.object_for x) (there.object_for x) (names.stand_for x))
+      (same-then (ArgumentsAre at) (modes_of (here.object_for x)) (modes_of (there.object_for x)) (λ modes. evaluate_arguments here s.store modes es) (λ modes. evaluate_arguments there u.store modes es) (modes-same at (here.object_for x) (there.object_for x) (names.mean_same x))
       (λ modes. arguments-are at here there s.store u.store names h.same_variables modes es))
-      (λ args others are. perform-alike at (here.object_for x) (there.object_for x) (enter x) (enter' x) (names.stand_for x) (alike x) args others s u are h)
+      (λ args others are. perform-alike at (here.object_for x) (there.object_for x) (enter x) (enter' x) (names.mean_same x) (alike x) args others s u are h)
 
   mutual
     unfolding execute

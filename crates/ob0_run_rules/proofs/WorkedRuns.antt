@@ -123,6 +123,6 @@ unfolding run
 store_of_calls-run-1 = refl
 
 -- each call's variables begin again and its VAR parameter stays where it is, whether calls drop their variables or not
-pub store_of_calls-given_up-1 : run_freeing as_names store_of_calls [] 2 1 ≡ record { output = number_out (pos 10) ∷ number_out (pos 10) ∷ number_out (pos 10) ∷ []; ending = Done }
+pub store_of_calls-freed-1 : run_freeing as_names store_of_calls [] 2 1 ≡ record { output = number_out (pos 10) ∷ number_out (pos 10) ∷ number_out (pos 10) ∷ []; ending = Done }
 unfolding run_freeing
-store_of_calls-given_up-1 = refl
+store_of_calls-freed-1 = refl

@@ -11,7 +11,7 @@ use Rattle.ob0_scan.specs.Rescanning.{token_begins, comment_begins, IsMovable, T
 use Rattle.ob0_scan.specs.Progress.{ScanProgress}
 use Rattle.ob0_scan.specs.UnderWay.{IsUnderWay}
 use Rattle.ob0_scan.proofs.Spans.{token_with, comment_with}
-use Rattle.ob0_scan.proofs.Standing.{of_tokens, of_comments, full, Ascending, ascending, first_at, none_at, at_first, Border, begin_at_borders}
+use Rattle.ob0_scan.proofs.AtLexemes.{of_tokens, of_comments, full, Ascending, ascending, first_at, none_at, at_first, Border, begin_at_borders}
 use Rattle.ob0_scan.proofs.Reusing.{end_border, none_following, finished, movable}
 
 either_false : (a b : Bool) → (a || b) ≡ false → (a ≡ false) × (b ≡ false)

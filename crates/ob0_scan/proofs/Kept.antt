@@ -14,7 +14,7 @@ use Rattle.ob0_scan.specs.Lexed.{Lexeme, joined}
 use Rattle.ob0_scan.specs.Scanned.{Scanned, IsScan}
 use Rattle.ob0_scan.specs.Reused.{move_span, moved_token, tokens_before_change, comments_before_change, back_tokens}
 use Rattle.ob0_scan.specs.Rescanning.{IsMovable, IsBetween, ReadsOn, with_between}
-use Rattle.ob0_scan.proofs.Standing.{Standing, of_tokens, of_comments, Full, Lies, full, lies, Ascending, ascending, back_later, front_all}
+use Rattle.ob0_scan.proofs.AtLexemes.{AtLexemes, of_tokens, of_comments, Full, Lies, full, lies, Ascending, ascending, back_later, front_all}
 use Rattle.ob0_scan.proofs.Between.{Settled, reused}
 
 longer_count : (b d : Bool) (n m : ℕ) → (b ≡ true → d ≡ true) → n ≤ m → cond b (1 + n) 0 ≤ cond d (1 + m) 0
@@ -29,7 +29,7 @@ longer_prefix p q (x ∷ xs) a =
     longer_count (p x) (q x) (prefix_len p xs) (prefix_len q xs) (All-head (λ y. p y ≡ true → q y ≡ true) x xs a) (longer_prefix p q xs (All-tail (λ y. p y ≡ true → q y ≡ true) x xs a))
 
 -- what ends before a place begins before a later one
-apart : {X : Type 0} (g : Standing X) (from place : ℕ) (ls : List Lexeme) → Full ls → from ≤ place → prefix_len (λ x. ltb (g.span x).end from) (g.all 0 ls) ≤ prefix_len (λ x. ltb (g.span x).start place) (g.all 0 ls)
+apart : {X : Type 0} (g : AtLexemes X) (from place : ℕ) (ls : List Lexeme) → Full ls → from ≤ place → prefix_len (λ x. ltb (g.span x).end from) (g.all 0 ls) ≤ prefix_len (λ x. ltb (g.span x).start place) (g.all 0 ls)
 apart g from place ls f less =
     let high : ℕ = 0 + length (joined ls) in
     longer_prefix (λ x. ltb (g.span x).end from) (λ x. ltb (g.span x).start place) (g.all 0 ls)

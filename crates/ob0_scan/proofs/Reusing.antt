@@ -15,8 +15,8 @@ use Rattle.ob0_scan.specs.Progress.{IsCutTo, ScanProgress}
 use Rattle.ob0_scan.specs.Reused.{IsReplaced, move_span, moved_token, tokens_before_change, comments_before_change, back_tokens, back_comments}
 use Rattle.ob0_scan.specs.Rescanning.{last_end, IsMovable}
 use Rattle.ob0_scan.proofs.Borders.{first_from_end, end_from_first}
-use Rattle.ob0_scan.proofs.Spans.{StandFrom, next_from}
-use Rattle.ob0_scan.proofs.Standing.{of_tokens, of_comments, Full, full, full_parts, Lies, lies, all-append, back_split, front_split, Border, tokens_moved, comments_moved}
+use Rattle.ob0_scan.proofs.Spans.{LexemesFrom, next_from}
+use Rattle.ob0_scan.proofs.AtLexemes.{of_tokens, of_comments, Full, full, full_parts, Lies, lies, all-append, back_split, front_split, Border, tokens_moved, comments_moved}
 use Rattle.ob0_scan.proofs.Fronts.{find_front, front_end}
 
 pub joined_append : (xs ys : List Lexeme) → joined (xs ++ ys) ≡ joined xs ++ joined ys
@@ -59,7 +59,7 @@ shorter_front n m xs ys less hx hy e =
     ∙ ap (take n) (take-append-drop m ys)
 
 -- a text that is cut up to a place is cut there between characters
-boundary_following : (text : List ℕ) (s : ℕ) (ls : List Lexeme) (after : List ℕ) → StandFrom text s ls after → IsCharBoundary text (s + length (joined ls))
+boundary_following : (text : List ℕ) (s : ℕ) (ls : List Lexeme) (after : List ℕ) → LexemesFrom text s ls after → IsCharBoundary text (s + length (joined ls))
 boundary_following text s [] after h = subst (IsCharBoundary text) (sym (add-zero s)) h.place
 boundary_following text s (l ∷ ls) after h =
     let place : s + length l.text + length (joined ls) ≡ s + length (joined (l ∷ ls)) = omega (arith, length-append l.text (joined ls)) in

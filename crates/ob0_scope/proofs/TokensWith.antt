@@ -38,13 +38,13 @@ marks_resolved r is =
     let w = as_in m.source in
     let marks = (visit_module (tree_of m) (started w)).marks in
     let made = with_marks (replicate (length m.source.tokens) None) marks in
-    let stand = marks_in_table m w (visit_module (tree_of m) (started w)) made is.parsed refl refl in
+    let are_there = marks_in_table m w (visit_module (tree_of m) (started w)) made is.parsed refl refl in
     let passed = module_passed (ordinal_in made) (as_label as_names) w (tree_of m) (started w) (at_start w) in
-    let same : mapped (label_at m.source made) (value_at m.source) (tree_of m) ≡ mapped (label_at m.source r.ordinals) (value_at m.source) (tree_of m) = sym (passed.agree stand).1 ∙ is.numbering in
+    let same : mapped (label_at m.source made) (value_at m.source) (tree_of m) ≡ mapped (label_at m.source r.ordinals) (value_at m.source) (tree_of m) = sym (passed.agree are_there).1 ∙ is.numbering in
     let read : (ordinals : List (Option ℕ)) → map label_ordinal (leaves (mapped (label_at m.source ordinals) (value_at m.source) (tree_of m))) ≡ map (ordinal_in ordinals) (leaves (tree_of m)) =
     λ ordinals. ap (map label_ordinal) (leaves-mapped (label_at m.source ordinals) (value_at m.source) (tree_of m)) ∙ ordinals_back (λ i. text_at m.source i) ordinals (leaves (tree_of m)) in
     let each : map (ordinal_in made) (leaves (tree_of m)) ≡ map (ordinal_in r.ordinals) (leaves (tree_of m)) = sym (read made) ∙ (ap (λ t. map label_ordinal (leaves t)) same ∙ read r.ordinals) in
-    marks_same (ordinal_in made) (ordinal_in r.ordinals) marks (subst (λ ts. map (ordinal_in made) ts ≡ map (ordinal_in r.ordinals) ts) (sym passed.tokens) each) stand
+    marks_same (ordinal_in made) (ordinal_in r.ordinals) marks (subst (λ ts. map (ordinal_in made) ts ≡ map (ordinal_in r.ordinals) ts) (sym passed.tokens) each) are_there
 
 in_order : (r : Resolution) → IsResolution r → AreInOrder (ordinal_in r.ordinals) 7 (identifiers role.Declaring (tree_of r.module_read))
 in_order r is =

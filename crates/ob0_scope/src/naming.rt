@@ -117,7 +117,7 @@ pub fn renamed_tokens(
         (λ found. found.items ≡ tokens_bound names.now.module_read declaration true) }
     ensures ascend { IfOk result
         (λ found. Ascending 0 found.items (length names.now.module_read.source.tokens)) }
-    ensures stand { IfOk result
+    ensures are_identifiers { IfOk result
         (λ found. AreIdentifiers names.now.module_read.source.tokens found.items) }
     ensures renamed { IfOk result
         (λ found. IsRenamedAt names.now.module_read declaration found.items) }

@@ -55,26 +55,26 @@ use-no_variable : (checked : Typed Name) (x : Name) (w : Value) → checked.obje
 unfolding variable_type
 use-no_variable checked x w e = ap (λ o. elim o [ Some (a_variable s) ↦ type_at checked s end | _ ↦ None ]) e
 
-pub designated-written : (checked : Typed Name) (uses : Uses) (v : Tree Name factor) (w : Value) → Written checked v w → (k : ℕ) (e : Tree Name expression) → AreUses checked w uses k (occurrences e)
+pub lone_designator-written : (checked : Typed Name) (uses : Uses) (v : Tree Name factor) (w : Value) → Written checked v w → (k : ℕ) (e : Tree Name expression) → AreUses checked w uses k (occurrences e)
     → variable_type checked (lone_designator (inline_in uses v k e)) ≡ variable_type checked (lone_designator e)
-designated-written checked uses v w h k (compares (sum None (product (designator x end) end) end) none) u =
+lone_designator-written checked uses v w h k (compares (sum None (product (designator x end) end) end) none) u =
     (elim (uses k) as (λ b. uses k ≡ b → variable_type checked (lone_designator (alone (if b then v else designator x end))) ≡ variable_type checked (Some (x, end)))
     [ true ↦ λ e. h.no_variable ∙ sym (use-no_variable checked x w (u.0 e)) | false ↦ λ e. refl ]) refl
-designated-written checked uses v w h k (compares (sum None (product (designator x (more s rest)) end) end) none) u =
+lone_designator-written checked uses v w h k (compares (sum None (product (designator x (more s rest)) end) end) none) u =
     variable-written checked uses v w h (suc k) x (more s rest) (uses-split uses (IsConstant checked w) (suc k) (occurrences (more s rest)) [] (uses-split uses (IsConstant checked w) (suc k) (occurrences (more s rest) ++ []) [] (uses-split uses (IsConstant checked w) (suc k) ((occurrences (more s rest) ++ []) ++ []) [] u.1).0).0).0
-designated-written checked uses v w h k (compares (sum None (product (designator x end) end) end) (one c)) u =
+lone_designator-written checked uses v w h k (compares (sum None (product (designator x end) end) end) (one c)) u =
     ap (variable_type checked) (compared-no_designator (if uses k then v else designator x end) _)
-designated-written checked uses v w h k (compares (sum None (product (designator x end) end) (more a rest)) c) u =
+lone_designator-written checked uses v w h k (compares (sum None (product (designator x end) end) (more a rest)) c) u =
     ap (variable_type checked) (sum-no_designator (if uses k then v else designator x end) _ _ _)
-designated-written checked uses v w h k (compares (sum None (product (designator x end) (more m ms)) rest) c) u =
+lone_designator-written checked uses v w h k (compares (sum None (product (designator x end) (more m ms)) rest) c) u =
     ap (variable_type checked) (product-no_designator (if uses k then v else designator x end) _ _ _ _)
-designated-written checked uses v w h k _ u = refl
+lone_designator-written checked uses v w h k _ u = refl
 
 pub argument_fits-written : (checked : Typed Name) (uses : Uses) (v : Tree Name factor) (w : Value) → Written checked v w → (f : Formal) (k : ℕ) (e : Tree Name expression) → AreUses checked w uses k (occurrences e)
     → argument_fits checked f (inline_in uses v k e) ≡ argument_fits checked f e
 unfolding argument_fits
 argument_fits-written checked uses v w h f k e u = λ i.
-    agree (Some f.shape) (elim f.mode [ by_value ↦ type-written checked uses v w h k e u i | by_place ↦ designated-written checked uses v w h k e u i ])
+    agree (Some f.shape) (elim f.mode [ by_value ↦ type-written checked uses v w h k e u i | by_place ↦ lone_designator-written checked uses v w h k e u i ])
 
 pub further_fit-written : (checked : Typed Name) (uses : Uses) (v : Tree Name factor) (w : Value) → Written checked v w → (fs : Signature) (k : ℕ) (es : Tree Name (items further_argument)) → AreUses checked w uses k (occurrences es)
     → arguments_fit checked fs (further_arguments (inline_in uses v k es)) ≡ arguments_fit checked fs (further_arguments es)

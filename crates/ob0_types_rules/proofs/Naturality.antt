@@ -62,9 +62,9 @@ abbrev pub map_designator : {N M : Type 0} → (N → M) → (N → M) → N × 
 map_designator f h d = (f d.0, with_names f h d.1)
 
 -- whether an expression is a designator alone doesn't hang on names
-pub designated-map : {N M : Type 0} (f h : N → M) (e : Tree N expression) → lone_designator (with_names f h e) ≡ option_map (map_designator f h) (lone_designator e)
-designated-map f h (compares (sum None (product (designator x path) end) end) none) = refl
-designated-map f h _ = refl
+pub lone_designator-map : {N M : Type 0} (f h : N → M) (e : Tree N expression) → lone_designator (with_names f h e) ≡ option_map (map_designator f h) (lone_designator e)
+lone_designator-map f h (compares (sum None (product (designator x path) end) end) none) = refl
+lone_designator-map f h _ = refl
 
 pub further_arguments-map : {N M : Type 0} (f h : N → M) (es : Tree N (items further_argument)) → further_arguments (with_names f h es) ≡ map (with_names f h) (further_arguments es)
 further_arguments-map f h end = refl

@@ -148,13 +148,13 @@ variable-elsewhere K meaning w c x path t h =
     let (s, es, h₁) = variable-parts meaning path (meaning.object_for x) t h in
     (λ k. let e : Some (a_variable s) ≡ Some (a_constant w) = sym es ∙ c x k in absurd (cc), type_at-elsewhere K meaning w c s path t h₁)
 
-pub designated-elsewhere : (K : Name → Type 0) (meaning : Typed Name) (w : Value) → AreConstant K meaning w → (e : Tree Name expression) (t : Shape) → variable_type meaning (lone_designator e) ≡ Some t → NoneOf K (names_elsewhere e)
+pub lone_designator-elsewhere : (K : Name → Type 0) (meaning : Typed Name) (w : Value) → AreConstant K meaning w → (e : Tree Name expression) (t : Shape) → variable_type meaning (lone_designator e) ≡ Some t → NoneOf K (names_elsewhere e)
 unfolding variable_type
-designated-elsewhere K meaning w c (compares (sum None (product (designator x end) end) end) none) t h = tt
-designated-elsewhere K meaning w c (compares (sum None (product (designator x (more s rest)) end) end) none) t h =
+lone_designator-elsewhere K meaning w c (compares (sum None (product (designator x end) end) end) none) t h = tt
+lone_designator-elsewhere K meaning w c (compares (sum None (product (designator x (more s rest)) end) end) none) t h =
     let v = variable-elsewhere K meaning w c x (more s rest) t h in
     none-of-join K ((x ∷ names_elsewhere (more s rest)) ++ [] ++ []) [] (none-of-join K ((x ∷ names_elsewhere (more s rest)) ++ []) [] (none-of-join K (x ∷ names_elsewhere (more s rest)) [] v tt) tt) tt
-designated-elsewhere K meaning w c _ t h = absurd (cc)
+lone_designator-elsewhere K meaning w c _ t h = absurd (cc)
 
 pub argument-elsewhere : (K : Name → Type 0) (meaning : Typed Name) (w : Value) → AreConstant K meaning w → (f : Formal) (e : Tree Name expression) → argument_fits meaning f e ≡ true → NoneOf K (names_elsewhere e)
 unfolding argument_fits
@@ -162,7 +162,7 @@ argument-elsewhere K meaning w c f e h = go f.mode h
   where
     go : (m : Mode) → agree (Some f.shape) (elim m [ by_value ↦ type_of meaning e | by_place ↦ variable_type meaning (lone_designator e) ]) ≡ true → NoneOf K (names_elsewhere e)
     go by_value h = let (s, t, a, b) = agree-parts (Some f.shape) (type_of meaning e) h in type_of-elsewhere K meaning w c e t b
-    go by_place h = let (s, t, a, b) = agree-parts (Some f.shape) (variable_type meaning (lone_designator e)) h in designated-elsewhere K meaning w c e t b
+    go by_place h = let (s, t, a, b) = agree-parts (Some f.shape) (variable_type meaning (lone_designator e)) h in lone_designator-elsewhere K meaning w c e t b
 
 pub further-elsewhere : (K : Name → Type 0) (meaning : Typed Name) (w : Value) → AreConstant K meaning w → (fs : Signature) (es : Tree Name (items further_argument)) → arguments_fit meaning fs (further_arguments es) ≡ true → NoneOf K (names_elsewhere es)
 unfolding arguments_fit

@@ -96,8 +96,8 @@ some_reported text reported (inr (inr types)) none = go types.faults types.some 
     go (f ∷ fs) some none = cc
 
 reports_right : (unit : Unit) (text : List ℕ) (ds : List Diagnostic) → Diagnoses unit text ds → IsEmptyIfCorrect text (has_none (items_of (map diagnostic_value ds)))
-reports_right unit text ds (reported, telling, is) =
-    subst (λ ds. IsEmptyIfCorrect text (has_none (items_of (map diagnostic_value ds)))) (sym is) (go telling)
+reports_right unit text ds (reported, reporting, is) =
+    subst (λ ds. IsEmptyIfCorrect text (has_none (items_of (map diagnostic_value ds)))) (sym is) (go reporting)
   where
     go : Reports (utf8 text) reported → IsEmptyIfCorrect text (has_none (items_of (map diagnostic_value (map (diagnostic_of unit text) reported))))
     go (inl (found, none)) = (λ empty. found, λ well_typed. empty_none (diagnostic_of unit text) reported none)
