@@ -9,7 +9,7 @@ ghost use Rattle.ob0_parse_descent.specs.Follow.{opens_expression};
 ghost use Rattle.ob0_parse_descent.specs.Reading.{Reads, ReadsList, ReadsItem, TokenIs, NameIs};
 
 use crate::growth::add;
-use crate::parser::{Parsed, ParsedItem, Parser, missing, levels_inside};
+use crate::parser::{Parsed, ParsedItem, Parser, levels_inside, missing};
 use crate::refusal::Expected;
 use ob0_scan::{Reserved, Symbol, TokenKind};
 use ob0_tree::{Assignment, Call, Elsif, Expression, If, Repeat, Statement, While};

@@ -7,7 +7,7 @@ ghost use Rattle.ob0_tree.specs.View.{type_of, fields_of, further_fields_of_grou
 ghost use Rattle.ob0_parse_descent.specs.Reading.{Reads, ReadsItem, TokenIs};
 
 use crate::growth::add;
-use crate::parser::{Parsed, ParsedItem, Parser, missing, levels_inside};
+use crate::parser::{Parsed, ParsedItem, Parser, levels_inside, missing};
 use crate::refusal::Expected;
 use ob0_scan::{Reserved, Symbol};
 use ob0_tree::{ArrayType, FieldGroup, Fields, RecordType, WrittenType};

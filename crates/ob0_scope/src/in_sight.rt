@@ -14,7 +14,11 @@ use std::alloc::{AllocError, Global};
 
 /// For each occurrence of a module, in text order, the ordinal of the declaration to which `name` would be bound in its
 /// place. None where nothing would bind it.
-pub fn ordinals_seen(alloc: Global, names: &Resolved, name: &str) -> Result<Vec<Option<usize>>, AllocError>
+pub fn ordinals_seen(
+    alloc: Global,
+    names: &Resolved,
+    name: &str,
+) -> Result<Vec<Option<usize>>, AllocError>
     ensures { IfOk result
         (λ found. found.items ≡ ordinals_seen (named_tree_of names.now.module_read) name.now) }
 {

@@ -23,7 +23,12 @@ enum RescanOutcome {
     Different,
 }
 
-fn join_texts(alloc: Global, front: &str, middle: &str, following: &str) -> Result<String, AllocError>
+fn join_texts(
+    alloc: Global,
+    front: &str,
+    middle: &str,
+    following: &str,
+) -> Result<String, AllocError>
     ensures { IfOk result (λ text. string_bytes text ≡ front.now ++ (middle.now ++ following.now)) }
 {
     let mut text = String::from_str(alloc, front)?;

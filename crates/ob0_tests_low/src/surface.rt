@@ -123,6 +123,10 @@ static NOTES: &[(&str, &str, &str)] = &[
 #[test]
 fn notifications_are_read(rt: HostRuntime) {
     for row in NOTES {
-        assert!(rt; word_of_text(rt.alloc(), row.0, row.1) == row.2, "{}", row.0);
+        assert!(rt;
+            word_of_text(rt.alloc(), row.0, row.1) == row.2,
+            "{}",
+            row.0
+        );
     }
 }

@@ -1,7 +1,7 @@
 //! Worked rows of numbers and truth values.
 
 use ob0_tree::{AddOperator, MultiplyOperator, Relation, Sign};
-use ob0_values::scalar::{add, multiply, negate, relate, apply_sign};
+use ob0_values::scalar::{add, apply_sign, multiply, negate, relate};
 use ob0_values::{OperatorFault, Scalar};
 use std::process::Abort;
 

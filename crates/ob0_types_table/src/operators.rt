@@ -11,7 +11,7 @@ ghost use Rattle.ob0_types_rules.specs.Typing.{given_value};
 use ob0_tree::{AddOperator, MultiplyOperator, Relation, Sign};
 use ob0_values::Scalar;
 use ob0_values::scalar::{
-    add, add_is_settled, multiply, multiply_is_settled, negate, relate, apply_sign,
+    add, add_is_settled, apply_sign, multiply, multiply_is_settled, negate, relate,
 };
 
 /// The truth value of a relation; None where a side has no value, or they don't fit.
