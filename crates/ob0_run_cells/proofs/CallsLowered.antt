@@ -30,7 +30,7 @@ numbers-zero zero i = refl
 numbers-zero (suc n) zero = refl
 numbers-zero (suc n) (suc i) = numbers-zero n i
 
--- what a call has of its own is given up in both
+-- what a call has of its own is dropped in both
 pub drop_variables-represents : (typing now others : StoreTyping) (old : Store) (base : ℕ) (p : execution.MachineProgress) (q : Progress) → now ≡ typing ++ others → StoreFits typing old → base ≡ length (all_cells old) → ProgressRepresents now p q → ProgressRepresents typing (execution.drop_variables base p) (drop_variables (length old) q)
 drop_variables-represents typing now others old base (execution.running low) (running s) e fits is h =
     let (kept, cells) = variables_are_dropped-holds typing others old s.store fits (subst (λ all. StoreFits all s.store) e h.store_fits) in

@@ -1,4 +1,4 @@
--- Variables that begin, are added, and are given up.
+-- Variables that begin, are added, and are dropped.
 use Rattle.std.proofs.Common.{◌≡◌, ℕ, zero, suc, ◌+◌, ◌*◌, List, [], ◌∷◌, ◌++◌, length, replicate, take, ℤ, pos, slice_get, Some, option_and_then, option_map, unwrap_or, sym, refl, ap, ◌∙◌, arith, append_assoc, append-nil}
 use Rattle.std.proofs.lemmas.List.{replicate-append-replicate, take_at}
 use Rattle.ob0_values.specs.Values.{FieldShapes, Shape, Store, Value, array_shape, boolean_shape, copies, initial, initial_members, integer_shape, next_field_shape, no_field_shape, record_shape}

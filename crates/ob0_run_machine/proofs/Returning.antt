@@ -1,4 +1,4 @@
--- Calls: the body of a procedure runs, and its cells are given up.
+-- Calls: the body of a procedure runs, and its cells are dropped.
 use Rattle.std.proofs.Common.{◌≡◌, ◌≢◌, ℕ, zero, suc, arith, ◌-◌, ℤ, refl, sym, ap, ◌∙◌, subst, Ok, Err, List, [], ◌++◌, take, Option, None, Some, Result, IsErr}
 use Rattle.ob0_run_machine.specs.declared.code.LoweredCode.{LoweredCode}
 use Rattle.ob0_run_machine.specs.declared.ending.Stop.{Stop}

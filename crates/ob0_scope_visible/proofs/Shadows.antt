@@ -1,4 +1,4 @@
--- Bindings that hide one another: what is looked up after one is made or given up.
+-- Bindings that hide one another: what is looked up after one is made or dropped.
 use Rattle.std.proofs.Common.{◌≡◌, ◌⊎◌, inl, inr, if◌then◌else◌, ℕ, ◌<◌, Bool, true, false, Option, Some, None, List, [], ◌∷◌, ◌++◌, map, length, get_or, reverse, refl, sym, ap, ◌∙◌, subst, arith}
 use Rattle.std.proofs.lemmas.List.{reverse-append, reverse-reverse, length-reverse}
 use Rattle.std.proofs.Math.ListN.{get_or-append}
@@ -82,8 +82,8 @@ left_step true false a b c n e f g = absurd (cc)
 left_step false true a b c n e f g = absurd (cc)
 left_step false false a b c n e f g = g
 
-pub given_up : (newest next : List BoundName) (items : List Binding) (b : Binding) → IsNewest newest (items ++ (b ∷ [])) → IsRenewed newest next b.name.now b.hidden → IsNewest next items
-given_up newest next items b w renewed =
+pub binding_dropped : (newest next : List BoundName) (items : List Binding) (b : Binding) → IsNewest newest (items ++ (b ∷ [])) → IsRenewed newest next b.name.now b.hidden → IsNewest next items
+binding_dropped newest next items b w renewed =
     let turned : reverse (items ++ (b ∷ [])) ≡ b ∷ reverse items = reverse-append items (b ∷ []) in
     let trail : AreHidden (b ∷ reverse items) = subst AreHidden turned w.hidden in
     record {

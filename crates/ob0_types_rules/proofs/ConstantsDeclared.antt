@@ -259,7 +259,7 @@ held None test h = absurd (true≢false (sym h))
 held (Some a) test h = (a, refl, h)
 
 -- bindings that hold the values of constants, ordinal by ordinal
-pub record Worths (k n : ℕ) (value : ℕ → Option Value) (bindings : TypeEnvironment Label) : Type 0 where
+pub record AreValuesBetween (k n : ℕ) (value : ℕ → Option Value) (bindings : TypeEnvironment Label) : Type 0 where
   pub binds : Binds k n bindings
   pub has_value_is : (d : ℕ) → k ≤ d → value d ≡ has_value bindings d
 
@@ -387,8 +387,8 @@ opened-binds known noted k b inner o =
 
 -- the bindings of a block, before them those of its procedures
 block-values : (known : Known) (noted : TypeNoted Name) (k : ℕ) (b : Tree Name block) (inner P : TypeEnvironment Label) (o : Opened known noted k b inner)
-    → Worths (first_procedure k b) (after_block k b) (λ d. value_in_procedures (bind_names (named_types (block_types b) ++ variable_names (block_variables b)) no_constant o.constants.known_after) d (first_procedure k b) (block_procedures b)) P
-    → Worths k (after_block k b) (λ d. value_in_block known d k b) (P ++ (o.others.bound ++ o.constants.bound))
+    → AreValuesBetween (first_procedure k b) (after_block k b) (λ d. value_in_procedures (bind_names (named_types (block_types b) ++ variable_names (block_variables b)) no_constant o.constants.known_after) d (first_procedure k b) (block_procedures b)) P
+    → AreValuesBetween k (after_block k b) (λ d. value_in_block known d k b) (P ++ (o.others.bound ++ o.constants.bound))
 unfolding value_in_block
 block-values known noted k (has_body (declares cs ts vs ps) statements) inner P o p =
     let b : Tree Name block = has_body (declares cs ts vs ps) statements in
@@ -466,12 +466,12 @@ procedure-entered known noted j k knows below x fs qs h =
 
 -- the bindings of a procedure, before them those of the procedures after it
 procedure-values : (known : Known) (k : ℕ) (x closing : Name) (fs : Tree Name (maybe formals)) (b : Tree Name block) (rest : Tree Name (items procedure)) (B H R : TypeEnvironment Label)
-    → Worths (after_names (suc k) (formal_names (formal_sections fs))) (after_procedure (suc k) (declares_procedure x fs b closing))
+    → AreValuesBetween (after_names (suc k) (formal_names (formal_sections fs))) (after_procedure (suc k) (declares_procedure x fs b closing))
     (λ d. value_in_block (bind_names (formal_names (formal_sections fs)) no_constant ((x, no_constant) ∷ known)) d (after_names (suc k) (formal_names (formal_sections fs))) b) B
     → Binds k (after_names (suc k) (formal_names (formal_sections fs))) H → AllPlain H
-    → Worths (after_procedure (suc k) (declares_procedure x fs b closing)) (after_procedures (after_procedure (suc k) (declares_procedure x fs b closing)) rest)
+    → AreValuesBetween (after_procedure (suc k) (declares_procedure x fs b closing)) (after_procedures (after_procedure (suc k) (declares_procedure x fs b closing)) rest)
     (λ d. value_in_procedures ((x, no_constant) ∷ known) d (after_procedure (suc k) (declares_procedure x fs b closing)) rest) R
-    → Worths k (after_procedures k (more (declares_procedure x fs b closing) rest)) (λ d. value_in_procedures known d k (more (declares_procedure x fs b closing) rest)) (R ++ (B ++ H))
+    → AreValuesBetween k (after_procedures k (more (declares_procedure x fs b closing) rest)) (λ d. value_in_procedures known d k (more (declares_procedure x fs b closing) rest)) (R ++ (B ++ H))
 unfolding value_in_block
 procedure-values known k x closing fs b rest B H R inside_block binds plain later =
     let p : Tree Name (item procedure) = declares_procedure x fs b closing in
@@ -496,14 +496,14 @@ procedure-values known k x closing fs b rest B H R inside_block binds plain late
           (λ u. later.has_value_is d u ∙ sym (ap constant_of (bound-first k q d R Q one_binds (λ a y. omega (arith, u, y)))));
     }
 
-no-procedures : (known : Known) (noted : TypeNoted Name) (j k : ℕ) → Worths k k (λ d. value_in_procedures known d k end) (procedures_bindings as_labels (typed_by_ordinal noted) j end)
+no-procedures : (known : Known) (noted : TypeNoted Name) (j k : ℕ) → AreValuesBetween k k (λ d. value_in_procedures known d k end) (procedures_bindings as_labels (typed_by_ordinal noted) j end)
 unfolding value_in_block block_bindings
 no-procedures known noted j k = record { binds = tt; has_value_is = λ d l. refl }
 
 mutual
   pub block-evaluates : (known : Known) (noted : TypeNoted Name) (j k : ℕ) → Knows known noted → TypedBelow k noted → (b : Tree Name block)
       → block_fits as_labels (typed_by_ordinal noted) j (relabel_block as_names (as_label as_names) (typed_scope noted) k b) ≡ true
-      → Worths k (after_block k b) (λ d. value_in_block known d k b) (block_bindings as_labels (typed_by_ordinal noted) j (relabel_block as_names (as_label as_names) (typed_scope noted) k b))
+      → AreValuesBetween k (after_block k b) (λ d. value_in_block known d k b) (block_bindings as_labels (typed_by_ordinal noted) j (relabel_block as_names (as_label as_names) (typed_scope noted) k b))
   block-evaluates known noted j k knows below (has_body (declares cs ts vs ps) statements) h =
       let b : Tree Name block = has_body (declares cs ts vs ps) statements in
       let b' : Tree Label block = relabel_block as_names (as_label as_names) (typed_scope noted) k b in
@@ -513,14 +513,14 @@ mutual
       let p = procedures-evaluate (bind_names names no_constant o.constants.known_after) o.last (after_variables j b') (first_procedure k b) (o.others.knows o.constants.known_after o.constants.knows) o.below (block_statements b') ps
       ((λ i. procedures_fit as_labels (sym o.reads i) (after_variables j b') (block_statements b') (relabel_procedures as_names (as_label as_names) (o.scoped i) (first_procedure k b) ps)) ∙ parts.2) in
       let P : TypeEnvironment Label = procedures_bindings as_labels (typed_by_ordinal o.last) (after_variables j b') (relabel_procedures as_names (as_label as_names) (typed_scope o.last) (first_procedure k b) ps) in
-      subst (Worths k (after_block k b) (λ d. value_in_block known d k b))
+      subst (AreValuesBetween k (after_block k b) (λ d. value_in_block known d k b))
       ((λ i. procedures_bindings as_labels (sym o.reads i) (after_variables j b') (relabel_procedures as_names (as_label as_names) (o.scoped i) (first_procedure k b) ps) ++ sym (opened-since known noted k b parts.0 o) i)
       ∙ sym (block-listed (typed_by_ordinal noted) j b' parts.0 parts.1))
       (block-values known noted k b parts.0 P o p)
 
   pub procedures-evaluate : (known : Known) (noted : TypeNoted Name) (j k : ℕ) → Knows known noted → TypedBelow k noted → (statements : Tree Label (maybe body)) (ps : Tree Name (items procedure))
       → procedures_fit as_labels (typed_by_ordinal noted) j statements (relabel_procedures as_names (as_label as_names) (typed_scope noted) k ps) ≡ true
-      → Worths k (after_procedures k ps) (λ d. value_in_procedures known d k ps) (procedures_bindings as_labels (typed_by_ordinal noted) j (relabel_procedures as_names (as_label as_names) (typed_scope noted) k ps))
+      → AreValuesBetween k (after_procedures k ps) (λ d. value_in_procedures known d k ps) (procedures_bindings as_labels (typed_by_ordinal noted) j (relabel_procedures as_names (as_label as_names) (typed_scope noted) k ps))
   procedures-evaluate known noted j k knows below statements end h = no-procedures known noted j k
   procedures-evaluate known noted j k knows below statements (more (declares_procedure x fs b closing) rest) h =
       let scope : Scope Name = typed_scope noted in
@@ -538,7 +538,7 @@ mutual
       let inside_block = block-evaluates (bind_names xs no_constant ((x, no_constant) ∷ known)) e.inner jb m e.knows e.below b ((λ i. block_fits as_labels (e.opened i) jb (relabel_block as_names (as_label as_names) (e.scoped i) m b)) ∙ f.block_right) in
       let later = procedures-evaluate ((x, no_constant) ∷ known) e.own jr q e.own_knows (TypedBelow-weaken (suc k) q e.own (le-after_procedure (suc k) (declares_procedure x fs b closing)) e.own_below) statements rest
       ((λ i. procedures_fit as_labels (e.headed i) jr statements (relabel_procedures as_names (as_label as_names) (e.own_scope i) q rest)) ∙ f.rest_right) in
-      subst (Worths k (after_procedures q rest) (λ d. value_in_procedures known d k (more (declares_procedure x fs b closing) rest)))
+      subst (AreValuesBetween k (after_procedures q rest) (λ d. value_in_procedures known d k (more (declares_procedure x fs b closing) rest)))
       ((λ i. procedures_bindings as_labels (e.headed i) jr (relabel_procedures as_names (as_label as_names) (e.own_scope i) q rest) ++ (block_bindings as_labels (e.opened i) jb (relabel_block as_names (as_label as_names) (e.scoped i) m b) ++ bind_typed f.listed (heading (declared k) f.listed [])))
       ∙ sym (procedures-listed env j statements (declared k) fs' b' (declared k) rest' f))
       (procedure-values known k x closing fs b rest (block_bindings as_labels (typed_by_ordinal e.inner) jb (relabel_block as_names (as_label as_names) (typed_scope e.inner) m b)) (bind_typed f.listed (heading (declared k) f.listed []))
