@@ -1,6 +1,6 @@
 //! What is supposed of types and declarations while faults are reported; each may be unknown, as a whole or in parts.
 
-ghost use Rattle.std.specs.Prelude.{◌≡◌, ◌≤◌, ◌∷◌, [], ◌++◌, ◌+◌, ◌^◌, map, max, length, IfOk, MatchResult, OnOk, option_map, slice_get, slice_index_or, None, Some};
+ghost use Rattle.std.specs.Prelude.{◌≡◌, ◌≤◌, ◌∷◌, [], ◌++◌, ◌+◌, ◌^◌, map, IfOk, MatchResult, OnOk, option_map, slice_get, slice_index_or, None, Some};
 ghost use Rattle.ob0_types_table.specs.declared.types.TypeId.TheVariants as type;
 ghost use Rattle.ob0_tree.specs.Places.{text_at};
 ghost use Rattle.ob0_types_check.specs.Known.{a_procedure};
