@@ -34,8 +34,8 @@ IsDecided (TooDeep token) = Unit {0}
 IsDecided Memory = ⊥
 
 -- the parser refuses these tokens so
-abbrev pub IsRefused : Scanned → ParseRefusal → Type 0
-IsRefused tokens refusal = RefusedBy tokens refusal × IsDecided refusal
+abbrev pub IsRefusedByParser : Scanned → ParseRefusal → Type 0
+IsRefusedByParser tokens refusal = RefusedBy tokens refusal × IsDecided refusal
 
 -- the last tokens, where there are some, have the procedures that are kept of them
 abbrev pub HasProcedures : Option LastTokens → Type 0
@@ -49,5 +49,5 @@ IsFound (NoLexemes ill) =
     (IsScannable (string_bytes ill.text) → ⊥)
     × AreFaults (string_bytes ill.text) ill.faults.items
     × HasProcedures ill.last
-IsFound (NoTree ill) = IsRefused ill.tokens ill.refusal × AreKept ill.tokens.tokens ill.kept
+IsFound (NoTree ill) = IsRefusedByParser ill.tokens ill.refusal × AreKept ill.tokens.tokens ill.kept
 IsFound (Module m) = Unit {0}

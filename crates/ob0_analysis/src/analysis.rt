@@ -10,7 +10,7 @@ ghost use Rattle.ob0_tree.specs.Parsed.{IsParsed, parsed_by};
 ghost use Rattle.ob0_scope_rules.specs.Bindings.{resolution_by};
 ghost use Rattle.ob0_scope_rules.specs.Resolution.{IsResolution};
 ghost use Rattle.ob0_parse_kept.specs.KeptTokens.{AreKept};
-ghost use Rattle.ob0_analysis.specs.Found.{HasProcedures, IsFound, IsRefused, IsRefusalOf};
+ghost use Rattle.ob0_analysis.specs.Found.{HasProcedures, IsFound, IsRefusedByParser, IsRefusalOf};
 ghost use Rattle.ob0_analysis.specs.Before.{AreKeptBefore, IsParsedBefore};
 ghost use Rattle.ob0_analysis.specs.declared.analysis.Findings.TheVariants.{NoLexemes, NoTree};
 ghost use Rattle.ob0_analysis.specs.Diagnosed.{IsWellTypedModule, Reports, complaint_in};
@@ -172,7 +172,7 @@ impl Analysis {
         refusal: ParseRefusal,
         kept: Kept,
     ) -> Result<Analysis, AllocError>
-        requires alike { changed.alike ≡ true → IsRefused changed.rescan.tokens refusal }
+        requires alike { changed.alike ≡ true → IsRefusedByParser changed.rescan.tokens refusal }
         requires kept { AreKeptBefore changed kept }
         ensures { IfOk result (λ a. a ≡ changed.rescan.tokens.text) }
     {
@@ -259,7 +259,7 @@ impl Analysis {
         ensures { IfOk result (λ a. a ≡ tokens.text) }
     {
         if same_names && bindings.faults.is_empty() {
-            let parts = ModuleParts::bound(alloc, tokens, tree, bindings)?;
+            let parts = ModuleParts::from_bindings(alloc, tokens, tree, bindings)?;
             Ok(Analysis {
                 found: Findings::Module(parts),
             })

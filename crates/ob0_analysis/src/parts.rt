@@ -53,12 +53,12 @@ impl ModuleParts {
         requires { IsParsed (parsed_by tokens tree) }
         ensures { IfOk result (λ m. m.module_read ≡ parsed_by tokens tree) }
     {
-        let bindings = bindings_of(alloc, &Module::borrowed(&tokens, &tree))?;
-        ModuleParts::bound(alloc, tokens, tree, bindings)
+        let bindings = bindings_of(alloc, &Module::from_parts(&tokens, &tree))?;
+        ModuleParts::from_bindings(alloc, tokens, tree, bindings)
     }
 
     /// Checks the types of a module whose names are bound so.
-    pub(crate) fn bound(
+    pub(crate) fn from_bindings(
         alloc: Global,
         tokens: Tokens,
         tree: ModuleTree,
@@ -81,7 +81,7 @@ impl ModuleParts {
     pub(crate) fn module(&self) -> Module<'_>
         ensures { result ≡ self.now.module_read }
     {
-        Module::borrowed(&self.tokens, &self.tree)
+        Module::from_parts(&self.tokens, &self.tree)
     }
 
     /// The module with its names bound.
@@ -89,7 +89,7 @@ impl ModuleParts {
         requires { «module».now ≡ self.now.module_read }
         ensures { result ≡ self.now }
     {
-        Resolved::borrowed(module, &self.bindings)
+        Resolved::from_parts(module, &self.bindings)
     }
 
     /// The module with its types checked.
@@ -98,7 +98,7 @@ impl ModuleParts {
         ensures names { result.names ≡ self.now }
         ensures checked { IsChecked result }
     {
-        Checked::borrowed(resolved, &self.types)
+        Checked::from_parts(resolved, &self.types)
     }
 
     /// The faults of the module's names and types, the first hundred.
@@ -143,8 +143,8 @@ fn check_types(
     ensures { IfOk result
         (AreTypesOf (resolution_by (parsed_by tokens.now tree.now) bindings.now)) }
 {
-    let module = Module::borrowed(tokens, tree);
-    let resolved = Resolved::borrowed(&module, bindings);
+    let module = Module::from_parts(tokens, tree);
+    let resolved = Resolved::from_parts(&module, bindings);
     let types = types_of(alloc, &resolved)?;
     Ok(types)
 }

@@ -147,13 +147,13 @@ fn line_of<'a>(matches: &ArgMatches<'a>) -> CommandLine<'a>
     ensures { IsReadFrom (subcommand_rows_of matches.now) result }
 {
     match matches.subcommand() {
-        Some((name, given)) => named(name, given),
+        Some((name, given)) => subcommand_line(name, given),
         None => unreachable!(),
     }
 }
 
 /// The line of a subcommand, with what was found for its arguments.
-fn named<'a>(name: &str, given: &ArgMatches<'a>) -> CommandLine<'a>
+fn subcommand_line<'a>(name: &str, given: &ArgMatches<'a>) -> CommandLine<'a>
     requires { NeedsAt name.now (rows_of (found_of given.now)) }
     ensures { HoldsValues name.now (rows_of (found_of given.now)) result }
 {

@@ -33,7 +33,7 @@ use Rattle.ob0_inline.specs.declared.uses.Use.{Use}
 use Rattle.ob0_inline.specs.Inlined.{LeavesModule, AreAlone, inlined_at}
 use Rattle.ob0_inline.specs.Uses.{InlinesHere, IsUse, IsUseAt, inlined_here, is_predeclared_truth, refusal_here}
 use Rattle.ob0_inline.specs.Values.{value_factor, value_text}
-use Rattle.ob0_inline.proofs.UsesStand.{AreBound, inlined_by_number, inside, one_identifier, one_place, stand_alone, uses_are_identifiers, uses_ascend}
+use Rattle.ob0_inline.proofs.UsesAreIdentifiers.{AreBound, inlined_by_number, inside, one_identifier, one_place, are_alone, uses_are_identifiers, uses_ascend}
 
 -- what is written for a value, and whether it is seen
 
@@ -94,9 +94,9 @@ module _ (r : Resolution) (well : IsWellTyped r) (u : Use) (use_so : IsUse r.mod
   written : IsScalar (scalar_value u.value) → IsConstantWritten (named_tree_of r.module_read) u.constant (scalar_value u.value) (value_factor u.value)
   written fits_so = record { value = use_so.has_value; scalar = fits_so; literal = literal_of u.value }
 
-  pub stands : ConstantsAreAlone → IsScalar (scalar_value u.value) → AreAlone r.module_read (u.token ∷ []) u.value
-  stands law fits_so =
-      stand_alone r well.resolved u.constant (value_factor u.value) (u.token ∷ []) are_bound
+  pub is_alone : ConstantsAreAlone → IsScalar (scalar_value u.value) → AreAlone r.module_read (u.token ∷ []) u.value
+  is_alone law fits_so =
+      are_alone r well.resolved u.constant (value_factor u.value) (u.token ∷ []) are_bound
       (law (named_tree_of r.module_read) u.constant (scalar_value u.value) (value_factor u.value) (written fits_so) well.well_typed)
 
   or_false : (b : Bool) → (b || false) ≡ b
@@ -168,13 +168,13 @@ pub record Refused (r : Resolution) (u : Use) (refusal : EditRefusal) : Type 0 w
 module _ (r : Resolution) (well : IsWellTyped r) (u : Use) (use_so : IsUse r.module_read u) (law : ConstantsAreAlone) (scalar_so : IsScalar (scalar_value u.value)) where
   pub low_here : (unit : counting.Unit) (text : List ℕ) (edits : List Edit) → Made r u unit text edits → nesting (inlined_here r.module_read u) ≤ 100
   low_here unit text edits h =
-      subst (λ (t : Tree Name module_text). nesting t ≤ 100) (inlined_is r well u use_so) (h.leaves (stands r well u use_so law scalar_so)).module_of.shallow
+      subst (λ (t : Tree Name module_text). nesting t ≤ 100) (inlined_is r well u use_so) (h.leaves (is_alone r well u use_so law scalar_so)).module_of.shallow
 
   pub answer_ok : InliningKeepsModules → (unit : counting.Unit) (text : List ℕ) (edits : List Edit) → Made r u unit text edits → is_predeclared_truth (named_tree_of r.module_read) u.occurrence u.value ≡ true
       → (refusal_here r.module_read u ≡ None) × InlinesHere unit text r.module_read u edits
   answer_ok keeps unit text edits h shown = (
     shown_here r.module_read u h.short (low_here unit text edits h) true shown,
-    inlines r well u use_so keeps scalar_so unit text edits h.edits_are (h.leaves (stands r well u use_so law scalar_so)) shown,
+    inlines r well u use_so keeps scalar_so unit text edits h.edits_are (h.leaves (is_alone r well u use_so law scalar_so)) shown,
   )
 
   pub answer_shadowed : (unit : counting.Unit) (text : List ℕ) (edits : List Edit) → Made r u unit text edits → is_predeclared_truth (named_tree_of r.module_read) u.occurrence u.value ≡ false
@@ -188,7 +188,7 @@ module _ (r : Resolution) (well : IsWellTyped r) (u : Use) (use_so : IsUse r.mod
         | inr other ↦
             elim other [
               | inl e ↦
-                  let deep = subst (λ (t : Tree Name module_text). 100 < nesting t) (inlined_is r well u use_so) (h.too_deep (stands r well u use_so law scalar_so) e) in
+                  let deep = subst (λ (t : Tree Name module_text). 100 < nesting t) (inlined_is r well u use_so) (h.too_deep (is_alone r well u use_so law scalar_so) e) in
                   inl (too_deep_here r.module_read u (h.deep_and_short e) deep ∙ ap Some (sym e))
               | inr e ↦ inr e
             ]

@@ -37,7 +37,7 @@ use Rattle.ob0_inline.specs.Values.{value_factor, value_words}
 use Rattle.ob0_inline.proofs.EverywhereAt.{bound_tokens, late_here, uses_are_names, words_everywhere}
 use Rattle.ob0_inline.proofs.ModuleTexts.{spelled_by_words, value_spelled}
 use Rattle.ob0_inline.proofs.TakenOut.{NoEnd, Taken, block_declares, gone_module, module_declared}
-use Rattle.ob0_inline.proofs.UsesStand.{inside}
+use Rattle.ob0_inline.proofs.UsesAreIdentifiers.{inside}
 use Rattle.ob0_inline.proofs.WordsLeft.{first_token, is_declaration, last_token, mark_kind, name_is_first}
 
 -- the uses by the table of ordinals

@@ -21,10 +21,10 @@ use Rattle.ob0_scope_rules.specs.Scopes.{numbered, same_ordinal}
 use Rattle.ob0_scope_rules.proofs.Bound.{bound_at}
 use Rattle.ob0_types_rules.specs.ConstantValues.{value_of_constant}
 use Rattle.ob0_values.specs.Values.{Value}
-use Rattle.ob0_inline.proofs.Behind.{late_of, uses_following}
+use Rattle.ob0_inline.proofs.UsesFollow.{late_of, uses_following}
 use Rattle.ob0_inline.proofs.Late.{Late}
 use Rattle.ob0_inline.proofs.TakenOut.{block_declares, gone_module, gone_module_inlined, replaces_module}
-use Rattle.ob0_inline.proofs.UsesStand.{AreBound, inlined_by_number, names_from, stand_alone, uses_are_identifiers, uses_ascend}
+use Rattle.ob0_inline.proofs.UsesAreIdentifiers.{AreBound, inlined_by_number, names_from, are_alone, uses_are_identifiers, uses_ascend}
 use Rattle.ob0_inline.proofs.WordsLeft.{first_token, last_token, words_left}
 
 -- the tokens that are bound to d
@@ -45,11 +45,11 @@ bound_ascend ordinals d low high (i ∷ is) a =
     elim (same_ordinal (ordinal_in ordinals i) d) as (λ b. Ascending low (cond b (i ∷ bound_tokens ordinals d is) (bound_tokens ordinals d is)) high)
     [ true ↦ (a.0, bound_ascend ordinals d (i + 1) high is a.1) | false ↦ lowered low (i + 1) high (bound_tokens ordinals d is) (omega (arith, a.0)) (bound_ascend ordinals d (i + 1) high is a.1) ]
 
-bound_stand : (ts : List Token) (ordinals : List (Option ℕ)) (d : ℕ) (is : List ℕ) → AreIdentifiers ts is → AreIdentifiers ts (bound_tokens ordinals d is)
-bound_stand ts ordinals d [] h = tt
-bound_stand ts ordinals d (i ∷ is) h =
+bound_are_identifiers : (ts : List Token) (ordinals : List (Option ℕ)) (d : ℕ) (is : List ℕ) → AreIdentifiers ts is → AreIdentifiers ts (bound_tokens ordinals d is)
+bound_are_identifiers ts ordinals d [] h = tt
+bound_are_identifiers ts ordinals d (i ∷ is) h =
     elim (same_ordinal (ordinal_in ordinals i) d) as (λ b. AreIdentifiers ts (cond b (i ∷ bound_tokens ordinals d is) (bound_tokens ordinals d is)))
-    [ true ↦ (h.0, bound_stand ts ordinals d is h.1) | false ↦ bound_stand ts ordinals d is h.1 ]
+    [ true ↦ (h.0, bound_are_identifiers ts ordinals d is h.1) | false ↦ bound_are_identifiers ts ordinals d is h.1 ]
 
 -- all after a token
 from_there : (ordinals : List (Option ℕ)) (d low high last : ℕ) (is : List ℕ) → Ascending low (bound_tokens ordinals d is) high → last < high → ((j i : ℕ) → slice_get is j ≡ Some i → ordinal_in ordinals i ≡ Some d → last < i)
@@ -130,7 +130,7 @@ module _ (r : Resolution) (is : IsResolution r) (d : ℕ) (w : Value) (has_value
       names_from ts (suc (last_token late_here.taken)) (length ts) (bound_tokens r.ordinals d r.uses)
       (from_there r.ordinals d 0 (length ts) (last_token late_here.taken) r.uses (bound_ascend r.ordinals d 0 (length ts) r.uses (uses_ascend r is)) inside
       (λ j i e o. uses_following r d (block_declares (module_block (tree_of r.module_read))) (spell (gone_module d (tree_of r.module_read))) late_here j i (ap (λ us. slice_get us j) (sym is.occurring) ∙ e) o))
-      (bound_stand ts r.ordinals d r.uses (uses_are_identifiers r is))
+      (bound_are_identifiers ts r.ordinals d r.uses (uses_are_identifiers r is))
 
   -- the words that are left spell the module with the factor in place of all uses, without the declaration
   pub words_everywhere : (v : Tree Name factor) (vs : List Word) → map word_lexeme vs ≡ spell v → All (λ l. l ≢ declared d) (names_elsewhere (numbered (named_tree_of r.module_read)))
@@ -142,6 +142,6 @@ module _ (r : Resolution) (is : IsResolution r) (d : ℕ) (w : Value) (has_value
       let places = bound_tokens r.ordinals d r.uses in
       let c = factor_at places v in
       let bound = are_bound r d r.uses (λ j i e. (j, e)) in
-      let factors = replaces_module c d (tree_of m) (stand_alone r is d v places bound alone) in
+      let factors = replaces_module c d (tree_of m) (are_alone r is d v places bound alone) in
       words_left m.source (suc (last_token late_here.taken)) places are_names v vs same d 7 (block_declares (module_block (tree_of m))) (gone_module d (tree_of m)) late_here.taken factors
       ∙ ap spell (inlined_is r is d v)

@@ -2,14 +2,14 @@ pub mod Depths
 pub mod ModuleTexts
 pub mod OnOccurrences
 pub mod Alone
-pub mod UsesStand
+pub mod UsesAreIdentifiers
 pub mod OccurrenceAt
 pub mod AtUses
 pub mod TakenOut
 pub mod WordsLeft
 pub mod Earlier
 pub mod Late
-pub mod Behind
+pub mod UsesFollow
 pub mod EverywhereAt
 pub mod Shallower
 pub mod Ended

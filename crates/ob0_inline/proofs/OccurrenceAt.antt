@@ -8,7 +8,7 @@ use Rattle.std.specs.Ordering.{nat_cmp}
 use Rattle.std.proofs.lemmas.Bool.{ltb-false, ltb-true}
 use Rattle.std.proofs.lemmas.List.Sorted.{searched}
 use Rattle.ob0_tree.specs.Order.{Ascending}
-use Rattle.ob0_inline.proofs.UsesStand.{not_equal}
+use Rattle.ob0_inline.proofs.UsesAreIdentifiers.{not_equal}
 
 -- numbers that ascend: each is at least what all are, and at most what follows it
 at_least : (low high : ℕ) (is : List ℕ) (k : ℕ) → Ascending low is high → k < length is → low ≤ get_or is k 0

@@ -31,7 +31,7 @@ pub(crate) fn constant_at(module: &WellTyped, offset: usize) -> Option<NamedCons
     let names = module.resolved();
     match name_at(names, offset) {
         Some(found) => match module.constant(found.ordinal) {
-            Some(value) => declared(names, found.ordinal, value),
+            Some(value) => named_constant(names, found.ordinal, value),
             None => None,
         },
         None => None,
@@ -39,7 +39,7 @@ pub(crate) fn constant_at(module: &WellTyped, offset: usize) -> Option<NamedCons
 }
 
 /// A constant of which the ordinal and the value are known.
-fn declared(names: &Resolved, ordinal: usize, value: Scalar) -> Option<NamedConstant>
+fn named_constant(names: &Resolved, ordinal: usize, value: Scalar) -> Option<NamedConstant>
     requires has_value { value_of_constant (named_tree_of names.now.module_read) ordinal
         ≡ Some (scalar_value value) }
     ensures { IsSomeAnd result (λ c. (c.ordinal ≡ ordinal) × IsConstant names.now.module_read c) }

@@ -10,7 +10,7 @@ ghost use Rattle.ob0_inline.specs.Everywhere.{any_hidden};
 ghost use Rattle.ob0_inline.specs.Uses.{is_predeclared_truth};
 
 use crate::constants::NamedConstant;
-use ob0_scope::seen;
+use ob0_scope::ordinals_seen;
 use ob0_scope_rules::Resolved;
 use ob0_values::Scalar;
 use std::alloc::{AllocError, Global};
@@ -49,7 +49,7 @@ fn is_seen(
     ensures { IfOk result (λ is. is
         ≡ same_ordinal (sees (named_tree_of names.now.module_read) occurrence name.now) ordinal) }
 {
-    let bound = seen(alloc, names, name)?;
+    let bound = ordinals_seen(alloc, names, name)?;
     Ok(is_bound(&bound, occurrence, ordinal))
 }
 
@@ -106,7 +106,7 @@ fn is_hidden(
 {
     // For the proof: what the contract of this call says.
     let _module = names.module();
-    let bound = seen(alloc, names, name)?;
+    let bound = ordinals_seen(alloc, names, name)?;
     Ok(any_elsewhere(names, &bound, constant, ordinal))
 }
 

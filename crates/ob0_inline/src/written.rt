@@ -15,7 +15,7 @@ use std::alloc::{AllocError, Global};
 /// of its own.
 pub(crate) fn value_text(alloc: Global, value: Scalar) -> Result<String, AllocError>
     ensures text { IfOk result (λ text. string_bytes text ≡ value_text value) }
-    ensures stands { ReplacesName (value_text value) (value_words value) }
+    ensures can_replace { ReplacesName (value_text value) (value_words value) }
 {
     match value {
         Scalar::Number(number) => {

@@ -14,7 +14,7 @@ use Rattle.ob0_scan.specs.declared.lexeme.Token.{Token}
 use Rattle.ob0_scan.specs.Lexed.{Lexeme, joined}
 use Rattle.ob0_scan.specs.Scanned.{Scanned, IsScan, span_from, token_at, comment_at, tokens_from, comments_from}
 use Rattle.ob0_scan.proofs.Cuts.{nonempty}
-use Rattle.ob0_scan.proofs.Spans.{StandFrom, next_from}
+use Rattle.ob0_scan.proofs.Spans.{LexemesFrom, next_from}
 use Rattle.ob0_layout.specs.declared.sites.GapSite.{GapSite}
 use Rattle.ob0_layout.specs.declared.sites.NextLexeme.TheVariants as next
 use Rattle.ob0_layout.specs.declared.sites.Solid.{Solid}
@@ -87,7 +87,7 @@ module _ (text : List ℕ) (before : Option Solid) (level : ℕ) (ss : List Line
     pub ls : List Lexeme
     pub up : at ≤ place
     pub some : 0 < size
-    pub stand : StandFrom text (place + size) ls []
+    pub lexemes_from : LexemesFrom text (place + size) ls []
     pub tokens : tokens_from at rest ≡ make_token kind place size ∷ tokens_from (place + size) ls
     pub comments : comments_from at rest ≡ comments_from (place + size) ls
     pub gaps : sites before level broken ss from at rest
@@ -107,7 +107,7 @@ module _ (text : List ℕ) (before : Option Solid) (level : ℕ) (ss : List Line
     pub ls : List Lexeme
     pub up : at ≤ place
     pub some : 0 < size
-    pub stand : StandFrom text (place + size) ls []
+    pub lexemes_from : LexemesFrom text (place + size) ls []
     pub tokens : tokens_from at rest ≡ tokens_from (place + size) ls
     pub comments : comments_from at rest ≡ span_from place size ∷ comments_from (place + size) ls
     pub gaps : sites before level broken ss from at rest ≡ with_comment (role_of at broken place) place size ls
@@ -125,7 +125,7 @@ module _ (text : List ℕ) (before : Option Solid) (level : ℕ) (ss : List Line
     ls = n.ls;
     up = omega (arith, n.up);
     some = n.some;
-    stand = n.stand;
+    lexemes_from = n.lexemes_from;
     tokens = n.tokens;
     comments = n.comments;
     gaps = n.gaps;
@@ -142,14 +142,14 @@ module _ (text : List ℕ) (before : Option Solid) (level : ℕ) (ss : List Line
         ls = n.ls;
         up = omega (arith, n.up);
         some = n.some;
-        stand = n.stand;
+        lexemes_from = n.lexemes_from;
         tokens = n.tokens;
         comments = n.comments;
         gaps = n.gaps ∙ ap (λ b. with_comment (comment_role b (next_line level ss)) n.place n.size n.ls) same;
       }))
 
-  over_kind : (k : LexemeKind) (at : ℕ) (broken : Bool) (t : List ℕ) (ls : List Lexeme) → StandFrom text at (record { kind = k; text = t } ∷ ls) []
-      → StandFrom text (at + length t) ls [] → Ahead (at + length t) (broken || has_break t) ls → Ahead at broken (record { kind = k; text = t } ∷ ls)
+  over_kind : (k : LexemeKind) (at : ℕ) (broken : Bool) (t : List ℕ) (ls : List Lexeme) → LexemesFrom text at (record { kind = k; text = t } ∷ ls) []
+      → LexemesFrom text (at + length t) ls [] → Ahead (at + length t) (broken || has_break t) ls → Ahead at broken (record { kind = k; text = t } ∷ ls)
   over_kind lexeme.Space at broken t ls s s' more =
       over_space at broken t ls (s.rest ∙ append-nil (t ++ joined ls)) (s'.rest ∙ append-nil (joined ls)) more
   over_kind lexeme.Comment at broken t ls s s' more =
@@ -162,7 +162,7 @@ module _ (text : List ℕ) (before : Option Solid) (level : ℕ) (ss : List Line
         ls = ls;
         up = omega arith;
         some = nonempty lexeme.Comment t s.each.0.belongs;
-        stand = s';
+        lexemes_from = s';
         tokens = refl;
         comments = refl;
         gaps = ap (λ b. with_comment (comment_role b (next_line level ss)) at (length t) ls) same;
@@ -175,13 +175,13 @@ module _ (text : List ℕ) (before : Option Solid) (level : ℕ) (ss : List Line
         ls = ls;
         up = omega arith;
         some = nonempty (lexeme.Token k) t s.each.0.belongs;
-        stand = s';
+        lexemes_from = s';
         tokens = refl;
         comments = refl;
         gaps = refl;
       }))
 
-  pub ahead : (at : ℕ) (broken : Bool) (rest : List Lexeme) → StandFrom text at rest [] → Ahead at broken rest
+  pub ahead : (at : ℕ) (broken : Bool) (rest : List Lexeme) → LexemesFrom text at rest [] → Ahead at broken rest
   ahead at broken [] s =
       let end : at ≡ length text = omega (arith, s.place.0, sym (length-drop at text) ∙ ap length s.rest) in
       inl (record { up = s.place.0; tokens = refl; comments = refl; gaps = ap (λ e. make_site from e (last_gap before) ∷ []) end })
@@ -219,7 +219,7 @@ module _ (text : List ℕ) (before : Option Solid) (level : ℕ) (ss : List Line
 -- what a pass has written and what is left: joined they are the gaps of the whole text
 pub record Sited (text : List ℕ) (whole : List GapSite) (left : List Token) (comments : List Span) (ss : List LineRole) (before : Option Solid) (level start : ℕ) (out : List GapSite) : Type 0 where
   pub rest : List Lexeme
-  pub stand : StandFrom text start rest []
+  pub lexemes_from : LexemesFrom text start rest []
   pub left_is : left ≡ tokens_from start rest
   pub comments_is : comments ≡ comments_from start rest
   pub same : out ++ sites before level (is_none before) ss start start rest ≡ whole
@@ -227,7 +227,7 @@ pub record Sited (text : List ℕ) (whole : List GapSite) (left : List Token) (c
 pub sited_at_start : (s : Scanned) (scan : IsScan s) (ss : List LineRole) → Sited s.text (all_sites ss scan.lexemes) s.tokens s.comments ss None 0 0 []
 sited_at_start s scan ss = record {
   rest = scan.lexemes;
-  stand = record { utf8 = scan.utf8; place = IsCharBoundary-start s.text scan.utf8; each = scan.lexed.each; rest = sym (append-nil (joined scan.lexemes) ∙ scan.lexed.whole) };
+  lexemes_from = record { utf8 = scan.utf8; place = IsCharBoundary-start s.text scan.utf8; each = scan.lexed.each; rest = sym (append-nil (joined scan.lexemes) ∙ scan.lexed.whole) };
   left_is = scan.tokens;
   comments_is = scan.comments;
   same = refl;
@@ -251,7 +251,7 @@ module _ (text : List ℕ) (whole : List GapSite) (left : List Token) (comments 
   found_is = λ i. next_of (h.left_is i) (h.comments_is i)
 
   ways : Ahead text before level ss start start (is_none before) h.rest
-  ways = ahead text before level ss start start (is_none before) h.rest h.stand
+  ways = ahead text before level ss start start (is_none before) h.rest h.lexemes_from
 
   pub sited_ends : next_of left comments ≡ None → (start ≤ length text) × (out ++ (make_site start (length text) (last_gap before) ∷ []) ≡ whole)
   sited_ends e = elim ways [
@@ -283,11 +283,11 @@ module _ (text : List ℕ) (whole : List GapSite) (left : List Token) (comments 
   over_comment n = record {
     up = n.up;
     ordered = omega arith;
-    within = n.stand.place.0;
+    within = n.lexemes_from.place.0;
     some = let long : length comments ≡ length (comments_from (n.place + n.size) n.ls) + 1 = ap length (h.comments_is ∙ n.comments) ∙ omega arith in omega (arith, long);
     after = record {
       rest = n.ls;
-      stand = n.stand;
+      lexemes_from = n.lexemes_from;
       left_is = h.left_is ∙ n.tokens;
       comments_is = ap (drop 1) (h.comments_is ∙ n.comments);
       same = append_assoc out _ _ ∙ ap (λ gs. out ++ gs) (sym n.gaps) ∙ h.same;
@@ -298,11 +298,11 @@ module _ (text : List ℕ) (whole : List GapSite) (left : List Token) (comments 
   over_token n = record {
     up = n.up;
     ordered = omega arith;
-    within = n.stand.place.0;
+    within = n.lexemes_from.place.0;
     some = let long : length left ≡ length (tokens_from (n.place + n.size) n.ls) + 1 = ap length (h.left_is ∙ n.tokens) ∙ omega arith in omega (arith, long);
     after = record {
       rest = n.ls;
-      stand = n.stand;
+      lexemes_from = n.lexemes_from;
       left_is = ap (drop 1) (h.left_is ∙ n.tokens);
       comments_is = h.comments_is ∙ n.comments;
       same = append_assoc out _ _ ∙ ap (λ gs. out ++ gs) (sym n.gaps) ∙ h.same;
@@ -357,7 +357,7 @@ lie_kind text lexeme.Comment t ls before level broken ss from at up in_text more
 lie_kind text (lexeme.Token k) t ls before level broken ss from at up in_text more =
     All-cons (LiesIn (length text)) _ _ (record { ordered = up; within = in_text }) (more _ (next_line level ss) false (drop 1 ss) (at + length t) (omega arith))
 
-sites_lie : (text : List ℕ) (rest : List Lexeme) (at : ℕ) → StandFrom text at rest [] → (before : Option Solid) (level : ℕ) (broken : Bool) (ss : List LineRole) (from : ℕ) → from ≤ at
+sites_lie : (text : List ℕ) (rest : List Lexeme) (at : ℕ) → LexemesFrom text at rest [] → (before : Option Solid) (level : ℕ) (broken : Bool) (ss : List LineRole) (from : ℕ) → from ≤ at
     → All (LiesIn (length text)) (sites before level broken ss from at rest)
 sites_lie text [] at s before level broken ss from up = All-cons (LiesIn (length text)) _ [] (record { ordered = up; within = s.place.0 }) (All-nil (LiesIn (length text)))
 sites_lie text (l ∷ ls) at s before level broken ss from up =

@@ -9,7 +9,7 @@ use Rattle.ob0_scan.specs.Lexed.{Lexeme, joined}
 use Rattle.ob0_scan.specs.Scanned.{Scanned, IsScan}
 use Rattle.ob0_scan.specs.Classes.{is_space}
 use Rattle.ob0_scan.proofs.Cuts.{nonempty}
-use Rattle.ob0_scan.proofs.Spans.{StandFrom, next_from}
+use Rattle.ob0_scan.proofs.Spans.{LexemesFrom, next_from}
 use Rattle.ob0_text.specs.declared.edits.Edit.{Edit}
 use Rattle.ob0_text.specs.declared.edits.Indent.{Indent}
 use Rattle.ob0_text.specs.declared.edits.Indent.TheVariants as indent_by
@@ -50,7 +50,7 @@ module _ (text : List ℕ) where
   byte_at : (at n : ℕ) (xs : List ℕ) → drop at text ≡ xs → get_or text (at + n) 0 ≡ get_or xs n 0
   byte_at at n xs e = sym (get_or-drop at text n 0) ∙ ap (λ ys. get_or ys n 0) e
 
-  before_solid : (k : LexemeKind) (at : ℕ) (t : List ℕ) (ls : List Lexeme) → IsSolid k → StandFrom text at (record { kind = k; text = t } ∷ ls) [] → IsBorder at
+  before_solid : (k : LexemeKind) (at : ℕ) (t : List ℕ) (ls : List Lexeme) → IsSolid k → LexemesFrom text at (record { kind = k; text = t } ∷ ls) [] → IsBorder at
   before_solid k at t ls solid s = record {
     place = s.place;
     clear = λ ending.
@@ -60,7 +60,7 @@ module _ (text : List ℕ) where
         let never : true ≡ false = sym (ap is_space lf) ∙ first in absurd (cc);
   }
 
-  following_solid : (k : LexemeKind) (at : ℕ) (t : List ℕ) (ls : List Lexeme) → IsSolid k → StandFrom text at (record { kind = k; text = t } ∷ ls) [] → IsBorder (at + length t)
+  following_solid : (k : LexemeKind) (at : ℕ) (t : List ℕ) (ls : List Lexeme) → IsSolid k → LexemesFrom text at (record { kind = k; text = t } ∷ ls) [] → IsBorder (at + length t)
   following_solid k at t ls solid s =
       let some = nonempty k t s.each.0.belongs in record {
         place = (next_from text at (record { kind = k; text = t }) ls [] s).place;
@@ -70,7 +70,7 @@ module _ (text : List ℕ) where
             solid_last k t solid s.each.0.belongs cr;
       }
 
-  clear_kind : (k : LexemeKind) (at : ℕ) (t : List ℕ) (ls : List Lexeme) → StandFrom text at (record { kind = k; text = t } ∷ ls) []
+  clear_kind : (k : LexemeKind) (at : ℕ) (t : List ℕ) (ls : List Lexeme) → LexemesFrom text at (record { kind = k; text = t } ∷ ls) []
       → ((before : Option Solid) (level : ℕ) (broken : Bool) (ss : List LineRole) (from : ℕ) → IsBorder from → AllClear text (sites before level broken ss from (at + length t) ls))
       → (before : Option Solid) (level : ℕ) (broken : Bool) (ss : List LineRole) (from : ℕ) → IsBorder from → AllClear text (sites before level broken ss from at (record { kind = k; text = t } ∷ ls))
   unfolding AllClear
@@ -82,7 +82,7 @@ module _ (text : List ℕ) where
       let e = before_solid (lexeme.Token k) at t ls tt s in
       (record { start = b.place; end = e.place; clear = b.clear; clear_end = e.clear }, more _ (next_line level ss) false (drop 1 ss) (at + length t) (following_solid (lexeme.Token k) at t ls tt s))
 
-  clear_sites : (rest : List Lexeme) (at : ℕ) → StandFrom text at rest [] → (before : Option Solid) (level : ℕ) (broken : Bool) (ss : List LineRole) (from : ℕ) → IsBorder from → AllClear text (sites before level broken ss from at rest)
+  clear_sites : (rest : List Lexeme) (at : ℕ) → LexemesFrom text at rest [] → (before : Option Solid) (level : ℕ) (broken : Bool) (ss : List LineRole) (from : ℕ) → IsBorder from → AllClear text (sites before level broken ss from at rest)
   unfolding AllClear
   clear_sites [] at s = λ before level broken ss from b.
       (record { start = b.place; end = s.place; clear = b.clear; clear_end = λ ending. let here : get_or text (at + 0) 0 ≡ 0 = byte_at at 0 [] s.rest in omega (arith, ending.lf, here, ap (λ n. get_or text n 0) (at_zero at)) }, tt)
@@ -138,7 +138,7 @@ same_cuts unit text u indent at (g ∷ gs) (x ∷ edits) chain clear e =
 
 all_clear : (s : Scanned) (scan : IsScan s) (ss : List LineRole) → AllClear s.text (all_sites ss scan.lexemes)
 all_clear s scan ss =
-    let from_start : StandFrom s.text 0 scan.lexemes [] = record { utf8 = scan.utf8; place = IsCharBoundary-start s.text scan.utf8; each = scan.lexed.each; rest = sym (append-nil (joined scan.lexemes) ∙ scan.lexed.whole) } in
+    let from_start : LexemesFrom s.text 0 scan.lexemes [] = record { utf8 = scan.utf8; place = IsCharBoundary-start s.text scan.utf8; each = scan.lexed.each; rest = sym (append-nil (joined scan.lexemes) ∙ scan.lexed.whole) } in
     let border : IsBorder s.text 0 = record { place = IsCharBoundary-start s.text scan.utf8; clear = λ ending. omega (arith, ending.cr, ending.lf, ap (λ n. get_or s.text n 0) zero_less) } in
     clear_sites s.text scan.lexemes 0 from_start None 0 true ss 0 border
   where

@@ -11,7 +11,7 @@ use Rattle.ob0_scan.specs.declared.lexeme.LexemeKind.{LexemeKind}
 use Rattle.ob0_scan.specs.declared.lexeme.LexemeKind.TheVariants as lexeme
 use Rattle.ob0_scan.specs.Lexed.{Lexeme, joined}
 use Rattle.ob0_scan.specs.Scanned.{Scanned, IsScan}
-use Rattle.ob0_scan.proofs.Spans.{StandFrom, next_from}
+use Rattle.ob0_scan.proofs.Spans.{LexemesFrom, next_from}
 use Rattle.ob0_text.specs.declared.edits.Indent.{Indent}
 use Rattle.ob0_text.specs.declared.edits.Indent.TheVariants as indent_by
 use Rattle.ob0_text.specs.Patches.{Cut, pieced}
@@ -111,7 +111,7 @@ module _ (indent : Indent) (text : List ℕ) where
   laid_kind (lexeme.Token k) at t ls here more a level broken ss from up =
       laid_solid at t ls here more a (record { lexeme = record { kind = lexeme.Token k; text = t }; role = next_role ss }) (next_line level ss) (drop 1 ss) from refl
 
-  pub laid_from : (rest : List Lexeme) (at : ℕ) → StandFrom text at rest [] → Laid at rest
+  pub laid_from : (rest : List Lexeme) (at : ℕ) → LexemesFrom text at rest [] → Laid at rest
   unfolding pieced
   laid_from [] at s = λ a level broken ss from up.
       let end : drop at text ≡ [] = s.rest in
@@ -140,7 +140,7 @@ module _ (indent : Indent) (text : List ℕ) where
   first_kind (lexeme.Token k) at t ls here following more level broken ss from up =
       first_solid at t ls here following (record { lexeme = record { kind = lexeme.Token k; text = t }; role = next_role ss }) (next_line level ss) (drop 1 ss) from refl
 
-  first_laid : (rest : List Lexeme) (at : ℕ) → StandFrom text at rest [] → FirstLaid at rest
+  first_laid : (rest : List Lexeme) (at : ℕ) → LexemesFrom text at rest [] → FirstLaid at rest
   unfolding pieced
   first_laid [] at s = λ level broken ss from up. pieced_here text from at [] [] ∙ s.rest
   first_laid (l ∷ ls) at s =
@@ -187,7 +187,7 @@ made_length indent text at (g ∷ gs) chain all =
 
 -- the gaps of a scanned text
 module _ (indent : Indent) (s : Scanned) (scan : IsScan s) (ss : List LineRole) where
-  from_start : StandFrom s.text 0 scan.lexemes []
+  from_start : LexemesFrom s.text 0 scan.lexemes []
   from_start = record { utf8 = scan.utf8; place = IsCharBoundary-start s.text scan.utf8; each = scan.lexed.each; rest = sym (append-nil (joined scan.lexemes) ∙ scan.lexed.whole) }
 
   pub all_chain : Chain 0 (map (gap_cut indent) (all_sites ss scan.lexemes))

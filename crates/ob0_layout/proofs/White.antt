@@ -9,7 +9,7 @@ use Rattle.ob0_scan.specs.declared.lexeme.LexemeKind.TheVariants as lexeme
 use Rattle.ob0_scan.specs.Classes.{Belongs, is_space}
 use Rattle.ob0_scan.specs.Lexed.{Lexeme, joined}
 use Rattle.ob0_scan.specs.Scanned.{Scanned, IsScan}
-use Rattle.ob0_scan.proofs.Spans.{StandFrom, next_from}
+use Rattle.ob0_scan.proofs.Spans.{LexemesFrom, next_from}
 use Rattle.ob0_text.specs.declared.edits.Indent.{Indent}
 use Rattle.ob0_text.specs.declared.edits.Indent.TheVariants as indent_by
 use Rattle.ob0_layout.specs.declared.gap.Gap.{Gap}
@@ -50,14 +50,14 @@ module _ (text : List ℕ) where
   white_kind (lexeme.Token k) at t ls here is more = λ before level broken ss from up w.
       All-cons (IsWhite text) _ _ w (more _ (next_line level ss) false (drop 1 ss) (at + length t) (omega arith) (empty (at + length t)))
 
-  white_from : (rest : List Lexeme) (at : ℕ) → StandFrom text at rest [] → AllWhite at rest
+  white_from : (rest : List Lexeme) (at : ℕ) → LexemesFrom text at rest [] → AllWhite at rest
   white_from [] at s = λ before level broken ss from up w. All-cons (IsWhite text) (record { start = from; end = at; gap = last_gap before }) [] w (All-nil (IsWhite text))
   white_from (l ∷ ls) at s =
       white_kind l.kind at l.text ls (s.rest ∙ append-nil (l.text ++ joined ls)) s.each.0.belongs (white_from ls (at + length l.text) (next_from text at l ls [] s))
 
 pub white_gaps : (s : Scanned) (scan : IsScan s) (ss : List LineRole) → All (IsWhite s.text) (all_sites ss scan.lexemes)
 white_gaps s scan ss =
-    let start : StandFrom s.text 0 scan.lexemes [] =
+    let start : LexemesFrom s.text 0 scan.lexemes [] =
     record { utf8 = scan.utf8; place = IsCharBoundary-start s.text scan.utf8; each = scan.lexed.each; rest = sym (append-nil (joined scan.lexemes) ∙ scan.lexed.whole) } in
     white_from s.text scan.lexemes 0 start None 0 true ss 0 (omega arith) (empty s.text 0)
 

@@ -18,8 +18,8 @@ tokens_from i [] = EndOfText ∷ []
 tokens_from i (k ∷ ks) = lexeme_of i k ∷ tokens_from (i + 1) ks
 
 -- the descent stops so in a text of these kinds of tokens
-abbrev pub StopsIn : List TokenKind → Stop → Type 0
-StopsIn kinds stop = DescendsText (tokens_from 0 kinds) stop
+abbrev pub DescendsKinds : List TokenKind → Stop → Type 0
+DescendsKinds kinds stop = DescendsText (tokens_from 0 kinds) stop
 
 -- a reserved word
 abbrev pub w : Reserved → TokenKind
@@ -52,13 +52,13 @@ times (suc n) ks = ks ++ times n ks
 
 -- the rows of syntax faults in docs/LANGUAGE.md
 pub record ExpectedRows : Type 0 where
-  pub empty : StopsIn [] (Expects 0 (expected.Token (w reserved.Module)))
+  pub empty : DescendsKinds [] (Expects 0 (expected.Token (w reserved.Module)))
   -- MODULE M; BEGIN x = 1 END M.
-  pub equals : StopsIn
+  pub equals : DescendsKinds
       (module_begins ++ (w reserved.Begin ∷ ident ∷ s symbol.Equal ∷ one ∷ module_ends))
       (Expects 5 (expected.Token (w reserved.End)))
   -- MODULE M; BEGIN x[0] END M.
-  pub selected : StopsIn (module_begins
+  pub selected : DescendsKinds (module_begins
       ++ (w reserved.Begin
       ∷ ident
       ∷ s symbol.LeftBracket
@@ -66,21 +66,21 @@ pub record ExpectedRows : Type 0 where
       ∷ s symbol.RightBracket
       ∷ module_ends)) (Expects 8 (expected.Token (s symbol.Becomes)))
   -- MODULE M; VAR x INTEGER; END M.
-  pub no_colon : StopsIn
+  pub no_colon : DescendsKinds
       (module_begins ++ (w reserved.Var ∷ ident ∷ ident ∷ s symbol.Semicolon ∷ module_ends))
       (Expects 5 (expected.Token (s symbol.Colon)))
   -- MODULE M; VAR x: ; END M.
-  pub no_type : StopsIn (module_begins
+  pub no_type : DescendsKinds (module_begins
       ++ (w reserved.Var ∷ ident ∷ s symbol.Colon ∷ s symbol.Semicolon ∷ module_ends))
       (Expects 6 expected.Type)
   -- MODULE M; END M. x
-  pub following_end : StopsIn (module_begins ++ (module_ends ++ (ident ∷ [])))
+  pub following_end : DescendsKinds (module_begins ++ (module_ends ++ (ident ∷ [])))
       (Expects 6 expected.EndOfText)
   -- MODULE M; BEGIN WriteLn END M
-  pub no_dot : StopsIn (module_begins ++ (w reserved.Begin ∷ ident ∷ w reserved.End ∷ ident ∷ []))
+  pub no_dot : DescendsKinds (module_begins ++ (w reserved.Begin ∷ ident ∷ w reserved.End ∷ ident ∷ []))
       (Expects 7 (expected.Token (s symbol.Dot)))
   -- MODULE M; VAR UNTIL: INTEGER; END M.
-  pub reserved_name : StopsIn (module_begins
+  pub reserved_name : DescendsKinds (module_begins
       ++ (w reserved.Var
       ∷ w reserved.Until
       ∷ s symbol.Colon
@@ -88,21 +88,21 @@ pub record ExpectedRows : Type 0 where
       ∷ s symbol.Semicolon
       ∷ module_ends)) (Expects 4 (expected.Token (w reserved.End)))
   -- MODULE M; BEGIN WriteLn END M.
-  pub whole : StopsIn (module_begins ++ (w reserved.Begin ∷ ident ∷ module_ends)) Done
+  pub whole : DescendsKinds (module_begins ++ (w reserved.Begin ∷ ident ∷ module_ends)) Done
 
 -- 100 of a construct inside one another are read, the 101st is too deep
 pub record DeepRows : Type 0 where
   -- MODULE M; BEGIN, 101 times IF TRUE THEN, 101 times END, END M.
-  pub ifs : StopsIn (module_begins
+  pub ifs : DescendsKinds (module_begins
       ++ (w reserved.Begin
       ∷ (times 101 (w reserved.If ∷ ident ∷ w reserved.Then ∷ [])
       ++ (times 101 (w reserved.End ∷ []) ++ module_ends)))) (Deep 304)
   -- MODULE M; 101 times PROCEDURE P; 101 times END P; END M.
-  pub procedures : StopsIn (module_begins
+  pub procedures : DescendsKinds (module_begins
       ++ (times 101 (w reserved.Procedure ∷ ident ∷ s symbol.Semicolon ∷ [])
       ++ (times 101 (w reserved.End ∷ ident ∷ s symbol.Semicolon ∷ []) ++ module_ends))) (Deep 303)
   -- MODULE M; VAR x: 101 times ARRAY 1 OF, INTEGER; END M.
-  pub arrays : StopsIn (module_begins
+  pub arrays : DescendsKinds (module_begins
       ++ (w reserved.Var
       ∷ ident
       ∷ s symbol.Colon

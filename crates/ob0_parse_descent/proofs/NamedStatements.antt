@@ -23,14 +23,14 @@ use Rattle.ob0_parse_descent.proofs.StatementParts.{alike}
 use Rattle.ob0_parse_descent.proofs.Apart.{name_not_mark}
 
 -- what parts begin after a tree, where it is this one
-record Behind {s : Sort} (t : Tree ℕ s) (w : List (Terminal ℕ)) (ps : List Part) : Type 0 where
+record After {s : Sort} (t : Tree ℕ s) (w : List (Terminal ℕ)) (ps : List Part) : Type 0 where
   other : Tree ℕ s
   left : List (Terminal ℕ)
   is : spell other ++ left ≡ spell t ++ w
   stops : Stops (level s) left
   begins : other ≡ t → left ≡ w → Begins ps w
 
-known : {s : Sort} {room : ℕ} {ps qs : List Part} {ts : List Token} {at next : ℕ} {after : List (Terminal ℕ)} (t : Tree ℕ s) → Taken t room ts at next → ((w : List (Terminal ℕ)) → SameHead (rest ts next) w → Begins ps (spell t ++ w) → Behind t w qs) → Refused qs (rest ts next) after → Refused ps (rest ts at) after
+known : {s : Sort} {room : ℕ} {ps qs : List Part} {ts : List Token} {at next : ℕ} {after : List (Terminal ℕ)} (t : Tree ℕ s) → Taken t room ts at next → ((w : List (Terminal ℕ)) → SameHead (rest ts next) w → Begins ps (spell t ++ w) → After t w qs) → Refused qs (rest ts next) after → Refused ps (rest ts at) after
 known {ps = ps} {qs = qs} {ts = ts} {next = next} {after = after} t p f r = record {
   passed = spell t ++ r.passed;
   fault = r.fault;
@@ -43,7 +43,7 @@ known {ps = ps} {qs = qs} {ts = ts} {next = next} {after = after} t p f r = reco
       r.never unseen (k.begins same.0 same.1);
 }
 
-fails_known : {s : Sort} {room : ℕ} {ps : List Part} {ts : List Token} {at next : ℕ} {e : ParseRefusal} (qs : List Part) → ((o : Stop) → StopsIn qs ts next o → StopsIn ps ts at o) → (t : Tree ℕ s) → Taken t room ts at next → ((w : List (Terminal ℕ)) → SameHead (rest ts next) w → Begins ps (spell t ++ w) → Behind t w qs) → FailsToRead qs ts next e → FailsToRead ps ts at e
+fails_known : {s : Sort} {room : ℕ} {ps : List Part} {ts : List Token} {at next : ℕ} {e : ParseRefusal} (qs : List Part) → ((o : Stop) → StopsIn qs ts next o → StopsIn ps ts at o) → (t : Tree ℕ s) → Taken t room ts at next → ((w : List (Terminal ℕ)) → SameHead (rest ts next) w → Begins ps (spell t ++ w) → After t w qs) → FailsToRead qs ts next e → FailsToRead ps ts at e
 fails_known qs g t p f q = fails_by g (λ after r. known t p f r) q
 
 -- whether an assignment or a call is read after a name
@@ -116,7 +116,7 @@ not_becomes w none z here h s e = not_at z h.head h.other 8 (e ∙ h.alike) (ome
 not_becomes w (one no_arguments) z here h s e = omega (arith, ap rank (head_of (sym here ∙ h.is) ∙ head_of (sym h.alike ∙ sym e)))
 not_becomes w (one (some_arguments c cs)) z here h s e = omega (arith, ap rank (head_of (sym here ∙ h.is) ∙ head_of (sym h.alike ∙ sym e)))
 
-following_value : {xs y : List (Terminal ℕ)} (room x : ℕ) (ss : Tree ℕ (items selector)) → xs ≡ Mark (kind.Symbol symbol.Becomes) ∷ y → (w : List (Terminal ℕ)) → SameHead xs w → Begins (node statement room ∷ []) (spell (designator x ss) ++ w) → Behind (designator x ss) w (value_parts room)
+following_value : {xs y : List (Terminal ℕ)} (room x : ℕ) (ss : Tree ℕ (items selector)) → xs ≡ Mark (kind.Symbol symbol.Becomes) ∷ y → (w : List (Terminal ℕ)) → SameHead xs w → Begins (node statement room ∷ []) (spell (designator x ss) ++ w) → After (designator x ss) w (value_parts room)
 following_value room x ss here w h (empty, z, e, n, s, b) = absurd (not_at z _ _ 8 (sym e) (omega arith) s)
 following_value room x ss here w h (branches c t es l, z, e, n, s, b) = absurd (name_mark (head_of e))
 following_value room x ss here w h (while_loop c t, z, e, n, s, b) = absurd (name_mark (head_of e))
@@ -141,7 +141,7 @@ assignment_fails_value {room = room} ss x p here q = fails_known (value_parts ro
 
 -- `:=` is missing after selectors
 
-following_selectors : (room x : ℕ) (f : Tree ℕ (item selector)) (fs : Tree ℕ (items selector)) (w : List (Terminal ℕ)) → Begins (node statement room ∷ []) (spell (designator x (more f fs)) ++ w) → Behind (designator x (more f fs)) w (token (kind.Symbol symbol.Becomes) ∷ [])
+following_selectors : (room x : ℕ) (f : Tree ℕ (item selector)) (fs : Tree ℕ (items selector)) (w : List (Terminal ℕ)) → Begins (node statement room ∷ []) (spell (designator x (more f fs)) ++ w) → After (designator x (more f fs)) w (token (kind.Symbol symbol.Becomes) ∷ [])
 following_selectors room x f fs w (empty, z, e, n, s, b) = absurd (not_at z _ _ 8 (sym e) (omega arith) s)
 following_selectors room x f fs w (branches c t es l, z, e, n, s, b) = absurd (name_mark (head_of e))
 following_selectors room x f fs w (while_loop c t, z, e, n, s, b) = absurd (name_mark (head_of e))
@@ -166,7 +166,7 @@ becomes_missing {room = room} {ts = ts} {m = m} x f fs p o = fails_known (token 
 
 -- the arguments of a call are refused
 
-following_call : (room x : ℕ) (ss : Tree ℕ (items selector)) (ts : List Token) (m : ℕ) → Other (Mark (kind.Symbol symbol.Becomes)) ts m → (w : List (Terminal ℕ)) → SameHead (rest ts m) w → Begins (node statement room ∷ []) (spell (designator x ss) ++ w) → Behind (designator x ss) w (node (maybe arguments) room ∷ [])
+following_call : (room x : ℕ) (ss : Tree ℕ (items selector)) (ts : List Token) (m : ℕ) → Other (Mark (kind.Symbol symbol.Becomes)) ts m → (w : List (Terminal ℕ)) → SameHead (rest ts m) w → Begins (node statement room ∷ []) (spell (designator x ss) ++ w) → After (designator x ss) w (node (maybe arguments) room ∷ [])
 following_call room x ss ts m o w h (empty, z, e, n, s, b) = absurd (not_at z _ _ 8 (sym e) (omega arith) s)
 following_call room x ss ts m o w h (branches c t es l, z, e, n, s, b) = absurd (name_mark (head_of e))
 following_call room x ss ts m o w h (while_loop c t, z, e, n, s, b) = absurd (name_mark (head_of e))

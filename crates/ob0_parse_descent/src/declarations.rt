@@ -5,7 +5,7 @@ ghost use Rattle.ob0_tree.specs.View.{section_of, further_section_of, formals_of
 ghost use Rattle.ob0_parse_descent.specs.Reading.{Reads, ReadsList, ReadsItem, ReadsTyped, SectionMayBegin};
 
 use crate::growth::add;
-use crate::parser::{Parsed, ParsedItem, Parser, opened};
+use crate::parser::{Parsed, ParsedItem, Parser, levels_inside};
 use ob0_scan::{Reserved, Symbol};
 use ob0_tree::{
     Block, Constant, Names, Procedure, Section, Statement, TypeDeclaration, Variables, WrittenType,
@@ -282,7 +282,7 @@ impl<'t> Parser<'t> {
         if !self.at_word(at, Reserved::Procedure) {
             return Ok(None);
         }
-        let inner = opened(at, room)?;
+        let inner = levels_inside(at, room)?;
         let (name, next) = self.identifier(at + 1)?;
         let (formals, next) = self.formals(next, inner)?;
         let start = self.expect_symbol(next, Symbol::Semicolon)?;

@@ -366,7 +366,7 @@ impl<'t> Parser<'t> {
         ensures { Reads factor_of room self.now.tokens.now at result }
     {
         if self.at_symbol(at, Symbol::LeftParen) {
-            return self.parenthesised(at, room);
+            return self.parenthesised_factor(at, room);
         }
         if self.at_symbol(at, Symbol::Not) {
             return self.negation(at, room);
@@ -386,11 +386,11 @@ impl<'t> Parser<'t> {
 
     /// `"(" expression ")"`
     #[cycle(expressions)]
-    fn parenthesised(&self, at: usize, room: u32) -> Parsed<Factor>
+    fn parenthesised_factor(&self, at: usize, room: u32) -> Parsed<Factor>
         requires { TokenIs (kind.Symbol symbol.LeftParen) self.now.tokens.now at true }
         ensures { Reads factor_of room self.now.tokens.now at result }
     {
-        let inner = opened(at, room)?;
+        let inner = levels_inside(at, room)?;
         let (expression, next) = self.expression(at + 1, inner)?;
         let next = self.expect_symbol(next, Symbol::RightParen)?;
         let boxed = Box::new(self.alloc, expression)?;
@@ -403,7 +403,7 @@ impl<'t> Parser<'t> {
         requires { TokenIs (kind.Symbol symbol.Not) self.now.tokens.now at true }
         ensures { Reads factor_of room self.now.tokens.now at result }
     {
-        let inner = opened(at, room)?;
+        let inner = levels_inside(at, room)?;
         let (factor, next) = self.factor(at + 1, inner)?;
         let boxed = Box::new(self.alloc, factor)?;
         Ok((Factor::Not(boxed), next))
@@ -435,7 +435,7 @@ impl<'t> Parser<'t> {
             return Ok(Some((Selector::Field(name), next)));
         }
         if self.at_symbol(at, Symbol::LeftBracket) {
-            let inner = opened(at, room)?;
+            let inner = levels_inside(at, room)?;
             let (index, next) = self.expression(at + 1, inner)?;
             let next = self.expect_symbol(next, Symbol::RightBracket)?;
             return Ok(Some((Selector::Index(index), next)));
@@ -515,7 +515,7 @@ pub fn missing<T>(token: usize, expected: Expected) -> Result<T, ParseRefusal>
 }
 
 /// The levels that are left inside the construct that this token opens.
-pub(crate) fn opened(at: usize, room: u32) -> Result<u32, ParseRefusal>
+pub(crate) fn levels_inside(at: usize, room: u32) -> Result<u32, ParseRefusal>
     ensures { Opens at room result }
 {
     if room == 0 {

@@ -9,7 +9,7 @@ ghost use Rattle.ob0_parse_descent.specs.Follow.{opens_expression};
 ghost use Rattle.ob0_parse_descent.specs.Reading.{Reads, ReadsList, ReadsItem, TokenIs, NameIs};
 
 use crate::growth::add;
-use crate::parser::{Parsed, ParsedItem, Parser, missing, opened};
+use crate::parser::{Parsed, ParsedItem, Parser, missing, levels_inside};
 use crate::refusal::Expected;
 use ob0_scan::{Reserved, Symbol, TokenKind};
 use ob0_tree::{Assignment, Call, Elsif, Expression, If, Repeat, Statement, While};
@@ -149,7 +149,7 @@ impl<'t> Parser<'t> {
         requires { TokenIs (kind.Reserved reserved.If) self.now.tokens.now at true }
         ensures { Reads statement_of room self.now.tokens.now at result }
     {
-        let inner = opened(at, room)?;
+        let inner = levels_inside(at, room)?;
         let (condition, next) = self.expression(at + 1, inner)?;
         let start = self.expect_word(next, Reserved::Then)?;
         let (then, next) = self.sequence(start, inner)?;
@@ -216,7 +216,7 @@ impl<'t> Parser<'t> {
         requires { TokenIs (kind.Reserved reserved.While) self.now.tokens.now at true }
         ensures { Reads statement_of room self.now.tokens.now at result }
     {
-        let inner = opened(at, room)?;
+        let inner = levels_inside(at, room)?;
         let (condition, next) = self.expression(at + 1, inner)?;
         let start = self.expect_word(next, Reserved::Do)?;
         let (body, next) = self.sequence(start, inner)?;
@@ -231,7 +231,7 @@ impl<'t> Parser<'t> {
         requires { TokenIs (kind.Reserved reserved.Repeat) self.now.tokens.now at true }
         ensures { Reads statement_of room self.now.tokens.now at result }
     {
-        let inner = opened(at, room)?;
+        let inner = levels_inside(at, room)?;
         let (body, next) = self.sequence(at + 1, inner)?;
         let start = self.expect_word(next, Reserved::Until)?;
         let (condition, end) = self.expression(start, inner)?;

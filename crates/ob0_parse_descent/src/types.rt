@@ -7,7 +7,7 @@ ghost use Rattle.ob0_tree.specs.View.{type_of, fields_of, further_fields_of_grou
 ghost use Rattle.ob0_parse_descent.specs.Reading.{Reads, ReadsItem, TokenIs};
 
 use crate::growth::add;
-use crate::parser::{Parsed, ParsedItem, Parser, missing, opened};
+use crate::parser::{Parsed, ParsedItem, Parser, missing, levels_inside};
 use crate::refusal::Expected;
 use ob0_scan::{Reserved, Symbol};
 use ob0_tree::{ArrayType, FieldGroup, Fields, RecordType, WrittenType};
@@ -37,7 +37,7 @@ impl<'t> Parser<'t> {
         requires { TokenIs (kind.Reserved reserved.Array) self.now.tokens.now at true }
         ensures { Reads type_of room self.now.tokens.now at result }
     {
-        let inner = opened(at, room)?;
+        let inner = levels_inside(at, room)?;
         let (size, next) = self.expression(at + 1, inner)?;
         let start = self.expect_word(next, Reserved::Of)?;
         let (element, end) = self.written_type(start, inner)?;
@@ -51,7 +51,7 @@ impl<'t> Parser<'t> {
         requires { TokenIs (kind.Reserved reserved.Record) self.now.tokens.now at true }
         ensures { Reads type_of room self.now.tokens.now at result }
     {
-        let inner = opened(at, room)?;
+        let inner = levels_inside(at, room)?;
         let mut groups = Vec::new(self.alloc);
         let (first, mut next) = self.fields(at + 1, inner)?;
         add(&mut groups, first)?;

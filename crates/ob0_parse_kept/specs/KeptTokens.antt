@@ -56,8 +56,8 @@ pub record AreKept (ts : List Token) (k : Kept) : Type 0 where
 -- ---- another text
 
 -- a procedure of the old text is the other one in the new text
-abbrev pub Moves : SameTokens → KeptProcedure → KeptProcedure → Type 0
-Moves same a b =
+abbrev pub CarriesTo : SameTokens → KeptProcedure → KeptProcedure → Type 0
+CarriesTo same a b =
     (old new : List Token) → HasSameTokens same old new → IsWaiting old a → IsWaiting new b
 
 -- one procedure of the old text, after those that are kept already, gives these
@@ -122,8 +122,8 @@ pub record IsTakenAt (ts : List Token) (at : ℕ) (x : Procedure × ℕ) : Type 
   pub first : first_of (procedure_of x.0) ≡ at
 
 -- it is one of those that wait
-abbrev pub IsPlaced : List KeptProcedure → ℕ → Procedure × ℕ → Type 0
-IsPlaced waiting at x = (ts : List Token) → Each (IsWaiting ts) waiting → IsTakenAt ts at x
+abbrev pub IsTakenFrom : List KeptProcedure → ℕ → Procedure × ℕ → Type 0
+IsTakenFrom waiting at x = (ts : List Token) → Each (IsWaiting ts) waiting → IsTakenAt ts at x
 
 -- those that are left wait where they did
 abbrev pub StayWaiting : List KeptProcedure → List KeptProcedure → Type 0

@@ -6,7 +6,7 @@ ghost use Rattle.ob0_scan.specs.Scanned.{Scanned};
 ghost use Rattle.ob0_scan.specs.declared.lexeme.Token.{Token};
 ghost use Rattle.ob0_tree.specs.Parsed.{IsParsed, parsed_by};
 ghost use Rattle.ob0_scan.specs.SameKinds.{HasSameTokens};
-ghost use Rattle.ob0_parse_kept.specs.KeptTokens.{AreKept, CarriesAll, CarriesMade, CarriesAllMade, CarriesOne, IsMadeAt, IsPlaced, IsTakenAt, IsWaiting, Moves, StayWaiting};
+ghost use Rattle.ob0_parse_kept.specs.KeptTokens.{AreKept, CarriesAll, CarriesMade, CarriesAllMade, CarriesOne, IsMadeAt, IsTakenFrom, IsTakenAt, IsWaiting, CarriesTo, StayWaiting};
 
 use crate::moving::{self, Move};
 use ob0_scan::SameTokens;
@@ -144,13 +144,13 @@ fn made_at(procedure: Procedure) -> Option<KeptProcedure>
 impl KeptProcedure {
     /// The procedure in another text, where that has its tokens.
     fn after(self, same: SameTokens) -> Option<KeptProcedure>
-        ensures { IfSome result (Moves same self) }
+        ensures { IfSome result (CarriesTo same self) }
     {
         if self.next <= same.front {
             return Some(self);
         }
-        let at = moved(self.at, same)?;
-        let next = moved(self.next, same)?;
+        let at = place_after_change(self.at, same)?;
+        let next = place_after_change(self.next, same)?;
         Some(KeptProcedure {
             procedure: self.procedure,
             at,
@@ -160,7 +160,7 @@ impl KeptProcedure {
 }
 
 /// Where a token after a change is, which was at this index.
-fn moved(index: usize, same: SameTokens) -> Option<usize>
+fn place_after_change(index: usize, same: SameTokens) -> Option<usize>
     ensures { IfSome result (λ place. (same.old_back ≤ index)
         × (place + same.old_back ≡ index + same.back)) }
 {
@@ -171,11 +171,11 @@ fn moved(index: usize, same: SameTokens) -> Option<usize>
 /// Takes the kept procedure that begins at this token, if there is one. Those before it are dropped.
 pub fn kept_at(waiting: &mut Vec<KeptProcedure>, at: usize) -> Option<(Procedure, usize)>
     ensures stay { StayWaiting waiting.old.items waiting.new.items }
-    ensures placed { IfSome result (IsPlaced waiting.old.items at) }
+    ensures placed { IfSome result (IsTakenFrom waiting.old.items at) }
 {
     while let Some(kept) = pop_by(waiting, at) {
         if kept.at == at {
-            return Some(placed(kept));
+            return Some(put_in_place(kept));
         }
     }
     None
@@ -197,7 +197,7 @@ fn pop_by(waiting: &mut Vec<KeptProcedure>, at: usize) -> Option<KeptProcedure>
 }
 
 /// The procedure and the index of the token after it. Leaves that aren't in place are moved.
-fn placed(kept: KeptProcedure) -> (Procedure, usize)
+fn put_in_place(kept: KeptProcedure) -> (Procedure, usize)
     ensures { (ts : List Token) → IsWaiting ts kept → IsTakenAt ts kept.at result }
 {
     let KeptProcedure {

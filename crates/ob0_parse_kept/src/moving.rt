@@ -43,11 +43,11 @@ fn compound(c: &mut Compound, by: Move)
     ensures { compound_of c.new ≡ moved by (compound_of c.old) }
 {
     simple(&mut c.left, by);
-    compared(&mut c.compared, by);
+    comparison_if_any(&mut c.compared, by);
 }
 
 #[cycle(expressions)]
-fn compared(c: &mut Option<Box<Comparison>>, by: Move)
+fn comparison_if_any(c: &mut Option<Box<Comparison>>, by: Move)
     ensures { compared_of (back-Compound-compared c.new)
         ≡ moved by (compared_of (back-Compound-compared c.old)) }
 {
@@ -195,13 +195,13 @@ fn statement(s: &mut Statement, by: Move)
         Statement::Assign(a) => assignment(a, by),
         Statement::Call(c) => call(c, by),
         Statement::If(i) => branches(i, by),
-        Statement::While(w) => repeated_while(w, by),
-        Statement::Repeat(r) => repeated_until(r, by),
+        Statement::While(w) => while_loop(w, by),
+        Statement::Repeat(r) => repeat_loop(r, by),
     }
 }
 
 #[cycle(statements)]
-fn repeated_while(w: &mut While, by: Move)
+fn while_loop(w: &mut While, by: Move)
     ensures condition { expression_of w.new.condition ≡ moved by (expression_of w.old.condition) }
     ensures body { sequence_in w.new.body ≡ moved by (sequence_in w.old.body) }
 {
@@ -210,7 +210,7 @@ fn repeated_while(w: &mut While, by: Move)
 }
 
 #[cycle(statements)]
-fn repeated_until(r: &mut Repeat, by: Move)
+fn repeat_loop(r: &mut Repeat, by: Move)
     ensures body { sequence_in r.new.body ≡ moved by (sequence_in r.old.body) }
     ensures condition { expression_of r.new.condition ≡ moved by (expression_of r.old.condition) }
 {

@@ -95,17 +95,17 @@ module _ (unit : counting.Unit) (text : List ℕ) (place : Position) (new : Name
   pub field_answered : (r : Resolution) → IsWellTyped r → IsIdentifier new → FieldFree (named_tree_of r.module_read) k f new → FreeFieldKeepsModules → RenamedAtTokens → RenamedWordsSpell
       → ((name : List ℕ) → IsIdentifier name → ReplacesName name (name_word name ∷ [])) → AreNames r.module_read.source.tokens 0 (field_tokens_to_rename r k f new)
       → (result : Result (Vec Edit Global) EditRefusal) → Edited unit text new r.module_read.source (field_tokens_to_rename r k f new) result → AnswersForField (requested_field r) k f result
-  field_answered r well id free keeps by_tokens spells stand names (Ok edits) made =
+  field_answered r well id free keeps by_tokens spells identified names (Ok edits) made =
       let m = r.module_read in
       record {
         identifier = id;
         free = free;
         writes =
-            written unit text place new k r (field_renamed (named_tree_of m) k f new) (field_tokens_to_rename r k f new) id stand
+            written unit text place new k r (field_renamed (named_tree_of m) k f new) (field_tokens_to_rename r k f new) id identified
             (of_rewritten m (field_renamed (named_tree_of m) k f new) (field_tokens_to_rename r k f new) new well.resolved.parsed spells names (field_there r k f new well by_tokens))
             (keeps (named_tree_of m) k f new free well.well_typed) edits made;
       }
-  field_answered r well id free keeps by_tokens spells stand names (Err why) made =
+  field_answered r well id free keeps by_tokens spells identified names (Err why) made =
       elim made.refusals [
         | inl e ↦ inr (subst (IsRefusedToField (requested_field r) k f) (sym e) (id, free, made.too_long (ap Err e)))
         | inr e ↦ inl e

@@ -4,7 +4,7 @@ pub mod Unrefused
 pub mod Named
 pub mod Owned
 pub mod Rewritten
-pub mod Told
+pub mod Occurring
 pub mod Spelled
 pub mod Outcomes
 pub mod FieldOutcomes

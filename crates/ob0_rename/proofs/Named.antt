@@ -7,13 +7,13 @@ use Rattle.ob0_tree.specs.Order.{AreIdentifiers, Ascending}
 use Rattle.ob0_edits.specs.Changed as changed
 use Rattle.ob0_edits.specs.Replaced.{AreNames}
 use Rattle.ob0_edits.proofs.MadeWithout.{lower}
-use Rattle.ob0_scope.specs.NamesAtPlaces as standing
+use Rattle.ob0_scope.specs.NamesAtPlaces as names_at
 
 pub are_names : (tokens : List Token) (low : ℕ) (places : List ℕ) (high : ℕ) → Ascending low places high → AreIdentifiers tokens places → AreNames tokens low places
 are_names tokens low [] high up are = tt
 are_names tokens low (p ∷ ps) high up are = (up.0, are.0.0, are.0.1 _, lower tokens (p + 1) (suc p) ps (omega arith) (are_names tokens (p + 1) ps high up.1 are.1))
 
-pub among_same : (k : ℕ) (places : List ℕ) → changed.is_among k places ≡ standing.is_among k places
+pub among_same : (k : ℕ) (places : List ℕ) → changed.is_among k places ≡ names_at.is_among k places
 among_same k [] = refl
 among_same k (p ∷ ps) = ap (λ b. (k == p) || b) (among_same k ps)
 

@@ -35,9 +35,9 @@ use Rattle.ob0_scope.proofs.Written.{renamed_there}
 use Rattle.ob0_tree.specs.Module.{ModuleOf}
 use Rattle.ob0_rename.specs.Answers.{RenameAnswers, AnswersDeclaration, IsRefused, IsRefusedTo, WritesName}
 use Rattle.ob0_rename.specs.Renaming.{NamesDeclaration, Renaming, by_ordinal, by_token, declaration, meant_at, meant_by, declaring_token, is_declared_as, predeclared, token_range, tokens_to_rename}
-use Rattle.ob0_rename.proofs.Owned.{other_stands}
+use Rattle.ob0_rename.proofs.Owned.{other_is_declared}
 use Rattle.ob0_rename.proofs.Rewritten.{of_renamed}
-use Rattle.ob0_rename.proofs.Told.{occurrence_stands}
+use Rattle.ob0_rename.proofs.Occurring.{occurrence_is_there}
 
 -- what is known of edits at places, where the text is scanned so
 pub record Edited (unit : counting.Unit) (text : List ℕ) (new : Name) (s : Scanned) (places : List ℕ) (result : Result (Vec Edit Global) EditRefusal) : Type 0 where
@@ -67,23 +67,23 @@ module _ (unit : counting.Unit) (text : List ℕ) (place : Position) (new : Name
       → IsRefusedTo (requested r) d why
   captured r is id (reports.Duplicate other) why first named duplicate occurrence =
       let m = r.module_read in
-      let stands = other_stands m d new other (sym named) in
-      let range = ap (λ o. option_map (token_range (requested r)) (option_and_then (declaring_token m) o)) (sym named) ∙ ap (option_map (token_range (requested r))) stands.1 in
-      subst (IsRefusedTo (requested r) d) (sym (duplicate other stands.0 refl stands.1)) (id, sym first, range)
+      let is_there = other_is_declared m d new other (sym named) in
+      let range = ap (λ o. option_map (token_range (requested r)) (option_and_then (declaring_token m) o)) (sym named) ∙ ap (option_map (token_range (requested r))) is_there.1 in
+      subst (IsRefusedTo (requested r) d) (sym (duplicate other is_there.0 refl is_there.1)) (id, sym first, range)
   captured r is id (reports.Occurrence k) why first named duplicate occurrence =
       let m = r.module_read in
       let bound = bindings (renamed (named_tree_of m) d new) in
       let found = difference_of (is_duplicate (named_tree_of m) d new) (first_difference bound (bindings (named_tree_of m))) k (sym first) in
-      let stands = occurrence_stands r bound k is found in
-      subst (IsRefusedTo (requested r) d) (sym (occurrence k stands.0 refl stands.1)) (id, (k, sym first, ap (option_map (token_range (requested r))) stands.1))
+      let is_there = occurrence_is_there r bound k is found in
+      subst (IsRefusedTo (requested r) d) (sym (occurrence k is_there.0 refl is_there.1)) (id, (k, sym first, ap (option_map (token_range (requested r))) is_there.1))
 
   -- edits at places leave a text of a tree that the new name makes there, where that tree is well-typed and runs as the module
   pub written : (r : Resolution) (tree : Tree Name module_text) (places : List ℕ) → IsIdentifier new → ((name : List ℕ) → IsIdentifier name → ReplacesName name (name_word name ∷ []))
       → ((after : Scanned) → IsScan after → words_of after ≡ changed_words (at_each places (name_word new ∷ [])) 0 (words_of r.module_read.source) → ModuleOf after tree)
       → WellTyped tree × SameRuns tree (named_tree_of r.module_read)
       → (edits : Vec Edit Global) → Edited unit text new r.module_read.source places (Ok edits) → WritesName (requested r) places tree edits.items
-  written r tree places id stand leaves kept edits made =
-      let words = made.leaves (name_word new ∷ []) (stand new id) in
+  written r tree places id identified leaves kept edits made =
+      let words = made.leaves (name_word new ∷ []) (identified new id) in
       record {
         short = made.short;
         changes = made.edits;
@@ -98,17 +98,17 @@ module _ (unit : counting.Unit) (text : List ℕ) (place : Position) (new : Name
   pub answered : (r : Resolution) → IsWellTyped r → IsIdentifier new → Free (named_tree_of r.module_read) d new → FreeKeepsModules → RenamedWordsSpell
       → ((name : List ℕ) → IsIdentifier name → ReplacesName name (name_word name ∷ [])) → AreNames r.module_read.source.tokens 0 (tokens_to_rename r.module_read d new)
       → (result : Result (Vec Edit Global) EditRefusal) → Edited unit text new r.module_read.source (tokens_to_rename r.module_read d new) result → AnswersDeclaration (requested r) d result
-  answered r well id free keeps spells stand names (Ok edits) made =
+  answered r well id free keeps spells identified names (Ok edits) made =
       let m = r.module_read in
       record {
         identifier = id;
         free = free;
         writes =
-            written r (renamed (named_tree_of m) d new) (tokens_to_rename m d new) id stand
+            written r (renamed (named_tree_of m) d new) (tokens_to_rename m d new) id identified
             (of_renamed m d new well.resolved.parsed (once_of (named_tree_of m) well.well_typed) spells (renamed_there r d well.resolved) names)
             (keeps (named_tree_of m) d new free well.well_typed) edits made;
       }
-  answered r well id free keeps spells stand names (Err why) made =
+  answered r well id free keeps spells identified names (Err why) made =
       elim made.refusals [
         | inl e ↦ inr (subst (IsRefusedTo (requested r) d) (sym e) (id, free, made.too_long (ap Err e)))
         | inr e ↦ inl e

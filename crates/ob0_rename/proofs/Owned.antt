@@ -140,8 +140,8 @@ module _ (m : Parsed) where
     own_free e once = let found = declared_by e in own_name_free d new (named_tree_of m) found.1.ordinal (all_so e) once
 
     -- another declaration of a block has a token
-    pub other_stands : (other : ℕ) → namesake (named_tree_of m) d new ≡ Some other → (token : ℕ) × (declaring_token m other ≡ Some token)
-    other_stands other e =
+    pub other_is_declared : (other : ℕ) → namesake (named_tree_of m) d new ≡ Some other → (token : ℕ) × (declaring_token m other ≡ Some token)
+    other_is_declared other e =
         let ds = declaring_tokens m in
         let within = subst (OneWithin 7 (after_block 7 (module_block (named_tree_of m)))) e (namesake_within (named_tree_of m) d new) in
         let count : after_block 7 (module_block (named_tree_of m)) ≡ 7 + length ds =

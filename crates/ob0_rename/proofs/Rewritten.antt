@@ -18,7 +18,7 @@ use Rattle.ob0_edits.specs.OfTrees.{RenamedWordsSpell, number_at, numbered_token
 use Rattle.ob0_edits.specs.Replaced.{AreNames}
 use Rattle.ob0_edits.specs.Words.{word_lexeme}
 use Rattle.ob0_edits.specs.Written.{name_word}
-use Rattle.ob0_scope.specs.NamesAtPlaces as standing
+use Rattle.ob0_scope.specs.NamesAtPlaces as names_at
 use Rattle.ob0_scope.specs.NamesAtPlaces.{IsRenamedAt, tokens_bound}
 use Rattle.ob0_rename.specs.Renaming.{is_declared_as, tokens_to_rename}
 use Rattle.ob0_rename.proofs.Named.{among_same}
@@ -57,7 +57,7 @@ lexemes_same text (t ∷ ts) = ap (λ xs. token_lexeme text t ∷ xs) (lexemes_s
 -- the module with the new name at these tokens
 
 pub at_places : (m : Parsed) (new : Name) (places : List ℕ) (k : ℕ)
-    → renamed_at (words_of m.source) places new k ≡ (if standing.is_among k places then new else place.text_at m.source k)
+    → renamed_at (words_of m.source) places new k ≡ (if names_at.is_among k places then new else place.text_at m.source k)
 at_places m new places k = λ i. if among_same k places i then new else text_same m.source k i
 
 renamed_there : (m : Parsed) (d : ℕ) (new : Name) (own : Bool) → is_declared_as m d new ≡ own → declared_once (named_tree_of m) ≡ true → IsRenamedAt m d (tokens_bound m d true)

@@ -57,34 +57,34 @@ word_kind s k = of_list s.tokens k
 
 -- what declares is an identifier
 
-declaring_stand : (ts : List Token) (xs : List (Role × ℕ)) → AreIdentifiers ts (names_only xs) → AreIdentifiers ts (declaring_only xs)
-declaring_stand ts [] h = tt
-declaring_stand ts ((role.Declaring, n) ∷ xs) h = (h.0, declaring_stand ts xs h.1)
-declaring_stand ts ((role.LookedUp, n) ∷ xs) h = declaring_stand ts xs h.1
-declaring_stand ts ((role.ClosingName, n) ∷ xs) h = declaring_stand ts xs h.1
-declaring_stand ts ((role.FieldName, n) ∷ xs) h = declaring_stand ts xs h.1
-declaring_stand ts ((role.ModuleName, n) ∷ xs) h = declaring_stand ts xs h.1
+declaring_are_identifiers : (ts : List Token) (xs : List (Role × ℕ)) → AreIdentifiers ts (names_only xs) → AreIdentifiers ts (declaring_only xs)
+declaring_are_identifiers ts [] h = tt
+declaring_are_identifiers ts ((role.Declaring, n) ∷ xs) h = (h.0, declaring_are_identifiers ts xs h.1)
+declaring_are_identifiers ts ((role.LookedUp, n) ∷ xs) h = declaring_are_identifiers ts xs h.1
+declaring_are_identifiers ts ((role.ClosingName, n) ∷ xs) h = declaring_are_identifiers ts xs h.1
+declaring_are_identifiers ts ((role.FieldName, n) ∷ xs) h = declaring_are_identifiers ts xs h.1
+declaring_are_identifiers ts ((role.ModuleName, n) ∷ xs) h = declaring_are_identifiers ts xs h.1
 
-one_stands : (ts : List Token) (places : List ℕ) (j k : ℕ) → AreIdentifiers ts places → slice_get places j ≡ Some k → order.IsIdentifierToken ts k
-one_stands ts [] j k h e = absurd (cc)
-one_stands ts (p ∷ ps) zero k h e = let same : p ≡ k = cc in subst (order.IsIdentifierToken ts) same h.0
-one_stands ts (p ∷ ps) (suc j) k h e = one_stands ts ps j k h.1 e
+one_is_identifier : (ts : List Token) (places : List ℕ) (j k : ℕ) → AreIdentifiers ts places → slice_get places j ≡ Some k → order.IsIdentifierToken ts k
+one_is_identifier ts [] j k h e = absurd (cc)
+one_is_identifier ts (p ∷ ps) zero k h e = let same : p ≡ k = cc in subst (order.IsIdentifierToken ts) same h.0
+one_is_identifier ts (p ∷ ps) (suc j) k h e = one_is_identifier ts ps j k h.1 e
 
 -- an identifier is written as one
 pub spelled_at : (m : Parsed) (k : ℕ) → IsScan m.source → order.IsIdentifierToken m.source.tokens k → IsIdentifier (place.text_at m.source k)
-spelled_at m k scan stands =
+spelled_at m k scan is_there =
     let each : EachNamed (words_of m.source) = subst EachNamed (sym (scan_words m.source scan)) (words_named scan.lexemes [] scan.lexed.each) in
-    let low : k < length (words_of m.source) = omega (arith, stands.0, length-map m.source.tokens (read_in m.source.text)) in
-    subst IsIdentifier (text_same m.source k) (named_word (words_of m.source) k each low (word_kind m.source k ∙ stands.1 _))
+    let low : k < length (words_of m.source) = omega (arith, is_there.0, length-map m.source.tokens (read_in m.source.text)) in
+    subst IsIdentifier (text_same m.source k) (named_word (words_of m.source) k each low (word_kind m.source k ∙ is_there.1 _))
 
 pub own_identifier : (m : Parsed) (d : ℕ) (new : Name) → IsParsed m → IsScan m.source → is_declared_as m d new ≡ true → IsIdentifier new
 own_identifier m d new is scan e =
     let found = declared_by m d new e in
     let by : IsDeclaredBy m d new found.0 = found.1 in
-    let stands = one_stands m.source.tokens (declaring_tokens m) (d - 7) found.0 (declaring_stand m.source.tokens (identifiers role.Declaring (tree_of m)) (leaves_are_identifiers m is)) by.there in
-    subst IsIdentifier by.written (spelled_at m found.0 scan stands)
+    let is_there = one_is_identifier m.source.tokens (declaring_tokens m) (d - 7) found.0 (declaring_are_identifiers m.source.tokens (identifiers role.Declaring (tree_of m)) (leaves_are_identifiers m is)) by.there in
+    subst IsIdentifier by.written (spelled_at m found.0 scan is_there)
 
 -- so is a field that a place is on
 pub field_spelled : (m : Parsed) (found : Option (ℕ × ℕ)) → IsScan m.source → IfSome found (λ x. order.IsIdentifierToken m.source.tokens x.0) → IfSome found (λ x. IsIdentifier (place.text_at m.source x.0))
-field_spelled m None scan stand = tt
-field_spelled m (Some x) scan stand = spelled_at m x.0 scan stand
+field_spelled m None scan identified = tt
+field_spelled m (Some x) scan identified = spelled_at m x.0 scan identified

@@ -163,7 +163,7 @@ object_by l (a_procedure signature) = a_procedure (map (formal_by l) signature)
 object_by l (a_standard p) = a_standard p
 
 abbrev pub named_by : FieldNames → (Name → Option (Object Shape Signature)) → Typed Name
-named_by l stands = named (λ x. option_map (object_by l) (stands x))
+named_by l objects = named (λ x. option_map (object_by l) (objects x))
 
 pub value_type-by : (l : FieldNames) (v : Value) → value_type v ≡ option_map (shape_by l) (value_type v)
 value_type-by l (number n) = refl

@@ -9,7 +9,7 @@ use Rattle.ob0_tree.specs.declared.tree.AddOperator.TheVariants as add_operator
 use Rattle.ob0_tree.specs.declared.tree.MultiplyOperator.{MultiplyOperator}
 use Rattle.ob0_tree.specs.declared.tree.MultiplyOperator.TheVariants as multiply_operator
 use Rattle.ob0_types_rules.specs.Expressions.{element_step}
-use Rattle.ob0_values.specs.Values.{Index, Outcome, Overflow, Step, Stuck, Value, add, add_is_settled, at_index, compare_numbers, count_values, divided, divided_by, elements, ends, fits, gives, in_range, multiply, multiply_is_settled, negated, number, or_stuck, quotient, relate, remainder, same_truth, signed, truth, ◌>>=◌}
+use Rattle.ob0_values.specs.Values.{Index, Outcome, Overflow, Step, Stuck, Value, add, add_is_settled, at_index, compare_numbers, count_values, divided, divided_by, elements, ends, fits, gives, in_range, multiply, multiply_is_settled, negate, number, or_stuck, quotient, relate, remainder, same_truth, apply_sign, truth, ◌>>=◌}
 use Rattle.ob0_types_fields.specs.Fields.{FieldNames}
 use Rattle.ob0_rename_laws.proofs.Values.{Finds, count_values-by, step_by, tagged, to_index, value_by}
 
@@ -63,15 +63,15 @@ relate-follows l relation.Equal (truth a) (truth b) = (truth (same_truth a b), r
 relate-follows l relation.NotEqual (truth a) (truth b) = (truth _, refl, refl)
 relate-follows l _ _ _ = inl refl
 
-pub signed-follows : (l : FieldNames) (s : Option Sign) (v : Value) → ValuesFollow l (signed s (value_by tagged v)) (signed s (value_by l v))
-signed-follows l None v = (v, refl, refl)
-signed-follows l (Some sign.Plus) (number a) = in_range-follows l a
-signed-follows l (Some sign.Minus) (number a) = in_range-follows l (neg_ℤ a)
-signed-follows l _ _ = inl refl
+pub apply_sign-follows : (l : FieldNames) (s : Option Sign) (v : Value) → ValuesFollow l (apply_sign s (value_by tagged v)) (apply_sign s (value_by l v))
+apply_sign-follows l None v = (v, refl, refl)
+apply_sign-follows l (Some sign.Plus) (number a) = in_range-follows l a
+apply_sign-follows l (Some sign.Minus) (number a) = in_range-follows l (neg_ℤ a)
+apply_sign-follows l _ _ = inl refl
 
-pub negated-follows : (l : FieldNames) (v : Value) → ValuesFollow l (negated (value_by tagged v)) (negated (value_by l v))
-negated-follows l (truth b) = (truth _, refl, refl)
-negated-follows l _ = inl refl
+pub negate-follows : (l : FieldNames) (v : Value) → ValuesFollow l (negate (value_by tagged v)) (negate (value_by l v))
+negate-follows l (truth b) = (truth _, refl, refl)
+negate-follows l _ = inl refl
 
 -- an operation that its left side settles is settled in both runs
 

@@ -56,8 +56,8 @@ newest-as : (l : FieldNames) (scene : Scene) → newest (env_as l scene) ≡ opt
 newest-as l [] = refl
 newest-as l (b ∷ scene) = refl
 
-pub stands-as : (l : FieldNames) (scene : Scene) (x : Name) → newest (from_binding as_names (env_as l scene) x) ≡ option_map (thing_by l (code_by l)) (newest_thing (scene_from scene x))
-stands-as l scene x = ap newest (from_binding-as l scene x) ∙ newest-as l (scene_from scene x)
+pub object-as : (l : FieldNames) (scene : Scene) (x : Name) → newest (from_binding as_names (env_as l scene) x) ≡ option_map (thing_by l (code_by l)) (newest_thing (scene_from scene x))
+object-as l scene x = ap newest (from_binding-as l scene x) ∙ newest-as l (scene_from scene x)
 
 -- how arguments are passed
 
@@ -84,7 +84,7 @@ passing-as l (Some (procedure_thing c)) = λ i. Some (a_procedure ((ap formal_mo
 passing-as l (Some (standard_thing p)) = refl
 
 pub meanings-as : (l : FieldNames) (scene : Scene) → statement_meanings as_names (env_as l scene) ≡ active l (things_in scene)
-meanings-as l scene = λ i. named (λ x. (ap passing (stands-as l scene x) ∙ passing-as l (newest_thing (scene_from scene x))) i)
+meanings-as l scene = λ i. named (λ x. (ap passing (object-as l scene x) ∙ passing-as l (newest_thing (scene_from scene x))) i)
 
 -- constants and types
 
@@ -115,10 +115,10 @@ type-as l (Some (procedure_thing c)) = refl
 type-as l (Some (standard_thing p)) = refl
 
 pub constants-as : (l : FieldNames) (scene : Scene) (x : Name) → constant_of (newest (from_binding as_names (env_as l scene) x)) ≡ constant_of (objects_in scene x)
-constants-as l scene x = ap constant_of (stands-as l scene x) ∙ constant-as l (newest_thing (scene_from scene x))
+constants-as l scene x = ap constant_of (object-as l scene x) ∙ constant-as l (newest_thing (scene_from scene x))
 
 pub types-as : (l : FieldNames) (scene : Scene) (x : Name) → type_of_name (newest (from_binding as_names (env_as l scene) x)) ≡ option_map (shape_by l) (type_of_name (objects_in scene x))
-types-as l scene x = ap type_of_name (stands-as l scene x) ∙ type-as l (newest_thing (scene_from scene x))
+types-as l scene x = ap type_of_name (object-as l scene x) ∙ type-as l (newest_thing (scene_from scene x))
 
 pub value-as : (l : FieldNames) (scene : Scene) (e : Tree Name expression) → constant_value (meanings as_names (env_as l scene)) e ≡ constant_value (named (objects_in scene)) e
 value-as l scene e = constant_value-alike (λ x. newest (from_binding as_names (env_as l scene) x)) (objects_in scene) (constants-as l scene) e

@@ -4,7 +4,7 @@ use Rattle.ob0_tree.specs.Tree.{Tree, assigns, branches, calls, else_branch, els
 use Rattle.ob0_scope_rules.specs.Names.{Name}
 use Rattle.ob0_types_rules.specs.Arguments.{arguments_listed}
 use Rattle.ob0_types_rules.specs.Expressions.{designate, evaluate, reads, writes, writes_line}
-use Rattle.ob0_types_rules.specs.Typing.{designated, object_type}
+use Rattle.ob0_types_rules.specs.Typing.{lone_designator, object_type}
 use Rattle.ob0_types_rules.specs.WellTyped.{Mode, Typed, by_place, by_value}
 use Rattle.ob0_values.specs.Values.{Outcome, Store, Stuck, TurnBound, Value, elements, ends, gives, members, number, or_stuck, truth, write_place, ◌>>=◌}
 use Rattle.ob0_run_rules.specs.Runs.{Argument, Calls, Progress, State, choose, evaluate_argument, evaluate_arguments, execute, execute_all, execute_else, execute_elsifs, execute_further, continue_with, line_out, modes_of, number_out, perform, place_argument, append_output, read_number, running, stopped, store_at, turns, turns_until, use_in, value_argument}
@@ -12,7 +12,7 @@ use Rattle.ob0_types_fields.specs.Fields.{FieldNames, refield}
 use Rattle.ob0_rename_laws.specs.FieldLaws.{KeepsApart}
 use Rattle.ob0_rename_laws.proofs.Outcomes.{Follows, ValuesFollow, follows-then, or_stuck-follows}
 use Rattle.ob0_rename_laws.proofs.RefieldedExpressions.{Thing, Things, active, constant_thing, designate-follows, evaluate-follows, procedure_thing, standard_thing, thing_by, type_thing, variable_thing}
-use Rattle.ob0_rename_laws.proofs.RefieldedStatements.{arguments-refield, designated-refield, refield_designator}
+use Rattle.ob0_rename_laws.proofs.RefieldedStatements.{arguments-refield, lone_designator-refield, refield_designator}
 use Rattle.ob0_rename_laws.proofs.Values.{Spot, place_by, store_by, tagged, value_by, write_place-finds}
 
 abbrev pub state_by : FieldNames → State → State
@@ -105,7 +105,7 @@ evaluate_argument-follows l apart things checked store by_value e =
     follows-then (value_by tagged) (value_by l) (argument_by tagged) (argument_by l) _ _ (λ v. gives (value_argument v)) (λ v. gives (value_argument v)) (evaluate-follows l apart things checked store e) (λ v. (value_given v, refl, refl))
 evaluate_argument-follows l apart things checked store by_place e =
     subst₂ (λ a b. Follows (argument_by tagged) (argument_by l) (or_stuck a >>= (λ d. designate (active tagged things) (store_by tagged store) d.0 d.1 >>= (λ p. gives (place_argument p)))) (or_stuck b >>= (λ d. designate (active l things) (store_by l store) d.0 d.1 >>= (λ p. gives (place_argument p)))))
-    (sym (designated-refield tagged checked e)) (sym (designated-refield l checked e)) (go (designated e))
+    (sym (lone_designator-refield tagged checked e)) (sym (lone_designator-refield l checked e)) (go (lone_designator e))
   where
     go : (d : Option (Name × Tree Name (items selector))) → Follows (argument_by tagged) (argument_by l) (or_stuck (option_map (refield_designator tagged checked) d) >>= (λ d. designate (active tagged things) (store_by tagged store) d.0 d.1 >>= (λ p. gives (place_argument p))))
         (or_stuck (option_map (refield_designator l checked) d) >>= (λ d. designate (active l things) (store_by l store) d.0 d.1 >>= (λ p. gives (place_argument p))))

@@ -6,12 +6,12 @@ use Rattle.ob0_scope_rules.specs.Names.{Name}
 use Rattle.ob0_types_rules.specs.Expressions.{Meanings, Object, Standard, a_constant, a_procedure, a_standard, a_type, a_variable, designate, element_step, evaluate, evaluate_addends, evaluate_factor, evaluate_multipliers, evaluate_simple, evaluate_term, follow, object_place, object_value}
 use Rattle.ob0_types_rules.specs.Typing.{object_type}
 use Rattle.ob0_types_rules.specs.WellTyped.{Typed}
-use Rattle.ob0_values.specs.Values.{Outcome, Place, Shape, Step, Store, Value, add, add_is_settled, at_path, gives, multiply, multiply_is_settled, negated, number, or_stuck, part, read_place, relate, signed, truth, ◌>>=◌}
+use Rattle.ob0_values.specs.Values.{Outcome, Place, Shape, Step, Store, Value, add, add_is_settled, at_path, gives, multiply, multiply_is_settled, negate, number, or_stuck, part, read_place, relate, apply_sign, truth, ◌>>=◌}
 use Rattle.ob0_types_fields.specs.Fields.{FieldNames, type_after, selected_record, refield}
 use Rattle.ob0_types_fields.proofs.NamesMeant.{named}
 use Rattle.ob0_rename_laws.specs.FieldLaws.{KeepsApart}
 use Rattle.ob0_rename_laws.proofs.Apart.{shape_by}
-use Rattle.ob0_rename_laws.proofs.Outcomes.{Follows, ValuesFollow, add-follows, add_is_settled-by, element_step-follows, follows-then, multiply-follows, multiply_is_settled-by, negated-follows, or_stuck-follows, relate-follows, settled-follows, signed-follows}
+use Rattle.ob0_rename_laws.proofs.Outcomes.{Follows, ValuesFollow, add-follows, add_is_settled-by, element_step-follows, follows-then, multiply-follows, multiply_is_settled-by, negate-follows, or_stuck-follows, relate-follows, settled-follows, apply_sign-follows}
 use Rattle.ob0_rename_laws.proofs.Values.{Move, Spot, at_path-finds, part-finds, place_by, read_place-finds, step_by, store_by, tagged, to_field, value_by}
 
 -- the value of a constant
@@ -91,10 +91,10 @@ mutual
       → ValuesFollow l (evaluate_simple (active tagged things) (store_by tagged store) (refield tagged checked None a)) (evaluate_simple (active l things) (store_by l store) (refield l checked None a))
   evaluate_simple-follows l apart things checked store (sum s t rest) =
       follows-then (value_by tagged) (value_by l) (value_by tagged) (value_by l) _ _
-      (λ x. signed s x >>= (λ y. evaluate_addends (active tagged things) (store_by tagged store) y (refield tagged checked None rest))) (λ x. signed s x >>= (λ y. evaluate_addends (active l things) (store_by l store) y (refield l checked None rest)))
+      (λ x. apply_sign s x >>= (λ y. evaluate_addends (active tagged things) (store_by tagged store) y (refield tagged checked None rest))) (λ x. apply_sign s x >>= (λ y. evaluate_addends (active l things) (store_by l store) y (refield l checked None rest)))
       (evaluate_term-follows l apart things checked store t)
-      (λ x. follows-then (value_by tagged) (value_by l) (value_by tagged) (value_by l) (signed s (value_by tagged x)) (signed s (value_by l x))
-      (λ y. evaluate_addends (active tagged things) (store_by tagged store) y (refield tagged checked None rest)) (λ y. evaluate_addends (active l things) (store_by l store) y (refield l checked None rest)) (signed-follows l s x)
+      (λ x. follows-then (value_by tagged) (value_by l) (value_by tagged) (value_by l) (apply_sign s (value_by tagged x)) (apply_sign s (value_by l x))
+      (λ y. evaluate_addends (active tagged things) (store_by tagged store) y (refield tagged checked None rest)) (λ y. evaluate_addends (active l things) (store_by l store) y (refield l checked None rest)) (apply_sign-follows l s x)
       (λ y. evaluate_addends-follows l apart things checked store y rest))
 
   pub evaluate_addends-follows : {P : Type 0} (l : FieldNames) → KeepsApart l → (things : Things P) (checked : Typed Name) (store : Store) (v : Value) (a : Tree Name (items addend))
@@ -142,7 +142,7 @@ mutual
   evaluate_factor-follows l apart things checked store (integer n) = (number (pos n), refl, refl)
   evaluate_factor-follows l apart things checked store (parenthesised e) = evaluate-follows l apart things checked store e
   evaluate_factor-follows l apart things checked store (negation a) =
-      follows-then (value_by tagged) (value_by l) (value_by tagged) (value_by l) _ _ negated negated (evaluate_factor-follows l apart things checked store a) (negated-follows l)
+      follows-then (value_by tagged) (value_by l) (value_by tagged) (value_by l) _ _ negate negate (evaluate_factor-follows l apart things checked store a) (negate-follows l)
 
   pub follow-follows : {P : Type 0} (l : FieldNames) → KeepsApart l → (things : Things P) (checked : Typed Name) (store : Store) (s : Option Shape) (v : Value) (path : Tree Name (items selector))
       → PathsFollow l (follow (active tagged things) (store_by tagged store) (value_by tagged v) (refield tagged checked s path)) (follow (active l things) (store_by l store) (value_by l v) (refield l checked s path))

@@ -10,7 +10,7 @@ use Rattle.ob0_types_rules.specs.Typing.{constant_of, constant_value, constructo
 use Rattle.ob0_types_rules.specs.WellTyped.{Mode, Signature, TypeEnvironment, TypedParameter, bind_names, bind_typed, block_fits, body_fits, declare_typed, fits_over, heading, some_and, procedure_fits, procedures_fit, section_mode, sequence_fits, typed_parameters}
 use Rattle.ob0_values.specs.Values.{Shape}
 use Rattle.ob0_types_fields.specs.Fields.{FieldNames, types_after_heading, types_after_procedures, types_after_variables, parameters_of, refield, refield_block, refield_formals, refield_procedure, refield_procedures, refield_section, refield_sections, refield_type, refield_type_section, refield_types, refield_variable_section, refield_variables}
-use Rattle.ob0_types_fields.proofs.NamesMeant.{named, parameter_of, stands_in}
+use Rattle.ob0_types_fields.proofs.NamesMeant.{named, parameter_of, object_in}
 use Rattle.ob0_rename_laws.specs.FieldLaws.{KeepsApart, RefieldingKeepsFitting}
 use Rattle.ob0_rename_laws.proofs.Apart.{constant_of-by, each-then, formal_by, map-then, object_by, shape_by, type_of_name-by}
 use Rattle.ob0_rename_laws.proofs.RefieldedTypes.{constant_value-alike, constructors-refield, denoted-refield}
@@ -22,20 +22,20 @@ abbrev pub env_by : FieldNames → TypeEnvironment Name → TypeEnvironment Name
 env_by l [] = []
 env_by l (b ∷ env) = (b.0, object_by l b.1) ∷ env_by l env
 
-pub newest-by : (l : FieldNames) (env : TypeEnvironment Name) (x : Name) → stands_in (env_by l env) x ≡ option_map (object_by l) (stands_in env x)
+pub newest-by : (l : FieldNames) (env : TypeEnvironment Name) (x : Name) → object_in (env_by l env) x ≡ option_map (object_by l) (object_in env x)
 newest-by l [] x = refl
 newest-by l (b ∷ env) x =
     elim (same_name x b.0) as (λ v. newest (elim v [ true ↦ (b.0, object_by l b.1) ∷ env_by l env | false ↦ from_binding as_names (env_by l env) x ]) ≡ option_map (object_by l) (newest (elim v [ true ↦ b ∷ env | false ↦ from_binding as_names env x ])))
     [ true ↦ refl | false ↦ newest-by l env x ]
 
-pub constants-by : (l : FieldNames) (env : TypeEnvironment Name) (x : Name) → constant_of (stands_in (env_by l env) x) ≡ constant_of (stands_in env x)
-constants-by l env x = ap constant_of (newest-by l env x) ∙ constant_of-by l (stands_in env x)
+pub constants-by : (l : FieldNames) (env : TypeEnvironment Name) (x : Name) → constant_of (object_in (env_by l env) x) ≡ constant_of (object_in env x)
+constants-by l env x = ap constant_of (newest-by l env x) ∙ constant_of-by l (object_in env x)
 
-pub types-by : (l : FieldNames) (env : TypeEnvironment Name) (x : Name) → type_of_name (stands_in (env_by l env) x) ≡ option_map (shape_by l) (type_of_name (stands_in env x))
-types-by l env x = ap type_of_name (newest-by l env x) ∙ type_of_name-by l (stands_in env x)
+pub types-by : (l : FieldNames) (env : TypeEnvironment Name) (x : Name) → type_of_name (object_in (env_by l env) x) ≡ option_map (shape_by l) (type_of_name (object_in env x))
+types-by l env x = ap type_of_name (newest-by l env x) ∙ type_of_name-by l (object_in env x)
 
 pub denoted-by : (l : FieldNames) (env : TypeEnvironment Name) (k : ℕ) (t : Tree Name written_type) → denoted (meanings as_names (env_by l env)) k (refield_type l k t) ≡ option_map (shape_by l) (denoted (meanings as_names env) k t)
-denoted-by l env k t = denoted-refield l (stands_in (env_by l env)) (stands_in env) (constants-by l env) (types-by l env) k t
+denoted-by l env k t = denoted-refield l (object_in (env_by l env)) (object_in env) (constants-by l env) (types-by l env) k t
 
 pub bind_names-by : (l : FieldNames) (xs : List Name) (o : Object Shape Signature) (env : TypeEnvironment Name) → bind_names xs (object_by l o) (env_by l env) ≡ env_by l (bind_names xs o env)
 bind_names-by l [] o env = refl
@@ -137,7 +137,7 @@ pub declare_constants-by : (l : FieldNames) (env : TypeEnvironment Name) (cs : T
 unfolding declare_constants
 declare_constants-by l env end = refl
 declare_constants-by l env (more (declares_constant x e) cs) =
-    ap (option_and_then (λ v. declare_constants as_names ((x, a_constant v) ∷ env_by l env) cs)) (constant_value-alike (stands_in (env_by l env)) (stands_in env) (constants-by l env) e)
+    ap (option_and_then (λ v. declare_constants as_names ((x, a_constant v) ∷ env_by l env) cs)) (constant_value-alike (object_in (env_by l env)) (object_in env) (constants-by l env) e)
     ∙ each-then (env_by l) (constant_value (meanings as_names env) e) (λ v. declare_constants as_names ((x, a_constant v) ∷ env) cs) (λ v. declare_constants as_names ((x, a_constant v) ∷ env_by l env) cs)
     (λ v. declare_constants-by l ((x, a_constant v) ∷ env) cs)
 
@@ -186,7 +186,7 @@ pub body_fits-refield : (l : FieldNames) → KeepsApart l → (env : TypeEnviron
 unfolding body_fits
 body_fits-refield l apart env none = refl
 body_fits-refield l apart env (one (begins a)) =
-    (λ i. sequence_fits (named (λ x. newest-by l env x i)) (refield l (meanings as_names env) None a)) ∙ sequence_fits-refield l apart (stands_in env) a
+    (λ i. sequence_fits (named (λ x. newest-by l env x i)) (refield l (meanings as_names env) None a)) ∙ sequence_fits-refield l apart (object_in env) a
 
 pub declared-by : (l : FieldNames) (env : TypeEnvironment Name) (k j : ℕ) (cs : Tree Name (items constant)) (ts : Tree Name (items type_name)) (vs : Tree Name (items variable))
     → option_and_then (declare_typed as_names j (refield_variables l j vs)) (option_and_then (λ env. declare_types as_names env k (refield_types l k ts)) (declare_constants as_names (env_by l env) cs))

@@ -24,51 +24,51 @@ index-step l _ _ at_there at_here each = refl
 mutual
   unfolding type_of
 
-  pub type_of-refield : (l : FieldNames) → KeepsApart l → (stands : Name → Option (Object Shape Signature)) (e : Tree Name expression) → type_of (named_by l stands) (refield l (named stands) None e) ≡ option_map (shape_by l) (type_of (named stands) e)
-  type_of-refield l apart stands (compares a none) = type_of_simple-refield l apart stands a
-  type_of-refield l apart stands (compares a (one (relates r b))) =
-      map-then (shape_by l) (shape_by l) _ _ (λ x. option_and_then (relation_type r x) (type_of_simple (named stands) b)) (λ x. option_and_then (relation_type r x) (type_of_simple (named_by l stands) (refield l (named stands) None b))) (type_of_simple-refield l apart stands a)
-      (λ x. map-then (shape_by l) (shape_by l) _ _ (relation_type r x) (relation_type r (shape_by l x)) (type_of_simple-refield l apart stands b) (relation_type-by l r x))
+  pub type_of-refield : (l : FieldNames) → KeepsApart l → (objects : Name → Option (Object Shape Signature)) (e : Tree Name expression) → type_of (named_by l objects) (refield l (named objects) None e) ≡ option_map (shape_by l) (type_of (named objects) e)
+  type_of-refield l apart objects (compares a none) = type_of_simple-refield l apart objects a
+  type_of-refield l apart objects (compares a (one (relates r b))) =
+      map-then (shape_by l) (shape_by l) _ _ (λ x. option_and_then (relation_type r x) (type_of_simple (named objects) b)) (λ x. option_and_then (relation_type r x) (type_of_simple (named_by l objects) (refield l (named objects) None b))) (type_of_simple-refield l apart objects a)
+      (λ x. map-then (shape_by l) (shape_by l) _ _ (relation_type r x) (relation_type r (shape_by l x)) (type_of_simple-refield l apart objects b) (relation_type-by l r x))
 
-  pub type_of_simple-refield : (l : FieldNames) → KeepsApart l → (stands : Name → Option (Object Shape Signature)) (a : Tree Name simple) → type_of_simple (named_by l stands) (refield l (named stands) None a) ≡ option_map (shape_by l) (type_of_simple (named stands) a)
-  type_of_simple-refield l apart stands (sum s t rest) =
-      map-then (shape_by l) (shape_by l) _ _ (λ x. option_and_then (λ y. type_of_addends (named stands) y rest) (sign_type s x)) (λ x. option_and_then (λ y. type_of_addends (named_by l stands) y (refield l (named stands) None rest)) (sign_type s x)) (type_of_term-refield l apart stands t)
-      (λ x. map-then (shape_by l) (shape_by l) _ _ (λ y. type_of_addends (named stands) y rest) (λ y. type_of_addends (named_by l stands) y (refield l (named stands) None rest)) (sign_type-by l s x) (λ y. type_of_addends-refield l apart stands y rest))
+  pub type_of_simple-refield : (l : FieldNames) → KeepsApart l → (objects : Name → Option (Object Shape Signature)) (a : Tree Name simple) → type_of_simple (named_by l objects) (refield l (named objects) None a) ≡ option_map (shape_by l) (type_of_simple (named objects) a)
+  type_of_simple-refield l apart objects (sum s t rest) =
+      map-then (shape_by l) (shape_by l) _ _ (λ x. option_and_then (λ y. type_of_addends (named objects) y rest) (sign_type s x)) (λ x. option_and_then (λ y. type_of_addends (named_by l objects) y (refield l (named objects) None rest)) (sign_type s x)) (type_of_term-refield l apart objects t)
+      (λ x. map-then (shape_by l) (shape_by l) _ _ (λ y. type_of_addends (named objects) y rest) (λ y. type_of_addends (named_by l objects) y (refield l (named objects) None rest)) (sign_type-by l s x) (λ y. type_of_addends-refield l apart objects y rest))
 
-  pub type_of_addends-refield : (l : FieldNames) → KeepsApart l → (stands : Name → Option (Object Shape Signature)) (x : Shape) (rest : Tree Name (items addend)) → type_of_addends (named_by l stands) (shape_by l x) (refield l (named stands) None rest) ≡ option_map (shape_by l) (type_of_addends (named stands) x rest)
-  type_of_addends-refield l apart stands x end = refl
-  type_of_addends-refield l apart stands x (more (adds o t) rest) =
-      map-then (shape_by l) (shape_by l) _ _ (λ y. option_and_then (λ z. type_of_addends (named stands) z rest) (add_type o x y)) (λ y. option_and_then (λ z. type_of_addends (named_by l stands) z (refield l (named stands) None rest)) (add_type o (shape_by l x) y)) (type_of_term-refield l apart stands t)
-      (λ y. map-then (shape_by l) (shape_by l) _ _ (λ z. type_of_addends (named stands) z rest) (λ z. type_of_addends (named_by l stands) z (refield l (named stands) None rest)) (add_type-by l o x y) (λ z. type_of_addends-refield l apart stands z rest))
+  pub type_of_addends-refield : (l : FieldNames) → KeepsApart l → (objects : Name → Option (Object Shape Signature)) (x : Shape) (rest : Tree Name (items addend)) → type_of_addends (named_by l objects) (shape_by l x) (refield l (named objects) None rest) ≡ option_map (shape_by l) (type_of_addends (named objects) x rest)
+  type_of_addends-refield l apart objects x end = refl
+  type_of_addends-refield l apart objects x (more (adds o t) rest) =
+      map-then (shape_by l) (shape_by l) _ _ (λ y. option_and_then (λ z. type_of_addends (named objects) z rest) (add_type o x y)) (λ y. option_and_then (λ z. type_of_addends (named_by l objects) z (refield l (named objects) None rest)) (add_type o (shape_by l x) y)) (type_of_term-refield l apart objects t)
+      (λ y. map-then (shape_by l) (shape_by l) _ _ (λ z. type_of_addends (named objects) z rest) (λ z. type_of_addends (named_by l objects) z (refield l (named objects) None rest)) (add_type-by l o x y) (λ z. type_of_addends-refield l apart objects z rest))
 
-  pub type_of_term-refield : (l : FieldNames) → KeepsApart l → (stands : Name → Option (Object Shape Signature)) (a : Tree Name term) → type_of_term (named_by l stands) (refield l (named stands) None a) ≡ option_map (shape_by l) (type_of_term (named stands) a)
-  type_of_term-refield l apart stands (product a rest) =
-      map-then (shape_by l) (shape_by l) _ _ (λ x. type_of_multipliers (named stands) x rest) (λ x. type_of_multipliers (named_by l stands) x (refield l (named stands) None rest)) (type_of_factor-refield l apart stands a) (λ x. type_of_multipliers-refield l apart stands x rest)
+  pub type_of_term-refield : (l : FieldNames) → KeepsApart l → (objects : Name → Option (Object Shape Signature)) (a : Tree Name term) → type_of_term (named_by l objects) (refield l (named objects) None a) ≡ option_map (shape_by l) (type_of_term (named objects) a)
+  type_of_term-refield l apart objects (product a rest) =
+      map-then (shape_by l) (shape_by l) _ _ (λ x. type_of_multipliers (named objects) x rest) (λ x. type_of_multipliers (named_by l objects) x (refield l (named objects) None rest)) (type_of_factor-refield l apart objects a) (λ x. type_of_multipliers-refield l apart objects x rest)
 
-  pub type_of_multipliers-refield : (l : FieldNames) → KeepsApart l → (stands : Name → Option (Object Shape Signature)) (x : Shape) (rest : Tree Name (items multiplier)) → type_of_multipliers (named_by l stands) (shape_by l x) (refield l (named stands) None rest) ≡ option_map (shape_by l) (type_of_multipliers (named stands) x rest)
-  type_of_multipliers-refield l apart stands x end = refl
-  type_of_multipliers-refield l apart stands x (more (multiplies o a) rest) =
-      map-then (shape_by l) (shape_by l) _ _ (λ y. option_and_then (λ z. type_of_multipliers (named stands) z rest) (multiply_type o x y)) (λ y. option_and_then (λ z. type_of_multipliers (named_by l stands) z (refield l (named stands) None rest)) (multiply_type o (shape_by l x) y)) (type_of_factor-refield l apart stands a)
-      (λ y. map-then (shape_by l) (shape_by l) _ _ (λ z. type_of_multipliers (named stands) z rest) (λ z. type_of_multipliers (named_by l stands) z (refield l (named stands) None rest)) (multiply_type-by l o x y) (λ z. type_of_multipliers-refield l apart stands z rest))
+  pub type_of_multipliers-refield : (l : FieldNames) → KeepsApart l → (objects : Name → Option (Object Shape Signature)) (x : Shape) (rest : Tree Name (items multiplier)) → type_of_multipliers (named_by l objects) (shape_by l x) (refield l (named objects) None rest) ≡ option_map (shape_by l) (type_of_multipliers (named objects) x rest)
+  type_of_multipliers-refield l apart objects x end = refl
+  type_of_multipliers-refield l apart objects x (more (multiplies o a) rest) =
+      map-then (shape_by l) (shape_by l) _ _ (λ y. option_and_then (λ z. type_of_multipliers (named objects) z rest) (multiply_type o x y)) (λ y. option_and_then (λ z. type_of_multipliers (named_by l objects) z (refield l (named objects) None rest)) (multiply_type o (shape_by l x) y)) (type_of_factor-refield l apart objects a)
+      (λ y. map-then (shape_by l) (shape_by l) _ _ (λ z. type_of_multipliers (named objects) z rest) (λ z. type_of_multipliers (named_by l objects) z (refield l (named objects) None rest)) (multiply_type-by l o x y) (λ z. type_of_multipliers-refield l apart objects z rest))
 
-  pub type_of_factor-refield : (l : FieldNames) → KeepsApart l → (stands : Name → Option (Object Shape Signature)) (a : Tree Name factor) → type_of_factor (named_by l stands) (refield l (named stands) None a) ≡ option_map (shape_by l) (type_of_factor (named stands) a)
-  type_of_factor-refield l apart stands (designator x path) =
-      ap (option_and_then (λ s. type_at (named_by l stands) s (refield l (named stands) (object_type (stands x)) path))) (object_type-by l (stands x))
-      ∙ (elim (object_type (stands x)) as (λ o. option_and_then (λ s. type_at (named_by l stands) s (refield l (named stands) o path)) (option_map (shape_by l) o) ≡ option_map (shape_by l) (option_and_then (λ s. type_at (named stands) s path) o))
-      [ None ↦ refl | Some s ↦ type_at-refield l apart stands s path ])
-  type_of_factor-refield l apart stands (integer n) = refl
-  type_of_factor-refield l apart stands (parenthesised e) = type_of-refield l apart stands e
-  type_of_factor-refield l apart stands (negation a) = map-then (shape_by l) (shape_by l) _ _ complement_type complement_type (type_of_factor-refield l apart stands a) (complement_type-by l)
+  pub type_of_factor-refield : (l : FieldNames) → KeepsApart l → (objects : Name → Option (Object Shape Signature)) (a : Tree Name factor) → type_of_factor (named_by l objects) (refield l (named objects) None a) ≡ option_map (shape_by l) (type_of_factor (named objects) a)
+  type_of_factor-refield l apart objects (designator x path) =
+      ap (option_and_then (λ s. type_at (named_by l objects) s (refield l (named objects) (object_type (objects x)) path))) (object_type-by l (objects x))
+      ∙ (elim (object_type (objects x)) as (λ o. option_and_then (λ s. type_at (named_by l objects) s (refield l (named objects) o path)) (option_map (shape_by l) o) ≡ option_map (shape_by l) (option_and_then (λ s. type_at (named objects) s path) o))
+      [ None ↦ refl | Some s ↦ type_at-refield l apart objects s path ])
+  type_of_factor-refield l apart objects (integer n) = refl
+  type_of_factor-refield l apart objects (parenthesised e) = type_of-refield l apart objects e
+  type_of_factor-refield l apart objects (negation a) = map-then (shape_by l) (shape_by l) _ _ complement_type complement_type (type_of_factor-refield l apart objects a) (complement_type-by l)
 
-  pub type_at-refield : (l : FieldNames) → KeepsApart l → (stands : Name → Option (Object Shape Signature)) (s : Shape) (path : Tree Name (items selector)) → type_at (named_by l stands) (shape_by l s) (refield l (named stands) (Some s) path) ≡ option_map (shape_by l) (type_at (named stands) s path)
-  type_at-refield l apart stands s end = refl
-  type_at-refield l apart stands s (more (field x) rest) =
-      ap (option_and_then (λ t. type_at (named_by l stands) t (refield l (named stands) (field_type s x) rest))) (field_type-by l apart s x)
-      ∙ (elim (field_type s x) as (λ o. option_and_then (λ t. type_at (named_by l stands) t (refield l (named stands) o rest)) (option_map (shape_by l) o) ≡ option_map (shape_by l) (option_and_then (λ t. type_at (named stands) t rest) o))
-      [ None ↦ refl | Some t ↦ type_at-refield l apart stands t rest ])
-  type_at-refield l apart stands s (more (index e) rest) =
-      map-then (shape_by l) (shape_by l) _ _ (λ i. option_and_then (λ t. type_at (named stands) t rest) (element_type s i)) (λ i. option_and_then (λ t. type_at (named_by l stands) t (refield l (named stands) (element_type s integer_shape) rest)) (element_type (shape_by l s) i)) (type_of-refield l apart stands e)
-      (λ i. index-step l s i (λ t o. type_at (named_by l stands) t (refield l (named stands) o rest)) (λ t. type_at (named stands) t rest) (λ u. type_at-refield l apart stands u rest))
+  pub type_at-refield : (l : FieldNames) → KeepsApart l → (objects : Name → Option (Object Shape Signature)) (s : Shape) (path : Tree Name (items selector)) → type_at (named_by l objects) (shape_by l s) (refield l (named objects) (Some s) path) ≡ option_map (shape_by l) (type_at (named objects) s path)
+  type_at-refield l apart objects s end = refl
+  type_at-refield l apart objects s (more (field x) rest) =
+      ap (option_and_then (λ t. type_at (named_by l objects) t (refield l (named objects) (field_type s x) rest))) (field_type-by l apart s x)
+      ∙ (elim (field_type s x) as (λ o. option_and_then (λ t. type_at (named_by l objects) t (refield l (named objects) o rest)) (option_map (shape_by l) o) ≡ option_map (shape_by l) (option_and_then (λ t. type_at (named objects) t rest) o))
+      [ None ↦ refl | Some t ↦ type_at-refield l apart objects t rest ])
+  type_at-refield l apart objects s (more (index e) rest) =
+      map-then (shape_by l) (shape_by l) _ _ (λ i. option_and_then (λ t. type_at (named objects) t rest) (element_type s i)) (λ i. option_and_then (λ t. type_at (named_by l objects) t (refield l (named objects) (element_type s integer_shape) rest)) (element_type (shape_by l s) i)) (type_of-refield l apart objects e)
+      (λ i. index-step l s i (λ t o. type_at (named_by l objects) t (refield l (named objects) o rest)) (λ t. type_at (named objects) t rest) (λ u. type_at-refield l apart objects u rest))
 
 -- types that texts denote
 

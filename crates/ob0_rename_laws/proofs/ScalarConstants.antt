@@ -12,7 +12,7 @@ use Rattle.ob0_tree.specs.Tree.{Tree, addend, adds, compares, designator, end, e
 use Rattle.ob0_scope_rules.specs.Names.{Name}
 use Rattle.ob0_types_rules.specs.Expressions.{Meanings, Object, a_constant, evaluate, evaluate_addends, evaluate_factor, evaluate_multipliers, evaluate_simple, evaluate_term, follow, object_value}
 use Rattle.ob0_types_rules.specs.Typing.{constant_of, constant_value, constants_only, given_value, type_of}
-use Rattle.ob0_values.specs.Values.{Outcome, Overflow, Place, Shape, Step, Value, add, add_is_settled, at_path, divided, divided_by, elements, ends, fits, gives, in_range, members, multiply, multiply_is_settled, negated, number, or_stuck, quotient, relate, remainder, signed, truth, ◌>>=◌}
+use Rattle.ob0_values.specs.Values.{Outcome, Overflow, Place, Shape, Step, Value, add, add_is_settled, at_path, divided, divided_by, elements, ends, fits, gives, in_range, members, multiply, multiply_is_settled, negate, number, or_stuck, quotient, relate, remainder, apply_sign, truth, ◌>>=◌}
 use Rattle.ob0_rename_laws.proofs.RefieldedExpressions.{Scalar, logical, scalar_value, whole}
 use Rattle.ob0_types_fields.proofs.NamesMeant.{named}
 
@@ -61,15 +61,15 @@ relate-scalar relation.Equal (truth a) (truth b) = tt
 relate-scalar relation.NotEqual (truth a) (truth b) = tt
 relate-scalar _ _ _ = tt
 
-signed-scalar : (s : Option Sign) (v : Value) → IsScalarValue v → Holds IsScalarValue (signed s v)
-signed-scalar None v h = h
-signed-scalar (Some sign.Plus) (number a) h = in_range-scalar a
-signed-scalar (Some sign.Minus) (number a) h = in_range-scalar (neg_ℤ a)
-signed-scalar _ _ h = tt
+apply_sign-scalar : (s : Option Sign) (v : Value) → IsScalarValue v → Holds IsScalarValue (apply_sign s v)
+apply_sign-scalar None v h = h
+apply_sign-scalar (Some sign.Plus) (number a) h = in_range-scalar a
+apply_sign-scalar (Some sign.Minus) (number a) h = in_range-scalar (neg_ℤ a)
+apply_sign-scalar _ _ h = tt
 
-negated-scalar : (v : Value) → Holds IsScalarValue (negated v)
-negated-scalar (truth b) = tt
-negated-scalar _ = tt
+negate-scalar : (v : Value) → Holds IsScalarValue (negate v)
+negate-scalar (truth b) = tt
+negate-scalar _ = tt
 
 settled-scalar : (b : Bool) (v : Value) (o : Outcome Value) → IsScalarValue v → Holds IsScalarValue o → Holds IsScalarValue (elim b [ true ↦ gives v | false ↦ o ])
 settled-scalar true v o h k = h
@@ -105,8 +105,8 @@ mutual
 
   evaluate_simple-scalar : (cs : Constants) (a : Tree Name simple) → Holds IsScalarValue (evaluate_simple {P = Unit {0}} (constant_meaning cs) [] a)
   evaluate_simple-scalar cs (sum s t rest) =
-      holds-with IsScalarValue IsScalarValue (evaluate_term {P = Unit {0}} (constant_meaning cs) [] t) (λ x. signed s x >>= (λ y. evaluate_addends {P = Unit {0}} (constant_meaning cs) [] y rest)) (evaluate_term-scalar cs t)
-      (λ x hx. holds-with IsScalarValue IsScalarValue (signed s x) (λ y. evaluate_addends {P = Unit {0}} (constant_meaning cs) [] y rest) (signed-scalar s x hx) (λ y hy. evaluate_addends-scalar cs y rest hy))
+      holds-with IsScalarValue IsScalarValue (evaluate_term {P = Unit {0}} (constant_meaning cs) [] t) (λ x. apply_sign s x >>= (λ y. evaluate_addends {P = Unit {0}} (constant_meaning cs) [] y rest)) (evaluate_term-scalar cs t)
+      (λ x hx. holds-with IsScalarValue IsScalarValue (apply_sign s x) (λ y. evaluate_addends {P = Unit {0}} (constant_meaning cs) [] y rest) (apply_sign-scalar s x hx) (λ y hy. evaluate_addends-scalar cs y rest hy))
 
   evaluate_addends-scalar : (cs : Constants) (v : Value) (a : Tree Name (items addend)) → IsScalarValue v → Holds IsScalarValue (evaluate_addends {P = Unit {0}} (constant_meaning cs) [] v a)
   evaluate_addends-scalar cs v end h = h
@@ -132,7 +132,7 @@ mutual
       (λ v hv. holds-then IsScalarValue (follow {P = Unit {0}} (constant_meaning cs) [] v path) (λ steps. or_stuck (at_path steps v)) (λ steps. at_path-scalar steps v hv))
   evaluate_factor-scalar cs (integer n) = tt
   evaluate_factor-scalar cs (parenthesised e) = evaluate-scalar cs e
-  evaluate_factor-scalar cs (negation a) = holds-then IsScalarValue (evaluate_factor {P = Unit {0}} (constant_meaning cs) [] a) negated negated-scalar
+  evaluate_factor-scalar cs (negation a) = holds-then IsScalarValue (evaluate_factor {P = Unit {0}} (constant_meaning cs) [] a) negate negate-scalar
 
 scalar_is : (v : Value) → IsScalarValue v → (c : Scalar) × (v ≡ scalar_value c)
 scalar_is (number n) h = (whole n, refl)
@@ -148,18 +148,18 @@ abbrev as_constant : Value → Object Place (Unit {0})
 as_constant v = a_constant v
 
 -- where names mean scalars alone
-pub constant_value-scalar : {V P : Type 0} (stands : Name → Option (Object V P)) (cs : Constants) → ((x : Name) → constant_of (stands x) ≡ option_map scalar_value (cs x)) → (e : Tree Name expression)
-    → (c : Option Scalar) × (constant_value (named stands) e ≡ option_map scalar_value c)
+pub constant_value-scalar : {V P : Type 0} (objects : Name → Option (Object V P)) (cs : Constants) → ((x : Name) → constant_of (objects x) ≡ option_map scalar_value (cs x)) → (e : Tree Name expression)
+    → (c : Option Scalar) × (constant_value (named objects) e ≡ option_map scalar_value c)
 unfolding constant_value
-constant_value-scalar stands cs same e = of_type (type_of {P = Unit {0}} (constants_only (named stands)) e)
+constant_value-scalar objects cs same e = of_type (type_of {P = Unit {0}} (constants_only (named objects)) e)
   where
-    only-constants : constants_only {W = Place} {Q = Unit {0}} (named stands) ≡ constant_meaning cs
+    only-constants : constants_only {W = Place} {Q = Unit {0}} (named objects) ≡ constant_meaning cs
     only-constants = λ i. named (λ x. (ap (option_map as_constant) (same x) ∙ twice (cs x)) i)
       where
         twice : (o : Option Scalar) → option_map as_constant (option_map scalar_value o) ≡ option_map (λ c. a_constant (scalar_value c)) o
         twice None = refl
         twice (Some c) = refl
 
-    of_type : (o : Option Shape) → (c : Option Scalar) × (option_and_then (λ s. given_value (evaluate {P = Unit {0}} (constants_only (named stands)) [] e)) o ≡ option_map scalar_value c)
+    of_type : (o : Option Shape) → (c : Option Scalar) × (option_and_then (λ s. given_value (evaluate {P = Unit {0}} (constants_only (named objects)) [] e)) o ≡ option_map scalar_value c)
     of_type None = (None, refl)
-    of_type (Some s) = given-scalar (evaluate {P = Unit {0}} (constants_only (named stands)) [] e) (subst (λ m. Holds IsScalarValue (evaluate {P = Unit {0}} m [] e)) (sym only-constants) (evaluate-scalar cs e))
+    of_type (Some s) = given-scalar (evaluate {P = Unit {0}} (constants_only (named objects)) [] e) (subst (λ m. Holds IsScalarValue (evaluate {P = Unit {0}} m [] e)) (sym only-constants) (evaluate-scalar cs e))

@@ -8,7 +8,7 @@ use Rattle.ob0_types_rules.specs.Expressions.{Object, a_constant, a_procedure, a
 use Rattle.ob0_types_rules.specs.WellTyped.{Signature, TypeEnvironment, TypedParameter, bind_typed, block_fits, heading, procedure_fits, signature_of, typed_parameters}
 use Rattle.ob0_values.specs.Values.{Place, Shape, Store}
 use Rattle.ob0_run_rules.specs.Fitting.{ArgumentsFit, BindingFits, EnvironmentsFit, StoreFits, StoreTyping}
-use Rattle.ob0_run_rules.specs.GivenUp.{call_giving_up, drop_variables}
+use Rattle.ob0_run_rules.specs.Freed.{call_freeing, drop_variables}
 use Rattle.ob0_run_rules.specs.Runs.{Activation, Argument, ProcedureText, Frame, Progress, State, activate, bind_parameters, declare_block, execute_body, in_frame, running, statement_meanings, stopped}
 use Rattle.ob0_run_rules.proofs.SoundCalls.{from-fit, names-fit, parameters-of_typed, some-inverse}
 use Rattle.ob0_run_machine.specs.Evaluation.{Level, Levels}
@@ -23,7 +23,7 @@ use Rattle.ob0_run_cells.proofs.PlacedDeclarations.{FramePlaced, block-placed, p
 use Rattle.ob0_run_cells.proofs.PlacedEnvironments.{from-placed, inward-fits, slots-fit}
 use Rattle.ob0_run_cells.proofs.Places.{store-size}
 use Rattle.ob0_run_cells.proofs.Represented.{numbers-append, numbers-take}
-use Rattle.ob0_run_cells.proofs.Variables.{variables_are_given_up-holds}
+use Rattle.ob0_run_cells.proofs.Variables.{variables_are_dropped-holds}
 
 pub numbers-zero : (n : ℕ) → HaveNumbers (replicate n (pos 0))
 numbers-zero zero i = refl
@@ -31,9 +31,9 @@ numbers-zero (suc n) zero = refl
 numbers-zero (suc n) (suc i) = numbers-zero n i
 
 -- what a call has of its own is given up in both
-pub give_up-represents : (typing now others : StoreTyping) (old : Store) (base : ℕ) (p : execution.MachineProgress) (q : Progress) → now ≡ typing ++ others → StoreFits typing old → base ≡ length (all_cells old) → ProgressRepresents now p q → ProgressRepresents typing (execution.drop_variables base p) (drop_variables (length old) q)
-give_up-represents typing now others old base (execution.running low) (running s) e fits is h =
-    let (kept, cells) = variables_are_given_up-holds typing others old s.store fits (subst (λ all. StoreFits all s.store) e h.store_fits) in
+pub drop_variables-represents : (typing now others : StoreTyping) (old : Store) (base : ℕ) (p : execution.MachineProgress) (q : Progress) → now ≡ typing ++ others → StoreFits typing old → base ≡ length (all_cells old) → ProgressRepresents now p q → ProgressRepresents typing (execution.drop_variables base p) (drop_variables (length old) q)
+drop_variables-represents typing now others old base (execution.running low) (running s) e fits is h =
+    let (kept, cells) = variables_are_dropped-holds typing others old s.store fits (subst (λ all. StoreFits all s.store) e h.store_fits) in
     record {
       store_fits = kept;
       same_cells = (λ i. take (is i) (h.same_cells i)) ∙ sym cells;
@@ -42,13 +42,13 @@ give_up-represents typing now others old base (execution.running low) (running s
       cells_have_numbers = numbers-take base low.cells h.cells_have_numbers;
       input_has_numbers = h.input_has_numbers;
     }
-give_up-represents typing now others old base (execution.stopped x out) (stopped y written) e fits is h = h
-give_up-represents typing now others old base (execution.running low) (stopped y written) e fits is h = absurd h
-give_up-represents typing now others old base (execution.stopped x out) (running s) e fits is h = absurd h
+drop_variables-represents typing now others old base (execution.stopped x out) (stopped y written) e fits is h = h
+drop_variables-represents typing now others old base (execution.running low) (stopped y written) e fits is h = absurd h
+drop_variables-represents typing now others old base (execution.stopped x out) (running s) e fits is h = absurd h
 
 module _ {N : Type 0} (table : RoutineTable N) where
   abbrev pub body_of : ℕ → ℕ → StoreTyping → Levels → Activation N → Body N
-  body_of c t typing ls active = record { typing = typing; active = statement_meanings table.naming active; levels = ls; enters = call_giving_up table.naming c t active; lowered_enters = execution.call table.routines c t }
+  body_of c t typing ls active = record { typing = typing; active = statement_meanings table.naming active; levels = ls; enters = call_freeing table.naming c t active; lowered_enters = execution.call table.routines c t }
 
   -- what is known of calls of which c more may be open
   abbrev pub CallsKnown : ℕ → ℕ → Type 0
@@ -58,7 +58,7 @@ module _ {N : Type 0} (table : RoutineTable N) where
 
   pub body-represents : (c t : ℕ) → CallsKnown c t → (typing : StoreTyping) (ls : Levels) (checked : TypeEnvironment N) (placing : Placing N) (active : Activation N) → EnvironmentsFit table.naming typing checked active → PlacingFits table typing ls checked placing active → sizes typing + c * table.most < 2 ^ 64
       → (code : lowered.Instructions) (statements : Tree N (maybe body)) → BodyMeans table.naming checked placing code statements → (low : execution.MachineState) (s : State) → Represents typing low s
-      → ProgressRepresents typing (execution.execute_all (execution.call table.routines c t) t ls code low) (execute_body table.naming active (call_giving_up table.naming c t active) t statements s)
+      → ProgressRepresents typing (execution.execute_all (execution.call table.routines c t) t ls code low) (execute_body table.naming active (call_freeing table.naming c t active) t statements s)
   unfolding execution.execute execute_body
   body-represents c t known typing ls checked placing active env placed few code none means low s h = subst (λ code. ProgressRepresents typing (execution.execute_all (execution.call table.routines c t) t ls code low) (running s)) (sym means) h
   body-represents c t known typing ls checked placing active env placed few code (one (begins statements)) means low s h =
@@ -72,7 +72,7 @@ module _ {N : Type 0} (table : RoutineTable N) where
   pub activate-represents : (c t : ℕ) → CallsKnown c t → (typing : StoreTyping) (ls : Levels) (checked : TypeEnvironment N) (placing : Placing N) (active : Activation N) (signature : Signature) (args : List Argument) (low : execution.MachineState) (s : State) (p : execution.Passed)
       → EnvironmentsFit table.naming typing checked active → PlacingFits table typing ls checked placing active → sizes typing + suc c * table.most < 2 ^ 64 → newest checked ≡ Some (a_procedure signature) → Represents typing low s → ArgumentsFit typing signature args
       → p.cells ≡ low.cells ++ argument_cells args → p.addresses ≡ argument_addresses typing args → HaveNumbers p.cells
-      → ProgressRepresents typing (execution.call table.routines (suc c) t (first_target placing).procedure (execution.entered ls (length low.cells) (first_target placing).up p) record low { cells = p.cells }) (drop_variables (length s.store) (activate table.naming (call_giving_up table.naming c t) t active args s))
+      → ProgressRepresents typing (execution.call table.routines (suc c) t (first_target placing).procedure (execution.entered ls (length low.cells) (first_target placing).up p) record low { cells = p.cells }) (drop_variables (length s.store) (activate table.naming (call_freeing table.naming c t) t active args s))
   unfolding execution.call activate block_fits
   activate-represents c t known typing ls [] placing active signature args low s p env placed few e h fit cells there numbers = absurd (cc)
   activate-represents c t known typing ls (b ∷ checked) [] [] signature args low s p env placed few e h fit cells there numbers = absurd env
@@ -83,7 +83,7 @@ module _ {N : Type 0} (table : RoutineTable N) where
       of_text : (tg : Target) (outer : Placing N) (entry : lowered.Routine) (j : ℕ) (text : Tree N (item procedure)) (ps : List (TypedParameter N)) → PlacingFits table typing (drop tg.up ls) checked outer active → typed_parameters table.naming checked j (procedure_formals text) ≡ Some ps
           → slice_get table.routines tg.procedure ≡ Some entry → signature ≡ map (λ p. p.formal) ps → procedure_fits table.naming (bind_typed ps (heading x ps checked)) j text ≡ true
           → ProcedureMeans table (bind_typed ps (heading x ps checked)) (entered_placing ps ((x, own_target tg.procedure) ∷ outer)) j entry text
-          → ProgressRepresents typing (execution.call table.routines (suc c) t tg.procedure (execution.entered ls (length low.cells) tg.up p) record low { cells = p.cells }) (drop_variables (length s.store) (activate table.naming (call_giving_up table.naming c t) t ((y, a_procedure record { first_constructor = j; text = text }) ∷ active) args s))
+          → ProgressRepresents typing (execution.call table.routines (suc c) t tg.procedure (execution.entered ls (length low.cells) tg.up p) record low { cells = p.cells }) (drop_variables (length s.store) (activate table.naming (call_freeing table.naming c t) t ((y, a_procedure record { first_constructor = j; text = text }) ∷ active) args s))
       of_text tg outer entry j (declares_procedure q fs b closing) ps inside eps et sig fits means =
           let text : Tree N (item procedure) = declares_procedure q fs b closing in
           let l : Level = record { base = length low.cells; addresses = p.addresses } in
@@ -113,13 +113,13 @@ module _ {N : Type 0} (table : RoutineTable N) where
           } in
           let does = body-represents c t known rest.typing_now (l ∷ seen) after q₂.placing k.env rest.frame.environment_fits rest.frame.placing_fits room entry.body (block_statements b) body_means low₂ s₂ represents in
           let grown : rest.typing_now ≡ typing ++ (part.others ++ rest.others) = rest.is_grown ∙ (ap (λ l. l ++ rest.others) part.is_grown ∙ append_assoc typing part.others rest.others) in
-          let gives_up = give_up-represents typing rest.typing_now (part.others ++ rest.others) s.store l.base (execution.execute_all (execution.call table.routines c t) t (l ∷ seen) entry.body low₂) (execute_body table.naming k.env (call_giving_up table.naming c t k.env) t (block_statements b) s₂) grown h.store_fits (ap length h.same_cells) does in
+          let drops = drop_variables-represents typing rest.typing_now (part.others ++ rest.others) s.store l.base (execution.execute_all (execution.call table.routines c t) t (l ∷ seen) entry.body low₂) (execute_body table.naming k.env (call_freeing table.naming c t k.env) t (block_statements b) s₂) grown h.store_fits (ap length h.same_cells) does in
           let frames = ap (λ l. option_and_then (declare_block table.naming (j + formals_constructors (formal_sections fs)) b) (bind_parameters l args f)) (parameters-of_typed table.naming checked j (formal_sections fs) ps eps) ∙ (ap (option_and_then (declare_block table.naming (j + formals_constructors (formal_sections fs)) b)) eg ∙ ek) in
-          subst (λ o. ProgressRepresents typing (execution.drop_variables l.base (execution.activate (execution.call table.routines c t) t (l ∷ seen) o record low { cells = p.cells })) (drop_variables (length s.store) (activate table.naming (call_giving_up table.naming c t) t ((y, a_procedure record { first_constructor = j; text = text }) ∷ active) args s))) (sym et)
-          (subst (λ frame. ProgressRepresents typing (execution.drop_variables l.base (execution.execute_all (execution.call table.routines c t) t (l ∷ seen) entry.body low₂)) (drop_variables (length s.store) (in_frame s frame (λ f. execute_body table.naming f.env (call_giving_up table.naming c t f.env) t (block_statements b))))) (sym frames) gives_up)
+          subst (λ o. ProgressRepresents typing (execution.drop_variables l.base (execution.activate (execution.call table.routines c t) t (l ∷ seen) o record low { cells = p.cells })) (drop_variables (length s.store) (activate table.naming (call_freeing table.naming c t) t ((y, a_procedure record { first_constructor = j; text = text }) ∷ active) args s))) (sym et)
+          (subst (λ frame. ProgressRepresents typing (execution.drop_variables l.base (execution.execute_all (execution.call table.routines c t) t (l ∷ seen) entry.body low₂)) (drop_variables (length s.store) (in_frame s frame (λ f. execute_body table.naming f.env (call_freeing table.naming c t f.env) t (block_statements b))))) (sym frames) drops)
 
       of_objects : (o : Object Shape Signature) (w : Whereabouts) (r : Object Place (ProcedureText N)) → BindingFits table.naming typing checked x o r → IsPlaced table typing ls checked (λ ls placing. PlacingFits table typing ls checked placing active) x o w r → o ≡ a_procedure signature
-          → ProgressRepresents typing (execution.call table.routines (suc c) t (target_of w).procedure (execution.entered ls (length low.cells) (target_of w).up p) record low { cells = p.cells }) (drop_variables (length s.store) (activate table.naming (call_giving_up table.naming c t) t ((y, r) ∷ active) args s))
+          → ProgressRepresents typing (execution.call table.routines (suc c) t (target_of w).procedure (execution.entered ls (length low.cells) (target_of w).up p) record low { cells = p.cells }) (drop_variables (length s.store) (activate table.naming (call_freeing table.naming c t) t ((y, r) ∷ active) args s))
       of_objects (a_procedure sg) (at_target tg) (a_procedure code) bound at e =
           let (ps, eps, sig, fits) = bound in
           let (outer, inside, found) = at in
@@ -134,7 +134,7 @@ module _ {N : Type 0} (table : RoutineTable N) where
       of_objects (a_procedure q) _ _ bound at e = absurd at
 
   pub calls-known : (c t : ℕ) → CallsKnown c t
-  unfolding call_giving_up execution.call
+  unfolding call_freeing execution.call
   calls-known zero t typing ls checked placing active env placed few x signature e args low s p h fit cells there numbers = (refl, h.same_output)
   calls-known (suc c) t typing ls checked placing active env placed few x signature e args low s p h fit cells there numbers =
       activate-represents c t (calls-known c t) typing ls (from_binding table.naming checked x) (from_name table.naming placing x) (from_binding table.naming active x) signature args low s p (from-fit table.naming typing checked active x env) (from-placed table typing ls checked placing active x placed) few e h fit cells there numbers

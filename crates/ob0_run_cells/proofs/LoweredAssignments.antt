@@ -19,13 +19,13 @@ use Rattle.ob0_run_cells.proofs.Parts.{cells-size}
 use Rattle.ob0_run_cells.proofs.Places.{places_are_slices-holds, store-size, writing_places_writes_slices-holds}
 use Rattle.ob0_run_cells.proofs.Represented.{alone-cells, moment, moment-shown, number-in, number-read, number-stored, numbers-append, numbers-drop, numbers-take, place-in, put-represents, truth-in, truth-stored, use-place, use-represents}
 
-pub standard-stands : (typing : StoreTyping) (q : Standard) (a : Option (Object Place (List Mode))) → ObjectFits typing (Some (a_standard q)) a → a ≡ Some (a_standard q)
-standard-stands typing q (Some (a_standard p)) h = ap (λ q. Some (a_standard q)) (sym h)
-standard-stands typing q None h = absurd h
-standard-stands typing q (Some (a_type s)) h = absurd h
-standard-stands typing q (Some (a_constant v)) h = absurd h
-standard-stands typing q (Some (a_variable p)) h = absurd h
-standard-stands typing q (Some (a_procedure p)) h = absurd h
+pub standard-is : (typing : StoreTyping) (q : Standard) (a : Option (Object Place (List Mode))) → ObjectFits typing (Some (a_standard q)) a → a ≡ Some (a_standard q)
+standard-is typing q (Some (a_standard p)) h = ap (λ q. Some (a_standard q)) (sym h)
+standard-is typing q None h = absurd h
+standard-is typing q (Some (a_type s)) h = absurd h
+standard-is typing q (Some (a_constant v)) h = absurd h
+standard-is typing q (Some (a_variable p)) h = absurd h
+standard-is typing q (Some (a_procedure p)) h = absurd h
 
 -- cells copied
 
@@ -115,8 +115,8 @@ module _ {N : Type 0} (checked : Typed N) (slots : N → Slot) (targets : N → 
   reads-mean x es e q st one hq b shown t low s h =
       let y : N = hq.name in
       let others : Tree N (items selector) = hq.path in
-      let stands : b.active.object_for x ≡ Some (a_standard reads) = standard-stands b.typing reads (b.active.object_for x) (subst (λ o. ObjectFits b.typing o (b.active.object_for x)) st (shown.names_fit.0 x)) in
-      subst (λ o. ProgressRepresents b.typing (execution.use_in low (machine.address b.levels low.cells q) (λ a. execution.read_number low a low.input)) (use_in s (modes_of o >>= (λ modes. evaluate_arguments b.active s.store modes (arguments_listed es))) (λ args. perform o (b.enters x) args s))) (sym stands)
+      let is_bound : b.active.object_for x ≡ Some (a_standard reads) = standard-is b.typing reads (b.active.object_for x) (subst (λ o. ObjectFits b.typing o (b.active.object_for x)) st (shown.names_fit.0 x)) in
+      subst (λ o. ProgressRepresents b.typing (execution.use_in low (machine.address b.levels low.cells q) (λ a. execution.read_number low a low.input)) (use_in s (modes_of o >>= (λ modes. evaluate_arguments b.active s.store modes (arguments_listed es))) (λ args. perform o (b.enters x) args s))) (sym is_bound)
       (subst (λ l. ProgressRepresents b.typing (execution.use_in low (machine.address b.levels low.cells q) (λ a. execution.read_number low a low.input)) (use_in s (evaluate_arguments b.active s.store (by_place ∷ []) l) (λ args. perform (Some (a_standard reads)) (b.enters x) args s))) (sym one)
       (subst (λ o. ProgressRepresents b.typing (execution.use_in low (machine.address b.levels low.cells q) (λ a. execution.read_number low a low.input)) (use_in s ((or_stuck o >>= (λ d. designate b.active s.store d.0 d.1 >>= (λ p. gives (place_argument p)))) >>= (λ a. gives (a ∷ []))) (λ args. perform (Some (a_standard reads)) (b.enters x) args s))) (sym hq.is_designator)
       (subst (λ w. ProgressRepresents b.typing (execution.use_in low (machine.address b.levels low.cells q) (λ a. execution.read_number low a low.input)) w) (sym (use-place-argument s (designate b.active s.store y others) (λ args. perform (Some (a_standard reads)) (b.enters x) args s)))
@@ -126,8 +126,8 @@ module _ {N : Type 0} (checked : Typed N) (slots : N → Slot) (targets : N → 
   pub writes-mean : (x : N) (es : Tree N (maybe arguments)) (e : Tree N expression) (n : lowered.Number) → checked.object_for x ≡ Some (a_standard writes) → arguments_listed es ≡ e ∷ [] → NumberMeans checked slots n (value_of_expression e) → StatementMeans checked slots targets (lowered.writes n) (calls x es)
   unfolding execution.execute execute evaluate_arguments
   writes-mean x es e n st one hn b shown t low s h =
-      let stands : b.active.object_for x ≡ Some (a_standard writes) = standard-stands b.typing writes (b.active.object_for x) (subst (λ o. ObjectFits b.typing o (b.active.object_for x)) st (shown.names_fit.0 x)) in
-      subst (λ o. ProgressRepresents b.typing (execution.use_in low (machine.number b.levels low.cells n) (λ v. execution.running (execution.append_output low (execution.number_out v)))) (use_in s (modes_of o >>= (λ modes. evaluate_arguments b.active s.store modes (arguments_listed es))) (λ args. perform o (b.enters x) args s))) (sym stands)
+      let is_bound : b.active.object_for x ≡ Some (a_standard writes) = standard-is b.typing writes (b.active.object_for x) (subst (λ o. ObjectFits b.typing o (b.active.object_for x)) st (shown.names_fit.0 x)) in
+      subst (λ o. ProgressRepresents b.typing (execution.use_in low (machine.number b.levels low.cells n) (λ v. execution.running (execution.append_output low (execution.number_out v)))) (use_in s (modes_of o >>= (λ modes. evaluate_arguments b.active s.store modes (arguments_listed es))) (λ args. perform o (b.enters x) args s))) (sym is_bound)
       (subst (λ l. ProgressRepresents b.typing (execution.use_in low (machine.number b.levels low.cells n) (λ v. execution.running (execution.append_output low (execution.number_out v)))) (use_in s (evaluate_arguments b.active s.store (by_value ∷ []) l) (λ args. perform (Some (a_standard writes)) (b.enters x) args s))) (sym one)
       (subst (λ w. ProgressRepresents b.typing (execution.use_in low (machine.number b.levels low.cells n) (λ v. execution.running (execution.append_output low (execution.number_out v)))) w) (sym (use-value-argument s (evaluate b.active s.store e) (λ args. perform (Some (a_standard writes)) (b.enters x) args s)))
       (use-represents b.typing number low s (machine.number b.levels low.cells n) (evaluate b.active s.store e) (λ v. execution.running (execution.append_output low (execution.number_out v))) (λ v. perform (Some (a_standard writes)) (b.enters x) (value_argument v ∷ []) s) h
@@ -136,7 +136,7 @@ module _ {N : Type 0} (checked : Typed N) (slots : N → Slot) (targets : N → 
   pub line-means : (x : N) (es : Tree N (maybe arguments)) → checked.object_for x ≡ Some (a_standard writes_line) → arguments_listed es ≡ [] → StatementMeans checked slots targets lowered.writes_line (calls x es)
   unfolding execution.execute execute evaluate_arguments
   line-means x es st empty_list b shown t low s h =
-      let stands : b.active.object_for x ≡ Some (a_standard writes_line) = standard-stands b.typing writes_line (b.active.object_for x) (subst (λ o. ObjectFits b.typing o (b.active.object_for x)) st (shown.names_fit.0 x)) in
-      subst (λ o. ProgressRepresents b.typing (execution.running (execution.append_output low execution.line_out)) (use_in s (modes_of o >>= (λ modes. evaluate_arguments b.active s.store modes (arguments_listed es))) (λ args. perform o (b.enters x) args s))) (sym stands)
+      let is_bound : b.active.object_for x ≡ Some (a_standard writes_line) = standard-is b.typing writes_line (b.active.object_for x) (subst (λ o. ObjectFits b.typing o (b.active.object_for x)) st (shown.names_fit.0 x)) in
+      subst (λ o. ProgressRepresents b.typing (execution.running (execution.append_output low execution.line_out)) (use_in s (modes_of o >>= (λ modes. evaluate_arguments b.active s.store modes (arguments_listed es))) (λ args. perform o (b.enters x) args s))) (sym is_bound)
       (subst (λ l. ProgressRepresents b.typing (execution.running (execution.append_output low execution.line_out)) (use_in s (evaluate_arguments b.active s.store [] l) (λ args. perform (Some (a_standard writes_line)) (b.enters x) args s))) (sym empty_list)
       (put-represents b.typing low s execution.line_out h))

@@ -6,7 +6,7 @@ use Rattle.ob0_tree.specs.declared.tree.MultiplyOperator.{MultiplyOperator}
 use Rattle.ob0_tree.specs.Tree.{Tree, addend, adds, compares, expression, factor, integer, items, more, multiplier, multiplies, none, parenthesised, product, simple, sum, term}
 use Rattle.ob0_types_rules.specs.Expressions.{evaluate}
 use Rattle.ob0_types_rules.specs.WellTyped.{Typed}
-use Rattle.ob0_values.specs.Values.{Outcome, Value, add, add_is_settled, ends, gives, multiply, multiply_is_settled, number, signed, ◌>>=◌}
+use Rattle.ob0_values.specs.Values.{Outcome, Value, add, add_is_settled, ends, gives, multiply, multiply_is_settled, number, apply_sign, ◌>>=◌}
 use Rattle.ob0_run_machine.specs.Evaluation as machine
 use Rattle.ob0_run_machine.specs.Lowered as lowered
 use Rattle.ob0_run_cells.specs.Lowering.{Evaluated, Moment, NumberLeads, NumberMeans, RestOfChain, Slot, addends_left, cells_in, multipliers_left, value_of_expression, value_of_factor, value_of_simple, value_of_term}
@@ -31,9 +31,9 @@ module _ {N : Type 0} (checked : Typed N) (slots : N → Slot) where
     bits-then (machine.number z.levels (cells_in z) m) (λ a. followed_by (machine.number z.levels (cells_in z) n) (machine.operate o a)) (λ a. bits-then (machine.number z.levels (cells_in z) n) (machine.operate o a) (operate-bits o a)),
   )
 
-  pub negative-means : (n : lowered.Number) (v : Evaluated N Value) → NumberMeans checked slots n v → NumberMeans checked slots (lowered.negative n) (λ z. v z >>= signed (Some sign.Minus))
+  pub negative-means : (n : lowered.Number) (v : Evaluated N Value) → NumberMeans checked slots n v → NumberMeans checked slots (lowered.negative n) (λ z. v z >>= apply_sign (Some sign.Minus))
   negative-means n v hn z shown = (
-    outcome-then number number (machine.number z.levels (cells_in z) n) (v z) (λ a. machine.in_range (neg_ℤ a)) (signed (Some sign.Minus)) (hn z shown).0 (λ a. in_range-same (neg_ℤ a)),
+    outcome-then number number (machine.number z.levels (cells_in z) n) (v z) (λ a. machine.in_range (neg_ℤ a)) (apply_sign (Some sign.Minus)) (hn z shown).0 (λ a. in_range-same (neg_ℤ a)),
     bits-then (machine.number z.levels (cells_in z) n) (λ a. machine.in_range (neg_ℤ a)) (λ a. in_range-bits (neg_ℤ a)),
   )
 
@@ -77,15 +77,15 @@ module _ {N : Type 0} (checked : Typed N) (slots : N → Slot) where
   plus-begins e rest n hn = (
     value_of_term e,
     hn,
-    λ z shown. ap (λ w. w >>= addends_left rest z) (plus-same (machine.number z.levels (cells_in z) n) (value_of_term e z) (hn z shown).0 (hn z shown).1) ∙ grouped-then (value_of_term e z) (signed (Some sign.Plus)) (addends_left rest z),
+    λ z shown. ap (λ w. w >>= addends_left rest z) (plus-same (machine.number z.levels (cells_in z) n) (value_of_term e z) (hn z shown).0 (hn z shown).1) ∙ grouped-then (value_of_term e z) (apply_sign (Some sign.Plus)) (addends_left rest z),
   )
 
   pub minus-begins : (e : Tree N term) (rest : Tree N (items addend)) (n : lowered.Number) → NumberMeans checked slots n (value_of_term e) → NumberLeads checked slots (lowered.negative n) (addends_left rest) (value_of_simple (sum (Some sign.Minus) e rest))
   unfolding evaluate
   minus-begins e rest n hn = (
-    (λ z. value_of_term e z >>= signed (Some sign.Minus)),
+    (λ z. value_of_term e z >>= apply_sign (Some sign.Minus)),
     negative-means n (value_of_term e) hn,
-    λ z shown. grouped-then (value_of_term e z) (signed (Some sign.Minus)) (addends_left rest z),
+    λ z shown. grouped-then (value_of_term e z) (apply_sign (Some sign.Minus)) (addends_left rest z),
   )
 
   pub integer-means : (n : ℕ) → machine.fits (pos n) ≡ true → NumberMeans checked slots (lowered.literal (pos n)) (value_of_factor (integer n))

@@ -6,7 +6,7 @@ use Rattle.ob0_tree.specs.declared.tree.Relation.TheVariants as relation
 use Rattle.ob0_tree.specs.declared.tree.Sign.TheVariants as sign
 use Rattle.ob0_tree.specs.declared.tree.AddOperator.TheVariants as add_operator
 use Rattle.ob0_tree.specs.declared.tree.MultiplyOperator.TheVariants as multiply_operator
-use Rattle.ob0_values.specs.Values.{End, Outcome, Overflow, Place, Shape, Value, add, divided, divided_by, ends, fits, gives, in_range, multiply, number, or_stuck, quotient, relate, remainder, same_truth, signed, truth, ◌>>=◌}
+use Rattle.ob0_values.specs.Values.{End, Outcome, Overflow, Place, Shape, Value, add, divided, divided_by, ends, fits, gives, in_range, multiply, number, or_stuck, quotient, relate, remainder, same_truth, apply_sign, truth, ◌>>=◌}
 use Rattle.ob0_run_rules.specs.Fitting.{PlaceFits, StoreTyping}
 use Rattle.ob0_run_machine.specs.Evaluation as machine
 use Rattle.ob0_run_machine.specs.Lowered as lowered
@@ -101,10 +101,10 @@ alike-same true b = refl
 alike-same false b = refl
 
 -- a sign before a number of 32 bits
-pub plus-same : (o : machine.StepResult ℤ) (w : Outcome Value) → outcome_of number o ≡ w → Has32Bits o → w ≡ (w >>= signed (Some sign.Plus))
+pub plus-same : (o : machine.StepResult ℤ) (w : Outcome Value) → outcome_of number o ≡ w → Has32Bits o → w ≡ (w >>= apply_sign (Some sign.Plus))
 plus-same (machine.gives n) w e h =
-    subst (λ w. w ≡ (w >>= signed (Some sign.Plus))) e (sym (ap (λ b. if b then gives (number n) else ends Overflow) (sym (fits-same n) ∙ h)))
-plus-same (machine.ends x) w e h = subst (λ w. w ≡ (w >>= signed (Some sign.Plus))) e refl
+    subst (λ w. w ≡ (w >>= apply_sign (Some sign.Plus))) e (sym (ap (λ b. if b then gives (number n) else ends Overflow) (sym (fits-same n) ∙ h)))
+plus-same (machine.ends x) w e h = subst (λ w. w ≡ (w >>= apply_sign (Some sign.Plus))) e refl
 
 -- addresses
 

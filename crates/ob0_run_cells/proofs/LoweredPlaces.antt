@@ -19,21 +19,21 @@ use Rattle.ob0_run_cells.proofs.Places.{numbers_are_cells-holds, parts_have_addr
 
 -- what names mean in the run, by what they mean in the checked module
 
-pub constant-stands : (typing : StoreTyping) (v : Value) (a : Option (Object Place (List Mode))) → ObjectFits typing (Some (a_constant v)) a → a ≡ Some (a_constant v)
-constant-stands typing v (Some (a_constant w)) h = ap (λ v. Some (a_constant v)) (sym h)
-constant-stands typing v None h = absurd h
-constant-stands typing v (Some (a_type s)) h = absurd h
-constant-stands typing v (Some (a_variable p)) h = absurd h
-constant-stands typing v (Some (a_procedure p)) h = absurd h
-constant-stands typing v (Some (a_standard p)) h = absurd h
+pub constant-is : (typing : StoreTyping) (v : Value) (a : Option (Object Place (List Mode))) → ObjectFits typing (Some (a_constant v)) a → a ≡ Some (a_constant v)
+constant-is typing v (Some (a_constant w)) h = ap (λ v. Some (a_constant v)) (sym h)
+constant-is typing v None h = absurd h
+constant-is typing v (Some (a_type s)) h = absurd h
+constant-is typing v (Some (a_variable p)) h = absurd h
+constant-is typing v (Some (a_procedure p)) h = absurd h
+constant-is typing v (Some (a_standard p)) h = absurd h
 
-pub variable-stands : (typing : StoreTyping) (s : Shape) (a : Option (Object Place (List Mode))) → ObjectFits typing (Some (a_variable s)) a → (p : Place) × (a ≡ Some (a_variable p)) × PlaceFits typing p s
-variable-stands typing s (Some (a_variable p)) h = (p, refl, h)
-variable-stands typing s None h = absurd h
-variable-stands typing s (Some (a_type t)) h = absurd h
-variable-stands typing s (Some (a_constant v)) h = absurd h
-variable-stands typing s (Some (a_procedure p)) h = absurd h
-variable-stands typing s (Some (a_standard p)) h = absurd h
+pub variable-is : (typing : StoreTyping) (s : Shape) (a : Option (Object Place (List Mode))) → ObjectFits typing (Some (a_variable s)) a → (p : Place) × (a ≡ Some (a_variable p)) × PlaceFits typing p s
+variable-is typing s (Some (a_variable p)) h = (p, refl, h)
+variable-is typing s None h = absurd h
+variable-is typing s (Some (a_type t)) h = absurd h
+variable-is typing s (Some (a_constant v)) h = absurd h
+variable-is typing s (Some (a_procedure p)) h = absurd h
+variable-is typing s (Some (a_standard p)) h = absurd h
 
 -- what lies further on
 
@@ -192,7 +192,7 @@ module _ {N : Type 0} (checked : Typed N) (slots : N → Slot) where
   unfolding designate
   variable-leads x s path e = (
     (λ z. object_place (z.active.object_for x)),
-    (λ z shown. let (p, ep, fit) = variable-stands z.typing s (z.active.object_for x) (subst (λ o. ObjectFits z.typing o (z.active.object_for x)) e (shown.names_fit.0 x)) in
+    (λ z shown. let (p, ep, fit) = variable-is z.typing s (z.active.object_for x) (subst (λ o. ObjectFits z.typing o (z.active.object_for x)) e (shown.names_fit.0 x)) in
         let there : slot_address z.levels (slots x) ≡ address z.typing p = shown.variables_in_slots x p ep in
         let within = (places_are_slices-holds z.typing z.store p s shown.store_fits fit).within in
         let few : sizes z.typing < 2 ^ 64 = shown.has_addresses in
@@ -248,7 +248,7 @@ module _ {N : Type 0} (checked : Typed N) (slots : N → Slot) where
   pub cell-means : (x : N) (s : Shape) (path : Tree N (items selector)) (q : lowered.Place) → checked.object_for x ≡ Some (a_variable s) → PlaceMeans checked slots q integer_shape (place_of_designator x path) → NumberMeans checked slots (lowered.cell q) (value_of_factor (designator x path))
   unfolding evaluate designate
   cell-means x s path q e h z shown =
-      let (p, ep, fit) = variable-stands z.typing s (z.active.object_for x) (subst (λ o. ObjectFits z.typing o (z.active.object_for x)) e (shown.names_fit.0 x)) in (
+      let (p, ep, fit) = variable-is z.typing s (z.active.object_for x) (subst (λ o. ObjectFits z.typing o (z.active.object_for x)) e (shown.names_fit.0 x)) in (
         number-there z.typing z.store z.passed shown.store_fits (machine.address z.levels (cells_in z) q) (place_of_designator x path z) (led-at q integer_shape (place_of_designator x path) h z shown) ∙ sym (value-there z.active z.store x path p ep),
         bits-at (machine.address z.levels (cells_in z) q) (cells_in z) shown.has_numbers,
       )
@@ -256,25 +256,25 @@ module _ {N : Type 0} (checked : Typed N) (slots : N → Slot) where
   pub flag-means : (x : N) (s : Shape) (path : Tree N (items selector)) (q : lowered.Place) → checked.object_for x ≡ Some (a_variable s) → PlaceMeans checked slots q boolean_shape (place_of_designator x path) → TruthMeans checked slots (lowered.flag q) (value_of_factor (designator x path))
   unfolding evaluate designate
   flag-means x s path q e h z shown =
-      let (p, ep, fit) = variable-stands z.typing s (z.active.object_for x) (subst (λ o. ObjectFits z.typing o (z.active.object_for x)) e (shown.names_fit.0 x)) in
+      let (p, ep, fit) = variable-is z.typing s (z.active.object_for x) (subst (λ o. ObjectFits z.typing o (z.active.object_for x)) e (shown.names_fit.0 x)) in
       truth-there z.typing z.store z.passed shown.store_fits (machine.address z.levels (cells_in z) q) (place_of_designator x path z) (led-at q boolean_shape (place_of_designator x path) h z shown) ∙ sym (value-there z.active z.store x path p ep)
 
   pub number-constant : (x : N) (n : ℤ) → checked.object_for x ≡ Some (a_constant (number n)) → machine.fits n ≡ true → NumberMeans checked slots (lowered.literal n) (value_of_factor (designator x end))
   unfolding evaluate
   number-constant x n e fits z shown =
-      let stands : z.active.object_for x ≡ Some (a_constant (number n)) = constant-stands z.typing (number n) (z.active.object_for x) (subst (λ o. ObjectFits z.typing o (z.active.object_for x)) e (shown.names_fit.0 x)) in
-      (sym (ap (λ o. object_value {P = List Mode} z.store o >>= (λ v. gives [] >>= (λ steps. or_stuck (at_path steps v)))) stands), fits)
+      let is_bound : z.active.object_for x ≡ Some (a_constant (number n)) = constant-is z.typing (number n) (z.active.object_for x) (subst (λ o. ObjectFits z.typing o (z.active.object_for x)) e (shown.names_fit.0 x)) in
+      (sym (ap (λ o. object_value {P = List Mode} z.store o >>= (λ v. gives [] >>= (λ steps. or_stuck (at_path steps v)))) is_bound), fits)
 
   pub truth-constant : (x : N) (b : Bool) → checked.object_for x ≡ Some (a_constant (truth b)) → TruthMeans checked slots (lowered.constant b) (value_of_factor (designator x end))
   unfolding evaluate
   truth-constant x b e z shown =
-      let stands : z.active.object_for x ≡ Some (a_constant (truth b)) = constant-stands z.typing (truth b) (z.active.object_for x) (subst (λ o. ObjectFits z.typing o (z.active.object_for x)) e (shown.names_fit.0 x)) in
-      sym (ap (λ o. object_value {P = List Mode} z.store o >>= (λ v. gives [] >>= (λ steps. or_stuck (at_path steps v)))) stands)
+      let is_bound : z.active.object_for x ≡ Some (a_constant (truth b)) = constant-is z.typing (truth b) (z.active.object_for x) (subst (λ o. ObjectFits z.typing o (z.active.object_for x)) e (shown.names_fit.0 x)) in
+      sym (ap (λ o. object_value {P = List Mode} z.store o >>= (λ v. gives [] >>= (λ steps. or_stuck (at_path steps v)))) is_bound)
 
   pub block-designator : (q : lowered.Place) (s : Shape) (x : N) (v : Shape) (path : Tree N (items selector)) → checked.object_for x ≡ Some (a_variable v) → PlaceMeans checked slots q s (place_of_designator x path) → ValueAt checked slots q s (value_of_factor (designator x path))
   unfolding evaluate designate
   block-designator q s x v path e hq =
-      (place_of_designator x path, hq, λ z shown. let (p, ep, fit) = variable-stands z.typing v (z.active.object_for x) (subst (λ o. ObjectFits z.typing o (z.active.object_for x)) e (shown.names_fit.0 x)) in value-there z.active z.store x path p ep)
+      (place_of_designator x path, hq, λ z shown. let (p, ep, fit) = variable-is z.typing v (z.active.object_for x) (subst (λ o. ObjectFits z.typing o (z.active.object_for x)) e (shown.names_fit.0 x)) in value-there z.active z.store x path p ep)
 
   pub block-parenthesised : (q : lowered.Place) (s : Shape) (e : Tree N expression) → ValueAt checked slots q s (value_of_expression e) → ValueAt checked slots q s (value_of_factor (parenthesised e))
   unfolding evaluate

@@ -7,7 +7,7 @@ use Rattle.ob0_tree.specs.declared.tree.MultiplyOperator.TheVariants as multiply
 use Rattle.ob0_tree.specs.Tree.{Tree, addend, adds, compares, expression, factor, items, more, multiplier, multiplies, negation, none, one, parenthesised, product, relates, simple, sum, term}
 use Rattle.ob0_types_rules.specs.Expressions.{evaluate}
 use Rattle.ob0_types_rules.specs.WellTyped.{Typed}
-use Rattle.ob0_values.specs.Values.{Outcome, Value, add, add_is_settled, gives, multiply, multiply_is_settled, negated, number, relate, truth, ◌>>=◌}
+use Rattle.ob0_values.specs.Values.{Outcome, Value, add, add_is_settled, gives, multiply, multiply_is_settled, negate, number, relate, truth, ◌>>=◌}
 use Rattle.ob0_run_machine.specs.Evaluation as machine
 use Rattle.ob0_run_machine.specs.Lowered as lowered
 use Rattle.ob0_run_cells.specs.Lowering.{Evaluated, Moment, NumberMeans, RestOfChain, Slot, TruthLeads, TruthMeans, addends_left, cells_in, multipliers_left, outcome_of, relation_of, value_of_expression, value_of_factor, value_of_simple, value_of_term}
@@ -80,7 +80,7 @@ module _ {N : Type 0} (checked : Typed N) (slots : N → Slot) where
   pub negation-means : (f : Tree N factor) (t : lowered.Truth) → TruthMeans checked slots t (value_of_factor f) → TruthMeans checked slots (lowered.negation t) (value_of_factor (negation f))
   unfolding evaluate
   negation-means f t ht z shown =
-      outcome-then truth truth (machine.truth z.levels (cells_in z) t) (value_of_factor f z) (λ a. machine.gives (not a)) negated (ht z shown) (λ a. refl)
+      outcome-then truth truth (machine.truth z.levels (cells_in z) t) (value_of_factor f z) (λ a. machine.gives (not a)) negate (ht z shown) (λ a. refl)
 
   pub related-means : (d e : Tree N simple) (r : Relation) (m n : lowered.Number) → NumberMeans checked slots m (value_of_simple d) → NumberMeans checked slots n (value_of_simple e)
       → TruthMeans checked slots (lowered.related (relation_of r) m n) (value_of_expression (compares d (one (relates r e))))

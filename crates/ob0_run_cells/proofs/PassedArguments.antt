@@ -178,22 +178,22 @@ module _ {N : Type 0} (checked : Typed N) (slots : N → Slot) (targets : N → 
   arguments-passed (f ∷ fs) [] es h done passed same numbers = absurd h
   arguments-passed (f ∷ fs) (c ∷ cs) [] h done passed same numbers = absurd h
 
-pub procedure-stands : (typing : StoreTyping) (signature : Signature) (a : Option (Object Place (List Mode))) → ObjectFits typing (Some (a_procedure signature)) a → a ≡ Some (a_procedure (modes_in signature))
-procedure-stands typing signature (Some (a_procedure modes)) h = ap (λ m. Some (a_procedure m)) h
-procedure-stands typing signature None h = absurd h
-procedure-stands typing signature (Some (a_type s)) h = absurd h
-procedure-stands typing signature (Some (a_constant v)) h = absurd h
-procedure-stands typing signature (Some (a_variable p)) h = absurd h
-procedure-stands typing signature (Some (a_standard p)) h = absurd h
+pub procedure-is : (typing : StoreTyping) (signature : Signature) (a : Option (Object Place (List Mode))) → ObjectFits typing (Some (a_procedure signature)) a → a ≡ Some (a_procedure (modes_in signature))
+procedure-is typing signature (Some (a_procedure modes)) h = ap (λ m. Some (a_procedure m)) h
+procedure-is typing signature None h = absurd h
+procedure-is typing signature (Some (a_type s)) h = absurd h
+procedure-is typing signature (Some (a_constant v)) h = absurd h
+procedure-is typing signature (Some (a_variable p)) h = absurd h
+procedure-is typing signature (Some (a_standard p)) h = absurd h
 
 pub call-means : {N : Type 0} (checked : Typed N) (slots : N → Slot) (targets : N → Target) (x : N) (es : Tree N (maybe arguments)) (signature : Signature) (cs : List lowered.LoweredArgument) → checked.object_for x ≡ Some (a_procedure signature) → ArgumentsMean checked slots signature cs (arguments_listed es)
     → StatementMeans checked slots targets (lowered.calls (targets x).procedure (targets x).up cs) (calls x es)
 unfolding execution.execute execute
 call-means {N} checked slots targets x es signature cs st ha b shown t low s h =
-    let stands : b.active.object_for x ≡ Some (a_procedure (modes_in signature)) = procedure-stands b.typing signature (b.active.object_for x) (subst (λ o. ObjectFits b.typing o (b.active.object_for x)) st (shown.names_fit.0 x)) in
+    let is_bound : b.active.object_for x ≡ Some (a_procedure (modes_in signature)) = procedure-is b.typing signature (b.active.object_for x) (subst (λ o. ObjectFits b.typing o (b.active.object_for x)) st (shown.names_fit.0 x)) in
     let enter = λ (p : execution.Passed). b.lowered_enters (targets x).procedure (execution.entered b.levels (length low.cells) (targets x).up p) (record low { cells = p.cells }) in
     let start : execution.Passed = record { cells = low.cells; addresses = [] } in
-    subst (λ o. ProgressRepresents b.typing (execution.use_in low (execution.pass_all b.levels cs start) enter) (use_in s (modes_of o >>= (λ modes. evaluate_arguments b.active s.store modes (arguments_listed es))) (λ args. perform o (b.enters x) args s))) (sym stands)
+    subst (λ o. ProgressRepresents b.typing (execution.use_in low (execution.pass_all b.levels cs start) enter) (use_in s (modes_of o >>= (λ modes. evaluate_arguments b.active s.store modes (arguments_listed es))) (λ args. perform o (b.enters x) args s))) (sym is_bound)
     (use-both b.typing (λ p args. Passes b.typing signature start p args) low s (execution.pass_all b.levels cs start) (evaluate_arguments b.active s.store (modes_in signature) (arguments_listed es)) enter (λ args. b.enters x args s) h
     (arguments-passed checked slots targets b shown s.store h.store_fits signature cs (arguments_listed es) ha start [] (alone-cells checked slots targets b shown low s h) h.cells_have_numbers)
     (λ p args r. shown.calls_represent x signature st args low s p h r.arguments_fit r.cells_passed r.addresses_passed r.have_numbers))

@@ -8,9 +8,9 @@ use Rattle.ob0_types_rules.specs.Environments.{outermost}
 use Rattle.ob0_types_rules.specs.WellTyped.{WellTyped, fits_over}
 use Rattle.ob0_types_rules.proofs.Proved.{fits_by_ordinal-holds}
 use Rattle.ob0_run_rules.specs.Fitting.{StoreTyping}
-use Rattle.ob0_run_rules.specs.GivenUp.{call_giving_up, run_giving_up}
+use Rattle.ob0_run_rules.specs.Freed.{call_freeing, run_freeing}
 use Rattle.ob0_run_rules.specs.Runs.{Frame, Progress, State, execute_body, finished, in_frame, run_numbered, run_over, running, stopped}
-use Rattle.ob0_run_rules.proofs.KeptVariables.{giving_up-keeps}
+use Rattle.ob0_run_rules.proofs.KeptVariables.{freeing-keeps}
 use Rattle.ob0_run_rules.proofs.Proved.{runs_by_ordinal-holds}
 use Rattle.ob0_run_machine.specs.Execution as execution
 use Rattle.ob0_run_machine.specs.Lowered as lowered
@@ -32,10 +32,10 @@ finished-same typing (execution.stopped x out) (stopped y written) h = λ i. rec
 finished-same typing (execution.running low) (stopped y written) h = absurd h
 finished-same typing (execution.stopped x out) (running s) h = absurd h
 
-run-given_up : {N : Type 0} (naming : Naming N) (m : Tree N module_text) (program : lowered.LoweredCode) (most c t : ℕ) (input : List ℤ) → fits_over naming m ≡ true → ProgramMeans most naming m program → suc c * most < 2 ^ 64 → HaveNumbers input
-    → run_of (execution.run program input c t) ≡ run_giving_up naming m input c t
-unfolding execution.run run_giving_up fits_over
-run-given_up {N} naming (is_module x b closing) program most c t input fits means few numbers =
+run-freed : {N : Type 0} (naming : Naming N) (m : Tree N module_text) (program : lowered.LoweredCode) (most c t : ℕ) (input : List ℤ) → fits_over naming m ≡ true → ProgramMeans most naming m program → suc c * most < 2 ^ 64 → HaveNumbers input
+    → run_of (execution.run program input c t) ≡ run_freeing naming m input c t
+unfolding execution.run run_freeing fits_over
+run-freed {N} naming (is_module x b closing) program most c t input fits means few numbers =
     let start : State = record { store = []; input = input; output = [] } in
     let low : execution.MachineState = record { cells = execution.zeros program.cells; input = input; output = [] } in
     let p : Placed N = record { placing = outermost_placing naming; cells = 0; reference_places = 0 } in
@@ -58,14 +58,14 @@ run-given_up {N} naming (is_module x b closing) program most c t input fits mean
       cells_have_numbers = numbers-zero program.cells;
       input_has_numbers = numbers;
     } in
-    subst (λ o. run_of (execution.run program input c t) ≡ finished (in_frame start o (λ f. execute_body naming f.env (call_giving_up naming c t f.env) t (block_statements b)))) (sym eg)
-    (finished-same part.typing_now (execution.execute_all (execution.call program.procedures c t) t execution.outermost program.body low) (execute_body naming g.env (call_giving_up naming c t g.env) t (block_statements b) record start { store = g.store })
+    subst (λ o. run_of (execution.run program input c t) ≡ finished (in_frame start o (λ f. execute_body naming f.env (call_freeing naming c t f.env) t (block_statements b)))) (sym eg)
+    (finished-same part.typing_now (execution.execute_all (execution.call program.procedures c t) t execution.outermost program.body low) (execute_body naming g.env (call_freeing naming c t g.env) t (block_statements b) record start { store = g.store })
     (body-represents table c t (calls-known table c t) part.typing_now execution.outermost after q.placing g.env part.frame.environment_fits part.frame.placing_fits room program.body (block_statements b) body_means low record start { store = g.store } represents))
 
 -- of the store that keeps every variable too: no run reads again what a call failed
 pub run-lowered : {N : Type 0} (naming : Naming N) (m : Tree N module_text) (program : lowered.LoweredCode) (most c t : ℕ) (input : List ℤ) → fits_over naming m ≡ true → ProgramMeans most naming m program → suc c * most < 2 ^ 64 → HaveNumbers input
     → run_of (execution.run program input c t) ≡ run_over naming m input c t
-run-lowered naming m program most c t input fits means few numbers = run-given_up naming m program most c t input fits means few numbers ∙ giving_up-keeps naming m input c t
+run-lowered naming m program most c t input fits means few numbers = run-freed naming m program most c t input fits means few numbers ∙ freeing-keeps naming m input c t
 
 pub runs_lowered-holds : RunsLowered
 unfolding WellTyped run_numbered

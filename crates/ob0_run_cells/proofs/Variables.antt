@@ -68,8 +68,8 @@ cut-split (t ∷ typing) others (v ∷ old) [] h k = absurd k
 cut-split (t ∷ typing) others (v ∷ old) (w ∷ new) h k =
     let (rest, e) = cut-split typing others old new h.1 k.1 in (rest, ap (λ l. w ∷ l) e)
 
-pub variables_are_given_up-holds : VariablesAreDropped
-variables_are_given_up-holds typing others old new h k =
+pub variables_are_dropped-holds : VariablesAreDropped
+variables_are_dropped-holds typing others old new h k =
     let fit : StoreFits typing (take (length old) new) = cut-fits typing others old new h k in
     let (rest, e) = cut-split typing others old new h k in
     let n : length (all_cells (take (length old) new)) ≡ length (all_cells old) = store-size typing (take (length old) new) fit ∙ sym (store-size typing old h) in

@@ -8,7 +8,7 @@ use Rattle.ob0_scope_rules.specs.Scopes.{numbered}
 use Rattle.ob0_types_rules.specs.Environments.{meanings}
 use Rattle.ob0_types_rules.specs.WellTyped.{TypeEnvironment, WellTyped}
 use Rattle.ob0_run_rules.specs.Fitting.{EnvironmentsFit, StoreTyping}
-use Rattle.ob0_run_rules.specs.GivenUp.{call_giving_up}
+use Rattle.ob0_run_rules.specs.Freed.{call_freeing}
 use Rattle.ob0_run_rules.specs.Runs.{Activation, Run, run, statement_meanings}
 use Rattle.ob0_run_machine.specs.Evaluation.{Levels}
 use Rattle.ob0_run_machine.specs.Execution as execution
@@ -31,7 +31,7 @@ CallsLowered =
       typing = typing;
       active = statement_meanings as_labels active;
       levels = ls;
-      enters = call_giving_up as_labels c t active;
+      enters = call_freeing as_labels c t active;
       lowered_enters = execution.call table c t;
     }
 

@@ -4,7 +4,7 @@
 use Rattle.std.specs.Prelude.{◌≡◌, ℕ, ◌^◌, ◌<◌, true, List, [], ◌∷◌, ◌++◌, length, map, ℤ, Some}
 use Rattle.ob0_tree.specs.Tree.{Tree, else_part, elsif_part, expression, further_statement, items, maybe, selector, sequence, statement}
 use Rattle.ob0_types_rules.specs.Expressions.{Meanings, a_procedure, a_variable}
-use Rattle.ob0_types_rules.specs.Typing.{designated}
+use Rattle.ob0_types_rules.specs.Typing.{lone_designator}
 use Rattle.ob0_types_rules.specs.WellTyped.{Formal, Mode, Signature, Typed, by_place, by_value}
 use Rattle.ob0_values.specs.Values.{Place, Shape, boolean_shape, integer_shape}
 use Rattle.ob0_run_rules.specs.Fitting.{ArgumentsFit, MeaningsFit, StoreFits, StoreTyping}
@@ -179,7 +179,7 @@ pub record IsAt {N : Type 0} (checked : Typed N) (slots : N → Slot) (q : lower
   pub name : N
   pub path : Tree N (items selector)
   pub shape : Shape
-  pub is_designator : designated e ≡ Some (name, path)
+  pub is_designator : lone_designator e ≡ Some (name, path)
   pub is_variable : checked.object_for name ≡ Some (a_variable shape)
   pub place_means : PlaceMeans checked slots q s (place_of_designator name path)
 

@@ -16,7 +16,7 @@ use Rattle.ob0_types_rules.specs.InLabels.{in_labels}
 use Rattle.ob0_types_rules.proofs.Parts.{all_listed}
 use Rattle.ob0_types_rules.specs.Arguments.{arguments_listed}
 use Rattle.ob0_types_rules.specs.Expressions.{Object, a_procedure, a_standard, reads, writes, writes_line}
-use Rattle.ob0_types_rules.specs.Typing.{designated, type_of}
+use Rattle.ob0_types_rules.specs.Typing.{lone_designator, type_of}
 use Rattle.ob0_types_rules.specs.WellTyped.{Formal, Signature, Typed, argument_fits, arguments_fit, by_place, by_value, call_fits, signature_of, statement_fits, variable_type}
 use Rattle.ob0_values.specs.Values.{Shape, integer_shape}
 use Rattle.ob0_types_rules.proofs.Conditions.{agree-true, both_true}
@@ -68,10 +68,10 @@ signed checked signature es h = h
 pub called : (scene : Scene) (x : Label) (es : Tree Label (maybe arguments)) (signature : Signature) (cs : List lowered.LoweredArgument) (procedure up : ℕ) → object_at scene.types.now x ≡ Some (a_procedure signature) → ArgumentsLower scene signature cs (arguments_listed es)
     → record { procedure = procedure; up = up } ≡ target_at scene x → StatementLowers scene (lowered.calls procedure up cs) (calls x es)
 called scene x es signature cs procedure up declared hs there checked slots targets sees fits =
-    let stands = called_as scene x es (Some (a_procedure signature)) declared checked slots targets sees fits in
+    let is_there = called_as scene x es (Some (a_procedure signature)) declared checked slots targets sees fits in
     let args = hs checked slots targets sees (signed checked signature (arguments_listed es) (called_with scene x es (Some (a_procedure signature)) declared checked slots targets sees fits)) in
     let P : Target → Type 0 = λ t. StatementMeans checked slots targets (lowered.calls t.procedure t.up cs) (calls x es) in
-    subst P (sees.procedures x signature stands ∙ sym there) (calls_lower-holds checked slots targets x es signature cs stands args)
+    subst P (sees.procedures x signature is_there ∙ sym there) (calls_lower-holds checked slots targets x es signature cs is_there args)
 
 -- arguments as they are written
 pub given_listed : (r : Resolution) (given : Option (Vec Expression Global)) → arguments_listed (in_labels r (arguments_of given)) ≡ all_in_labels r (given_in given)
@@ -100,9 +100,9 @@ unfolding arguments_fit
 no_argument_fits checked [] h = refl
 no_argument_fits checked (e ∷ es) h = absurd (cc)
 
-placed : (checked : Typed Label) (e : Tree Label expression) → argument_fits checked (record { mode = by_place; shape = integer_shape }) e ≡ true → variable_type checked (designated e) ≡ Some integer_shape
+placed : (checked : Typed Label) (e : Tree Label expression) → argument_fits checked (record { mode = by_place; shape = integer_shape }) e ≡ true → variable_type checked (lone_designator e) ≡ Some integer_shape
 unfolding argument_fits
-placed checked e h = let (s, hs, ht) = agree-true (Some integer_shape) (variable_type checked (designated e)) h in ht ∙ sym hs
+placed checked e h = let (s, hs, ht) = agree-true (Some integer_shape) (variable_type checked (lone_designator e)) h in ht ∙ sym hs
 
 valued : (checked : Typed Label) (e : Tree Label expression) → argument_fits checked (record { mode = by_value; shape = integer_shape }) e ≡ true → type_of checked e ≡ Some integer_shape
 unfolding argument_fits

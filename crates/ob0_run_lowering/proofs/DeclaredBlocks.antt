@@ -22,8 +22,8 @@ use Rattle.ob0_types_rules.proofs.TypesByOrdinal.{TypeNoted, TypedBelow, TypedBe
 use Rattle.ob0_run_lowering.specs.KnownBlocks.{AreDeclared, BlockDeclared, ProceduresDeclared}
 
 -- what an environment has, a list of bindings has too
-abbrev Stands : TypeEnvironment Label → TypeEnvironment Label → Type 0
-Stands all env = (d : ℕ) (o : Object Shape Signature) → object_bound env d ≡ Some o → object_bound all d ≡ Some o
+abbrev Includes : TypeEnvironment Label → TypeEnvironment Label → Type 0
+Includes all env = (d : ℕ) (o : Object Shape Signature) → object_bound env d ≡ Some o → object_bound all d ≡ Some o
 
 -- of ordinals from k on and below n a list of bindings has what another has
 abbrev Has : ℕ → ℕ → TypeEnvironment Label → TypeEnvironment Label → Type 0
@@ -39,8 +39,8 @@ bound-none k n d xs b h = ap (λ e. object_bound e d) (sym (append-nil xs)) ∙ 
 nothing : {A : Type 0} (o : A) → None ≡ Some o → ⊥
 nothing o e = cc
 
-stands-grown : (all env own : TypeEnvironment Label) (k n : ℕ) → k ≤ n → Stands all env → Binds 0 k env → Binds k n own → Has k n all own → Stands all (own ++ env)
-stands-grown all env own k n le st envb ownb has = λ d o h. by d o h (nat_lt d k) refl (nat_lt d n) refl
+includes-grown : (all env own : TypeEnvironment Label) (k n : ℕ) → k ≤ n → Includes all env → Binds 0 k env → Binds k n own → Has k n all own → Includes all (own ++ env)
+includes-grown all env own k n le st envb ownb has = λ d o h. by d o h (nat_lt d k) refl (nat_lt d n) refl
   where
     by : (d : ℕ) (o : Object Shape Signature) → object_bound (own ++ env) d ≡ Some o → (s : Bool) → nat_lt d k ≡ s → (t : Bool) → nat_lt d n ≡ t → object_bound all d ≡ Some o
     by d o h true below t e = st d o (sym (bound-elsewhere k n d own env ownb (λ a z. omega (arith, a, ltb-true d k below))) ∙ h)
@@ -49,15 +49,15 @@ stands-grown all env own k n le st envb ownb has = λ d o h. by d o h (nat_lt d 
         absurd (nothing o (sym (bound-first 0 k d own env envb (λ a z. omega (arith, z, ltb-false d k above)) ∙ bound-none k n d own ownb (λ a z. omega (arith, z, ltb-false d n e))) ∙ h))
 
 -- where ordinals descend, each binding is the one that is found
-tail-stands : (all : TypeEnvironment Label) (i : ℕ) (o : Object Shape Signature) (noted : TypeNoted Name) → TypedBelow i noted → Stands all ((declared i, o) ∷ typed_by_ordinal noted) → Stands all (typed_by_ordinal noted)
-tail-stands all i o noted below st d p h = by (d == i) refl
+tail-included : (all : TypeEnvironment Label) (i : ℕ) (o : Object Shape Signature) (noted : TypeNoted Name) → TypedBelow i noted → Includes all ((declared i, o) ∷ typed_by_ordinal noted) → Includes all (typed_by_ordinal noted)
+tail-included all i o noted below st d p h = by (d == i) refl
   where
     by : (t : Bool) → (d == i) ≡ t → object_bound all d ≡ Some p
     by true same = absurd (nothing p (sym (bound-none 0 i d (typed_by_ordinal noted) (noted-binds i noted below) (λ a z. omega (arith, z, eqb-true d i same))) ∙ h))
     by false other =
         st d p (newest-if (d == i) (declared i) o (typed_by_ordinal noted) (from_binding as_labels (typed_by_ordinal noted) (declared d)) ∙ ap (λ t. cond t (Some o) (object_bound (typed_by_ordinal noted) d)) other ∙ h)
 
-noted-declared : (all : TypeEnvironment Label) (n : ℕ) (noted : TypeNoted Name) → TypedBelow n noted → Stands all (typed_by_ordinal noted) → AreDeclared (object_bound all) (typed_by_ordinal noted)
+noted-declared : (all : TypeEnvironment Label) (n : ℕ) (noted : TypeNoted Name) → TypedBelow n noted → Includes all (typed_by_ordinal noted) → AreDeclared (object_bound all) (typed_by_ordinal noted)
 noted-declared all n [] below st = tt
 noted-declared all n (b ∷ noted) below st = (
   (
@@ -66,11 +66,11 @@ noted-declared all n (b ∷ noted) below st = (
     st b.ordinal b.object
         (newest-if (b.ordinal == b.ordinal) (declared b.ordinal) b.object (typed_by_ordinal noted) (from_binding as_labels (typed_by_ordinal noted) (declared b.ordinal)) ∙ ap (λ t. cond t (Some b.object) (object_bound (typed_by_ordinal noted) b.ordinal)) (eq-eqb b.ordinal b.ordinal refl)),
   ),
-  noted-declared all b.ordinal noted below.1 (tail-stands all b.ordinal b.object noted below.1 st),
+  noted-declared all b.ordinal noted below.1 (tail-included all b.ordinal b.object noted below.1 st),
 )
 
 mutual
-  block-declared : (known : Known) (noted : TypeNoted Name) (j k : ℕ) → Knows known noted → TypedBelow k noted → (all : TypeEnvironment Label) → Stands all (typed_by_ordinal noted) → (b : Tree Name block)
+  block-declared : (known : Known) (noted : TypeNoted Name) (j k : ℕ) → Knows known noted → TypedBelow k noted → (all : TypeEnvironment Label) → Includes all (typed_by_ordinal noted) → (b : Tree Name block)
       → block_fits as_labels (typed_by_ordinal noted) j (relabel_block as_names (as_label as_names) (typed_scope noted) k b) ≡ true
       → Has k (after_block k b) all (block_bindings as_labels (typed_by_ordinal noted) j (relabel_block as_names (as_label as_names) (typed_scope noted) k b))
       → BlockDeclared (object_bound all) (typed_by_ordinal noted) j (relabel_block as_names (as_label as_names) (typed_scope noted) k b)
@@ -96,8 +96,8 @@ mutual
       block-listed env j b' parts.0 parts.1
       ∙ (λ i. procedures_bindings as_labels (o.reads i) jv (relabel_procedures as_names (as_label as_names) (sym o.scoped i) kp ps) ++ opened-since known noted k b parts.0 o i) in
       let each : Has k n all (P ++ own) = λ d l m. has d l m ∙ ap (λ e. object_bound e d) listed in
-      let inner : Stands all (typed_by_ordinal o.last) = subst (Stands all) (sym (opened-grown known noted k b parts.0 o) ∙ o.reads)
-      (stands-grown all env own k kp first st (noted-binds k noted below) own_binds (λ d l m. each d l (omega (arith, m, last)) ∙ bound-elsewhere kp n d P own p.binds (λ a z. omega (arith, a, m)))) in
+      let inner : Includes all (typed_by_ordinal o.last) = subst (Includes all) (sym (opened-grown known noted k b parts.0 o) ∙ o.reads)
+      (includes-grown all env own k kp first st (noted-binds k noted below) own_binds (λ d l m. each d l (omega (arith, m, last)) ∙ bound-elsewhere kp n d P own p.binds (λ a z. omega (arith, a, m)))) in
       let same : parts.0 ≡ inner' = some_inverse (sym parts.1 ∙ given) in (
         subst (AreDeclared (object_bound all)) (sym o.reads ∙ same) (noted-declared all kp o.last o.below inner),
         subst (λ e. ProceduresDeclared (object_bound all) e jv (block_procedures b')) same
@@ -106,7 +106,7 @@ mutual
             (λ d l m. each d (omega (arith, l, first)) m ∙ bound-first k kp d P own own_binds (λ a z. omega (arith, l, z))))),
       )
 
-  procedures-declared : (known : Known) (noted : TypeNoted Name) (j k : ℕ) → Knows known noted → TypedBelow k noted → (all : TypeEnvironment Label) → Stands all (typed_by_ordinal noted) → (statements : Tree Label (maybe body)) (ps : Tree Name (items procedure))
+  procedures-declared : (known : Known) (noted : TypeNoted Name) (j k : ℕ) → Knows known noted → TypedBelow k noted → (all : TypeEnvironment Label) → Includes all (typed_by_ordinal noted) → (statements : Tree Label (maybe body)) (ps : Tree Name (items procedure))
       → procedures_fit as_labels (typed_by_ordinal noted) j statements (relabel_procedures as_names (as_label as_names) (typed_scope noted) k ps) ≡ true
       → Has k (after_procedures k ps) all (procedures_bindings as_labels (typed_by_ordinal noted) j (relabel_procedures as_names (as_label as_names) (typed_scope noted) k ps))
       → ProceduresDeclared (object_bound all) (typed_by_ordinal noted) j (relabel_procedures as_names (as_label as_names) (typed_scope noted) k ps)
@@ -147,10 +147,10 @@ mutual
       each d l (omega (arith, u, inside, last)) ∙ bound-elsewhere q n d R (B ++ H) later.binds (λ a z. omega (arith, a, u, inside)) ∙ bound-elsewhere m q d B H inside_block.binds (λ a z. omega (arith, a, u)) in
       let each_top : Has k (suc k) all top = λ d l u.
       each_H d l (omega (arith, u, above)) ∙ ap (λ z. object_bound z d) (bind_typed-append qs [] top) ∙ bound-elsewhere (suc k) m d (bind_typed qs []) top e.parameters_bind (λ a z. omega (arith, a, u)) in
-      let inner : Stands all (typed_by_ordinal e.inner) = subst (Stands all) (sym (bind_typed-append qs top env) ∙ sym e.opened)
-      (stands-grown all env H k m (omega (arith, above)) st (noted-binds k noted below) e.binds each_H) in
-      let following : Stands all (typed_by_ordinal e.own) = subst (Stands all) (sym e.headed)
-      (stands-grown all env top k (suc k) (omega arith) st (noted-binds k noted below) ((k, refl, le_refl k, le_refl (suc k)), tt) each_top) in
+      let inner : Includes all (typed_by_ordinal e.inner) = subst (Includes all) (sym (bind_typed-append qs top env) ∙ sym e.opened)
+      (includes-grown all env H k m (omega (arith, above)) st (noted-binds k noted below) e.binds each_H) in
+      let following : Includes all (typed_by_ordinal e.own) = subst (Includes all) (sym e.headed)
+      (includes-grown all env top k (suc k) (omega arith) st (noted-binds k noted below) ((k, refl, le_refl k, le_refl (suc k)), tt) each_top) in
       let same : qs ≡ qs' = some_inverse (sym f.typed ∙ typed) in
       subst (λ ps. AreDeclared (object_bound all) (bind_typed ps (heading (declared k) ps env)) × BlockDeclared (object_bound all) (bind_typed ps (heading (declared k) ps env)) jb b' × ProceduresDeclared (object_bound all) (heading (declared k) ps env) jr rest') same (
         subst (AreDeclared (object_bound all)) e.opened (noted-declared all m e.inner e.below inner),

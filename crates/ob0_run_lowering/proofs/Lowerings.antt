@@ -12,7 +12,7 @@ use Rattle.ob0_types_table.specs.declared.known.Formal.{Formal}
 use Rattle.ob0_types_rules.specs.InLabels.{in_labels, label_in}
 use Rattle.ob0_types_rules.proofs.Numbers.{small_number}
 use Rattle.ob0_types_rules.specs.Expressions.{Object, a_constant, a_procedure, a_standard, a_type, a_variable}
-use Rattle.ob0_types_rules.specs.Typing.{designated, type_at, type_of}
+use Rattle.ob0_types_rules.specs.Typing.{lone_designator, type_at, type_of}
 use Rattle.ob0_types_rules.specs.WellTyped as typing
 use Rattle.ob0_types_rules.specs.WellTyped.{Mode, Signature, Typed, agree, argument_fits, by_place, by_value, variable_type}
 use Rattle.ob0_types_rules.proofs.Conditions.{same_shape-true}
@@ -104,7 +104,7 @@ locates-by scene x path found l small same h checked slots targets sees s typed 
     let (place, shape) = there (shapes_of scene.types.now) found l q s same (h ∙ eq) in
     (shape, subst (λ q. PlaceMeans checked slots q s (place_of_designator y (in_labels scene.resolved.now path))) (sym place) hq)
 
-pub alone-by : (scene : Scene) (e : Tree ℕ expression) (x : ℕ) (path : Tree ℕ (items selector)) (l : TypedPlace) → designated (in_labels scene.resolved.now e) ≡ Some (label_in scene.resolved.now x, in_labels scene.resolved.now path) → Locates scene x path l → LocatesAlone scene e l
+pub alone-by : (scene : Scene) (e : Tree ℕ expression) (x : ℕ) (path : Tree ℕ (items selector)) (l : TypedPlace) → lone_designator (in_labels scene.resolved.now e) ≡ Some (label_in scene.resolved.now x, in_labels scene.resolved.now path) → Locates scene x path l → LocatesAlone scene e l
 alone-by scene e x path l is h checked slots targets sees s typed =
     let y = label_in scene.resolved.now x in
     let there = ap (variable_type checked) (sym is) ∙ typed in
@@ -116,7 +116,7 @@ nothing-typed : (checked : Typed Label) (s : Shape) → variable_type checked No
 unfolding variable_type
 nothing-typed checked s h = absurd (cc)
 
-pub alone-not : (scene : Scene) (e : Tree ℕ expression) (l : TypedPlace) → designated (in_labels scene.resolved.now e) ≡ None → LocatesAlone scene e l
+pub alone-not : (scene : Scene) (e : Tree ℕ expression) (l : TypedPlace) → lone_designator (in_labels scene.resolved.now e) ≡ None → LocatesAlone scene e l
 alone-not scene e l is checked slots targets sees s typed = absurd (nothing-typed checked s (ap (variable_type checked) (sym is) ∙ typed))
 
 -- arguments
@@ -127,11 +127,11 @@ agreed s (Some t) h = ap Some (sym (same_shape-true s t h))
 
 fits-value : (checked : Typed Label) (f : typing.Formal) (e : Tree Label expression) → f.mode ≡ by_value → argument_fits checked f e ≡ true → type_of checked e ≡ Some f.shape
 unfolding argument_fits
-fits-value checked f e mode h = agreed f.shape (type_of checked e) (sym (ap (λ (m : Mode). agree (Some f.shape) (elim m [ by_value ↦ type_of checked e | by_place ↦ variable_type checked (designated e) ])) mode) ∙ h)
+fits-value checked f e mode h = agreed f.shape (type_of checked e) (sym (ap (λ (m : Mode). agree (Some f.shape) (elim m [ by_value ↦ type_of checked e | by_place ↦ variable_type checked (lone_designator e) ])) mode) ∙ h)
 
-fits-place : (checked : Typed Label) (f : typing.Formal) (e : Tree Label expression) → f.mode ≡ by_place → argument_fits checked f e ≡ true → variable_type checked (designated e) ≡ Some f.shape
+fits-place : (checked : Typed Label) (f : typing.Formal) (e : Tree Label expression) → f.mode ≡ by_place → argument_fits checked f e ≡ true → variable_type checked (lone_designator e) ≡ Some f.shape
 unfolding argument_fits
-fits-place checked f e mode h = agreed f.shape (variable_type checked (designated e)) (sym (ap (λ (m : Mode). agree (Some f.shape) (elim m [ by_value ↦ type_of checked e | by_place ↦ variable_type checked (designated e) ])) mode) ∙ h)
+fits-place checked f e mode h = agreed f.shape (variable_type checked (lone_designator e)) (sym (ap (λ (m : Mode). agree (Some f.shape) (elim m [ by_value ↦ type_of checked e | by_place ↦ variable_type checked (lone_designator e) ])) mode) ∙ h)
 
 pub place-argument : (scene : Scene) (f : Formal) (e : Tree ℕ expression) (l : TypedPlace) → f.by_place ≡ true → LocatesAlone scene e l → LowersArgument scene f e (argument.Place l.place)
 place-argument scene f e l by h checked slots targets sees fits =

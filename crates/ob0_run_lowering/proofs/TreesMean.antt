@@ -63,12 +63,12 @@ module _ (checked : Typed Label) (slots : Label → Slot) where
 
   -- what is at the place of a designator
 
-  standing-means : (x : Label) (v : Shape) (path : Tree Label (items selector)) (q : lowered.Place) (s : Shape) → checked.object_for x ≡ Some (a_variable v) → PlaceMeans checked slots q s (place_of_designator x path)
+  place-means : (x : Label) (v : Shape) (path : Tree Label (items selector)) (q : lowered.Place) (s : Shape) → checked.object_for x ≡ Some (a_variable v) → PlaceMeans checked slots q s (place_of_designator x path)
       → CodeMeans checked slots (code_at_place q s) s (value_of_factor (designator x path))
-  standing-means x v path q integer_shape e h = (cells_lower-holds checked slots x v path q e).0 h
-  standing-means x v path q boolean_shape e h = (cells_lower-holds checked slots x v path q e).1 h
-  standing-means x v path q (array_shape k n t) e h = (refl, (blocks_lower-holds checked slots q (array_shape k n t)).0 x v path e h)
-  standing-means x v path q (record_shape k fs) e h = (refl, (blocks_lower-holds checked slots q (record_shape k fs)).0 x v path e h)
+  place-means x v path q integer_shape e h = (cells_lower-holds checked slots x v path q e).0 h
+  place-means x v path q boolean_shape e h = (cells_lower-holds checked slots x v path q e).1 h
+  place-means x v path q (array_shape k n t) e h = (refl, (blocks_lower-holds checked slots q (array_shape k n t)).0 x v path e h)
+  place-means x v path q (record_shape k fs) e h = (refl, (blocks_lower-holds checked slots q (record_shape k fs)).0 x v path e h)
 
   -- one selector
 
@@ -124,7 +124,7 @@ module _ (scene : Scene) (checked : Typed Label) (slots : Label → Slot) (targe
       let there = sees.bound x (a_variable v) e in
       subst (λ c. CodeMeans checked slots c s (value_of_factor (designator x (in_labels scene.resolved.now path))))
       (sym (ap (λ o. named_code (constant_of o) (selected_place scene (base_found scene x) (in_labels scene.resolved.now path))) there ∙ ap (named_code None) eq))
-      (standing-means checked slots x v (in_labels scene.resolved.now path) q s e hq)
+      (place-means checked slots x v (in_labels scene.resolved.now path) q s e hq)
   named-means x path s (Some (a_constant v)) selected e h =
       let there = sees.bound x (a_constant v) e in
       subst (λ c. CodeMeans checked slots c s (value_of_factor (designator x (in_labels scene.resolved.now path))))

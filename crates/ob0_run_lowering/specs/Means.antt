@@ -7,7 +7,7 @@ use Rattle.ob0_types_table.specs.KnownTables.{shapes_of}
 use Rattle.ob0_types_table.specs.Tables.{formal_in, type_shape}
 use Rattle.ob0_types_table.specs.declared.known.Formal.{Formal}
 use Rattle.ob0_types_rules.specs.InLabels.{in_labels, label_in}
-use Rattle.ob0_types_rules.specs.Typing.{designated, type_of}
+use Rattle.ob0_types_rules.specs.Typing.{lone_designator, type_of}
 use Rattle.ob0_types_rules.specs.WellTyped.{Typed, argument_fits, variable_type}
 use Rattle.ob0_values.specs.Values.{Shape, Value, boolean_shape, integer_shape}
 use Rattle.ob0_run_machine.specs.View.{argument_of, number_of, place_of, truth_of}
@@ -71,7 +71,7 @@ Locates scene x path l =
 abbrev pub LocatesAlone : Scene → Tree ℕ expression → TypedPlace → Type 0
 LocatesAlone scene e l =
     WhereSeen scene (λ checked slots. (s : Shape)
-    → variable_type checked (designated (in_labels scene.resolved.now e)) ≡ Some s
+    → variable_type checked (lone_designator (in_labels scene.resolved.now e)) ≡ Some s
     → (type_shape (shapes_of scene.types.now) l.of ≡ s)
     × IsAt checked slots (place_of l.place) s (in_labels scene.resolved.now e))
 

@@ -14,7 +14,7 @@ use crate::lowered::{Lowered, TypedPlace};
 use crate::scene::Scene;
 use ob0_run_machine::code::{Argument, Number, Place, Truth, Variable};
 use ob0_tree::{Designator, Expression};
-use ob0_types_rules::designated::designated;
+use ob0_types_rules::designated::lone_designator;
 use ob0_types_table::{Formal, TypeId};
 use std::alloc::{AllocError, Global};
 
@@ -125,7 +125,7 @@ impl<'s, 'k, 't> Scene<'s, 'k, 't> {
     pub fn locate_argument(&self, alloc: Global, e: &Expression) -> Result<TypedPlace, AllocError>
         ensures { IfOk result (LocatesAlone self.now (expression_of e.now)) }
     {
-        match designated(e) {
+        match lone_designator(e) {
             Some(d) => self.place(alloc, d),
             None => Ok(nowhere()),
         }

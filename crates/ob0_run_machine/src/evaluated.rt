@@ -38,7 +38,7 @@ pub(crate) fn flat<T: Copy>(given: Result<T, Ending>) -> Evaluated<T>
 
 /// An evaluation as a result.
 #[inline(always)]
-pub(crate) fn unpacked<T: Copy>(given: Evaluated<T>) -> Result<T, Ending>
+pub(crate) fn into_result<T: Copy>(given: Evaluated<T>) -> Result<T, Ending>
     ensures { outcome_of_result result ≡ outcome_of given }
 {
     match given {

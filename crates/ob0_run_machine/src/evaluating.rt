@@ -14,7 +14,7 @@ use crate::code::{
     Row, Several, Truth, Truths, Variable,
 };
 use crate::ending::Ending;
-use crate::evaluated::{Evaluated, flat, unpacked};
+use crate::evaluated::{Evaluated, flat, into_result};
 use crate::level::{Level, base_at, passed_at, var_parameter_at};
 use crate::operators::{
     add, alike, compare, divide, element_at, forward, is_true, modulo, multiply, negative, operate,
@@ -75,8 +75,8 @@ pub(crate) fn locate(place: &Place, level: &Level<'_>, cells: &[i32]) -> Result<
         Place::Outside(up, offset) => Ok(forward(base_at(level, *up), *offset)),
         Place::Passed(up, index) => Ok(passed_at(level, *up, *index)),
         Place::Row(r) => row(r, level, cells),
-        Place::Element(e) => unpacked(element(e, level, cells)),
-        Place::Part(whole, offset) => unpacked(part(whole, *offset, level, cells)),
+        Place::Element(e) => into_result(element(e, level, cells)),
+        Place::Part(whole, offset) => into_result(part(whole, *offset, level, cells)),
     }
 }
 
@@ -86,12 +86,12 @@ pub(crate) fn locate(place: &Place, level: &Level<'_>, cells: &[i32]) -> Result<
 fn element(e: &Element, level: &Level<'_>, cells: &[i32]) -> Evaluated<usize>
     ensures { outcome_of result ≡ address (levels_of level.now) cells.now (element_of e.now) }
 {
-    flat(indexed(e, level, cells))
+    flat(locate_element(e, level, cells))
 }
 
 #[inline(always)]
 #[cycle(evaluation)]
-fn indexed(e: &Element, level: &Level<'_>, cells: &[i32]) -> Result<usize, Ending>
+fn locate_element(e: &Element, level: &Level<'_>, cells: &[i32]) -> Result<usize, Ending>
     ensures { outcome_of_result result
         ≡ address (levels_of level.now) cells.now (element_of e.now) }
 {
@@ -126,9 +126,9 @@ pub(crate) fn evaluate_number(n: &Number, level: &Level<'_>, cells: &[i32]) -> R
             let a = locate(place, level, cells)?;
             Ok(cell_at(cells, a))
         }
-        Number::Negative(operand) => unpacked(opposite(operand, level, cells)),
-        Number::Operation(o) => unpacked(operation(o, level, cells)),
-        Number::Chain(c) => unpacked(chain(c, level, cells)),
+        Number::Negative(operand) => into_result(opposite(operand, level, cells)),
+        Number::Operation(o) => into_result(operation(o, level, cells)),
+        Number::Chain(c) => into_result(chain(c, level, cells)),
     }
 }
 
@@ -145,7 +145,7 @@ fn evaluate_first(n: &FirstOperand, level: &Level<'_>, cells: &[i32]) -> Result<
             let a = locate(place, level, cells)?;
             Ok(cell_at(cells, a))
         }
-        FirstOperand::Negative(operand) => unpacked(opposite(operand, level, cells)),
+        FirstOperand::Negative(operand) => into_result(opposite(operand, level, cells)),
     }
 }
 
@@ -226,7 +226,7 @@ fn apply(link: &Link, left: i32, level: &Level<'_>, cells: &[i32]) -> Result<i32
         Link::VariableSum(v) => add(value_of(*v, level, cells), left),
         Link::VariableDifference(v) => subtract(value_of(*v, level, cells), left),
         Link::VariableProduct(v) => multiply(value_of(*v, level, cells), left),
-        Link::Other(o, n) => unpacked(apply_other(*o, left, n, level, cells)),
+        Link::Other(o, n) => into_result(apply_other(*o, left, n, level, cells)),
     }
 }
 
@@ -285,7 +285,7 @@ fn unset(place: &Place, level: &Level<'_>, cells: &[i32]) -> Result<bool, Ending
         ≡ truth (levels_of level.now) cells.now
         (lowered.negation (lowered.flag (place_of place.now))) }
 {
-    let a = unpacked(flag(place, level, cells))?;
+    let a = into_result(flag(place, level, cells))?;
     Ok(!a)
 }
 
@@ -296,7 +296,7 @@ pub(crate) fn evaluate_truth(t: &Truth, level: &Level<'_>, cells: &[i32]) -> Res
 {
     match t {
         Truth::Constant(b) => Ok(*b),
-        Truth::Flag(place) => unpacked(flag(place, level, cells)),
+        Truth::Flag(place) => into_result(flag(place, level, cells)),
         Truth::Unset(place) => unset(place, level, cells),
         Truth::ComparedToLiteral(r, v, n) => Ok(compare_variable(*r, *v, *n, level, cells)),
         Truth::ComparedToVariable(r, v, w) => {
@@ -312,7 +312,7 @@ pub(crate) fn evaluate_truth(t: &Truth, level: &Level<'_>, cells: &[i32]) -> Res
 fn truth(t: &Truth, level: &Level<'_>, cells: &[i32]) -> Result<bool, Ending>
     ensures { outcome_of_result result ≡ truth (levels_of level.now) cells.now (truth_of t.now) }
 {
-    unpacked(flat_truth(t, level, cells))
+    into_result(flat_truth(t, level, cells))
 }
 
 #[inline(never)]
@@ -330,7 +330,7 @@ fn any_truth(t: &Truth, level: &Level<'_>, cells: &[i32]) -> Result<bool, Ending
 {
     match t {
         Truth::Constant(b) => Ok(*b),
-        Truth::Flag(place) => unpacked(flag(place, level, cells)),
+        Truth::Flag(place) => into_result(flag(place, level, cells)),
         Truth::Unset(place) => unset(place, level, cells),
         Truth::Negation(operand) => {
             let a = truth(operand, level, cells)?;

@@ -14,12 +14,12 @@ use Rattle.ob0_types_rules.specs.Expressions.{Meanings, Object, a_constant, a_pr
 use Rattle.ob0_types_rules.specs.Typing.{constructors, denoted}
 use Rattle.ob0_types_rules.specs.WellTyped.{Mode, bind_names, by_place, by_value}
 use Rattle.ob0_types_rules.proofs.Agreeing.{Agree, HoldsOf, agree-map, agree-then}
-use Rattle.ob0_types_rules.proofs.DenotedInlined.{StandsFor, constructors-inlined, uses-map}
-use Rattle.ob0_types_rules.proofs.EditedDeclarations.{Left, Outside, Worth, agree-known, not-constant, outside-right}
+use Rattle.ob0_types_rules.proofs.DenotedInlined.{NamesConstant, constructors-inlined, uses-map}
+use Rattle.ob0_types_rules.proofs.EditedDeclarations.{Left, Outside, HasValueBetween, agree-known, not-constant, outside-right}
 use Rattle.ob0_types_rules.proofs.EditedModules.{IsFitted, inlining_keeps_well_typed-holds, leaving_out_keeps_well_typed-holds, left-fitted, marked_outermost, outermost-sound, read_edited-below, written-fitted}
 use Rattle.ob0_types_rules.proofs.EditedParts.{agree-weaken, all-left, bind_all, body-has_value, edited-all, first-edited, formals-of, formals_constructors-leaf, heading-outside, left-join, left-then, mark_all, names_of, own-has_value, procedure_constructors-edited, procedures-has_value, read-all, rest-has_value, types-of, types-outside, types_constructors-leaf, variables-of, variables_constructors-leaf}
 use Rattle.ob0_types_rules.proofs.EditedTypes.{procedures-below}
-use Rattle.ob0_types_rules.proofs.Inlined.{Stands}
+use Rattle.ob0_types_rules.proofs.Inlined.{IsConstantOf}
 use Rattle.ob0_types_rules.proofs.Leaves.{AllStay, Here, Literal, denoted-leaf, edited-object_for, edited_meanings, none-used, read-object_for, read_meanings, seen-read, shown, uses-read}
 use Rattle.ob0_types_rules.proofs.Literals.{IsSeen, literal-has_value, some_inverse}
 use Rattle.ob0_types_rules.proofs.Marks.{IsRight, Mark, Marks, OfProcedure, Sound, Sound-from, Stays, found, is_left, knowns, marks_from, not-left, object_as, object_of, read, read-from, read_edited, read_edited-from, scope_marked}
@@ -47,7 +47,7 @@ pub record IsText (edit : Edit) (w : Value) (marks : Marks Place Text) (x : Name
   pub from_seven : 7 ≤ k
   pub named : procedure_name t.code.text ≡ x
   pub here : OneProcedure (Here edit w) t.at (scope_marked marks) k t.code.text
-  pub has_value : Worth edit w k (after_procedure (suc k) t.code.text) (value_in_procedure ((x, no_constant) ∷ knowns marks) edit.constant (suc k) t.code.text)
+  pub has_value : HasValueBetween edit w k (after_procedure (suc k) t.code.text) (value_in_procedure ((x, no_constant) ∷ knowns marks) edit.constant (suc k) t.code.text)
 
 abbrev pub Run_sound : Edit → Value → ℕ → Marks Place Text → Type 0
 Run_sound edit w n marks = Sound edit w (IsText edit w) n marks
@@ -134,7 +134,7 @@ body-kept edit w lit n marks s there here kept t j (one (begins a)) known = λ i
     (λ yes_shown. let seen : IsSeen (read_meanings before marks) w = seen-read edit w (IsText edit w) before n marks s yes_shown in
     execute_all-written (meanings_before marks) here t edit.uses edit.literal w record {
       in_store = λ store. literal-has_value (meanings_before marks) store edit.literal w lit.written lit.scalar (seen-passing (read before marks) w seen);
-    } j a (uses-map edit.uses (StandsFor (read_meanings before marks) w) (Stands (meanings_before marks) w) (λ x e. ap passing e) j (occurrences a) (uses-read edit w (IsText edit w) before n marks s j (occurrences a) known.0)))
+    } j a (uses-map edit.uses (NamesConstant (read_meanings before marks) w) (IsConstantOf (meanings_before marks) w) (λ x e. ap passing e) j (occurrences a) (uses-read edit w (IsText edit w) before n marks s j (occurrences a) known.0)))
     (λ not_shown. ap (execute_all (meanings_before marks) here t) (inline-nothing edit.uses edit.literal j a (none-used edit w j (scope_marked marks) (occurrences a) not_shown known.0)))
     (cases_Bool (shown w (scope_marked marks)))) i state
 
@@ -227,7 +227,7 @@ procedures-before i j k (more p rest) marks =
     procedures-before (i + procedure_constructors p) (j + length (occurrences p)) (after_procedure (suc k) p) rest
     (record { name = procedure_name p; ordinal = k; object = a_procedure record { code = record { first_constructor = i; text = p }; at = j } } ∷ marks)
 
-pub own-outside : (edit : Edit) (w : Value) (known : Known) (k : ℕ) (p : Tree Name (item procedure)) → Worth edit w k (after_procedure (suc k) p) (value_in_procedure known edit.constant (suc k) p) → Outside edit k (suc k)
+pub own-outside : (edit : Edit) (w : Value) (known : Known) (k : ℕ) (p : Tree Name (item procedure)) → HasValueBetween edit w k (after_procedure (suc k) p) (value_in_procedure known edit.constant (suc k) p) → Outside edit k (suc k)
 own-outside edit w known k (declares_procedure x fs b closing) has_value l m =
     let above : suc k ≤ after_names (suc k) (formal_names (formal_sections fs)) = le-after_names (suc k) (formal_names (formal_sections fs)) in
     heading-outside edit w known k x closing fs b has_value l (omega (arith, m, above))
@@ -235,7 +235,7 @@ own-outside edit w known k (declares_procedure x fs b closing) has_value l m =
 edited_procedure-name : (edit : Edit) (j k : ℕ) (p : Tree Name (item procedure)) → procedure_name (edited_procedure edit j k p) ≡ procedure_name p
 edited_procedure-name edit j k (declares_procedure x fs b closing) = refl
 
-pub procedures-after : (edit : Edit) (w : Value) (i j k : ℕ) (ps : Tree Name (items procedure)) (marks : Marks Place Text) → Worth edit w k (after_procedures k ps) (value_in_procedures (knowns marks) edit.constant k ps)
+pub procedures-after : (edit : Edit) (w : Value) (i j k : ℕ) (ps : Tree Name (items procedure)) (marks : Marks Place Text) → HasValueBetween edit w k (after_procedures k ps) (value_in_procedures (knowns marks) edit.constant k ps)
     → declare_procedures i (edited_procedures edit j k ps) (read_edited edit (after edit) marks) ≡ read_edited edit (after edit) (mark_procedures i j k ps marks)
 procedures-after edit w i j k end marks has_value = refl
 procedures-after edit w i j k (more p rest) marks has_value =
@@ -253,12 +253,12 @@ abbrev pub RightFrame : Edit → Value → ℕ → Scope Name → MarkedFrame �
 RightFrame edit w n scope f = (scope_marked f.marks ≡ scope) × Run_sound edit w n f.marks
 
 pub procedures-right : (edit : Edit) (w : Value) (i j k : ℕ) (ps : Tree Name (items procedure)) (marks : Marks Place Text) → Run_sound edit w k marks → 7 ≤ k → EachProcedure (Here edit w) j (scope_marked marks) k ps
-    → Worth edit w k (after_procedures k ps) (value_in_procedures (knowns marks) edit.constant k ps)
+    → HasValueBetween edit w k (after_procedures k ps) (value_in_procedures (knowns marks) edit.constant k ps)
     → (scope_marked (mark_procedures i j k ps marks) ≡ declare_procedure_names k ps (scope_marked marks)) × Run_sound edit w (after_procedures k ps) (mark_procedures i j k ps marks)
 procedures-right edit w i j k end marks s seven here has_value = (refl, s)
 procedures-right edit w i j k (more p rest) marks s seven here has_value =
     let following : suc k ≤ after_procedure (suc k) p = le-after_procedure (suc k) p in
-    let mine : Worth edit w k (after_procedure (suc k) p) (value_in_procedure ((procedure_name p, no_constant) ∷ knowns marks) edit.constant (suc k) p) = own-has_value edit w (knowns marks) k p rest has_value in
+    let mine : HasValueBetween edit w k (after_procedure (suc k) p) (value_in_procedure ((procedure_name p, no_constant) ∷ knowns marks) edit.constant (suc k) p) = own-has_value edit w (knowns marks) k p rest has_value in
     let t : Text = record { code = record { first_constructor = i; text = p }; at = j } in
     procedures-right edit w (i + procedure_constructors p) (j + length (occurrences p)) (after_procedure (suc k) p) rest
     (record { name = procedure_name p; ordinal = k; object = a_procedure t } ∷ marks)
@@ -267,7 +267,7 @@ procedures-right edit w i j k (more p rest) marks s seven here has_value =
 
 -- a block's declarations
 pub block-kept : (edit : Edit) (w : Value) → Literal edit w → (i j k : ℕ) (f : MarkedFrame) → Run_sound edit w k f.marks → 7 ≤ k → (b : Tree Name block)
-    → EachBlock (Here edit w) j (scope_marked f.marks) k b → Worth edit w k (after_block k b) (value_in_block (knowns f.marks) edit.constant k b)
+    → EachBlock (Here edit w) j (scope_marked f.marks) k b → HasValueBetween edit w k (after_block k b) (value_in_block (knowns f.marks) edit.constant k b)
     → Agree frame_before (frame_after edit) (RightFrame edit w (after_block k b) (body_scope k b (scope_marked f.marks)))
     (declare_block as_names i b (frame_before f)) (declare_block as_names i (edited_block edit j k b) (frame_after edit f))
 unfolding declare_block
@@ -390,7 +390,7 @@ block-runs edit w lit there here known t j k scope b each f right =
 -- a procedure's parameters and block, in a frame whose newest mark is the procedure's own
 pub activation-kept : (edit : Edit) (w : Value) → Literal edit w → (i j k : ℕ) (f : MarkedFrame) → Run_sound edit w (suc k) f.marks → 7 ≤ k → (x closing : Name) (fs : Tree Name (maybe formals)) (b : Tree Name block)
     → EachBlock (Here edit w) (j + length (occurrences fs)) (declare_names (suc k) (formal_names (formal_sections fs)) (scope_marked f.marks)) (after_names (suc k) (formal_names (formal_sections fs))) b
-    → Worth edit w k (after_procedure (suc k) (declares_procedure x fs b closing)) (value_in_procedure (knowns f.marks) edit.constant (suc k) (declares_procedure x fs b closing)) → (args : List Argument)
+    → HasValueBetween edit w k (after_procedure (suc k) (declares_procedure x fs b closing)) (value_in_procedure (knowns f.marks) edit.constant (suc k) (declares_procedure x fs b closing)) → (args : List Argument)
     → Agree frame_before (frame_after edit)
     (RightFrame edit w (after_block (after_names (suc k) (formal_names (formal_sections fs))) b) (body_scope (after_names (suc k) (formal_names (formal_sections fs))) b (declare_names (suc k) (formal_names (formal_sections fs)) (scope_marked f.marks))))
     (option_and_then (declare_block as_names (i + formals_constructors (formal_sections fs)) b) (bind_parameters (parameters (formal_sections fs)) args (frame_before f)))
@@ -417,7 +417,7 @@ activation-kept edit w lit i j k f s seven x closing fs b each has_value args =
     (λ g left. subst (λ inner. Agree frame_before (frame_after edit) (RightFrame edit w (after_block n b) (body_scope n b inner)) (declare_block as_names (i + formals_constructors (formal_sections fs)) b (frame_before g)) (declare_block as_names (i + formals_constructors (formal_sections fs)) (edited_block edit jb n b) (frame_after edit g))) left.scoped
     (block-kept edit w lit (i + formals_constructors (formal_sections fs)) jb n g left.sound (omega (arith, seven, above)) b
     (subst (λ inner. EachBlock (Here edit w) jb inner n b) (sym left.scoped) each)
-    (subst (λ known. Worth edit w n (after_block n b) (value_in_block known edit.constant n b)) (some_inverse left.value) (body-has_value edit w (knowns f.marks) k x closing fs b has_value)))))
+    (subst (λ known. HasValueBetween edit w n (after_block n b) (value_in_block known edit.constant n b)) (some_inverse left.value) (body-has_value edit w (knowns f.marks) k x closing fs b has_value)))))
 
 -- the newest mark isn't left out
 abbrev pub HeadStays : Edit → Marks Place Text → Type 0

@@ -11,8 +11,8 @@ use Rattle.ob0_types_rules.specs.Typing.{constant_of, constant_value, constructo
 use Rattle.ob0_types_rules.specs.WellTyped.{by_place, by_value}
 use Rattle.ob0_types_rules.proofs.TypeNaturality.{constant_value-map, denoted-map}
 use Rattle.ob0_values.specs.Values.{Place, Value, initial}
-use Rattle.ob0_run_rules.specs.GivenUp.{call_giving_up, drop_variables, run_giving_up}
-use Rattle.ob0_run_rules.specs.Laws.{GivingUpKeepsRuns}
+use Rattle.ob0_run_rules.specs.Freed.{call_freeing, drop_variables, run_freeing}
+use Rattle.ob0_run_rules.specs.Laws.{FreeingKeepsRuns}
 use Rattle.ob0_run_rules.specs.Runs.{Activation, Argument, Calls, ProcedureText, Frame, Parameter, Progress, State, activate, allocate, bind_parameter, bind_parameters, call, declare_block, declare_procedures, declare_variables, execute_body, finished, formal_modes, in_frame, parameters, passing, place_argument, run_over, running, statement_meanings, stopped, value_argument, with_procedures}
 use Rattle.ob0_run_rules.proofs.OtherPlaces.{Alike, ArgumentIs, ArgumentsAre, EntersAlike, MeaningIs, ObjectIs, PlaceIs, ProgressIs, StateIs, StoreIs, execute_all-alike, variable-added, variable-last, variables-cut}
 use Rattle.ob0_run_rules.proofs.SoundStatements.{slice_get-grows}
@@ -241,7 +241,7 @@ module _ {N : Type 0} (naming : Naming N) where
   body-alike enter enter' known t at env other none h s u is = is
   body-alike enter enter' known t at env other (one (begins statements)) h s u is =
       execute_all-alike at (statement_meanings naming env) (statement_meanings naming other) (enter env) (enter' other)
-      record { stand_for = λ x. passing-is at (newest (from_binding naming env x)) (newest (from_binding naming other x)) (newest-is at (from_binding naming env x) (from_binding naming other x) (from_binding-is naming at env other x h)); are_written = λ x. refl }
+      record { mean_same = λ x. passing-is at (newest (from_binding naming env x)) (newest (from_binding naming other x)) (newest-is at (from_binding naming env x) (from_binding naming other x) (from_binding-is naming at env other x h)); are_written = λ x. refl }
       (known at env other h) t statements s u is
 
   -- what a run goes on with, with new variables after those at the given places
@@ -285,20 +285,20 @@ module _ {N : Type 0} (naming : Naming N) where
       go (a_standard v) (a_standard w) is = ([], (refl, h.same_output))
       go _ _ is = absurd is
 
-  give_up-is : (at others : List ℕ) (s u : State) (p q : Progress) → StateIs at s u → ProgressIs (at ++ others) p q → ProgressIs at (drop_variables (length s.store) p) q
-  give_up-is at others s u (running s₁) (running u₁) h is =
+  drop_variables-is : (at others : List ℕ) (s u : State) (p q : Progress) → StateIs at s u → ProgressIs (at ++ others) p q → ProgressIs at (drop_variables (length s.store) p) q
+  drop_variables-is at others s u (running s₁) (running u₁) h is =
       record { same_variables = variables-cut at others s.store s₁.store u.store u₁.store h.same_variables is.same_variables; same_input = is.same_input; same_output = is.same_output }
-  give_up-is at others s u (stopped e out) (stopped x written) h is = is
-  give_up-is at others s u (running s₁) (stopped x written) h is = absurd is
-  give_up-is at others s u (stopped e out) (running u₁) h is = absurd is
+  drop_variables-is at others s u (stopped e out) (stopped x written) h is = is
+  drop_variables-is at others s u (running s₁) (stopped x written) h is = absurd is
+  drop_variables-is at others s u (stopped e out) (running u₁) h is = absurd is
 
   -- by induction on how many calls may be open
-  calls-alike : (c t : ℕ) → CallsAlike (call_giving_up naming c t) (call naming c t)
-  unfolding call call_giving_up
+  calls-alike : (c t : ℕ) → CallsAlike (call_freeing naming c t) (call naming c t)
+  unfolding call call_freeing
   calls-alike zero t at env other h x args others s u are is = (refl, is.same_output)
   calls-alike (suc c) t at env other h x args others s u are is =
-      let (new, same) = activate-alike (call_giving_up naming c t) (call naming c t) (calls-alike c t) t at (from_binding naming env x) (from_binding naming other x) args others s u (from_binding-is naming at env other x h) are is in
-      give_up-is at new s u (activate naming (call_giving_up naming c t) t (from_binding naming env x) args s) (activate naming (call naming c t) t (from_binding naming other x) others u) is same
+      let (new, same) = activate-alike (call_freeing naming c t) (call naming c t) (calls-alike c t) t at (from_binding naming env x) (from_binding naming other x) args others s u (from_binding-is naming at env other x h) are is in
+      drop_variables-is at new s u (activate naming (call_freeing naming c t) t (from_binding naming env x) args s) (activate naming (call naming c t) t (from_binding naming other x) others u) is same
 
   finished-same : (at : List ℕ) (p q : Progress) → ProgressIs at p q → finished p ≡ finished q
   finished-same at (running s) (running u) h = ap (λ out. record { output = out; ending = (finished (running s)).ending }) h.same_output
@@ -306,15 +306,15 @@ module _ {N : Type 0} (naming : Naming N) where
   finished-same at (running s) (stopped x written) h = absurd h
   finished-same at (stopped e out) (running u) h = absurd h
 
-  pub giving_up-keeps : (m : Tree N module_text) (input : List ℤ) (c t : ℕ) → run_giving_up naming m input c t ≡ run_over naming m input c t
-  unfolding run_over run_giving_up
-  giving_up-keeps m input c t =
+  pub freeing-keeps : (m : Tree N module_text) (input : List ℤ) (c t : ℕ) → run_freeing naming m input c t ≡ run_over naming m input c t
+  unfolding run_over run_freeing
+  freeing-keeps m input c t =
       let start : State = record { store = []; input = input; output = [] } in
       let f : Frame N = record { env = outermost naming; store = [] } in
       let o = declare_block naming 0 (module_block m) f in
-      let (new, same) = in_frame-alike (call_giving_up naming c t) (call naming c t) (calls-alike c t) t [] start start o o (block_statements (module_block m)) record { same_variables = tt; same_input = refl; same_output = refl }
+      let (new, same) = in_frame-alike (call_freeing naming c t) (call naming c t) (calls-alike c t) t [] start start o o (block_statements (module_block m)) record { same_variables = tt; same_input = refl; same_output = refl }
       (block-is [] 0 (module_block m) f f record { same_variables = tt; same_bindings = (refl, refl, (refl, refl, (refl, refl, (refl, refl, (refl, refl, (refl, refl, (refl, refl, tt))))))) }) in
-      finished-same new (in_frame start o (λ f. execute_body naming f.env (call_giving_up naming c t f.env) t (block_statements (module_block m)))) (in_frame start o (λ f. execute_body naming f.env (call naming c t f.env) t (block_statements (module_block m)))) same
+      finished-same new (in_frame start o (λ f. execute_body naming f.env (call_freeing naming c t f.env) t (block_statements (module_block m)))) (in_frame start o (λ f. execute_body naming f.env (call naming c t f.env) t (block_statements (module_block m)))) same
 
-pub giving_up_keeps_runs-holds : GivingUpKeepsRuns
-giving_up_keeps_runs-holds = (λ naming. giving_up-keeps naming, λ naming. giving_up-keeps naming)
+pub freeing_keeps_runs-holds : FreeingKeepsRuns
+freeing_keeps_runs-holds = (λ naming. freeing-keeps naming, λ naming. freeing-keeps naming)

@@ -3,9 +3,9 @@ use Rattle.std.proofs.Common.{◌≡◌, ℕ, zero, suc, ◌-◌, true, false, �
 use Rattle.ob0_tree.specs.Tree.{Tree, addend, adds, assigns, branches, calls, compares, designator, else_branch, else_part, elsif_branch, elsif_part, empty, end, expression, factor, field, further_statement, index, integer, items, maybe, more, multiplier, multiplies, negation, none, one, parenthesised, product, relates, repeat_loop, runs, selector, sequence, simple, statement, sum, term, then_statement, while_loop}
 use Rattle.ob0_types_rules.specs.Arguments.{arguments_listed}
 use Rattle.ob0_types_rules.specs.Expressions.{Meanings, Object, Standard, a_constant, a_procedure, a_standard, a_type, a_variable, designate, element_step, evaluate, evaluate_addends, evaluate_factor, evaluate_multipliers, evaluate_simple, evaluate_term, follow, object_place, reads, object_value, writes, writes_line}
-use Rattle.ob0_types_rules.specs.Typing.{designated}
+use Rattle.ob0_types_rules.specs.Typing.{lone_designator}
 use Rattle.ob0_types_rules.specs.WellTyped.{Mode, by_place, by_value}
-use Rattle.ob0_values.specs.Values.{Outcome, Place, Store, TurnBound, Value, add, add_is_settled, at_field, at_path, elements, ends, gives, members, multiply, multiply_is_settled, negated, number, or_stuck, part, read_place, relate, signed, truth, with_at_path, ◌>>=◌}
+use Rattle.ob0_values.specs.Values.{Outcome, Place, Store, TurnBound, Value, add, add_is_settled, at_field, at_path, elements, ends, gives, members, multiply, multiply_is_settled, negate, number, or_stuck, part, read_place, relate, apply_sign, truth, with_at_path, ◌>>=◌}
 use Rattle.ob0_run_rules.specs.Runs.{Argument, Calls, Progress, State, Written, choose, evaluate_argument, evaluate_arguments, execute, execute_all, execute_else, execute_elsifs, execute_further, continue_with, line_out, modes_of, number_out, perform, place_argument, append_output, read_number, running, stopped, store_at, turns, turns_until, use_in, value_argument}
 use Rattle.ob0_run_rules.proofs.SoundCalls.{some-inverse}
 use Rattle.ob0_run_rules.proofs.SoundStatements.{slice_get-grows}
@@ -175,7 +175,7 @@ module _ {N P : Type 0} (here there : Meanings N Place P) (small large : Store) 
 
     pub evaluate_simple-same : (a : Tree N simple) → evaluate_simple here small a ≡ evaluate_simple there large a
     evaluate_simple-same (sum s t rest) = λ i.
-        evaluate_term-same t i >>= (λ x. signed s x >>= (λ y. evaluate_addends-same y rest i))
+        evaluate_term-same t i >>= (λ x. apply_sign s x >>= (λ y. evaluate_addends-same y rest i))
 
     pub evaluate_addends-same : (x : Value) (rest : Tree N (items addend)) → evaluate_addends here small x rest ≡ evaluate_addends there large x rest
     evaluate_addends-same x end = refl
@@ -198,7 +198,7 @@ module _ {N P : Type 0} (here there : Meanings N Place P) (small large : Store) 
         values x i >>= (λ v. follow-same v path i >>= (λ steps. or_stuck (at_path steps v)))
     evaluate_factor-same (integer n) = refl
     evaluate_factor-same (parenthesised e) = evaluate-same e
-    evaluate_factor-same (negation a) = λ i. evaluate_factor-same a i >>= negated
+    evaluate_factor-same (negation a) = λ i. evaluate_factor-same a i >>= negate
 
     pub follow-same : (v : Value) (path : Tree N (items selector)) → follow here small v path ≡ follow there large v path
     follow-same v end = refl
@@ -209,12 +209,12 @@ module _ {N P : Type 0} (here there : Meanings N Place P) (small large : Store) 
 
 -- what names mean in both stores
 pub record NamesAre {N P : Type 0} (at : List ℕ) (here there : Meanings N Place P) : Type 0 where
-  pub stand_for : (x : N) → MeaningIs at (here.object_for x) (there.object_for x)
+  pub mean_same : (x : N) → MeaningIs at (here.object_for x) (there.object_for x)
   pub are_written : (x : N) → here.written x ≡ there.written x
 
 pub evaluate-is : {N P : Type 0} (at : List ℕ) (here there : Meanings N Place P) (small large : Store) → NamesAre at here there → StoreIs at small large → (e : Tree N expression) → evaluate here small e ≡ evaluate there large e
 evaluate-is at here there small large names h e =
-    evaluate-same here there small large (λ x. value-same at small large (here.object_for x) (there.object_for x) h (names.stand_for x)) names.are_written e
+    evaluate-same here there small large (λ x. value-same at small large (here.object_for x) (there.object_for x) h (names.mean_same x)) names.are_written e
 
 pub designate-is : {N P : Type 0} (at : List ℕ) (here there : Meanings N Place P) (small large : Store) → NamesAre at here there → StoreIs at small large → (x : N) (path : Tree N (items selector)) → OutcomeIs (PlaceIs at) (designate here small x path) (designate there large x path)
 unfolding designate
@@ -222,12 +222,12 @@ designate-is at here there small large names h x path =
     outcome-then (PlaceIs at) (PlaceIs at) (object_place (here.object_for x)) (object_place (there.object_for x))
     (λ p. or_stuck (read_place small p) >>= (λ v. follow here small v path >>= (λ steps. gives record { variable = p.variable; path = p.path ++ steps })))
     (λ p. or_stuck (read_place large p) >>= (λ v. follow there large v path >>= (λ steps. gives record { variable = p.variable; path = p.path ++ steps })))
-    (place-is at (here.object_for x) (there.object_for x) (names.stand_for x))
+    (place-is at (here.object_for x) (there.object_for x) (names.mean_same x))
     (λ p q is. same-then (PlaceIs at) (or_stuck (read_place small p)) (or_stuck (read_place large q))
     (λ v. follow here small v path >>= (λ steps. gives record { variable = p.variable; path = p.path ++ steps })) (λ v. follow there large v path >>= (λ steps. gives record { variable = q.variable; path = q.path ++ steps }))
     (ap or_stuck (read-same at small large p q h is))
     (λ v. same-then (PlaceIs at) (follow here small v path) (follow there large v path) (λ steps. gives record { variable = p.variable; path = p.path ++ steps }) (λ steps. gives record { variable = q.variable; path = q.path ++ steps })
-    (follow-same here there small large (λ x. value-same at small large (here.object_for x) (there.object_for x) h (names.stand_for x)) names.are_written v path)
+    (follow-same here there small large (λ x. value-same at small large (here.object_for x) (there.object_for x) h (names.mean_same x)) names.are_written v path)
     (λ steps. record { variable_is = is.variable_is; same_path = ap (λ l. l ++ steps) is.same_path })))
 
 -- arguments
@@ -247,7 +247,7 @@ unfolding evaluate_argument
 argument-is at here there small large names h by_value e =
     same-then (ArgumentIs at) (evaluate here small e) (evaluate there large e) (λ v. gives (value_argument v)) (λ v. gives (value_argument v)) (evaluate-is at here there small large names h e) (λ v. refl)
 argument-is at here there small large names h by_place e =
-    same-then (ArgumentIs at) (or_stuck (designated e)) (or_stuck (designated e)) (λ d. designate here small d.0 d.1 >>= (λ p. gives (place_argument p))) (λ d. designate there large d.0 d.1 >>= (λ p. gives (place_argument p))) refl
+    same-then (ArgumentIs at) (or_stuck (lone_designator e)) (or_stuck (lone_designator e)) (λ d. designate here small d.0 d.1 >>= (λ p. gives (place_argument p))) (λ d. designate there large d.0 d.1 >>= (λ p. gives (place_argument p))) refl
     (λ d. outcome-then (PlaceIs at) (ArgumentIs at) (designate here small d.0 d.1) (designate there large d.0 d.1) (λ p. gives (place_argument p)) (λ p. gives (place_argument p)) (designate-is at here there small large names h d.0 d.1) (λ p q is. is))
 
 arguments-are : {N P : Type 0} (at : List ℕ) (here there : Meanings N Place P) (small large : Store) → NamesAre at here there → StoreIs at small large → (ms : List Mode) (es : List (Tree N expression)) → OutcomeIs (ArgumentsAre at) (evaluate_arguments here small ms es) (evaluate_arguments there large ms es)
@@ -454,9 +454,9 @@ module _ {N : Type 0} (at : List ℕ) (here there : Meanings N Place (List Mode)
   calls-alike x es s u h =
       use_in-is at (ArgumentsAre at) s u (modes_of (here.object_for x) >>= (λ modes. evaluate_arguments here s.store modes es)) (modes_of (there.object_for x) >>= (λ modes. evaluate_arguments there u.store modes es))
       (λ args. perform (here.object_for x) (enter x) args s) (λ args. perform (there.object_for x) (enter' x) args u) h.same_output
-      (same-then (ArgumentsAre at) (modes_of (here.object_for x)) (modes_of (there.object_for x)) (λ modes. evaluate_arguments here s.store modes es) (λ modes. evaluate_arguments there u.store modes es) (modes-same at (here.object_for x) (there.object_for x) (names.stand_for x))
+      (same-then (ArgumentsAre at) (modes_of (here.object_for x)) (modes_of (there.object_for x)) (λ modes. evaluate_arguments here s.store modes es) (λ modes. evaluate_arguments there u.store modes es) (modes-same at (here.object_for x) (there.object_for x) (names.mean_same x))
       (λ modes. arguments-are at here there s.store u.store names h.same_variables modes es))
-      (λ args others are. perform-alike at (here.object_for x) (there.object_for x) (enter x) (enter' x) (names.stand_for x) (alike x) args others s u are h)
+      (λ args others are. perform-alike at (here.object_for x) (there.object_for x) (enter x) (enter' x) (names.mean_same x) (alike x) args others s u are h)
 
   mutual
     unfolding execute

@@ -4,18 +4,18 @@ use Rattle.ob0_tree.specs.Tree.{Tree, assigns, branches, calls, else_branch, els
 use Rattle.ob0_scope_rules.specs.Mapping.{with_names}
 use Rattle.ob0_types_rules.specs.Arguments.{arguments_listed}
 use Rattle.ob0_types_rules.specs.Expressions.{Meanings, designate}
-use Rattle.ob0_types_rules.specs.Typing.{designated}
+use Rattle.ob0_types_rules.specs.Typing.{lone_designator}
 use Rattle.ob0_values.specs.Values.{Place, Store, gives, or_stuck, ◌>>=◌}
 use Rattle.ob0_types_rules.specs.WellTyped.{Mode, by_place, by_value}
-use Rattle.ob0_types_rules.proofs.Naturality.{arguments-map, designate-map, designated-map, evaluate-map, map_designator, through}
+use Rattle.ob0_types_rules.proofs.Naturality.{arguments-map, designate-map, lone_designator-map, evaluate-map, map_designator, through}
 use Rattle.ob0_run_rules.specs.Runs.{Calls, Progress, State, choose, evaluate_argument, evaluate_arguments, execute, execute_all, execute_else, execute_elsifs, execute_further, continue_with, modes_of, perform, place_argument, store_at, turns, turns_until, use_in, value_argument}
 
 pub evaluate_argument-map : {N M P : Type 0} (f h : N → M) (meaning : Meanings M Place P) (store : Store) (m : Mode) (e : Tree N expression) → evaluate_argument meaning store m (with_names f h e) ≡ evaluate_argument (through f h meaning) store m e
 unfolding evaluate_argument
 evaluate_argument-map {N} f h meaning store by_value e = λ i. evaluate-map f h meaning store e i >>= (λ v. gives (value_argument v))
 evaluate_argument-map {N} f h meaning store by_place e =
-    (λ i. or_stuck (designated-map f h e i) >>= (λ d. designate meaning store d.0 d.1 >>= (λ p. gives (place_argument p))))
-    ∙ place (designated e)
+    (λ i. or_stuck (lone_designator-map f h e i) >>= (λ d. designate meaning store d.0 d.1 >>= (λ p. gives (place_argument p))))
+    ∙ place (lone_designator e)
   where
     place : (d : Option (N × Tree N (items selector))) → or_stuck (option_map (map_designator f h) d) >>= (λ d. designate meaning store d.0 d.1 >>= (λ p. gives (place_argument p))) ≡ or_stuck d >>= (λ d. designate (through f h meaning) store d.0 d.1 >>= (λ p. gives (place_argument p)))
     place None = refl

@@ -12,7 +12,7 @@ use Rattle.ob0_tree.specs.Tree.{Tree, addend, adds, compares, designator, end, e
 use Rattle.ob0_scope_rules.specs.Names.{Name, same_name}
 use Rattle.ob0_types_rules.specs.Expressions.{Meanings, Object, a_constant, a_procedure, a_standard, a_type, a_variable, element_step, evaluate, evaluate_addends, evaluate_factor, evaluate_multipliers, evaluate_simple, evaluate_term, follow, object_value}
 use Rattle.ob0_types_rules.specs.Typing.{add_type, complement_type, element_type, field_type, multiply_type, object_type, relation_type, shape_of_field, sign_type, type_at, type_of, type_of_addends, type_of_factor, type_of_multipliers, type_of_simple, type_of_term, value_type}
-use Rattle.ob0_values.specs.Values.{FieldShapes, Index, Members, Outcome, Overflow, Place, Shape, Step, Store, Value, Values, add, add_is_settled, array_shape, at_field, at_index, at_path, boolean_shape, count_values, divided, divided_by, elements, ends, fits, gives, in_range, integer_shape, members, multiply, multiply_is_settled, named_member, negated, next_field_shape, next_member, next_value, no_field_shape, no_member, no_value, nth_value, number, or_stuck, part, quotient, read_place, record_shape, relate, remainder, signed, truth, ◌>>=◌}
+use Rattle.ob0_values.specs.Values.{FieldShapes, Index, Members, Outcome, Overflow, Place, Shape, Step, Store, Value, Values, add, add_is_settled, array_shape, at_field, at_index, at_path, boolean_shape, count_values, divided, divided_by, elements, ends, fits, gives, in_range, integer_shape, members, multiply, multiply_is_settled, named_member, negate, next_field_shape, next_member, next_value, no_field_shape, no_member, no_value, nth_value, number, or_stuck, part, quotient, read_place, record_shape, relate, remainder, apply_sign, truth, ◌>>=◌}
 use Rattle.ob0_types_rules.specs.WellTyped.{Mode, Signature, Typed}
 use Rattle.ob0_types_rules.proofs.Conditions.{of_some}
 use Rattle.ob0_run_rules.specs.Fitting.{EachHasShape, HasShape, HaveShapes, MeaningsFit, ObjectFits, PlaceFits, StoreFits, StoreTyping, part_shape, shape_at_path}
@@ -76,15 +76,15 @@ relate-fits relation.Equal boolean_shape boolean_shape z v w e hv hw = of_some (
 relate-fits relation.NotEqual boolean_shape boolean_shape z v w e hv hw = of_some (λ z. OutcomeFits (λ u. HasShape u z) (relate relation.NotEqual v w)) e (on_truths (relate relation.NotEqual) boolean_shape (λ a b. tt) v w hv hw)
 relate-fits _ _ _ z v w e hv hw = absurd (cc)
 
-pub signed-fits : (s : Option Sign) (x z : Shape) (v : Value) → sign_type s x ≡ Some z → HasShape v x → OutcomeFits (λ u. HasShape u z) (signed s v)
-signed-fits None x z v e hv = of_some (λ z. HasShape v z) e hv
-signed-fits (Some sign.Plus) integer_shape z v e hv = of_some (λ z. OutcomeFits (λ u. HasShape u z) (signed (Some sign.Plus) v)) e (let (n, ev) = is_number v hv in subst (λ v. OutcomeFits (λ u. HasShape u integer_shape) (signed (Some sign.Plus) v)) (sym ev) (in_range-fits n))
-signed-fits (Some sign.Minus) integer_shape z v e hv = of_some (λ z. OutcomeFits (λ u. HasShape u z) (signed (Some sign.Minus) v)) e (let (n, ev) = is_number v hv in subst (λ v. OutcomeFits (λ u. HasShape u integer_shape) (signed (Some sign.Minus) v)) (sym ev) (in_range-fits (neg_ℤ n)))
-signed-fits _ _ z v e hv = absurd (cc)
+pub apply_sign-fits : (s : Option Sign) (x z : Shape) (v : Value) → sign_type s x ≡ Some z → HasShape v x → OutcomeFits (λ u. HasShape u z) (apply_sign s v)
+apply_sign-fits None x z v e hv = of_some (λ z. HasShape v z) e hv
+apply_sign-fits (Some sign.Plus) integer_shape z v e hv = of_some (λ z. OutcomeFits (λ u. HasShape u z) (apply_sign (Some sign.Plus) v)) e (let (n, ev) = is_number v hv in subst (λ v. OutcomeFits (λ u. HasShape u integer_shape) (apply_sign (Some sign.Plus) v)) (sym ev) (in_range-fits n))
+apply_sign-fits (Some sign.Minus) integer_shape z v e hv = of_some (λ z. OutcomeFits (λ u. HasShape u z) (apply_sign (Some sign.Minus) v)) e (let (n, ev) = is_number v hv in subst (λ v. OutcomeFits (λ u. HasShape u integer_shape) (apply_sign (Some sign.Minus) v)) (sym ev) (in_range-fits (neg_ℤ n)))
+apply_sign-fits _ _ z v e hv = absurd (cc)
 
-pub negated-fits : (x z : Shape) (v : Value) → complement_type x ≡ Some z → HasShape v x → OutcomeFits (λ u. HasShape u z) (negated v)
-negated-fits boolean_shape z v e hv = of_some (λ z. OutcomeFits (λ u. HasShape u z) (negated v)) e (let (b, ev) = is_truth v hv in subst (λ v. OutcomeFits (λ u. HasShape u boolean_shape) (negated v)) (sym ev) tt)
-negated-fits _ z v e hv = absurd (cc)
+pub negate-fits : (x z : Shape) (v : Value) → complement_type x ≡ Some z → HasShape v x → OutcomeFits (λ u. HasShape u z) (negate v)
+negate-fits boolean_shape z v e hv = of_some (λ z. OutcomeFits (λ u. HasShape u z) (negate v)) e (let (b, ev) = is_truth v hv in subst (λ v. OutcomeFits (λ u. HasShape u boolean_shape) (negate v)) (sym ev) tt)
+negate-fits _ z v e hv = absurd (cc)
 
 -- where the right side isn't evaluated, the left side has the type of the whole
 pub add_type-first : (o : AddOperator) (x y z : Shape) → add_type o x y ≡ Some z → Some x ≡ Some z
@@ -228,8 +228,8 @@ mutual
   evaluate_simple-sound typing checked active store f (sum sign t rest) s h =
       let (x, ex, h₁) = some-gives (type_of_term checked t) (λ x. option_and_then (λ y. type_of_addends checked y rest) (sign_type sign x)) s h in
       let (y, ey, h₂) = some-gives (sign_type sign x) (λ y. type_of_addends checked y rest) s h₁ in
-      fits-then (λ v. HasShape v x) (λ v. HasShape v s) (evaluate_term active store t) (λ v. signed sign v >>= (λ w. evaluate_addends active store w rest)) (evaluate_term-sound typing checked active store f t x ex)
-      (λ v hv. fits-then (λ w. HasShape w y) (λ v. HasShape v s) (signed sign v) (λ w. evaluate_addends active store w rest) (signed-fits sign x y v ey hv)
+      fits-then (λ v. HasShape v x) (λ v. HasShape v s) (evaluate_term active store t) (λ v. apply_sign sign v >>= (λ w. evaluate_addends active store w rest)) (evaluate_term-sound typing checked active store f t x ex)
+      (λ v hv. fits-then (λ w. HasShape w y) (λ v. HasShape v s) (apply_sign sign v) (λ w. evaluate_addends active store w rest) (apply_sign-fits sign x y v ey hv)
       (λ w hw. evaluate_addends-sound typing checked active store f w y rest s hw h₂))
 
   pub evaluate_addends-sound : {N : Type 0} (typing : StoreTyping) (checked : Typed N) (active : Meanings N Place (List Mode)) (store : Store) → Fitting typing checked active store → (v : Value) (x : Shape) (a : Tree N (items addend)) (s : Shape)
@@ -273,7 +273,7 @@ mutual
   evaluate_factor-sound typing checked active store f (parenthesised e) s h = evaluate-sound typing checked active store f e s h
   evaluate_factor-sound typing checked active store f (negation a) s h =
       let (x, ex, h₁) = some-gives (type_of_factor checked a) complement_type s h in
-      fits-then (λ v. HasShape v x) (λ v. HasShape v s) (evaluate_factor active store a) negated (evaluate_factor-sound typing checked active store f a x ex) (λ v hv. negated-fits x s v h₁ hv)
+      fits-then (λ v. HasShape v x) (λ v. HasShape v s) (evaluate_factor active store a) negate (evaluate_factor-sound typing checked active store f a x ex) (λ v hv. negate-fits x s v h₁ hv)
 
   pub follow-sound : {N : Type 0} (typing : StoreTyping) (checked : Typed N) (active : Meanings N Place (List Mode)) (store : Store) → Fitting typing checked active store → (v : Value) (t : Shape) (path : Tree N (items selector)) (s : Shape)
       → HasShape v t → type_at checked t path ≡ Some s → OutcomeFits (λ steps. shape_at_path steps t ≡ Some s) (follow active store v path)

@@ -4,7 +4,7 @@ use Rattle.ob0_tree.specs.Tree.{Tree, assigns, branches, calls, else_branch, els
 use Rattle.ob0_scope_rules.specs.Names.{Name, same_name}
 use Rattle.ob0_types_rules.specs.Arguments.{arguments_listed}
 use Rattle.ob0_types_rules.specs.Expressions.{Meanings, Object, a_constant, a_procedure, a_standard, a_type, a_variable, designate, evaluate, follow, object_place, reads, writes, writes_line}
-use Rattle.ob0_types_rules.specs.Typing.{designated, shape_of_field, type_of}
+use Rattle.ob0_types_rules.specs.Typing.{lone_designator, shape_of_field, type_of}
 use Rattle.ob0_values.specs.Values.{FieldShapes, Members, Outcome, Place, Shape, Step, Store, TurnBound, Value, Values, array_shape, at_field, at_index, boolean_shape, count_values, elements, ends, gives, integer_shape, members, next_field_shape, next_member, next_value, no_field_shape, no_member, no_value, number, or_stuck, read_place, record_shape, truth, with_at_path, with_named_member, with_nth_value, with_part, write_place, ◌>>=◌}
 use Rattle.ob0_types_rules.specs.WellTyped.{Formal, Mode, Signature, Typed, agree, argument_fits, arguments_fit, by_place, by_value, condition_fits, else_fits, elsifs_fit, sequence_fits, signature_of, statement_fits, statements_fit, variable_type}
 use Rattle.ob0_types_rules.proofs.Conditions.{agree-true, both_true, call-typed, of_some, variable-typed}
@@ -142,14 +142,14 @@ pub argument-sound : {N : Type 0} (typing : StoreTyping) (checked : Typed N) (ac
 unfolding evaluate_argument argument_fits
 argument-sound {N} typing checked active store fit f e h = go f.mode f.shape refl h
   where
-    go : (m : Mode) (s : Shape) → f.shape ≡ s → agree (Some s) (elim m [ by_value ↦ type_of checked e | by_place ↦ variable_type checked (designated e) ]) ≡ true
+    go : (m : Mode) (s : Shape) → f.shape ≡ s → agree (Some s) (elim m [ by_value ↦ type_of checked e | by_place ↦ variable_type checked (lone_designator e) ]) ≡ true
         → OutcomeFits (λ a. ArgumentsFit typing (record { mode = m; shape = s } ∷ []) (a ∷ [])) (evaluate_argument active store m e)
     go by_value s es h =
         let (t, et, ht) = agree-true (Some s) (type_of checked e) h in
         fits-then (λ v. HasShape v s) (λ a. ArgumentsFit typing (record { mode = by_value; shape = s } ∷ []) (a ∷ [])) (evaluate active store e) (λ v. gives (value_argument v)) (evaluate-sound typing checked active store fit e s (ht ∙ sym et))
         (λ v hv. (refl, hv, tt))
     go by_place s es h =
-        let (t, et, ht) = agree-true (Some s) (variable_type checked (designated e)) h in at_designator (designated e) (ht ∙ sym et)
+        let (t, et, ht) = agree-true (Some s) (variable_type checked (lone_designator e)) h in at_designator (lone_designator e) (ht ∙ sym et)
       where
         at_designator : (d : Option (N × Tree N (items selector))) → variable_type checked d ≡ Some s
             → OutcomeFits (λ a. ArgumentsFit typing (record { mode = by_place; shape = s } ∷ []) (a ∷ [])) (or_stuck d >>= (λ d. designate active store d.0 d.1 >>= (λ p. gives (place_argument p))))

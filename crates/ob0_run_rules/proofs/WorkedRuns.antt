@@ -3,7 +3,7 @@ use Rattle.std.proofs.Common.{◌≡◌, [], ◌∷◌, pos, negsuc, refl}
 use Rattle.ob0_scope_rules.specs.Names.{as_names}
 use Rattle.ob0_scope_rules.proofs.WorkedTrees.{activations, aliases, captured_variable, divisions, least_constant, least_constant_gone, least_constant_inlined, negative_divisor, records, recursion, recursion_renamed, repeats, shadowed_variable, sign_overflows, store_of_calls, sum_overflows, turns_and_calls, visible_later, visible_later_renamed}
 use Rattle.ob0_values.specs.Values.{CallBound, Divisor, Done, Index, InputEnd, Overflow, TurnBound}
-use Rattle.ob0_run_rules.specs.GivenUp.{run_giving_up}
+use Rattle.ob0_run_rules.specs.Freed.{run_freeing}
 use Rattle.ob0_run_rules.specs.Runs.{line_out, number_out, run}
 
 pub shadowed_variable-run-1 : run shadowed_variable [] 64 9 ≡ record { output = number_out (pos 1) ∷ []; ending = Done }
@@ -123,6 +123,6 @@ unfolding run
 store_of_calls-run-1 = refl
 
 -- each call's variables begin again and its VAR parameter stays where it is, whether calls drop their variables or not
-pub store_of_calls-given_up-1 : run_giving_up as_names store_of_calls [] 2 1 ≡ record { output = number_out (pos 10) ∷ number_out (pos 10) ∷ number_out (pos 10) ∷ []; ending = Done }
-unfolding run_giving_up
-store_of_calls-given_up-1 = refl
+pub store_of_calls-freed-1 : run_freeing as_names store_of_calls [] 2 1 ≡ record { output = number_out (pos 10) ∷ number_out (pos 10) ∷ number_out (pos 10) ∷ []; ending = Done }
+unfolding run_freeing
+store_of_calls-freed-1 = refl

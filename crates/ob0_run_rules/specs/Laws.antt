@@ -10,7 +10,7 @@ use Rattle.ob0_types_rules.specs.Expressions.{Meanings, a_constant, evaluate_fac
 use Rattle.ob0_types_rules.specs.Laws.{UsesAre}
 use Rattle.ob0_values.specs.Values.{Place, Store, Stuck, Value, gives}
 use Rattle.ob0_types_rules.specs.WellTyped.{Mode, WellTyped}
-use Rattle.ob0_run_rules.specs.GivenUp.{run_giving_up}
+use Rattle.ob0_run_rules.specs.Freed.{run_freeing}
 use Rattle.ob0_run_rules.specs.Runs.{Calls, State, execute, run, run_numbered, run_over}
 
 -- the run of a module over its names is the run of its numbered tree
@@ -37,12 +37,12 @@ FreeKeepsRuns =
 
 -- dropping a call's variables at its return leaves every run of every tree as it is,
 -- whatever distinguishes its names or labels
-abbrev pub GivingUpKeepsRuns : Type 0
-GivingUpKeepsRuns =
+abbrev pub FreeingKeepsRuns : Type 0
+FreeingKeepsRuns =
     ((naming : Naming Name) (m : Tree Name module_text) (input : List ℤ) (c t : ℕ)
-    → run_giving_up naming m input c t ≡ run_over naming m input c t)
+    → run_freeing naming m input c t ≡ run_over naming m input c t)
     × ((naming : Naming Label) (m : Tree Label module_text) (input : List ℤ) (c t : ℕ)
-    → run_giving_up naming m input c t ≡ run_over naming m input c t)
+    → run_freeing naming m input c t ≡ run_over naming m input c t)
 
 -- no run of a well-typed module gets stuck
 abbrev pub NeverStuck : Type 0

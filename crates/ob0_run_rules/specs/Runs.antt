@@ -9,7 +9,7 @@ use Rattle.ob0_types_rules.specs.Arguments.{arguments_listed}
 use Rattle.ob0_types_rules.specs.Declarations.{after_formals, after_types, after_variables, declare_first, procedure_constructors}
 use Rattle.ob0_types_rules.specs.Environments.{Environment, from_binding, meanings, outermost}
 use Rattle.ob0_types_rules.specs.Expressions.{Meanings, Object, a_constant, a_procedure, a_standard, a_type, a_variable, designate, evaluate, reads, writes, writes_line}
-use Rattle.ob0_types_rules.specs.Typing.{constructors, denoted, designated}
+use Rattle.ob0_types_rules.specs.Typing.{constructors, denoted, lone_designator}
 use Rattle.ob0_values.specs.Values.{CallBound, Done, End, InputEnd, Outcome, Place, Store, Stuck, TurnBound, Value, ends, gives, initial, number, or_stuck, truth, write_place, ◌>>=◌}
 use Rattle.ob0_types_rules.specs.WellTyped.{Mode, by_place, by_value, section_mode}
 
@@ -84,7 +84,7 @@ evaluate_argument meaning store by_value e = do
   v ← evaluate meaning store e
   gives (value_argument v)
 evaluate_argument meaning store by_place e = do
-  d ← or_stuck (designated e)
+  d ← or_stuck (lone_designator e)
   p ← designate meaning store d.0 d.1
   gives (place_argument p)
 

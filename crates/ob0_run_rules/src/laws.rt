@@ -1,6 +1,6 @@
 //! The laws. Each function does nothing: its contract is the law.
 
-ghost use Rattle.ob0_run_rules.specs.Laws.{RunsByOrdinal, RunsByShape, FreeKeepsRuns, GivingUpKeepsRuns, NeverStuck, InliningKeepsExecution};
+ghost use Rattle.ob0_run_rules.specs.Laws.{RunsByOrdinal, RunsByShape, FreeKeepsRuns, FreeingKeepsRuns, NeverStuck, InliningKeepsExecution};
 ghost use Rattle.ob0_run_rules.specs.EditLaws.{FreeKeepsModules, InliningKeepsModules, LeavingOutKeepsModules, InliningEverywhereKeepsModules};
 
 /// The run of a module over its names is the run of its numbered tree.
@@ -19,8 +19,8 @@ pub fn free_keeps_runs()
 {}
 
 /// A call's variables may be dropped when it returns: every run stays as it is.
-pub fn giving_up_keeps_runs()
-    ensures { GivingUpKeepsRuns }
+pub fn freeing_keeps_runs()
+    ensures { FreeingKeepsRuns }
 {}
 
 /// No run of a well-typed module gets stuck.

@@ -6,12 +6,12 @@ use Rattle.ob0_scan.specs.declared.lexeme.Span.{Span}
 use Rattle.ob0_scan.specs.declared.lexeme.Token.{Token}
 use Rattle.ob0_scan.specs.declared.scanner.Scanner.{Scanner}
 use Rattle.ob0_scan.specs.Scanned.{Scanned, IsScan, max_text, span_from, token_at, comment_at, tokens_from, comments_from}
-use Rattle.ob0_scan.specs.Reused.{IsReplaced, NoOldBegins, IsNew, Reuses, moved, moved_token, tokens_before_change, comments_before_change, back_tokens, back_comments}
+use Rattle.ob0_scan.specs.Reused.{IsReplaced, NoOldBegins, IsNew, Reuses, move_span, moved_token, tokens_before_change, comments_before_change, back_tokens, back_comments}
 use Rattle.ob0_scan.specs.Rescanning.{token_begins, comment_begins, IsMovable, TakesOne, ReadsOn, IsMet}
 use Rattle.ob0_scan.specs.Progress.{ScanProgress}
 use Rattle.ob0_scan.specs.UnderWay.{IsUnderWay}
 use Rattle.ob0_scan.proofs.Spans.{token_with, comment_with}
-use Rattle.ob0_scan.proofs.Standing.{of_tokens, of_comments, full, Ascending, ascending, first_at, none_at, at_first, Border, begin_at_borders}
+use Rattle.ob0_scan.proofs.AtLexemes.{of_tokens, of_comments, full, Ascending, ascending, first_at, none_at, at_first, Border, begin_at_borders}
 use Rattle.ob0_scan.proofs.Reusing.{end_border, none_following, finished, movable}
 
 either_false : (a b : Bool) → (a || b) ≡ false → (a ≡ false) × (b ≡ false)
@@ -101,7 +101,7 @@ module _ (old : Scanned) (o : IsScan old) where
 -- what was kept, read and taken over
 pub reused : (old new : Scanned) (from removed added : ℕ) (s t : Scanner) (tokens : List Token) (comments : List Span) (end : ℕ) (fs : List Token) (gs : List Span) → fs ≡ tokens_before_change from old.tokens → gs ≡ comments_before_change from old.comments → s.tokens.items ≡ [] → s.comments.items ≡ []
     → ReadsOn old from removed added s t → IsMet old end from removed added t.at tokens comments
-    → new.tokens ≡ (fs ++ t.tokens.items) ++ map (moved_token removed added) tokens → new.comments ≡ (gs ++ t.comments.items) ++ map (moved removed added) comments
+    → new.tokens ≡ (fs ++ t.tokens.items) ++ map (moved_token removed added) tokens → new.comments ≡ (gs ++ t.comments.items) ++ map (move_span removed added) comments
     → (read : ℕ) → read ≡ length t.tokens.items + length t.comments.items → Reuses old new from removed added read
 reused old new from removed added s t tokens comments end fs gs ft fc st sc r m et ec read e =
     let read_tokens : t.tokens.items ≡ r.tokens = r.tokens_are ∙ ap (λ x. x ++ r.tokens) st in
@@ -112,7 +112,7 @@ reused old new from removed added s t tokens comments end fs gs ft fc st sc r m 
       tokens_between = r.tokens;
       comments_between = r.comments;
       tokens = et ∙ ap₂ (λ x y. x ++ map (moved_token removed added) y) (ap₂ (λ x y. x ++ y) ft read_tokens) m.tokens_are;
-      comments = ec ∙ ap₂ (λ x y. x ++ map (moved removed added) y) (ap₂ (λ x y. x ++ y) fc read_comments) m.comments_are;
+      comments = ec ∙ ap₂ (λ x y. x ++ map (move_span removed added) y) (ap₂ (λ x y. x ++ y) fc read_comments) m.comments_are;
       read_are = omega (arith, e, ap length read_tokens, ap length read_comments);
       tokens_new = r.tokens_new;
       comments_new = r.comments_new;
@@ -123,7 +123,7 @@ pub record Settled (old : Scanned) (new : List ℕ) (from removed added : ℕ) (
   pub met : IsMet old (length new) from removed added t.at tokens comments
   pub tokens_move : All (λ (x : Token). IsMovable removed added x.span) tokens
   pub comments_move : All (λ (x : Span). IsMovable removed added x) comments
-  pub scan : IsScan (record { text = new; tokens = (t.front.tokens.now ++ t.tokens.items) ++ map (moved_token removed added) tokens; comments = (t.front.comments.now ++ t.comments.items) ++ map (moved removed added) comments })
+  pub scan : IsScan (record { text = new; tokens = (t.front.tokens.now ++ t.tokens.items) ++ map (moved_token removed added) tokens; comments = (t.front.comments.now ++ t.comments.items) ++ map (move_span removed added) comments })
 
 abbrev make_scan : List ℕ → List Token → List Span → Scanned
 make_scan text tokens comments = record { text = text; tokens = tokens; comments = comments }
@@ -145,6 +145,6 @@ settled old o new from removed added r t tokens comments text under none short f
       met = met;
       tokens_move = All-same (λ (x : Token). IsMovable removed added x.span) tokens (back_tokens place old.tokens) met.tokens_are move.0;
       comments_move = All-same (λ (x : Span). IsMovable removed added x) comments (back_comments place old.comments) met.comments_are move.1;
-      scan = subst (λ x. IsScan (make_scan new (ts ++ map (moved_token removed added) x) (cs ++ map (moved removed added) comments))) (sym met.tokens_are)
-          (subst (λ x. IsScan (make_scan new (ts ++ map (moved_token removed added) (back_tokens place old.tokens)) (cs ++ map (moved removed added) x))) (sym met.comments_are) whole);
+      scan = subst (λ x. IsScan (make_scan new (ts ++ map (moved_token removed added) x) (cs ++ map (move_span removed added) comments))) (sym met.tokens_are)
+          (subst (λ x. IsScan (make_scan new (ts ++ map (moved_token removed added) (back_tokens place old.tokens)) (cs ++ map (move_span removed added) x))) (sym met.comments_are) whole);
     }

@@ -13,7 +13,7 @@ use Rattle.ob0_scan.specs.Lexed.{Lexeme, joined}
 use Rattle.ob0_scan.specs.Scanned.{span_from, token_at, comment_at, tokens_from, comments_from}
 use Rattle.ob0_scan.specs.Rescanning.{token_end, comment_end, last_end}
 use Rattle.ob0_scan.proofs.Cuts.{joined_push, tokens_push, comments_push}
-use Rattle.ob0_scan.proofs.Standing.{of_tokens, of_comments, Full, full_parts, Lies, lies, none_end}
+use Rattle.ob0_scan.proofs.AtLexemes.{of_tokens, of_comments, Full, full_parts, Lies, lies, none_end}
 
 space_or_not : (k : LexemeKind) → (k ≡ lexeme.Space) ⊎ (k ≢ lexeme.Space)
 space_or_not lexeme.Space = inl refl

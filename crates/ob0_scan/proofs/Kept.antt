@@ -12,9 +12,9 @@ use Rattle.ob0_scan.specs.declared.scanner.Scanner.{Scanner}
 use Rattle.ob0_scan.specs.declared.rescanning.Between.{Between}
 use Rattle.ob0_scan.specs.Lexed.{Lexeme, joined}
 use Rattle.ob0_scan.specs.Scanned.{Scanned, IsScan}
-use Rattle.ob0_scan.specs.Reused.{moved, moved_token, tokens_before_change, comments_before_change, back_tokens}
+use Rattle.ob0_scan.specs.Reused.{move_span, moved_token, tokens_before_change, comments_before_change, back_tokens}
 use Rattle.ob0_scan.specs.Rescanning.{IsMovable, IsBetween, ReadsOn, with_between}
-use Rattle.ob0_scan.proofs.Standing.{Standing, of_tokens, of_comments, Full, Lies, full, lies, Ascending, ascending, back_later, front_all}
+use Rattle.ob0_scan.proofs.AtLexemes.{AtLexemes, of_tokens, of_comments, Full, Lies, full, lies, Ascending, ascending, back_later, front_all}
 use Rattle.ob0_scan.proofs.Between.{Settled, reused}
 
 longer_count : (b d : Bool) (n m : ℕ) → (b ≡ true → d ≡ true) → n ≤ m → cond b (1 + n) 0 ≤ cond d (1 + m) 0
@@ -29,7 +29,7 @@ longer_prefix p q (x ∷ xs) a =
     longer_count (p x) (q x) (prefix_len p xs) (prefix_len q xs) (All-head (λ y. p y ≡ true → q y ≡ true) x xs a) (longer_prefix p q xs (All-tail (λ y. p y ≡ true → q y ≡ true) x xs a))
 
 -- what ends before a place begins before a later one
-apart : {X : Type 0} (g : Standing X) (from place : ℕ) (ls : List Lexeme) → Full ls → from ≤ place → prefix_len (λ x. ltb (g.span x).end from) (g.all 0 ls) ≤ prefix_len (λ x. ltb (g.span x).start place) (g.all 0 ls)
+apart : {X : Type 0} (g : AtLexemes X) (from place : ℕ) (ls : List Lexeme) → Full ls → from ≤ place → prefix_len (λ x. ltb (g.span x).end from) (g.all 0 ls) ≤ prefix_len (λ x. ltb (g.span x).start place) (g.all 0 ls)
 apart g from place ls f less =
     let high : ℕ = 0 + length (joined ls) in
     longer_prefix (λ x. ltb (g.span x).end from) (λ x. ltb (g.span x).start place) (g.all 0 ls)
@@ -82,8 +82,8 @@ module _ (old : Scanned) (o : IsScan old) (new : List ℕ) (from removed added :
       let cs = comment_parts eg w k l in
       let tokens : (with_between old new removed added b).tokens ≡ (fs ++ t.tokens.items) ++ map (moved_token removed added) rs =
       ap₂ (λ x y. x ++ (b.tokens.items ++ map (moved_token removed added) y)) ts.front ts.back ∙ ap (λ x. fs ++ (x ++ map (moved_token removed added) rs)) et ∙ sym (append_assoc fs t.tokens.items (map (moved_token removed added) rs)) in
-      let comments : (with_between old new removed added b).comments ≡ (gs ++ t.comments.items) ++ map (moved removed added) qs =
-      ap₂ (λ x y. x ++ (b.comments.items ++ map (moved removed added) y)) cs.front cs.back ∙ ap (λ x. gs ++ (x ++ map (moved removed added) qs)) ec ∙ sym (append_assoc gs t.comments.items (map (moved removed added) qs)) in
+      let comments : (with_between old new removed added b).comments ≡ (gs ++ t.comments.items) ++ map (move_span removed added) qs =
+      ap₂ (λ x y. x ++ (b.comments.items ++ map (move_span removed added) y)) cs.front cs.back ∙ ap (λ x. gs ++ (x ++ map (move_span removed added) qs)) ec ∙ sym (append_assoc gs t.comments.items (map (move_span removed added) qs)) in
       record {
         tokens_ordered = ts.ordered;
         tokens_inside = ts.inside;
@@ -98,8 +98,8 @@ module _ (old : Scanned) (o : IsScan old) (new : List ℕ) (from removed added :
         comments_move = All-same (λ (x : Span). IsMovable removed added x) (drop b.following.comments old.comments) qs cs.back w.comments_move;
         scan = subst (λ (x : List Token). IsScan (record { text = new; tokens = x; comments = (with_between old new removed added b).comments })) (sym tokens)
             (subst (λ (y : List Span). IsScan (record { text = new; tokens = (fs ++ t.tokens.items) ++ map (moved_token removed added) rs; comments = y })) (sym comments)
-            (subst (λ (x : List Token). IsScan (record { text = new; tokens = (x ++ t.tokens.items) ++ map (moved_token removed added) rs; comments = (gs ++ t.comments.items) ++ map (moved removed added) qs })) tf
-            (subst (λ (y : List Span). IsScan (record { text = new; tokens = (t.front.tokens.now ++ t.tokens.items) ++ map (moved_token removed added) rs; comments = (y ++ t.comments.items) ++ map (moved removed added) qs })) tg w.scan)));
+            (subst (λ (x : List Token). IsScan (record { text = new; tokens = (x ++ t.tokens.items) ++ map (moved_token removed added) rs; comments = (gs ++ t.comments.items) ++ map (move_span removed added) qs })) tf
+            (subst (λ (y : List Span). IsScan (record { text = new; tokens = (t.front.tokens.now ++ t.tokens.items) ++ map (moved_token removed added) rs; comments = (y ++ t.comments.items) ++ map (move_span removed added) qs })) tg w.scan)));
         reuses = reused old (with_between old new removed added b) from removed added s t rs qs (length new) fs gs ef eg st sc r w.met tokens comments (length b.tokens.items + length b.comments.items) (omega (arith, ap length et, ap length ec));
       }
 

@@ -8,7 +8,7 @@ use Rattle.ob0_scan.specs.declared.lexeme.Span.{Span}
 use Rattle.ob0_scan.specs.declared.lexeme.Token.{Token}
 use Rattle.ob0_scan.specs.declared.rescanning.Between.{Between}
 use Rattle.ob0_scan.specs.Scanned.{Scanned, spanned}
-use Rattle.ob0_scan.specs.Reused.{IsReplaced, name_of, names_in, moved, moved_token}
+use Rattle.ob0_scan.specs.Reused.{IsReplaced, name_of, names_in, move_span, moved_token}
 use Rattle.ob0_scan.specs.Rescanning.{IsBetween, with_between}
 
 names-append : (text : List ℕ) (a b : List Token) → names_in text (a ++ b) ≡ names_in text a ++ names_in text b
@@ -36,7 +36,7 @@ in_front old new from span same inside =
 
 module _ (old new : List ℕ) (from removed added : ℕ) (r : IsReplaced old new from removed added) where
   -- what is after the change is the same, moved
-  at_back : (span : Span) → from + removed ≤ span.start → spanned new (moved removed added span) ≡ spanned old span
+  at_back : (span : Span) → from + removed ≤ span.start → spanned new (move_span removed added span) ≡ spanned old span
   at_back span later =
       let away : ℕ = span.start - (from + removed) in
       let wide : span.end + added - removed - (span.start + added - removed) ≡ span.end - span.start = omega (arith, later) in

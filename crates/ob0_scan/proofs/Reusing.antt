@@ -12,11 +12,11 @@ use Rattle.ob0_scan.specs.Ends.{EndsBefore}
 use Rattle.ob0_scan.specs.Scanned.{tokens_from, comments_from, IsRangeOf, Scanned, IsScan, max_text}
 use Rattle.ob0_scan.specs.Faults.{FaultsFrom, lexeme}
 use Rattle.ob0_scan.specs.Progress.{IsCutTo, ScanProgress}
-use Rattle.ob0_scan.specs.Reused.{IsReplaced, moved, moved_token, tokens_before_change, comments_before_change, back_tokens, back_comments}
+use Rattle.ob0_scan.specs.Reused.{IsReplaced, move_span, moved_token, tokens_before_change, comments_before_change, back_tokens, back_comments}
 use Rattle.ob0_scan.specs.Rescanning.{last_end, IsMovable}
 use Rattle.ob0_scan.proofs.Borders.{first_from_end, end_from_first}
-use Rattle.ob0_scan.proofs.Spans.{StandFrom, next_from}
-use Rattle.ob0_scan.proofs.Standing.{of_tokens, of_comments, Full, full, full_parts, Lies, lies, all-append, back_split, front_split, Border, tokens_moved, comments_moved}
+use Rattle.ob0_scan.proofs.Spans.{LexemesFrom, next_from}
+use Rattle.ob0_scan.proofs.AtLexemes.{of_tokens, of_comments, Full, full, full_parts, Lies, lies, all-append, back_split, front_split, Border, tokens_moved, comments_moved}
 use Rattle.ob0_scan.proofs.Fronts.{find_front, front_end}
 
 pub joined_append : (xs ys : List Lexeme) → joined (xs ++ ys) ≡ joined xs ++ joined ys
@@ -59,7 +59,7 @@ shorter_front n m xs ys less hx hy e =
     ∙ ap (take n) (take-append-drop m ys)
 
 -- a text that is cut up to a place is cut there between characters
-boundary_following : (text : List ℕ) (s : ℕ) (ls : List Lexeme) (after : List ℕ) → StandFrom text s ls after → IsCharBoundary text (s + length (joined ls))
+boundary_following : (text : List ℕ) (s : ℕ) (ls : List Lexeme) (after : List ℕ) → LexemesFrom text s ls after → IsCharBoundary text (s + length (joined ls))
 boundary_following text s [] after h = subst (IsCharBoundary text) (sym (add-zero s)) h.place
 boundary_following text s (l ∷ ls) after h =
     let place : s + length l.text + length (joined ls) ≡ s + length (joined (l ∷ ls)) = omega (arith, length-append l.text (joined ls)) in
@@ -146,7 +146,7 @@ module _ (old : Scanned) (o : IsScan old) (new : List ℕ) (from removed added :
 
   -- a scan that stopped at a border of the old text goes on with what the old text had there
   pub finished : (at p : ℕ) (tokens : List Token) (comments : List Span) → IsUtf8 new → length new ≤ max_text → at ≤ length new → from + added ≤ at → at + removed ≡ p + added → IsCutTo new at tokens comments → Border 0 o.lexemes p
-      → IsScan (record { text = new; tokens = tokens ++ map (moved_token removed added) (back_tokens p old.tokens); comments = comments ++ map (moved removed added) (back_comments p old.comments) })
+      → IsScan (record { text = new; tokens = tokens ++ map (moved_token removed added) (back_tokens p old.tokens); comments = comments ++ map (move_span removed added) (back_comments p old.comments) })
   finished at p tokens comments utf8 short inside following e cut b =
       let facts = border_facts p b in
       let rest : joined b.back ≡ drop at new = facts.0 ∙ sym (same_rest at p following e) in
@@ -161,7 +161,7 @@ module _ (old : Scanned) (o : IsScan old) (new : List ℕ) (from removed added :
           each = lexemes_append cut.lexemes b.back [] (subst (AreLexemes cut.lexemes) (sym rest ∙ sym (append-nil (joined b.back))) cut.each) facts.1;
         };
         tokens = ap₂ (λ x y. x ++ y) cut.tokens_are (ap (map (moved_token removed added)) facts.2 ∙ sym (tokens_moved removed added at p b.back e low) ∙ ap (λ n. tokens_from n b.back) (sym place)) ∙ sym (all-append of_tokens 0 cut.lexemes b.back);
-        comments = ap₂ (λ x y. x ++ y) cut.comments_are (ap (map (moved removed added)) facts.3 ∙ sym (comments_moved removed added at p b.back e low) ∙ ap (λ n. comments_from n b.back) (sym place)) ∙ sym (all-append of_comments 0 cut.lexemes b.back);
+        comments = ap₂ (λ x y. x ++ y) cut.comments_are (ap (map (move_span removed added)) facts.3 ∙ sym (comments_moved removed added at p b.back e low) ∙ ap (λ n. comments_from n b.back) (sym place)) ∙ sym (all-append of_comments 0 cut.lexemes b.back);
       }
 
   movable_lies : (p q : ℕ) (s : Span) → removed ≤ p → q ≤ max_text → length new ≤ max_text → Lies p q s → IsMovable removed added s

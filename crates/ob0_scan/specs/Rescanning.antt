@@ -8,7 +8,7 @@ use Rattle.ob0_scan.specs.declared.lexeme.LexemeKind.{LexemeKind}
 use Rattle.ob0_scan.specs.declared.scanner.Scanner.{Scanner}
 use Rattle.ob0_scan.specs.declared.rescanning.Between.{Between}
 use Rattle.ob0_scan.specs.Scanned.{Scanned, IsScan, span_from, token_at, comment_at}
-use Rattle.ob0_scan.specs.Reused.{back_tokens, back_comments, moved, moved_token, Reuses, IsNew}
+use Rattle.ob0_scan.specs.Reused.{back_tokens, back_comments, move_span, moved_token, Reuses, IsNew}
 
 -- where a token ends
 abbrev pub token_end : Option Token → ℕ
@@ -80,7 +80,7 @@ with_between old new removed added b = record {
       ++ (b.tokens.items ++ map (moved_token removed added) (drop b.following.tokens old.tokens));
   comments =
       take b.front.comments old.comments
-      ++ (b.comments.items ++ map (moved removed added) (drop b.following.comments old.comments));
+      ++ (b.comments.items ++ map (move_span removed added) (drop b.following.comments old.comments));
 }
 
 -- what lies between the old tokens and comments that a new text goes on to have

@@ -38,14 +38,14 @@ abbrev pub names_in : List ℕ → List Token → List (List ℕ)
 names_in text tokens = map (λ (t : Token). name_of t.kind (spanned text t.span)) tokens
 
 -- a span after the change is moved by what was added less what was removed
-abbrev pub moved : ℕ → ℕ → Span → Span
-moved removed added span =
+abbrev pub move_span : ℕ → ℕ → Span → Span
+move_span removed added span =
     record { start = span.start + added - removed; end = span.end + added - removed }
 
 -- a token after the change, moved
 abbrev pub moved_token : ℕ → ℕ → Token → Token
 moved_token removed added token =
-    record { kind = token.kind; span = moved removed added token.span }
+    record { kind = token.kind; span = move_span removed added token.span }
 
 -- the tokens that end before a place
 abbrev pub tokens_before_change : ℕ → List Token → List Token
@@ -88,7 +88,7 @@ pub record Reuses (old new : Scanned) (from removed added read : ℕ) : Type 0 w
       ++ map (moved_token removed added) (back_tokens place old.tokens)
   pub comments : new.comments
       ≡ (comments_before_change from old.comments ++ comments_between)
-      ++ map (moved removed added) (back_comments place old.comments)
+      ++ map (move_span removed added) (back_comments place old.comments)
   pub read_are : read ≡ length tokens_between + length comments_between
   pub tokens_new : All (λ (t : Token). IsNew old from removed added t.span) tokens_between
   pub comments_new : All (λ (c : Span). IsNew old from removed added c) comments_between

@@ -9,7 +9,7 @@ ghost use Rattle.ob0_scan.specs.declared.rescanning.NotRescanned.TheVariants as 
 ghost use Rattle.ob0_scan.specs.Scanned.{IsScanOf, spanned};
 ghost use Rattle.ob0_scan.specs.Refused.{IsRightRefusal, IsRightRefusalOver};
 ghost use Rattle.ob0_scan.specs.UnderWay.{IsUnderWay};
-ghost use Rattle.ob0_scan.specs.Reused.{IsReplaced, Reuses, kinds, moved, moved_token, tokens_before_change, comments_before_change, back_tokens, back_comments, valueless, name_of, names_in};
+ghost use Rattle.ob0_scan.specs.Reused.{IsReplaced, Reuses, kinds, move_span, moved_token, tokens_before_change, comments_before_change, back_tokens, back_comments, valueless, name_of, names_in};
 ghost use Rattle.ob0_scan.specs.SameKinds.{HasSameTokens};
 ghost use Rattle.ob0_scan.specs.Rescanning.{token_end, comment_end, last_end, token_begins, comment_begins, IsMovable, ReadsOn, IsMet, IsBetween};
 
@@ -39,9 +39,9 @@ impl ReplacedRange {
     }
 
     /// Where a span of the old text that lies after the change is now.
-    fn moved(self, span: Span) -> Span
+    fn move_span(self, span: Span) -> Span
         requires { IsMovable self.removed self.added span }
-        ensures { result ≡ moved self.removed self.added span }
+        ensures { result ≡ move_span self.removed self.added span }
     {
         Span {
             start: (span.start as usize + self.added - self.removed) as u32,
@@ -355,7 +355,7 @@ pub fn rescan(
     ensures err { IfErr result (IsRightRefusal new_text.now) }
     ensures reused { IfOk result (λ r. Reuses old.now r.tokens from removed added r.read) }
 {
-    match rescan_in_place(alloc, old.copied(alloc)?, new_text, from, removed, added) {
+    match rescan_in_place(alloc, old.copy(alloc)?, new_text, from, removed, added) {
         Ok(found) => Ok(found.rescan),
         Err(refusal) => match refusal {
             NotRescanned::Faults(faults, _) => Err(ScanRefusal::Faults(faults)),
@@ -538,7 +538,7 @@ pub(crate) fn splice_comments(
     ensures { OnOk result (comments.new.items
         ≡ take front comments.old.items
         ++ (between.items
-        ++ map (moved change.removed change.added) (drop following comments.old.items))) }
+        ++ map (move_span change.removed change.added) (drop following comments.old.items))) }
 {
     move_comments(comments, following, change);
     comments.splice(front..following, between)?;
@@ -558,7 +558,7 @@ fn move_tokens(tokens: &mut Vec<Token>, first: usize, change: ReplacedRange)
         let Token { kind, span } = tokens[index];
         tokens[index] = Token {
             kind,
-            span: change.moved(span),
+            span: change.move_span(span),
         };
     }
 }
@@ -570,9 +570,9 @@ fn move_comments(comments: &mut Vec<Span>, first: usize, change: ReplacedRange)
         (drop first comments.old.items) }
     ensures { comments.new.items
         ≡ take first comments.old.items
-        ++ map (moved change.removed change.added) (drop first comments.old.items) }
+        ++ map (move_span change.removed change.added) (drop first comments.old.items) }
 {
     for index in first..comments.len() {
-        comments[index] = change.moved(comments[index]);
+        comments[index] = change.move_span(comments[index]);
     }
 }

@@ -21,7 +21,7 @@ use Rattle.ob0_scope_numbering.specs.Marking.{Visit, started, visit_module}
 use Rattle.ob0_scope_numbering.specs.Written.{as_in}
 use Rattle.ob0_scope_rules.proofs.Bound.{bindings_by_table}
 use Rattle.ob0_scope_numbering.proofs.Passing.{HasMarks, at_start, module_passed}
-use Rattle.ob0_scope_numbering.proofs.Tables.{kept_elsewhere, marks_stand, none_at}
+use Rattle.ob0_scope_numbering.proofs.Tables.{kept_elsewhere, marks_are_there, none_at}
 use Rattle.ob0_scope.proofs.TwiceOnce.{twice_alone, twice_where}
 use Rattle.ob0_tree.specs.Order.{Ascending}
 use Rattle.ob0_tree.proofs.Leaves.{leaves_ascend}
@@ -107,16 +107,16 @@ resolution_made m v ordinals declarations uses once faults parsed gone tabled de
     let numbered_so = module_passed (ordinal_in ordinals) (as_label as_names) (as_in m.source) (tree_of m) (started (as_in m.source)) (at_start (as_in m.source)) in
     let table : ordinals ≡ with_marks (replicate (length m.source.tokens) None) w.marks = tabled ∙ ap (λ (v : Visit). with_marks (replicate (length m.source.tokens) None) v.marks) gone in
     let ascend = subst (λ ts. Ascending 0 ts (length m.source.tokens)) (sym numbered_so.tokens) (leaves_ascend m parsed) in
-    let marks = marks_stand w.marks (replicate (length m.source.tokens) None) 0 (length m.source.tokens) ascend (subst (λ n. length m.source.tokens ≤ n) (sym count) (le_refl (length m.source.tokens))) in
-    let stand = subst (λ (os : List (Option ℕ)). HasMarks (ordinal_in os) w.marks) (sym table) marks in
-    let numbering : IsNumbering m ordinals = (numbered_so.agree stand).1 in
+    let marks = marks_are_there w.marks (replicate (length m.source.tokens) None) 0 (length m.source.tokens) ascend (subst (λ n. length m.source.tokens ≤ n) (sym count) (le_refl (length m.source.tokens))) in
+    let are_there = subst (λ (os : List (Option ℕ)). HasMarks (ordinal_in os) w.marks) (sym table) marks in
+    let numbering : IsNumbering m ordinals = (numbered_so.agree are_there).1 in
     let paired = module_passed (ordinal_in ordinals) with_ordinal (as_in m.source) (tree_of m) (started (as_in m.source)) (at_start (as_in m.source)) in
     let occurring : uses ≡ occurrences (tree_of m) = occurs ∙ (ap (λ (v : Visit). v.uses) gone ∙ (numbered_so.used ∙ looked_up-occurrences role.Declaring (λ n xs. refl) (tree_of m))) in
     let nothing : List (Option ℕ) = replicate (length m.source.tokens) None in
     record {
       parsed = parsed;
       numbering = numbering;
-      binding = (paired.agree stand).1;
+      binding = (paired.agree are_there).1;
       names_alone = λ token e.
           ap (λ (os : List (Option ℕ)). ordinal_in os token) table
           ∙ (kept_elsewhere w.marks nothing token (ap (list_any (λ i. i == token)) numbered_so.tokens ∙ e) ∙ none_at (length m.source.tokens) token);

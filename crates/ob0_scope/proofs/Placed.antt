@@ -38,15 +38,15 @@ leaves-mapped f g t =
     ∙ (ap lexeme_names (spell_mapped f g t) ∙ (names_mapped f g (spell t) ∙ ap (map f) (sym (leaves_spelled role.Declaring t))))
 
 -- each identifier with the label of its token
-abbrev standing_by : (ℕ → Label) → Role × ℕ → BoundIdentifier
-standing_by label x = (x, label x.1)
+abbrev bound_by : (ℕ → Label) → Role × ℕ → BoundIdentifier
+bound_by label x = (x, label x.1)
 
-zipped : (label : ℕ → Label) (xs : List (Role × ℕ)) → zip xs (map label (names_only xs)) ≡ map (standing_by label) xs
+zipped : (label : ℕ → Label) (xs : List (Role × ℕ)) → zip xs (map label (names_only xs)) ≡ map (bound_by label) xs
 zipped label [] = refl
-zipped label (x ∷ xs) = λ i. standing_by label x ∷ zipped label xs i
+zipped label (x ∷ xs) = λ i. bound_by label x ∷ zipped label xs i
 
-pub standing_by_table : (r : Resolution) → IsResolution r → bound_identifiers r.module_read ≡ map (standing_by (label_at r.module_read.source r.ordinals)) (identifiers role.Declaring (tree_of r.module_read))
-standing_by_table r is =
+pub bound_by_table : (r : Resolution) → IsResolution r → bound_identifiers r.module_read ≡ map (bound_by (label_at r.module_read.source r.ordinals)) (identifiers role.Declaring (tree_of r.module_read))
+bound_by_table r is =
     let m = r.module_read in
     let ids = identifiers role.Declaring (tree_of m) in
     ap (zip ids) (ap leaves is.numbering ∙ leaves-mapped (label_at m.source r.ordinals) (value_at m.source) (tree_of m))
@@ -71,15 +71,15 @@ tokens_listed ordinals include d xs = map (λ x. x.1) (filter (is_listed ordinal
 
 -- what is kept of one list and what is kept of another
 listed : (source : Scanned) (ordinals : List (Option ℕ)) (include : Bool) (d : ℕ) (xs : List (Role × ℕ))
-    → tokens_listed ordinals include d xs ≡ map (λ (s : BoundIdentifier). s.0.1) (filter (refers include d) (map (standing_by (label_at source ordinals)) xs))
+    → tokens_listed ordinals include d xs ≡ map (λ (s : BoundIdentifier). s.0.1) (filter (refers include d) (map (bound_by (label_at source ordinals)) xs))
 listed source ordinals include d [] = refl
 listed source ordinals include d (x ∷ xs) =
-    let found = filter (refers include d) (map (standing_by (label_at source ordinals)) xs) in
+    let found = filter (refers include d) (map (bound_by (label_at source ordinals)) xs) in
     one (is_listed ordinals include d x) (filter (is_listed ordinals include d) xs) found (listed source ordinals include d xs)
-    ∙ ap (λ b. map (λ (s : BoundIdentifier). s.0.1) (cond (b && (include || not (is_declaring x.0))) (standing_by (label_at source ordinals) x ∷ found) found)) (sym (bound_to source ordinals d x.1))
+    ∙ ap (λ b. map (λ (s : BoundIdentifier). s.0.1) (cond (b && (include || not (is_declaring x.0))) (bound_by (label_at source ordinals) x ∷ found) found)) (sym (bound_to source ordinals d x.1))
   where
     one : (b : Bool) (later : List (Role × ℕ)) (found : List BoundIdentifier) → map (λ (x : Role × ℕ). x.1) later ≡ map (λ (s : BoundIdentifier). s.0.1) found
-        → map (λ (x : Role × ℕ). x.1) (cond b (x ∷ later) later) ≡ map (λ (s : BoundIdentifier). s.0.1) (cond b (standing_by (label_at source ordinals) x ∷ found) found)
+        → map (λ (x : Role × ℕ). x.1) (cond b (x ∷ later) later) ≡ map (λ (s : BoundIdentifier). s.0.1) (cond b (bound_by (label_at source ordinals) x ∷ found) found)
     one true later found e = ap (λ z. x.1 ∷ z) e
     one false later found e = e
 
@@ -88,27 +88,27 @@ pub bound_listed : (r : Resolution) (d : ℕ) (include : Bool) → IsResolution 
 bound_listed r d include is =
     let m = r.module_read in
     listed m.source r.ordinals include d (identifiers role.Declaring (tree_of m))
-    ∙ ap (λ xs. map (λ (s : BoundIdentifier). s.0.1) (filter (refers include d) xs)) (sym (standing_by_table r is))
+    ∙ ap (λ xs. map (λ (s : BoundIdentifier). s.0.1) (filter (refers include d) xs)) (sym (bound_by_table r is))
 
 -- places
 
 -- the span of each of these tokens, from an index on
-abbrev Stand : (ℕ → Span) → ℕ → List Token → Type 0
-Stand span i [] = Unit {0}
-Stand span i (t ∷ ts) = (span i ≡ t.span) × Stand span (i + 1) ts
+abbrev SpansAre : (ℕ → Span) → ℕ → List Token → Type 0
+SpansAre span i [] = Unit {0}
+SpansAre span i (t ∷ ts) = (span i ≡ t.span) × SpansAre span (i + 1) ts
 
 got : (front : List Token) (t : Token) (ts : List Token) → slice_get (front ++ (t ∷ ts)) (length front) ≡ Some t
 got [] t ts = refl
 got (x ∷ front) t ts = got front t ts
 
-all_stand : (front ts : List Token) → Stand (λ i. span_in (slice_get (front ++ ts) i)) (length front) ts
-all_stand front [] = tt
-all_stand front (t ∷ ts) =
+all_spans : (front ts : List Token) → SpansAre (λ i. span_in (slice_get (front ++ ts) i)) (length front) ts
+all_spans front [] = tt
+all_spans front (t ∷ ts) =
     let longer : front ++ (t ∷ ts) ≡ (front ++ (t ∷ [])) ++ ts = sym (append_assoc front (t ∷ []) ts) in
     let count : length (front ++ (t ∷ [])) ≡ length front + 1 = omega (arith, length-append front (t ∷ [])) in (
       ap span_in (got front t ts),
-      subst (λ n. Stand (λ i. span_in (slice_get (front ++ (t ∷ ts)) i)) n ts) count
-          (subst (λ (all : List Token). Stand (λ i. span_in (slice_get all i)) (length (front ++ (t ∷ []))) ts) (sym longer) (all_stand (front ++ (t ∷ [])) ts)),
+      subst (λ n. SpansAre (λ i. span_in (slice_get (front ++ (t ∷ ts)) i)) n ts) count
+          (subst (λ (all : List Token). SpansAre (λ i. span_in (slice_get all i)) (length (front ++ (t ∷ []))) ts) (sym longer) (all_spans (front ++ (t ∷ [])) ts)),
     )
 
 identifier_first : (i : ℕ) (k : TokenKind) → identifier_at i k ≡ cond (is_identifier k) (i ∷ []) []
@@ -117,7 +117,7 @@ identifier_first i (kind.Reserved word) = refl
 identifier_first i (kind.Integer value) = refl
 identifier_first i (kind.Symbol symbol) = refl
 
-found_from : (offset : ℕ) (span : ℕ → Span) (i : ℕ) (ts : List Token) → Stand span i ts → find (λ i. is_on offset (span i)) (identifiers_from i ts) ≡ position_from (is_name_on offset) i ts
+found_from : (offset : ℕ) (span : ℕ → Span) (i : ℕ) (ts : List Token) → SpansAre span i ts → find (λ i. is_on offset (span i)) (identifiers_from i ts) ≡ position_from (is_name_on offset) i ts
 found_from offset span i [] h = refl
 found_from offset span i (t ∷ ts) h =
     let later = identifiers_from (i + 1) ts in
@@ -132,7 +132,7 @@ found_from offset span i (t ∷ ts) h =
 abbrev pub named_so : List (Option ℕ) → ℕ → Option named.Named
 named_so ordinals i = option_map {U = named.Named} (λ ordinal. record { token = i; ordinal = ordinal }) (ordinal_in ordinals i)
 
-label_back : (source : Scanned) (ordinals : List (Option ℕ)) (x : Role × ℕ) → named_by (standing_by (label_at source ordinals) x) ≡ named_so ordinals x.1
+label_back : (source : Scanned) (ordinals : List (Option ℕ)) (x : Role × ℕ) → named_by (bound_by (label_at source ordinals) x) ≡ named_so ordinals x.1
 label_back source ordinals x = one (ordinal_in ordinals x.1)
   where
     one : (o : Option ℕ) → option_map {U = named.Named} (λ ordinal. record { token = x.1; ordinal = ordinal }) (label_ordinal (as_label as_names o (text_at source x.1))) ≡ option_map {U = named.Named} (λ ordinal. record { token = x.1; ordinal = ordinal }) o
@@ -140,13 +140,13 @@ label_back source ordinals x = one (ordinal_in ordinals x.1)
     one (Some k) = refl
 
 found_named : (source : Scanned) (ordinals : List (Option ℕ)) (offset : ℕ) (xs : List (Role × ℕ))
-    → option_and_then named_by (find (λ (s : BoundIdentifier). is_on offset (span_at source s.0.1)) (map (standing_by (label_at source ordinals)) xs))
+    → option_and_then named_by (find (λ (s : BoundIdentifier). is_on offset (span_at source s.0.1)) (map (bound_by (label_at source ordinals)) xs))
     ≡ option_and_then (named_so ordinals) (find (λ i. is_on offset (span_at source i)) (names_only xs))
 found_named source ordinals offset [] = refl
 found_named source ordinals offset (x ∷ xs) = one (is_on offset (span_at source x.1)) _ _ (found_named source ordinals offset xs)
   where
     one : (b : Bool) (found : Option BoundIdentifier) (later : Option ℕ) → option_and_then named_by found ≡ option_and_then (named_so ordinals) later
-        → option_and_then named_by (cond b (Some (standing_by (label_at source ordinals) x)) found) ≡ option_and_then (named_so ordinals) (cond b (Some x.1) later)
+        → option_and_then named_by (cond b (Some (bound_by (label_at source ordinals) x)) found) ≡ option_and_then (named_so ordinals) (cond b (Some x.1) later)
     one true found later e = label_back source ordinals x
     one false found later e = e
 
@@ -154,7 +154,7 @@ found_named source ordinals offset (x ∷ xs) = one (is_on offset (span_at sourc
 pub name_found : (r : Resolution) (offset : ℕ) → IsResolution r → option_and_then (named_so r.ordinals) (position_from (is_name_on offset) 0 r.module_read.source.tokens) ≡ name_on r.module_read offset
 name_found r offset is =
     let m = r.module_read in
-    let stand = all_stand [] m.source.tokens in
-    sym (ap (λ xs. option_and_then named_by (find (λ (s : BoundIdentifier). is_on offset (span_at m.source s.0.1)) xs)) (standing_by_table r is)
+    let spans = all_spans [] m.source.tokens in
+    sym (ap (λ xs. option_and_then named_by (find (λ (s : BoundIdentifier). is_on offset (span_at m.source s.0.1)) xs)) (bound_by_table r is)
     ∙ (found_named m.source r.ordinals offset (identifiers role.Declaring (tree_of m))
-    ∙ ap (option_and_then (named_so r.ordinals)) (ap (find (λ i. is_on offset (span_at m.source i))) (leaves_parsed m is.parsed) ∙ found_from offset (span_at m.source) 0 m.source.tokens stand)))
+    ∙ ap (option_and_then (named_so r.ordinals)) (ap (find (λ i. is_on offset (span_at m.source i))) (leaves_parsed m is.parsed) ∙ found_from offset (span_at m.source) 0 m.source.tokens spans)))

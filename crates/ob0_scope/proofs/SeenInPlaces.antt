@@ -302,16 +302,16 @@ forgotten naming m =
     back (Some k) x = refl
 
 -- the table of the occurrences has the first ordinal at each of them, and at no other identifier
-abbrev pub Told : List (Option ℕ) → Role → ℕ → Type 0
-Told table role.LookedUp i = ordinal_in table i ≡ Some 0
-Told table role.Declaring i = ordinal_in table i ≡ None
-Told table role.ClosingName i = ordinal_in table i ≡ None
-Told table role.FieldName i = ordinal_in table i ≡ None
-Told table role.ModuleName i = ordinal_in table i ≡ None
+abbrev pub IsMarked : List (Option ℕ) → Role → ℕ → Type 0
+IsMarked table role.LookedUp i = ordinal_in table i ≡ Some 0
+IsMarked table role.Declaring i = ordinal_in table i ≡ None
+IsMarked table role.ClosingName i = ordinal_in table i ≡ None
+IsMarked table role.FieldName i = ordinal_in table i ≡ None
+IsMarked table role.ModuleName i = ordinal_in table i ≡ None
 
-abbrev pub AllTold : List (Option ℕ) → List (Role × ℕ) → Type 0
-AllTold table [] = Unit {0}
-AllTold table (x ∷ xs) = Told table x.0 x.1 × AllTold table xs
+abbrev pub AllMarked : List (Option ℕ) → List (Role × ℕ) → Type 0
+AllMarked table [] = Unit {0}
+AllMarked table (x ∷ xs) = IsMarked table x.0 x.1 × AllMarked table xs
 
 lower : (low higher high : ℕ) (xs : List ℕ) → low ≤ higher → Ascending higher xs high → Ascending low xs high
 lower low higher high [] le a = omega (arith, le, a)
@@ -342,7 +342,7 @@ other_is_at low high i xs table le a empty =
     kept_below (map first_at (looked_up_only xs)) table (i + 1) high i (fewer (i + 1) high xs a) here ∙ empty i le
 
 all_reported : (low high : ℕ) (xs : List (Role × ℕ)) (table : List (Option ℕ)) → Ascending low (names_only xs) high → high ≤ length table → ((i : ℕ) → low ≤ i → ordinal_in table i ≡ None)
-    → AllTold (with_marks table (map first_at (looked_up_only xs))) xs
+    → AllMarked (with_marks table (map first_at (looked_up_only xs))) xs
 all_reported low high [] table a within empty = tt
 all_reported low high ((role.LookedUp, i) ∷ xs) table a within empty =
     let next : List (Option ℕ) = set table i (Some 0) in
@@ -370,7 +370,7 @@ nothing_there n i =
 abbrev pub occurrence_table : Resolution → List (Option ℕ)
 occurrence_table r = with_marks (replicate (length r.module_read.source.tokens) None) (map first_at r.uses)
 
-pub uses_reported : (r : Resolution) → IsResolution r → AllTold (occurrence_table r) (identifiers role.Declaring (tree_of r.module_read))
+pub uses_reported : (r : Resolution) → IsResolution r → AllMarked (occurrence_table r) (identifiers role.Declaring (tree_of r.module_read))
 uses_reported r is =
     let m = r.module_read in
     let ids = identifiers role.Declaring (tree_of m) in
@@ -379,10 +379,10 @@ uses_reported r is =
     let long : count ≤ length (replicate count none) = subst (λ n. count ≤ n) (sym (length-replicate count none)) (le_refl count) in
     let found : looked_up_only ids ≡ r.uses = looked_up-occurrences role.Declaring (λ n xs. refl) (tree_of m) ∙ sym is.occurring in
     let reported = all_reported 0 count ids (replicate count none) (leaves_ascend m is.parsed) long (λ i le. nothing_there count i) in
-    subst (λ (t : List (Option ℕ)). AllTold t ids) (ap (λ us. with_marks (replicate count none) (map first_at us)) found) reported
+    subst (λ (t : List (Option ℕ)). AllMarked t ids) (ap (λ us. with_marks (replicate count none) (map first_at us)) found) reported
 
 -- so the identifiers are written as they are sought
-all_sought : (source : Scanned) (table : List (Option ℕ)) (y : Name) (xs : List (Role × ℕ)) → AllTold table xs
+all_sought : (source : Scanned) (table : List (Option ℕ)) (y : Name) (xs : List (Role × ℕ)) → AllMarked table xs
     → AllSought y (name_at (record { source = source; ordinals = table; declaration = Some 0; new = y })) (text_at source) xs
 all_sought source table y [] a = tt
 all_sought source table y ((role.LookedUp, i) ∷ xs) a = (ap (λ o. if same_ordinal o 0 then y else text_at source i) a.0, all_sought source table y xs a.1)
@@ -401,7 +401,7 @@ seen_in_places r y v sought ordinals is table gone tabled =
     let ids = identifiers role.Declaring (tree_of m) in
     let passed = module_passed (ordinal_in ordinals) forget w (tree_of m) (started w) (at_start w) in
     let agree = (passed.agree (marks_in_table m w v ordinals is.parsed gone tabled)).1 in
-    let reported_so : AllTold sought ids = subst (λ (t : List (Option ℕ)). AllTold t ids) (sym table) (uses_reported r is) in
+    let reported_so : AllMarked sought ids = subst (λ (t : List (Option ℕ)). AllMarked t ids) (sym table) (uses_reported r is) in
     ap (map (ordinal_in ordinals)) is.occurring
     ∙ (sym (occurrences-mapped (ordinal_in ordinals) (value_at m.source) (tree_of m))
     ∙ (sym (ap occurrences agree)

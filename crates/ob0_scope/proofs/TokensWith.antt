@@ -15,7 +15,7 @@ use Rattle.ob0_scope_rules.specs.Names.{as_names}
 use Rattle.ob0_scope_rules.specs.Occurrences.{label_ordinal}
 use Rattle.ob0_scope_rules.specs.Resolution.{IsResolution, Resolution, declaring_only, label_at, ordinal_in, token_declaring}
 use Rattle.ob0_scope_rules.specs.Scopes.{as_label, same_ordinal}
-use Rattle.ob0_scope.specs.Listing.{first_token, omitted, tokens_from, tokens_with}
+use Rattle.ob0_scope.specs.Listing.{first_token, omitted_token, tokens_from, tokens_with}
 use Rattle.ob0_scope_numbering.specs.Marking.{started, visit_module}
 use Rattle.ob0_scope_numbering.specs.Marks.{OrdinalMark, with_marks}
 use Rattle.ob0_scope.specs.NamesAtPlaces.{is_declaring, tokens_bound}
@@ -38,13 +38,13 @@ marks_resolved r is =
     let w = as_in m.source in
     let marks = (visit_module (tree_of m) (started w)).marks in
     let made = with_marks (replicate (length m.source.tokens) None) marks in
-    let stand = marks_in_table m w (visit_module (tree_of m) (started w)) made is.parsed refl refl in
+    let are_there = marks_in_table m w (visit_module (tree_of m) (started w)) made is.parsed refl refl in
     let passed = module_passed (ordinal_in made) (as_label as_names) w (tree_of m) (started w) (at_start w) in
-    let same : mapped (label_at m.source made) (value_at m.source) (tree_of m) ≡ mapped (label_at m.source r.ordinals) (value_at m.source) (tree_of m) = sym (passed.agree stand).1 ∙ is.numbering in
+    let same : mapped (label_at m.source made) (value_at m.source) (tree_of m) ≡ mapped (label_at m.source r.ordinals) (value_at m.source) (tree_of m) = sym (passed.agree are_there).1 ∙ is.numbering in
     let read : (ordinals : List (Option ℕ)) → map label_ordinal (leaves (mapped (label_at m.source ordinals) (value_at m.source) (tree_of m))) ≡ map (ordinal_in ordinals) (leaves (tree_of m)) =
     λ ordinals. ap (map label_ordinal) (leaves-mapped (label_at m.source ordinals) (value_at m.source) (tree_of m)) ∙ ordinals_back (λ i. text_at m.source i) ordinals (leaves (tree_of m)) in
     let each : map (ordinal_in made) (leaves (tree_of m)) ≡ map (ordinal_in r.ordinals) (leaves (tree_of m)) = sym (read made) ∙ (ap (λ t. map label_ordinal (leaves t)) same ∙ read r.ordinals) in
-    marks_same (ordinal_in made) (ordinal_in r.ordinals) marks (subst (λ ts. map (ordinal_in made) ts ≡ map (ordinal_in r.ordinals) ts) (sym passed.tokens) each) stand
+    marks_same (ordinal_in made) (ordinal_in r.ordinals) marks (subst (λ ts. map (ordinal_in made) ts ≡ map (ordinal_in r.ordinals) ts) (sym passed.tokens) each) are_there
 
 in_order : (r : Resolution) → IsResolution r → AreInOrder (ordinal_in r.ordinals) 7 (identifiers role.Declaring (tree_of r.module_read))
 in_order r is =
@@ -217,7 +217,7 @@ module _ (ordinals : List (Option ℕ)) (d : ℕ) where
 
   -- from the one that declares on
   from_declaring : (include : Bool) (k i low : ℕ) (xs : List (Role × ℕ)) (t : ℕ) → AreInOrder (ordinal_in ordinals) k xs → k + i ≡ d → slice_get (declaring_only xs) i ≡ Some t → Rising low (names_only xs) → Alone low (names_only xs)
-      → tokens_from (omitted include (Some t)) d t ordinals ≡ tokens_listed ordinals include d xs
+      → tokens_from (omitted_token include (Some t)) d t ordinals ≡ tokens_listed ordinals include d xs
   from_declaring include k i low [] t h at is rise alone = absurd (some_none (sym is))
   from_declaring include k i low ((role.LookedUp, x) ∷ xs) t h at is rise alone = from_declaring include k i (x + 1) xs t h.1 at is rise.1 (alone_after low x (names_only xs) rise.0 alone) ∙ sym (passed_over include (role.LookedUp, x) xs (before_other k (ordinal_in ordinals x) (omega (arith, at)) h.0))
   from_declaring include k i low ((role.ClosingName, x) ∷ xs) t h at is rise alone = from_declaring include k i (x + 1) xs t h.1 at is rise.1 (alone_after low x (names_only xs) rise.0 alone) ∙ sym (passed_over include (role.ClosingName, x) xs (before_other k (ordinal_in ordinals x) (omega (arith, at)) h.0))
@@ -226,7 +226,7 @@ module _ (ordinals : List (Option ℕ)) (d : ℕ) where
   from_declaring include k (suc i) low ((role.Declaring, x) ∷ xs) t h at is rise alone =
       from_declaring include (suc k) i (x + 1) xs t h.1 (omega (arith, at)) is rise.1 (alone_after low x (names_only xs) rise.0 alone)
       ∙ sym (passed_over include (role.Declaring, x) xs (ap (λ o. same_ordinal o d) h.0 ∙ before_other (suc k) (Some k) (omega (arith, at)) (omega arith)))
-  from_declaring include k zero low ((role.Declaring, x) ∷ xs) t h at is rise alone = subst (λ t. tokens_from (omitted include (Some t)) d t ordinals ≡ tokens_listed ordinals include d ((role.Declaring, x) ∷ xs)) (some_is is) (one include)
+  from_declaring include k zero low ((role.Declaring, x) ∷ xs) t h at is rise alone = subst (λ t. tokens_from (omitted_token include (Some t)) d t ordinals ≡ tokens_listed ordinals include d ((role.Declaring, x) ∷ xs)) (some_is is) (one include)
     where
       own : ordinal_in ordinals x ≡ Some d
       own = h.0 ∙ ap Some (omega (arith, at))
@@ -243,7 +243,7 @@ module _ (ordinals : List (Option ℕ)) (d : ℕ) where
       later : tokens_with None d (x + 1) (drop (x + 1) ordinals) ≡ tokens_listed ordinals true d xs
       later = all_from (drop (x + 1) ordinals) (x + 1) xs (are_dropped (x + 1)) rise.1 (alone_after low x (names_only xs) rise.0 alone)
 
-      one : (include : Bool) → tokens_from (omitted include (Some x)) d x ordinals ≡ tokens_listed ordinals include d ((role.Declaring, x) ∷ xs)
+      one : (include : Bool) → tokens_from (omitted_token include (Some x)) d x ordinals ≡ tokens_listed ordinals include d ((role.Declaring, x) ∷ xs)
       one true =
           let kept = filter (is_listed ordinals true d) xs in
           ap (tokens_with None d x) split
@@ -261,7 +261,7 @@ module _ (ordinals : List (Option ℕ)) (d : ℕ) where
 -- ---- the tokens of a declaration
 
 pub bound_with : (r : Resolution) (d : ℕ) (include : Bool) → IsResolution r
-    → tokens_from (omitted include (token_declaring r.declarations d)) d (first_token (token_declaring r.declarations d)) r.ordinals ≡ tokens_bound r.module_read d include
+    → tokens_from (omitted_token include (token_declaring r.declarations d)) d (first_token (token_declaring r.declarations d)) r.ordinals ≡ tokens_bound r.module_read d include
 bound_with r d include is =
     let ids = identifiers role.Declaring (tree_of r.module_read) in
     one (ltb d 7) refl ids (in_order r is) (rising 0 (names_only ids) (length r.module_read.source.tokens) (leaves_ascend r.module_read is.parsed)) (λ j le. is.names_alone j) is.declaring ∙ bound_listed r d include is
@@ -270,20 +270,20 @@ bound_with r d include is =
     all_of ids rise alone = all_from r.ordinals d r.ordinals 0 ids (λ k. let same : k ≡ 0 + k = omega arith in ap (ordinal_in r.ordinals) same) rise alone
 
     everywhere : (ids : List (Role × ℕ)) → AreInOrder (ordinal_in r.ordinals) 7 ids → Rising 0 (names_only ids) → Alone r.ordinals d 0 (names_only ids) → ((i : ℕ) → 7 + i ≡ d → slice_get (declaring_only ids) i ≡ None) → (include : Bool)
-        → tokens_with (omitted include None) d 0 r.ordinals ≡ tokens_listed r.ordinals include d ids
+        → tokens_with (omitted_token include None) d 0 r.ordinals ≡ tokens_listed r.ordinals include d ids
     everywhere ids order rise alone none true = all_of ids rise alone
     everywhere ids order rise alone none false = all_of ids rise alone ∙ sym (none_declares r.ordinals d 7 ids order none)
 
     placed : (ids : List (Role × ℕ)) → AreInOrder (ordinal_in r.ordinals) 7 ids → Rising 0 (names_only ids) → Alone r.ordinals d 0 (names_only ids) → 7 ≤ d → (found : Option ℕ) → slice_get (declaring_only ids) (d - 7) ≡ found
-        → tokens_from (omitted include found) d (first_token found) r.ordinals ≡ tokens_listed r.ordinals include d ids
+        → tokens_from (omitted_token include found) d (first_token found) r.ordinals ≡ tokens_listed r.ordinals include d ids
     placed ids order rise alone above None e = everywhere ids order rise alone (λ i at. let back : i ≡ d - 7 = omega (arith, at) in ap (slice_get (declaring_only ids)) back ∙ e) include
     placed ids order rise alone above (Some t) e = from_declaring r.ordinals d include 7 (d - 7) 0 ids t order (omega (arith, above)) e rise alone
 
     one : (b : Bool) → ltb d 7 ≡ b → (ids : List (Role × ℕ)) → AreInOrder (ordinal_in r.ordinals) 7 ids → Rising 0 (names_only ids) → Alone r.ordinals d 0 (names_only ids) → r.declarations ≡ declaring_only ids
-        → tokens_from (omitted include (token_declaring r.declarations d)) d (first_token (token_declaring r.declarations d)) r.ordinals ≡ tokens_listed r.ordinals include d ids
+        → tokens_from (omitted_token include (token_declaring r.declarations d)) d (first_token (token_declaring r.declarations d)) r.ordinals ≡ tokens_listed r.ordinals include d ids
     one true e ids order rise alone declaring =
-        ap (λ b. let found = if b then None else slice_get r.declarations (d - 7) in tokens_from (omitted include found) d (first_token found) r.ordinals) e
+        ap (λ b. let found = if b then None else slice_get r.declarations (d - 7) in tokens_from (omitted_token include found) d (first_token found) r.ordinals) e
         ∙ everywhere ids order rise alone (λ i at. absurd (omega (arith, at, ltb-true d 7 e))) include
     one false e ids order rise alone declaring =
-        ap (λ b. let found = if b then None else slice_get r.declarations (d - 7) in tokens_from (omitted include found) d (first_token found) r.ordinals) e
+        ap (λ b. let found = if b then None else slice_get r.declarations (d - 7) in tokens_from (omitted_token include found) d (first_token found) r.ordinals) e
         ∙ placed ids order rise alone (ltb-false d 7 e) (slice_get r.declarations (d - 7)) (ap (λ ds. slice_get ds (d - 7)) (sym declaring))

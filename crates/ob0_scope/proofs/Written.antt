@@ -29,9 +29,9 @@ kept_ascends test low (x ∷ xs) high h = one (test x) (kept_ascends test (x.1 +
     one true e = (h.0, e)
     one false e = ascending_lower low (x.1 + 1) (names_only (filter test xs)) high (omega (arith, h.0)) e
 
-kept_stand : (test : Role × ℕ → Bool) (ts : List Token) (xs : List (Role × ℕ)) → AreIdentifiers ts (names_only xs) → AreIdentifiers ts (names_only (filter test xs))
-kept_stand test ts [] h = tt
-kept_stand test ts (x ∷ xs) h = one (test x) (kept_stand test ts xs h.1)
+kept_are_identifiers : (test : Role × ℕ → Bool) (ts : List Token) (xs : List (Role × ℕ)) → AreIdentifiers ts (names_only xs) → AreIdentifiers ts (names_only (filter test xs))
+kept_are_identifiers test ts [] h = tt
+kept_are_identifiers test ts (x ∷ xs) h = one (test x) (kept_are_identifiers test ts xs h.1)
   where
     one : (b : Bool) → AreIdentifiers ts (names_only (filter test xs)) → AreIdentifiers ts (names_only (cond b (x ∷ filter test xs) (filter test xs)))
     one true e = (h.0, e)
@@ -43,11 +43,11 @@ bound_ascend r d include is =
     subst (λ xs. Ascending 0 xs (length m.source.tokens)) (bound_listed r d include is)
     (kept_ascends (is_listed r.ordinals include d) 0 (identifiers role.Declaring (tree_of m)) (length m.source.tokens) (leaves_ascend m is.parsed))
 
-pub bound_stand : (r : Resolution) (d : ℕ) (include : Bool) → IsResolution r → AreIdentifiers r.module_read.source.tokens (tokens_bound r.module_read d include)
-bound_stand r d include is =
+pub bound_are_identifiers : (r : Resolution) (d : ℕ) (include : Bool) → IsResolution r → AreIdentifiers r.module_read.source.tokens (tokens_bound r.module_read d include)
+bound_are_identifiers r d include is =
     let m = r.module_read in
     subst (AreIdentifiers m.source.tokens) (bound_listed r d include is)
-    (kept_stand (is_listed r.ordinals include d) m.source.tokens (identifiers role.Declaring (tree_of m)) (leaves_are_identifiers m is.parsed))
+    (kept_are_identifiers (is_listed r.ordinals include d) m.source.tokens (identifiers role.Declaring (tree_of m)) (leaves_are_identifiers m is.parsed))
 
 -- an identifier is among those that are kept where it is bound to d
 

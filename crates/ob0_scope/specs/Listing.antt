@@ -37,8 +37,8 @@ abbrev pub tokens_from : Option ℕ → ℕ → ℕ → List (Option ℕ) → Li
 tokens_from omitted d first ordinals = tokens_with omitted d first (drop first ordinals)
 
 -- the token that is left out: the one that declares, unless it is requested
-abbrev pub omitted : Bool → Option ℕ → Option ℕ
-omitted include declaring = if include then None else declaring
+abbrev pub omitted_token : Bool → Option ℕ → Option ℕ
+omitted_token include declaring = if include then None else declaring
 
 -- where the tokens that name a declaration begin: nothing names it before it is declared
 abbrev pub first_token : Option ℕ → ℕ

@@ -233,12 +233,12 @@ impl Checks {
     }
 
     #[cycle(types)]
-    fn written(&mut self, tokens: &Tokens, t: &WrittenType) -> Result<(), AllocError>
+    fn written_type(&mut self, tokens: &Tokens, t: &WrittenType) -> Result<(), AllocError>
         ensures { OnOk result (self.new ≡ self.old ++ fields_twice tokens.now (type_of t.now)) }
     {
         match t {
             WrittenType::Named(_) => Ok(()),
-            WrittenType::Array(a) => self.written(tokens, &a.element),
+            WrittenType::Array(a) => self.written_type(tokens, &a.element),
             WrittenType::Record(r) => self.record(tokens, r),
         }
     }
@@ -264,7 +264,7 @@ impl Checks {
     {
         match f {
             Fields::Empty => Ok(()),
-            Fields::Listed(l) => self.written(tokens, &l.written),
+            Fields::Listed(l) => self.written_type(tokens, &l.written),
         }
     }
 
@@ -278,7 +278,7 @@ impl Checks {
     {
         if let Some(types) = section {
             for t in types {
-                self.written(tokens, &t.written)?;
+                self.written_type(tokens, &t.written)?;
             }
         }
         Ok(())
@@ -295,7 +295,7 @@ impl Checks {
     {
         if let Some(variables) = section {
             for v in variables {
-                self.written(tokens, &v.written)?;
+                self.written_type(tokens, &v.written)?;
             }
         }
         Ok(())
@@ -307,7 +307,7 @@ impl Checks {
     {
         if let Some(sections) = formals {
             for s in sections {
-                self.written(tokens, &s.written)?;
+                self.written_type(tokens, &s.written)?;
             }
         }
         Ok(())

@@ -14,7 +14,7 @@ use std::alloc::{AllocError, Global};
 
 /// For each occurrence of a module, in text order, the ordinal of the declaration to which `name` would be bound in its
 /// place. None where nothing would bind it.
-pub fn seen(alloc: Global, names: &Resolved, name: &str) -> Result<Vec<Option<usize>>, AllocError>
+pub fn ordinals_seen(alloc: Global, names: &Resolved, name: &str) -> Result<Vec<Option<usize>>, AllocError>
     ensures { IfOk result
         (λ found. found.items ≡ ordinals_seen (named_tree_of names.now.module_read) name.now) }
 {
@@ -31,7 +31,7 @@ fn ordinals_in_place(
     ensures { IfOk result (λ ordinals. map (ordinal_in ordinals.items) names.now.uses
         ≡ ordinals_seen (named_tree_of names.now.module_read) name.now) }
 {
-    let sought = occurring(alloc, names)?;
+    let sought = occurrence_marks(alloc, names)?;
     let writing = Writing {
         tokens: names.tokens(),
         ordinals: sought.as_slice(),
@@ -44,7 +44,7 @@ fn ordinals_in_place(
 }
 
 /// A table that has 0 at each occurrence, and nothing at the other tokens.
-fn occurring(alloc: Global, names: &Resolved) -> Result<Vec<OrdinalEntry>, AllocError>
+fn occurrence_marks(alloc: Global, names: &Resolved) -> Result<Vec<OrdinalEntry>, AllocError>
     ensures { IfOk result (λ t. t.items
         ≡ with_marks (replicate (length names.now.module_read.source.tokens) None)
         (map first_at names.now.uses)) }

@@ -5,7 +5,7 @@ ghost use Rattle.std.specs.List.{position_from};
 ghost use Rattle.std.specs.List.Sorted.{IsNonDecreasingBy, IsPartitionPoint};
 ghost use Rattle.ob0_scan.specs.declared.lexeme.Token as token;
 ghost use Rattle.ob0_tree.specs.Order.{AreIdentifiers, Ascending};
-ghost use Rattle.ob0_scope.specs.Listing.{TokensAreApart, first_token, is_identifier, is_name_on, omitted, tokens_from};
+ghost use Rattle.ob0_scope.specs.Listing.{TokensAreApart, first_token, is_identifier, is_name_on, omitted_token, tokens_from};
 ghost use Rattle.ob0_scope_rules.specs.Scopes.{same_ordinal};
 ghost use Rattle.ob0_scope.specs.NamesAtPlaces.{IsRenamedAt, name_on, tokens_bound};
 
@@ -55,13 +55,13 @@ pub fn tokens_bound(
         names.ordinals(),
         first_token(declaring),
         declaration,
-        omitted(include, declaring),
+        omitted_token(include, declaring),
     )
 }
 
 /// The token that is left out: the one that declares, unless it is requested.
-fn omitted(include: bool, declaring: Option<usize>) -> Option<usize>
-    ensures { result ≡ omitted include declaring }
+fn omitted_token(include: bool, declaring: Option<usize>) -> Option<usize>
+    ensures { result ≡ omitted_token include declaring }
 {
     if include { None } else { declaring }
 }
@@ -117,7 +117,7 @@ pub fn renamed_tokens(
         (λ found. found.items ≡ tokens_bound names.now.module_read declaration true) }
     ensures ascend { IfOk result
         (λ found. Ascending 0 found.items (length names.now.module_read.source.tokens)) }
-    ensures stand { IfOk result
+    ensures are_identifiers { IfOk result
         (λ found. AreIdentifiers names.now.module_read.source.tokens found.items) }
     ensures renamed { IfOk result
         (λ found. IsRenamedAt names.now.module_read declaration found.items) }

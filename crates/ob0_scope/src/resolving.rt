@@ -5,7 +5,7 @@ ghost use Rattle.ob0_scope_rules.specs.Resolution.{IsResolution};
 ghost use Rattle.ob0_scope_rules.specs.Bindings.{resolution_by};
 
 use crate::checks::check;
-use crate::table::undeclared;
+use crate::table::report_undeclared;
 use ob0_scope_numbering::{Writing, number};
 use ob0_scope_rules::{Bindings, Resolved};
 use ob0_tree::Module;
@@ -28,7 +28,7 @@ pub fn bindings_of(alloc: Global, module: &Module<'_>) -> Result<Bindings, Alloc
     let numbering = number(alloc, module, Writing::as_in(tokens))?;
     let (declarations, occurrences, ordinals) = numbering.into_parts();
     let mut faults = check(alloc, module)?;
-    undeclared(&mut faults, tokens, &ordinals, &occurrences)?;
+    report_undeclared(&mut faults, tokens, &ordinals, &occurrences)?;
     Ok(Bindings {
         ordinals,
         declarations,

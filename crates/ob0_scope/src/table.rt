@@ -8,7 +8,7 @@ use ob0_scope_rules::{OrdinalEntry, ordinal_at, token_span};
 use std::alloc::AllocError;
 
 /// Reports each occurrence that a table binds to nothing.
-pub(crate) fn undeclared(
+pub(crate) fn report_undeclared(
     faults: &mut Vec<Fault>,
     tokens: &Tokens,
     ordinals: &[OrdinalEntry],

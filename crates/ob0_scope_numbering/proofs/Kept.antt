@@ -7,7 +7,7 @@ use Rattle.ob0_scan.specs.declared.lexeme.Span.{Span}
 use Rattle.ob0_scan.specs.declared.lexeme.Token.{Token}
 use Rattle.ob0_scan.specs.Lexed.{Lexeme, joined}
 use Rattle.ob0_scan.specs.Scanned.{IsScan, Scanned, max_text, span_from, token_at, tokens_from}
-use Rattle.ob0_scan.proofs.Standing.{Full, full}
+use Rattle.ob0_scan.proofs.AtLexemes.{Full, full}
 use Rattle.ob0_tree.specs.declared.tree.Role.{Role}
 use Rattle.ob0_tree.specs.declared.tree.Role.TheVariants as role
 use Rattle.ob0_tree.specs.Order.{Ascending, names_only}

@@ -28,15 +28,15 @@ kept_below (m ∷ ms) table low high i ascend below =
     let other : i ≢ m.token = omega (arith, ascend.0) in
     kept_below ms (set table m.token m.ordinal) (m.token + 1) high i ascend.1 above ∙ get_or-set_other table m.token i m.ordinal None other
 
-pub marks_stand : (ms : List OrdinalMark) (table : List (Option ℕ)) (low high : ℕ) → Ascending low (tokens_of ms) high → high ≤ length table → HasMarks (ordinal_in (with_marks table ms)) ms
-marks_stand [] table low high ascend within = tt
-marks_stand (m ∷ ms) table low high ascend within =
+pub marks_are_there : (ms : List OrdinalMark) (table : List (Option ℕ)) (low high : ℕ) → Ascending low (tokens_of ms) high → high ≤ length table → HasMarks (ordinal_in (with_marks table ms)) ms
+marks_are_there [] table low high ascend within = tt
+marks_are_there (m ∷ ms) table low high ascend within =
     let next : List (Option ℕ) = set table m.token m.ordinal in
     let here : m.token < m.token + 1 = omega arith in
     let last = ascends_to (m.token + 1) (tokens_of ms) high ascend.1 in
     let inside : m.token < length table = omega (arith, last, within) in
     let still : high ≤ length next = subst (λ n. high ≤ n) (sym (length-set table m.token m.ordinal)) within in
-    (kept_below ms next (m.token + 1) high m.token ascend.1 here ∙ get_or-set_same table m.token m.ordinal None inside, marks_stand ms next (m.token + 1) high ascend.1 still)
+    (kept_below ms next (m.token + 1) high m.token ascend.1 here ∙ get_or-set_same table m.token m.ordinal None inside, marks_are_there ms next (m.token + 1) high ascend.1 still)
 
 both_false : (a b : Bool) → (a || b) ≡ false → (a ≡ false) × (b ≡ false)
 both_false true b e = absurd (cc)
@@ -70,5 +70,5 @@ marks_in_table m w v ordinals parsed gone tabled =
     let passed = module_passed (ordinal_in ordinals) (as_label as_names) w (tree_of m) (started w) (at_start w) in
     let table : ordinals ≡ with_marks (replicate (length m.source.tokens) None) marks = tabled ∙ ap (λ (v : Visit). with_marks (replicate (length m.source.tokens) None) v.marks) gone in
     let ascend = subst (λ ts. Ascending 0 ts (length m.source.tokens)) (sym passed.tokens) (leaves_ascend m parsed) in
-    let stand = marks_stand marks (replicate (length m.source.tokens) None) 0 (length m.source.tokens) ascend (subst (λ n. length m.source.tokens ≤ n) (sym count) (le_refl (length m.source.tokens))) in
-    subst (λ (os : List (Option ℕ)). HasMarks (ordinal_in os) marks) (sym table) stand
+    let are_there = marks_are_there marks (replicate (length m.source.tokens) None) 0 (length m.source.tokens) ascend (subst (λ n. length m.source.tokens ≤ n) (sym count) (le_refl (length m.source.tokens))) in
+    subst (λ (os : List (Option ℕ)). HasMarks (ordinal_in os) marks) (sym table) are_there

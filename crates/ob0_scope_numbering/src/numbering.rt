@@ -62,7 +62,7 @@ fn ordinal_at_index(index: usize) -> usize
 }
 
 /// The predeclared names, visible, and the new name that a declaration has.
-fn predeclared<'t>(alloc: Global, new: &'t str) -> Result<Visible<'t>, AllocError>
+fn predeclared_names<'t>(alloc: Global, new: &'t str) -> Result<Visible<'t>, AllocError>
     ensures { IfOk result
         (λ v. v ≡ record { new_name = new.entry.now; scope = predeclared_scope as_names }) }
 {
@@ -99,7 +99,7 @@ fn visit_module<'t>(
         tokens: writing.tokens,
         ordinals: writing.ordinals,
         declaration: writing.declaration,
-        visible: predeclared(alloc, writing.new)?,
+        visible: predeclared_names(alloc, writing.new)?,
         declarations: Vec::new(alloc),
         occurrences: Vec::new(alloc),
         table,
@@ -144,7 +144,7 @@ impl<'t> Numbering<'t> {
     }
 
     /// How many declarations there are so far, the predeclared ones not counted.
-    fn declared(&self) -> usize
+    fn declaration_count(&self) -> usize
         ensures { result ≡ length self.now.declarations }
     {
         self.declarations.len()
@@ -250,7 +250,7 @@ impl<'t> Numbering<'t> {
     fn constant(&mut self, c: &Constant) -> Result<(), AllocError>
         ensures { OnOk result (self.new ≡ visit_constant (constant_of c.now) self.old) }
     {
-        let first = self.declared();
+        let first = self.declaration_count();
         self.number(c.name)?;
         self.expression(&c.value)?;
         self.show_from(first)
@@ -259,27 +259,27 @@ impl<'t> Numbering<'t> {
     fn type_declaration(&mut self, t: &TypeDeclaration) -> Result<(), AllocError>
         ensures { OnOk result (self.new ≡ visit_type (type_declaration_of t.now) self.old) }
     {
-        let first = self.declared();
+        let first = self.declaration_count();
         self.number(t.name)?;
-        self.written(&t.written)?;
+        self.written_type(&t.written)?;
         self.show_from(first)
     }
 
     fn variables(&mut self, v: &Variables) -> Result<(), AllocError>
         ensures { OnOk result (self.new ≡ visit_variable (variable_of v.now) self.old) }
     {
-        let first = self.declared();
+        let first = self.declaration_count();
         self.names(&v.names)?;
-        self.written(&v.written)?;
+        self.written_type(&v.written)?;
         self.show_from(first)
     }
 
     fn section(&mut self, s: &Section) -> Result<(), AllocError>
         ensures { OnOk result (self.new ≡ visit_section (section_of s.now) self.old) }
     {
-        let first = self.declared();
+        let first = self.declaration_count();
         self.names(&s.names)?;
-        self.written(&s.written)?;
+        self.written_type(&s.written)?;
         self.show_from(first)
     }
 
@@ -333,7 +333,7 @@ impl<'t> Numbering<'t> {
     fn procedure(&mut self, p: &Procedure) -> Result<(), AllocError>
         ensures { OnOk result (self.new ≡ visit_procedure (procedure_of p.now) self.old) }
     {
-        let own = self.declared();
+        let own = self.declaration_count();
         let outside = self.bindings();
         let ordinal = self.number(p.name)?;
         self.heading(&p.formals)?;

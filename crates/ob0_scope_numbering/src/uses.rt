@@ -184,14 +184,14 @@ impl<'t> Numbering<'t> {
     }
 
     #[cycle(types)]
-    pub(crate) fn written(&mut self, t: &WrittenType) -> Result<(), AllocError>
+    pub(crate) fn written_type(&mut self, t: &WrittenType) -> Result<(), AllocError>
         ensures { OnOk result (self.new ≡ used (type_of t.now) self.old) }
     {
         match t {
             WrittenType::Named(name) => self.look_up(*name),
             WrittenType::Array(a) => {
                 self.expression(&a.size)?;
-                self.written(&a.element)
+                self.written_type(&a.element)
             }
             WrittenType::Record(r) => self.record(r),
         }
@@ -215,7 +215,7 @@ impl<'t> Numbering<'t> {
             Fields::Empty => Ok(()),
             Fields::Listed(l) => {
                 self.field_names(&l.names);
-                self.written(&l.written)
+                self.written_type(&l.written)
             }
         }
     }

@@ -66,7 +66,7 @@ impl<'t> Resolved<'t> {
     }
 
     /// Joins bindings that are kept elsewhere to their module.
-    pub fn borrowed(module: &'t Module<'t>, bindings: &'t Bindings) -> Resolved<'t>
+    pub fn from_parts(module: &'t Module<'t>, bindings: &'t Bindings) -> Resolved<'t>
         requires { IsResolution (resolution_by «module».now bindings.now) }
         ensures { result ≡ resolution_by «module».now bindings.now }
     {

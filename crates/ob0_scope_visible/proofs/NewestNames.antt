@@ -41,12 +41,12 @@ if_false true v w e = absurd (cc)
 if_false false v w e = refl
 
 -- what is at a name's place
-pub record StandsAt (es : List BoundName) (x : Name) (i : ℕ) (d : BoundName) : Type 0 where
+pub record IsAtIndex (es : List BoundName) (x : Name) (i : ℕ) (d : BoundName) : Type 0 where
   pub below : i < length es
   pub named : (get_or es i d).name.now ≡ x
   pub newest : newest_in es x ≡ (get_or es i d).newest
 
-pub place_holds : (es : List BoundName) (x : Name) (i : ℕ) (d : BoundName) → place_of es x ≡ Some i → StandsAt es x i d
+pub place_holds : (es : List BoundName) (x : Name) (i : ℕ) (d : BoundName) → place_of es x ≡ Some i → IsAtIndex es x i d
 place_holds [] x i d h = absurd (cc)
 place_holds (e ∷ es) x zero d h =
     let same = first_place (same_name x e.name.now) (place_of es x) h in

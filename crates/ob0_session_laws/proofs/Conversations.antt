@@ -2,7 +2,7 @@
 use Rattle.std.proofs.Common.{◌≡◌, ◌∙◌, ℕ, Option, Some, None, List, [], ◌∷◌, ◌++◌, refl, sym, subst}
 use Rattle.serde_json.specs.Data.{Data}
 use Rattle.ob0_rpc.specs.Messages.{ReadsContent, meaning}
-use Rattle.ob0_session_server.specs.Answers.{ServerState, Says, reacts, AnswersInState, AnswersGoingOn, Conversation}
+use Rattle.ob0_session_server.specs.Answers.{ServerState, SaysReply, reacts, AnswersInState, AnswersGoingOn, Conversation}
 use Rattle.ob0_session_server.specs.declared.server.Phase.{Phase}
 use Rattle.ob0_session_server.specs.declared.server.Phase.TheVariants.{Starting, Running, ShutDown, Ended}
 use Rattle.ob0_session_laws.specs.Determined.{OneAnswer, OneConversation, OneReply}
@@ -22,7 +22,7 @@ module _ (says : OneReply) where
   going_on_one : (before : ServerState) (content : List ℕ) (sent more : Contents) (after other : ServerState) → AnswersGoingOn before content sent after → AnswersGoingOn before content more other → (sent ≡ more) × (after ≡ other)
   going_on_one before content sent more after other (json, reads, h) (another, reads_too, k) =
       let same : json ≡ another = one_json content json another reads reads_too in
-      let there = subst (λ j. (other ≡ (reacts before (meaning j)).after) × Says (reacts before (meaning j)).say more) (sym same) k in
+      let there = subst (λ j. (other ≡ (reacts before (meaning j)).after) × SaysReply (reacts before (meaning j)).say more) (sym same) k in
       (says (reacts before (meaning json)).say sent more h.1 there.1, h.0 ∙ sym there.0)
 
   in_phase_one : (phase : Phase) (before : ServerState) (content : List ℕ) (sent more : Contents) (after other : ServerState) → AnswersInState phase before content sent after → AnswersInState phase before content more other → (sent ≡ more) × (after ≡ other)

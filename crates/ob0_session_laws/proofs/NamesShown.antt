@@ -31,7 +31,7 @@ use Rattle.ob0_session_queries.specs.Questions.{AnswersIn, AnswersName, can_be_r
 use Rattle.ob0_session_queries.specs.declared.questions.NameQuestion.{NameQuestion}
 use Rattle.ob0_session_queries.specs.declared.questions.NameQuestion.TheVariants.{Hover, Definition, References, PrepareRename}
 use Rattle.ob0_world_rules.proofs.OneFields.{one_list_of_fields}
-use Rattle.ob0_world_rules.proofs.OneModule.{Same, same_module, one_name, standing_of}
+use Rattle.ob0_world_rules.proofs.OneModule.{Same, same_module, one_name, identifiers_of}
 use Rattle.ob0_session_laws.specs.Determined.{OneTable}
 
 -- what is shown of a name, by the tokens and the tree over them
@@ -83,7 +83,7 @@ module _ (r q : Resolution) (e : Same r.module_read q.module_read) (fields : fie
   field_named include (Some x) = λ i. map (span_at (e.source i)) (field_referred x include i)
 
   named_by : (include : Bool) (o : Option Named) (f : Option Identified) → named_at r include o f ≡ named_at q include o f
-  named_by include (Some n) f = λ i. map (span_at (e.source i)) (map (λ s. s.0.1) (filter (refers include n.ordinal) (standing_of (e.source i) (e.tree i))))
+  named_by include (Some n) f = λ i. map (span_at (e.source i)) (map (λ s. s.0.1) (filter (refers include n.ordinal) (identifiers_of (e.source i) (e.tree i))))
   named_by include None f = field_named include f
 
   same_references : (include : Bool) → references_at r offset include ≡ references_at q offset include

@@ -5,7 +5,7 @@ use Rattle.std.specs.Prelude.{◌≡◌, ◌++◌, ℕ, List, Bool, Result, Ok, 
 use Rattle.ob0_scope_rules.specs.Resolution.{Resolution, IsResolution, ordinal_in}
 use Rattle.ob0_tree.specs.Parsed.{Parsed, tree_of}
 use Rattle.ob0_analysis.specs.Diagnosed.{Complaint, Reports}
-use Rattle.ob0_session_server.specs.Answers.{ServerState, Reply, Says, Answers, Conversation}
+use Rattle.ob0_session_server.specs.Answers.{ServerState, Reply, SaysReply, Answers, Conversation}
 use Rattle.ob0_session.specs.Serving.{Serves}
 use Rattle.ob0_session.specs.declared.serving.ServeFault.{ServeFault}
 use Rattle.ob0_session.specs.declared.serving.ServeFault.TheVariants.{BadHead, Truncated, Read, Write, Memory, TooManyReads}
@@ -35,7 +35,7 @@ OneDiagnosis =
 abbrev pub OneReply : Type 0
 OneReply =
     (reply : Reply) (sent other : List (List ℕ))
-    → Says reply sent → Says reply other → sent ≡ other
+    → SaysReply reply sent → SaysReply reply other → sent ≡ other
 
 -- in one state, one content has one list of replies, and leaves one state
 abbrev pub OneAnswer : Type 0

@@ -2,7 +2,7 @@
 use Rattle.std.proofs.Common.{◌≡◌, ◌∙◌, ℕ, ℤ, List, [], ◌∷◌, Option, Vec, Global, option_map, map, sym, subst, ap, refl}
 use Rattle.std.specs.Option.{option_to_list}
 use Rattle.serde_json.specs.Data.{Data}
-use Rattle.ob0_session_server.specs.Answers.{ServerState, Reply, nothing, diagnoses, Says, answers_about, reacts, published, publish_documents, Answers, AnswersGoingOn, AnswersInState}
+use Rattle.ob0_session_server.specs.Answers.{ServerState, Reply, nothing, diagnoses, SaysReply, answers_about, reacts, published, publish_documents, Answers, AnswersGoingOn, AnswersInState}
 use Rattle.ob0_text.specs.OpenDocuments.{Document, OpenDocuments, document_at}
 use Rattle.ob0_text.specs.declared.position_types.Unit.{Unit}
 use Rattle.ob0_rpc.specs.declared.clients.Client.{Client}
@@ -10,7 +10,7 @@ use Rattle.ob0_rpc.specs.Messages.{ReadsContent, MessageMeaning, meaning}
 use Rattle.ob0_session_documents.specs.DocumentRequests.{ComesOfRequest}
 use Rattle.ob0_session_documents.specs.declared.document_requests.RequestOutcome.{RequestOutcome}
 use Rattle.ob0_session_documents.specs.declared.document_requests.RequestOutcome.TheVariants.{Answered, OutOfStep, Unopened}
-use Rattle.ob0_session_server.specs.Seen.{Reacts, Replies, RepliesWith, message_of}
+use Rattle.ob0_session_server.specs.Seen.{Reacts, SendsReply, RepliesWith, message_of}
 use Rattle.ob0_session_server.specs.SessionStates.{SessionState, serving}
 use Rattle.ob0_session_server.specs.Steps.{next_after, IsGoingOn, SessionSteps}
 use Rattle.ob0_session_server.specs.declared.server.Phase.{Phase}
@@ -55,20 +55,20 @@ going_step old before after content step is going answers next =
 -- what is published after a change of the held documents
 pub publishes : (before after : ServerState) (uri reported : List ℕ) (held : OpenDocuments) (sent : Option (Vec ℕ Global))
     → reported ≡ uri → after ≡ record before { held = held }
-    → Says (published after.held.unit reported (document_at after.held reported)) (option_to_list (option_map (λ v. v.items) sent))
+    → SaysReply (published after.held.unit reported (document_at after.held reported)) (option_to_list (option_map (λ v. v.items) sent))
     → Reacts (publish_documents uri held before) sent after
 publishes before after uri reported held sent same is said =
-    let P : List ℕ → Type 0 = λ u. Says (published held.unit u (document_at held u)) (option_to_list (option_map (λ v. v.items) sent)) in
-    let Q : OpenDocuments → Type 0 = λ h. Says (published h.unit reported (document_at h reported)) (option_to_list (option_map (λ v. v.items) sent)) in
+    let P : List ℕ → Type 0 = λ u. SaysReply (published held.unit u (document_at held u)) (option_to_list (option_map (λ v. v.items) sent)) in
+    let Q : OpenDocuments → Type 0 = λ h. SaysReply (published h.unit reported (document_at h reported)) (option_to_list (option_map (λ v. v.items) sent)) in
     (is, subst P same (subst Q (ap (λ (s : ServerState). s.held) is) said))
 
 -- what is sent for a request about a document, where the documents stay as they are
 replies_of : (s : ServerState) (id : Data) (uri : List ℕ) (say : ℤ → Unit → List ℕ → Reply) (outcome : RequestOutcome) (sent : Option (Vec ℕ Global))
-    → ComesOfRequest (λ version unit text message. Says (say version unit text) (message ∷ [])) s.held uri outcome → RepliesWith id outcome sent
+    → ComesOfRequest (λ version unit text message. SaysReply (say version unit text) (message ∷ [])) s.held uri outcome → RepliesWith id outcome sent
     → Reacts (answers_about s id (document_at s.held uri) (λ version. say version s.held.unit)) sent s
 replies_of s id uri say (Answered message) sent comes is =
     let P : Option Document → Type 0 = λ d. Reacts (answers_about s id d (λ version. say version s.held.unit)) sent s in
-    let Q : Option (Vec ℕ Global) → Type 0 = λ o. Replies (say comes.0 s.held.unit comes.1) o in
+    let Q : Option (Vec ℕ Global) → Type 0 = λ o. SendsReply (say comes.0 s.held.unit comes.1) o in
     subst P (sym comes.2) (refl, subst Q (sym is) comes.3)
 replies_of s id uri say OutOfStep sent comes is =
     let P : Option Document → Type 0 = λ d. Reacts (answers_about s id d (λ version. say version s.held.unit)) sent s in
@@ -81,7 +81,7 @@ replies_of s id uri say Unopened sent comes is =
 pub reacts_with : (phase : Phase) (client : Client) (old new : OpenDocuments) (s : ServerState) (id : Data) (uri : List ℕ)
     → (say : Client → ℤ → Unit → List ℕ → Reply) (outcome : RequestOutcome) (sent : Option (Vec ℕ Global))
     → record { phase = phase; client = client; held = old } ≡ s → new ≡ old
-    → ComesOfRequest (λ version unit text message. Says (say client version unit text) (message ∷ [])) old uri outcome → RepliesWith id outcome sent
+    → ComesOfRequest (λ version unit text message. SaysReply (say client version unit text) (message ∷ [])) old uri outcome → RepliesWith id outcome sent
     → Reacts (answers_about s id (document_at s.held uri) (λ version. say s.client version s.held.unit)) sent (record { phase = phase; client = client; held = new })
 reacts_with phase client old new s id uri say outcome sent is same comes replies =
     let server : OpenDocuments → ServerState = λ held. record { phase = phase; client = client; held = held } in
@@ -91,17 +91,17 @@ reacts_with phase client old new s id uri say outcome sent is same comes replies
 
 -- what is published of a document
 pub published_with : (held : OpenDocuments) (uri : List ℕ) (outcome : RequestOutcome) (sent : Option (Vec ℕ Global))
-    → ComesOfRequest (λ version unit text message. Says (diagnoses unit uri version text) (message ∷ [])) held uri outcome → sent ≡ message_of outcome
-    → Replies (published held.unit uri (document_at held uri)) sent
+    → ComesOfRequest (λ version unit text message. SaysReply (diagnoses unit uri version text) (message ∷ [])) held uri outcome → sent ≡ message_of outcome
+    → SendsReply (published held.unit uri (document_at held uri)) sent
 published_with held uri (Answered message) sent comes is =
-    let P : Option Document → Type 0 = λ d. Replies (published held.unit uri d) sent in
-    let Q : Option (Vec ℕ Global) → Type 0 = λ o. Replies (diagnoses held.unit uri comes.0 comes.1) o in
+    let P : Option Document → Type 0 = λ d. SendsReply (published held.unit uri d) sent in
+    let Q : Option (Vec ℕ Global) → Type 0 = λ o. SendsReply (diagnoses held.unit uri comes.0 comes.1) o in
     subst P (sym comes.2) (subst Q (sym is) comes.3)
 published_with held uri OutOfStep sent comes is =
-    let P : Option Document → Type 0 = λ d. Replies (published held.unit uri d) sent in
-    let Q : Option (Vec ℕ Global) → Type 0 = λ o. Replies nothing o in
+    let P : Option Document → Type 0 = λ d. SendsReply (published held.unit uri d) sent in
+    let Q : Option (Vec ℕ Global) → Type 0 = λ o. SendsReply nothing o in
     subst P (sym comes) (subst Q (sym is) refl)
 published_with held uri Unopened sent comes is =
-    let P : Option Document → Type 0 = λ d. Replies (published held.unit uri d) sent in
-    let Q : Option (Vec ℕ Global) → Type 0 = λ o. Replies nothing o in
+    let P : Option Document → Type 0 = λ d. SendsReply (published held.unit uri d) sent in
+    let Q : Option (Vec ℕ Global) → Type 0 = λ o. SendsReply nothing o in
     subst P (sym comes) (subst Q (sym is) refl)

@@ -80,18 +80,18 @@ Sends message sent = (bytes : List ℕ) × (sent ≡ bytes ∷ []) × Writes mes
 
 -- These bytes say it. The diagnostics are those of the text: where it isn't a module, the one of the token at which the
 -- parser stops.
-abbrev pub Says : Reply → List (List ℕ) → Type 0
-Says nothing sent = sent ≡ []
-Says (says message) sent = Sends message sent
-Says (diagnoses unit uri version text) sent =
+abbrev pub SaysReply : Reply → List (List ℕ) → Type 0
+SaysReply nothing sent = sent ≡ []
+SaysReply (says message) sent = Sends message sent
+SaysReply (diagnoses unit uri version text) sent =
     (ds : List Diagnostic) × Diagnoses unit text ds × Sends (publication uri (Some version) ds) sent
-Says (lays_out unit id indent text) sent =
+SaysReply (lays_out unit id indent text) sent =
     (message : Data) × AnswersFormatting unit id indent text message × Sends message sent
-Says (answers_name unit id at question text) sent =
+SaysReply (answers_name unit id at question text) sent =
     (value : Data) × AnswersName unit text at question value × Sends (result_message id value) sent
-Says (renames unit requested text) sent =
+SaysReply (renames unit requested text) sent =
     (message : Data) × AnswersRenaming unit requested text message × Sends message sent
-Says (offers_actions unit requested text) sent =
+SaysReply (offers_actions unit requested text) sent =
     (message : Data) × AnswersActions unit requested text message × Sends message sent
 
 -- the state after a message, and what is sent
@@ -244,7 +244,7 @@ reacts s (notice method params) = hears s.phase s method params
 abbrev pub AnswersGoingOn : ServerState → List ℕ → List (List ℕ) → ServerState → Type 0
 AnswersGoingOn before content sent after =
     (json : Option Data) × ReadsContent content json
-    × (let r = reacts before (meaning json) in (after ≡ r.after) × Says r.say sent)
+    × (let r = reacts before (meaning json) in (after ≡ r.after) × SaysReply r.say sent)
 
 -- after its end it sends nothing and stays as it is
 abbrev pub AnswersInState : Phase → ServerState → List ℕ → List (List ℕ) → ServerState → Type 0

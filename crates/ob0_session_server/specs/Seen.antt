@@ -7,21 +7,21 @@ use Rattle.serde_json.specs.Data.{Data}
 use Rattle.ob0_session_documents.specs.declared.document_requests.RequestOutcome.{RequestOutcome}
 use Rattle.ob0_session_documents.specs.declared.document_requests.RequestOutcome.TheVariants.{Answered, OutOfStep, Unopened}
 use Rattle.ob0_session_json.specs.Shapes.{edit_refused}
-use Rattle.ob0_session_server.specs.Answers.{ServerState, Reaction, Reply, Says, says}
+use Rattle.ob0_session_server.specs.Answers.{ServerState, Reaction, Reply, SaysReply, says}
 
 -- the messages that are sent say it
-abbrev pub Replies : Reply → Option (Vec ℕ Global) → Type 0
-Replies reply sent = Says reply (option_to_list (option_map (λ v. v.items) sent))
+abbrev pub SendsReply : Reply → Option (Vec ℕ Global) → Type 0
+SendsReply reply sent = SaysReply reply (option_to_list (option_map (λ v. v.items) sent))
 
 -- a state and messages that a reaction allows
 abbrev pub Reacts : Reaction → Option (Vec ℕ Global) → ServerState → Type 0
-Reacts r sent new = (new ≡ r.after) × Replies r.say sent
+Reacts r sent new = (new ≡ r.after) × SendsReply r.say sent
 
 -- what is sent where this came of a request about a document: its message, or a refusal
 abbrev pub RepliesWith : Data → RequestOutcome → Option (Vec ℕ Global) → Type 0
 RepliesWith id (Answered message) sent = sent ≡ Some message
-RepliesWith id OutOfStep sent = Replies (says (edit_refused id (codes "out of step"))) sent
-RepliesWith id Unopened sent = Replies (says (edit_refused id (codes "unopened"))) sent
+RepliesWith id OutOfStep sent = SendsReply (says (edit_refused id (codes "out of step"))) sent
+RepliesWith id Unopened sent = SendsReply (says (edit_refused id (codes "unopened"))) sent
 
 -- its message, where there is one
 abbrev pub message_of : RequestOutcome → Option (Vec ℕ Global)

@@ -2,7 +2,7 @@
 
 ghost use Rattle.std.specs.Prelude.{◌∷◌, []};
 ghost use Rattle.ob0_rpc.specs.Seen.{at_seen, id_data, kinds_seen};
-ghost use Rattle.ob0_session_server.specs.Answers.{Says, answers_name, diagnoses, lays_out, offers_actions, renames};
+ghost use Rattle.ob0_session_server.specs.Answers.{SaysReply, answers_name, diagnoses, lays_out, offers_actions, renames};
 
 use ob0_analysis::Analysis;
 use ob0_rpc::{Client, DocumentPosition, Id};
@@ -26,7 +26,7 @@ pub struct NameRequest<'a> {
 
 impl<'a, T: TextStore> DocumentRequest<T> for NameRequest<'a> {
     ghost answers = { λ r version unit text message.
-        Says (answers_name unit (id_data r.id.now) (at_seen r.place.now) r.question text)
+        SaysReply (answers_name unit (id_data r.id.now) (at_seen r.place.now) r.question text)
         (message ∷ []) };
 
     fn answer(
@@ -50,7 +50,7 @@ pub struct NewNameRequest<'a> {
 }
 
 impl<'a, T: TextStore> DocumentRequest<T> for NewNameRequest<'a> {
-    ghost answers = { λ r version unit text message. Says (renames unit (record {
+    ghost answers = { λ r version unit text message. SaysReply (renames unit (record {
       id = id_data r.id.now;
       client = r.client;
       at = at_seen r.place.now;
@@ -87,7 +87,7 @@ pub struct OfferRequest<'a> {
 }
 
 impl<'a, T: TextStore> DocumentRequest<T> for OfferRequest<'a> {
-    ghost answers = { λ r version unit text message. Says (offers_actions unit (record {
+    ghost answers = { λ r version unit text message. SaysReply (offers_actions unit (record {
       id = id_data r.id.now;
       client = r.client;
       uri = r.uri.now;
@@ -124,7 +124,7 @@ pub struct LayoutRequest<'a> {
 
 impl<'a, T: TextStore> DocumentRequest<T> for LayoutRequest<'a> {
     ghost answers = { λ r version unit text message.
-        Says (lays_out unit (id_data r.id.now) r.indent text) (message ∷ []) };
+        SaysReply (lays_out unit (id_data r.id.now) r.indent text) (message ∷ []) };
 
     fn answer(
         &self,
@@ -145,7 +145,7 @@ pub struct PublishRequest<'a> {
 
 impl<'a, T: TextStore> DocumentRequest<T> for PublishRequest<'a> {
     ghost answers = { λ r version unit text message.
-        Says (diagnoses unit r.uri.now version text) (message ∷ []) };
+        SaysReply (diagnoses unit r.uri.now version text) (message ∷ []) };
 
     fn answer(
         &self,

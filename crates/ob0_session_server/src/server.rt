@@ -54,7 +54,7 @@ impl<T: TextStore> Model for Server<T> {
 impl<T: TextStore> Server<T> {
     ghost use Rattle.serde_json.specs.View.{view};
     ghost use Rattle.std.specs.Option.{option_to_list};
-    ghost use Rattle.ob0_session_server.specs.Answers.{start, begins, AnswersGoingOn, Says, reaction_to_request, requests_actions, requests_layout, requests_name, requests_rename, reaction_to_call, calls, ends, hears, published, refuses, refuses_fault, reaction_to};
+    ghost use Rattle.ob0_session_server.specs.Answers.{start, begins, AnswersGoingOn, SaysReply, reaction_to_request, requests_actions, requests_layout, requests_name, requests_rename, reaction_to_call, calls, ends, hears, published, refuses, refuses_fault, reaction_to};
     ghost use Rattle.ob0_rpc.specs.Notifications.{opens, changes, closes, note_of};
     ghost use Rattle.ob0_rpc.specs.Seen.{at_seen, id_or_null, kinds_seen, seen_call, seen_note};
     ghost use Rattle.ob0_session_server.specs.Seen.{Reacts};
@@ -412,7 +412,7 @@ impl<T: TextStore> Server<T> {
     /// The diagnostics of a document that is in step.
     fn publish(&mut self, uri: &str) -> Result<Option<Vec<u8>>, AllocError>
         ensures same { self.new ≡ self.old }
-        ensures says { IfOk result (λ sent. Says
+        ensures says { IfOk result (λ sent. SaysReply
             (published self.old.held.unit uri.now (document_at self.old.held uri.now))
             (option_to_list (option_map (λ v. v.items) sent))) }
     {

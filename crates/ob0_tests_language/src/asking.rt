@@ -6,7 +6,7 @@ use std::alloc::{AllocError, Global};
 
 /// What a question answers to a text, or what is wrong with it. (What owns an analysis is expensive to prove, at each of
 /// its steps: so it only passes it on.)
-fn said<Q: Question<Answer = String>>(
+fn answer_for_text<Q: Question<Answer = String>>(
     alloc: Global,
     text: &str,
     question: &Q,
@@ -14,10 +14,10 @@ fn said<Q: Question<Answer = String>>(
     requires { Q.is_about question.now text.now }
 {
     let analysis = Analysis::of(alloc, text)?;
-    answered(alloc, &analysis, question)
+    answer_or_faults(alloc, &analysis, question)
 }
 
-fn answered<Q: Question<Answer = String>>(
+fn answer_or_faults<Q: Question<Answer = String>>(
     alloc: Global,
     analysis: &Analysis,
     question: &Q,
@@ -39,7 +39,7 @@ pub fn is_said<Q: Question<Answer = String>>(
 ) -> bool
     requires { Q.is_about question.now text.now }
 {
-    match said(alloc, text, question) {
+    match answer_for_text(alloc, text, question) {
         Ok(found) => found.as_str() == wanted,
         Err(_refused) => false,
     }
@@ -54,7 +54,7 @@ pub fn is_said_or_refused<Q: Question<Answer = String>>(
 ) -> bool
     requires { Q.is_about question.now text.now }
 {
-    match said(alloc, text, question) {
+    match answer_for_text(alloc, text, question) {
         Ok(found) => found.as_str() == wanted,
         Err(_refused) => true,
     }

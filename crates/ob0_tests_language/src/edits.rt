@@ -13,7 +13,7 @@ use std::alloc::{AllocError, Global};
 use std::process::Abort;
 
 /// What edits make of a text, or why there are none.
-fn made(
+fn apply_or_refuse(
     alloc: Global,
     store: &Whole,
     edits: Result<Vec<Edit>, EditRefusal>,
@@ -198,10 +198,10 @@ fn rename_text(
     new: &str,
 ) -> Result<String, AllocError> {
     let analysis = Analysis::of(alloc, text)?;
-    renamed_in(alloc, &analysis, place, new)
+    rename_or_faults(alloc, &analysis, place, new)
 }
 
-fn renamed_in(
+fn rename_or_faults(
     alloc: Global,
     analysis: &Analysis,
     place: Position,
@@ -209,7 +209,7 @@ fn renamed_in(
 ) -> Result<String, AllocError> {
     let store = Whole::from_str(alloc, analysis.text())?;
     match rename_in(alloc, &store, analysis, place, new)? {
-        Some(edits) => made(alloc, &store, edits),
+        Some(edits) => apply_or_refuse(alloc, &store, edits),
         None => faults_of(alloc, analysis),
     }
 }
@@ -229,11 +229,11 @@ impl Question for RenamedText {
     fn answer(&self, alloc: Global, module: &WellTyped<'_>) -> Result<String, AllocError> {
         let store = Whole::from_str(alloc, module.resolved().tokens().text())?;
         let edits = rename(alloc, &store, module, self.place, self.new);
-        made(alloc, &store, edits)
+        apply_or_refuse(alloc, &store, edits)
     }
 }
 
-fn renamed() -> &'static [RenameRow] {
+fn rename_rows() -> &'static [RenameRow] {
     RENAMED
 }
 
@@ -245,7 +245,7 @@ fn is_renamed_alike(alloc: Global, row: &RenameRow) -> bool {
 
 #[test]
 fn a_well_typed_module_is_renamed_alike(rt: HostRuntime) {
-    for row in renamed() {
+    for row in rename_rows() {
         assert!(rt; is_renamed_alike(rt.alloc(), row), "{} in {}", row.3, row.0);
     }
 }
@@ -260,7 +260,7 @@ fn is_renamed(alloc: Global, row: &RenameRow) -> bool {
 
 #[test]
 fn names_and_fields_are_renamed(rt: HostRuntime) {
-    for row in renamed() {
+    for row in rename_rows() {
         assert!(rt; is_renamed(rt.alloc(), row), "{} in {}", row.3, row.0);
     }
 }
@@ -284,7 +284,7 @@ impl Question for Inlined {
         } else {
             inline_here(alloc, &store, module, self.place)
         };
-        made(alloc, &store, edits)
+        apply_or_refuse(alloc, &store, edits)
     }
 }
 
@@ -433,7 +433,7 @@ impl Question for LaidOut {
     fn answer(&self, alloc: Global, module: &WellTyped<'_>) -> Result<String, AllocError> {
         let store = Whole::from_str(alloc, module.resolved().tokens().text())?;
         let edits = format(alloc, &store, module.resolved().module(), self.indent);
-        made(alloc, &store, edits)
+        apply_or_refuse(alloc, &store, edits)
     }
 }
 

@@ -24,11 +24,11 @@ impl<'a> Question for RunOf<'a> {
 
     fn answer(&self, alloc: Global, module: &WellTyped<'_>) -> Result<String, AllocError> {
         let outcome = run(alloc, module, self.input, self.calls, self.turns)?;
-        shown(alloc, outcome.output.as_slice(), outcome.end)
+        text_of_run(alloc, outcome.output.as_slice(), outcome.end)
     }
 }
 
-fn shown(alloc: Global, output: &[Item], end: End) -> Result<String, AllocError> {
+fn text_of_run(alloc: Global, output: &[Item], end: End) -> Result<String, AllocError> {
     let mut out = String::new(alloc);
     push_run(&mut out, output, end)?;
     Ok(out)

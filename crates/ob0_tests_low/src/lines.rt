@@ -50,7 +50,7 @@ fn have_same_places(a: &Lines, b: &Whole) -> bool {
 }
 
 /// A store of a text in which a range gives way to another text.
-fn replaced<T: TextStore>(
+fn replace_range<T: TextStore>(
     alloc: Global,
     text: &str,
     unit: Unit,
@@ -72,13 +72,13 @@ fn is_as_new(alloc: Global, lines: &Lines, unit: Unit) -> bool {
 
 /// Whether one change leaves the same text and places in both stores, with the lines of a store made again.
 fn agree(alloc: Global, text: &str, unit: Unit, range: Range, new: &str) -> bool {
-    let Ok(lines) = replaced::<Lines>(alloc, text, unit, range, new) else {
+    let Ok(lines) = replace_range::<Lines>(alloc, text, unit, range, new) else {
         return false;
     };
     if !is_as_new(alloc, &lines, unit) {
         return false;
     }
-    match replaced::<Whole>(alloc, text, unit, range, new) {
+    match replace_range::<Whole>(alloc, text, unit, range, new) {
         Ok(whole) => have_same_places(&lines, &whole),
         Err(_refused) => false,
     }

@@ -23,7 +23,7 @@ enum RescanOutcome {
     Different,
 }
 
-fn joined(alloc: Global, front: &str, middle: &str, following: &str) -> Result<String, AllocError>
+fn join_texts(alloc: Global, front: &str, middle: &str, following: &str) -> Result<String, AllocError>
     ensures { IfOk result (λ text. string_bytes text ≡ front.now ++ (middle.now ++ following.now)) }
 {
     let mut text = String::from_str(alloc, front)?;
@@ -172,8 +172,8 @@ fn change(
     following: &str,
 ) -> Result<RescanOutcome, AllocError> {
     middle_is_replaced();
-    let old_text = joined(alloc, front, middle, following)?;
-    let text = joined(alloc, front, other, following)?;
+    let old_text = join_texts(alloc, front, middle, following)?;
+    let text = join_texts(alloc, front, other, following)?;
     let range = ChangedRange {
         from: front.len(),
         removed: middle.len(),
@@ -214,13 +214,13 @@ fn change_between(
     statements: &str,
     other: &str,
 ) -> Result<RescanOutcome, AllocError> {
-    let front = joined(
+    let front = join_texts(
         alloc,
         "MODULE M; VAR x: INTEGER; BEGIN ",
         statements,
         "x := ",
     )?;
-    let following = joined(alloc, "; ", statements, "END M.")?;
+    let following = join_texts(alloc, "; ", statements, "END M.")?;
     change(alloc, front.as_str(), "1", other, following.as_str())
 }
 

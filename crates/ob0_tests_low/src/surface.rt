@@ -98,7 +98,7 @@ fn word_read(alloc: Global, method: &str, params: Value) -> &'static str {
     }
 }
 
-fn said(alloc: Global, method: &str, params: &str) -> &'static str {
+fn word_of_text(alloc: Global, method: &str, params: &str) -> &'static str {
     match Value::from_str(alloc, params) {
         Ok(params) => word_read(alloc, method, params),
         Err(_fault) => "no value",
@@ -123,6 +123,6 @@ static NOTES: &[(&str, &str, &str)] = &[
 #[test]
 fn notifications_are_read(rt: HostRuntime) {
     for row in NOTES {
-        assert!(rt; said(rt.alloc(), row.0, row.1) == row.2, "{}", row.0);
+        assert!(rt; word_of_text(rt.alloc(), row.0, row.1) == row.2, "{}", row.0);
     }
 }

@@ -1,7 +1,7 @@
 //! Worked rows of numbers and truth values.
 
 use ob0_tree::{AddOperator, MultiplyOperator, Relation, Sign};
-use ob0_values::scalar::{add, multiply, negated, relate, signed};
+use ob0_values::scalar::{add, multiply, negate, relate, apply_sign};
 use ob0_values::{OperatorFault, Scalar};
 use std::process::Abort;
 
@@ -55,8 +55,8 @@ fn are_sums_known() -> bool {
 }
 
 fn is_negated() -> bool {
-    signed(Some(Sign::Minus), number(i32::MIN)) == Err(OperatorFault::Overflow)
-        && negated(YES) == Ok(NO)
+    apply_sign(Some(Sign::Minus), number(i32::MIN)) == Err(OperatorFault::Overflow)
+        && negate(YES) == Ok(NO)
 }
 
 fn are_related() -> bool {

@@ -82,7 +82,7 @@ pub enum Way {
     Otherwise,
 }
 
-fn opened(alloc: Global, uri: String, text: &str) -> Result<Event, AllocError> {
+fn open_event(alloc: Global, uri: String, text: &str) -> Result<Event, AllocError> {
     let text = String::from_str(alloc, text)?;
     Ok(Event::OpenDoc { uri, text })
 }
@@ -114,7 +114,7 @@ fn changes(
     Ok(changes)
 }
 
-fn written(
+fn change_event(
     alloc: Global,
     uri: String,
     line: u64,
@@ -134,12 +134,12 @@ fn request_event(alloc: Global, uri: String, act: Act) -> Result<Event, AllocErr
 /// An event about a document.
 fn event_about(alloc: Global, uri: String, act: Act) -> Result<Event, AllocError> {
     match act {
-        Act::Open(text) => opened(alloc, uri, text),
+        Act::Open(text) => open_event(alloc, uri, text),
         Act::Touch => Ok(Event::ChangeDoc {
             uri,
             changes: Vec::new(alloc),
         }),
-        Act::Write(line, start, end, text) => written(alloc, uri, line, start, end, text),
+        Act::Write(line, start, end, text) => change_event(alloc, uri, line, start, end, text),
         Act::Close => Ok(Event::CloseDoc { uri }),
         act => request_event(alloc, uri, act),
     }
@@ -199,7 +199,7 @@ fn sight_of(seen: &Seen) -> Sight {
 }
 
 /// What is seen of an event in a world.
-fn stepped<T: TextStore>(world: &mut World<T>, event: &Event) -> Sight {
+fn step_once<T: TextStore>(world: &mut World<T>, event: &Event) -> Sight {
     if world.steps() > 1_000_000 {
         return Sight::Unmade;
     }
@@ -211,24 +211,24 @@ fn stepped<T: TextStore>(world: &mut World<T>, event: &Event) -> Sight {
 }
 
 /// What is seen of an act in a world.
-fn shown<T: TextStore>(alloc: Global, world: &mut World<T>, act: Act) -> Sight {
+fn sight_of_act<T: TextStore>(alloc: Global, world: &mut World<T>, act: Act) -> Sight {
     match event_again(alloc, act) {
-        Ok(event) => stepped(world, &event),
+        Ok(event) => step_once(world, &event),
         Err(AllocError) => Sight::Unmade,
     }
 }
 
-fn begun<T: TextStore>(alloc: Global, unit: Unit) -> Result<World<T>, WorldFault> {
+fn begin_world<T: TextStore>(alloc: Global, unit: Unit) -> Result<World<T>, WorldFault> {
     match unit {
         Unit::Utf16 => World::new(alloc),
         Unit::Utf8 => World::new_in(alloc, unit),
     }
 }
 
-fn begun_again<T: TextStore>(alloc: Global, unit: Unit) -> Result<World<T>, WorldFault> {
-    match begun(alloc, unit) {
+fn begin_again<T: TextStore>(alloc: Global, unit: Unit) -> Result<World<T>, WorldFault> {
+    match begin_world(alloc, unit) {
         Ok(world) => Ok(world),
-        Err(_refused) => begun(alloc, unit),
+        Err(_refused) => begin_world(alloc, unit),
     }
 }
 
@@ -253,13 +253,13 @@ fn way_on(way: Way, seen: Sight, wanted: Sight) -> Way {
 
 /// How a story goes, event by event.
 pub fn way_of<T: TextStore>(alloc: Global, story: &Story) -> Way {
-    let Ok(mut world) = begun_again::<T>(alloc, story.unit) else {
+    let Ok(mut world) = begin_again::<T>(alloc, story.unit) else {
         return Way::Otherwise;
     };
     let mut way = Way::AsTold;
     for moment in story.moments {
         let (act, wanted) = *moment;
-        way = way_on(way, shown(alloc, &mut world, act), wanted);
+        way = way_on(way, sight_of_act(alloc, &mut world, act), wanted);
     }
     way
 }
@@ -295,7 +295,7 @@ struct Extent {
 }
 
 /// What events leave that are played up to one whose allocation fails, or to their end.
-fn played(alloc: Global, unit: Unit, events: &[Event]) -> Extent {
+fn play_through(alloc: Global, unit: Unit, events: &[Event]) -> Extent {
     match play(alloc, unit, events) {
         Ok(played) => Extent {
             steps: events.len() as u64,
@@ -310,15 +310,15 @@ fn played(alloc: Global, unit: Unit, events: &[Event]) -> Extent {
 
 /// What the first `most` events leave, made one by one, or those before one whose allocation fails; None where no world
 /// can be made.
-fn stepped_through(alloc: Global, unit: Unit, events: &[Event], most: u64) -> Option<Extent> {
-    let mut world: World<Lines> = match begun(alloc, unit) {
+fn step_through(alloc: Global, unit: Unit, events: &[Event], most: u64) -> Option<Extent> {
+    let mut world: World<Lines> = match begin_world(alloc, unit) {
         Ok(world) => world,
         Err(_fault) => return None,
     };
     let mut goes_on = true;
     for event in events {
         if goes_on && world.steps() < most {
-            let seen = stepped(&mut world, event);
+            let seen = step_once(&mut world, event);
             goes_on = seen != Sight::Refused;
         }
     }
@@ -375,7 +375,7 @@ pub struct EventCounts {
 }
 
 /// These counts, where the edits and publications are the first that a story is to leave.
-fn counted(story: &Story, extent: &Extent) -> Option<EventCounts> {
+fn count_events(story: &Story, extent: &Extent) -> Option<EventCounts> {
     if !are_first_edits(extent.played.applied.as_slice(), story.applied) {
         return None;
     }
@@ -391,30 +391,30 @@ fn counted(story: &Story, extent: &Extent) -> Option<EventCounts> {
 
 /// What comes of the first events, made one by one; it is made for a second time where an allocation fails in the
 /// first.
-fn counted_again(
+fn count_events_again(
     alloc: Global,
     story: &Story,
     events: &[Event],
     steps: u64,
 ) -> Option<EventCounts> {
-    if let Some(extent) = stepped_through(alloc, story.unit, events, steps) {
+    if let Some(extent) = step_through(alloc, story.unit, events, steps) {
         if extent.steps == steps {
-            return counted(story, &extent);
+            return count_events(story, &extent);
         }
     }
-    let extent = stepped_through(alloc, story.unit, events, steps)?;
-    counted(story, &extent)
+    let extent = step_through(alloc, story.unit, events, steps)?;
+    count_events(story, &extent)
 }
 
 /// What comes of a story that is played up to an event whose allocation fails, or to its end. None where it isn't what
 /// comes of as many events made one by one, or not the first that the story is to leave.
-pub fn left(alloc: Global, story: &Story) -> Option<EventCounts> {
+pub fn count_left(alloc: Global, story: &Story) -> Option<EventCounts> {
     let Ok(events) = events_again(alloc, story) else {
         return None;
     };
-    let extent = played(alloc, story.unit, events.as_slice());
-    let found = counted(story, &extent)?;
-    let wanted = counted_again(alloc, story, events.as_slice(), extent.steps)?;
+    let extent = play_through(alloc, story.unit, events.as_slice());
+    let found = count_events(story, &extent)?;
+    let wanted = count_events_again(alloc, story, events.as_slice(), extent.steps)?;
     if found == wanted { Some(found) } else { None }
 }
 
@@ -423,8 +423,8 @@ pub fn left_by_steps(alloc: Global, story: &Story) -> Option<EventCounts> {
     let Ok(events) = events_again(alloc, story) else {
         return None;
     };
-    match stepped_through(alloc, story.unit, events.as_slice(), events.len() as u64) {
-        Some(extent) => counted(story, &extent),
+    match step_through(alloc, story.unit, events.as_slice(), events.len() as u64) {
+        Some(extent) => count_events(story, &extent),
         None => Some(EventCounts {
             steps: 0,
             applied: 0,

@@ -18,7 +18,7 @@ enum Called {
 }
 
 /// The status of a run on this input.
-fn ran(
+fn run_status(
     alloc: Global,
     input: &[u8],
     out: &mut Flushed<Counter<'_>>,
@@ -40,7 +40,7 @@ fn status_of(
 ) -> u8 {
     match called {
         Called::Check => check_text(alloc, b"", out, err),
-        Called::Run(input) => ran(alloc, input, out, err),
+        Called::Run(input) => run_status(alloc, input, out, err),
         Called::Rename(character) => {
             let place = Position { line: 0, character };
             rename_text(alloc, READS, place, "abc", out, err)

@@ -119,7 +119,7 @@ struct Found {
 }
 
 /// How a conversation ends over this writer.
-fn conversed(alloc: Global, end: &ServeEnd, count: &mut Count) -> Found {
+fn converse(alloc: Global, end: &ServeEnd, count: &mut Count) -> Found {
     let mut reader = Noted::new(Source {
         bytes: &end.bytes[..end.len.min(end.bytes.len())],
         most: end.given,
@@ -129,9 +129,9 @@ fn conversed(alloc: Global, end: &ServeEnd, count: &mut Count) -> Found {
     let result = serve(alloc, &mut reader, &mut writer);
     Found {
         result,
-        read_failed: reader.failed(),
-        write_failed: writer.failed(),
-        flushed: writer.flushed(),
+        read_failed: reader.has_failed(),
+        write_failed: writer.has_failed(),
+        flushed: writer.is_flushed(),
     }
 }
 
@@ -145,7 +145,7 @@ fn broke_by(end: Result<u8, ServeFault>, fault: ServeFault) -> bool {
 /// Whether a conversation ends by a write that failed, where only `flushes` flushes succeed.
 fn breaks_off(alloc: Global, end: &ServeEnd, flushes: u32) -> bool {
     let mut count = Count::new(end.room, flushes);
-    broke_by(conversed(alloc, end, &mut count).result, ServeFault::Write)
+    broke_by(converse(alloc, end, &mut count).result, ServeFault::Write)
 }
 
 /// Whether the devices know afterwards that all was flushed and which of them failed.
@@ -159,7 +159,7 @@ fn is_reported(found: Found) -> bool {
 /// succeed.
 fn ends_flushed(alloc: Global, end: &ServeEnd) -> bool {
     let mut count = Count::new(end.room, end.flushes);
-    let found = conversed(alloc, end, &mut count);
+    let found = converse(alloc, end, &mut count);
     found.result == end.result && is_reported(found) && count.handed_on == count.written
 }
 
@@ -206,16 +206,16 @@ fn is_reader_noted() -> bool {
         calls_left: 1,
     });
     let mut piece = [0; 4];
-    let is_read = is_one(reader.read(&mut piece)) && piece[0] == b'a' && !reader.failed();
-    is_read && reader.read(&mut piece).is_err() && reader.failed()
+    let is_read = is_one(reader.read(&mut piece)) && piece[0] == b'a' && !reader.has_failed();
+    is_read && reader.read(&mut piece).is_err() && reader.has_failed()
 }
 
 /// The same of a writer.
 fn is_writer_noted() -> bool {
     let mut count = Count::new(1, 1);
     let mut writer = Noted::new(Counter { count: &mut count });
-    let is_written = is_one(writer.write(b"ab")) && writer.flush().is_ok() && !writer.failed();
-    is_written && writer.write(b"b").is_err() && writer.failed()
+    let is_written = is_one(writer.write(b"ab")) && writer.flush().is_ok() && !writer.has_failed();
+    is_written && writer.write(b"b").is_err() && writer.has_failed()
 }
 
 #[test]

@@ -1,6 +1,6 @@
 //! Whole lists of events of client and server, step by step and played, in both units of positions, over both stores.
 
-use crate::acts::{EventCounts, Story, Way, left, left_by_steps, way_of};
+use crate::acts::{EventCounts, Story, Way, count_left, left_by_steps, way_of};
 use crate::stories::stories;
 use ob0_text::{Lines, Whole};
 use std::alloc::Global;
@@ -8,7 +8,7 @@ use std::process::Abort;
 
 /// Whether a story leaves all that it is to leave.
 fn leaves_all(alloc: Global, story: &Story) -> bool {
-    match left(alloc, story) {
+    match count_left(alloc, story) {
         Some(counts) => counts.applied == story.applied.len() && counts.made == story.made.len(),
         None => false,
     }
@@ -53,7 +53,7 @@ fn a_refused_event_ends_a_world(rt: HostRuntime) {
 }
 
 fn first_left(alloc: Global) -> Option<EventCounts> {
-    left(alloc, stories().first()?)
+    count_left(alloc, stories().first()?)
 }
 
 fn first_left_by_steps(alloc: Global) -> Option<EventCounts> {

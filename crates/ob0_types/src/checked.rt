@@ -183,7 +183,7 @@ impl<'t> Checked<'t> {
     }
 
     /// Joins what was found of a module's types, which is kept elsewhere, to the module.
-    pub fn borrowed(resolved: &'t Resolved<'t>, types: &'t ModuleTypes) -> Checked<'t>
+    pub fn from_parts(resolved: &'t Resolved<'t>, types: &'t ModuleTypes) -> Checked<'t>
         requires { AreTypesOf resolved.now types.now }
         ensures { result ≡ checked_by resolved.now types.now }
     {

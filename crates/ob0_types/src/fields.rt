@@ -12,7 +12,7 @@ use std::alloc::{AllocError, Global};
 /// the ordinal of the field's record.
 pub fn field_at(well_typed: &WellTyped<'_>, offset: usize) -> Option<(usize, usize)>
     ensures value { result ≡ field_at well_typed.now offset }
-    ensures stand { IfSome result
+    ensures are_identifiers { IfSome result
         (λ x. IsIdentifierToken well_typed.now.module_read.source.tokens x.0) }
 {
     let names = well_typed.resolved();
@@ -40,7 +40,7 @@ pub fn field_tokens(
         (λ tokens. tokens.items ≡ field_tokens well_typed.now owner name.now) }
     ensures ascend { IfOk result
         (λ tokens. Ascending 0 tokens.items (length well_typed.now.module_read.source.tokens)) }
-    ensures stand { IfOk result
+    ensures are_identifiers { IfOk result
         (λ tokens. AreIdentifiers well_typed.now.module_read.source.tokens tokens.items) }
 {
     let names = well_typed.resolved();

@@ -11,19 +11,19 @@ use Rattle.ob0_types_check.specs.Agreement.{MeansAlike, is_standard, shape_in}
 use Rattle.ob0_types_check.specs.Known.{Meaning}
 use Rattle.ob0_types_check.proofs.BindingsByOrdinal.{since-front}
 use Rattle.ob0_types_check.proofs.DeclaredShapes.{Longer}
-use Rattle.ob0_types_check.proofs.DeclaredStanding.{NamesStand, holds_kept}
+use Rattle.ob0_types_check.proofs.DeclaredKnown.{NamesKnown, holds_kept}
 
 -- bindings of the ordinals below m down to n, the latest first: each is what is known of its ordinal
-abbrev pub BindingsStand : List Shape → List (Option (Meaning TypeId)) → ℕ → ℕ → TypeEnvironment Name → Type 0
-BindingsStand shapes declared n m [] = m ≡ n
-BindingsStand shapes declared n m (b ∷ bs) =
-    (j : ℕ) × (m ≡ suc j) × MeansAlike (shape_in shapes) (slice_index_or declared j None) (Some b.1) × (7 ≤ j → is_standard (Some b.1) ≡ false) × BindingsStand shapes declared n j bs
+abbrev pub BindingsKnown : List Shape → List (Option (Meaning TypeId)) → ℕ → ℕ → TypeEnvironment Name → Type 0
+BindingsKnown shapes declared n m [] = m ≡ n
+BindingsKnown shapes declared n m (b ∷ bs) =
+    (j : ℕ) × (m ≡ suc j) × MeansAlike (shape_in shapes) (slice_index_or declared j None) (Some b.1) × (7 ≤ j → is_standard (Some b.1) ≡ false) × BindingsKnown shapes declared n j bs
 
-pub bindings_both : (shapes : List Shape) (declared : List (Option (Meaning TypeId))) (n i m : ℕ) (later first : TypeEnvironment Name) → BindingsStand shapes declared i m later → BindingsStand shapes declared n i first → BindingsStand shapes declared n m (later ++ first)
-bindings_both shapes declared n i m [] first h g = subst (λ z. BindingsStand shapes declared n z first) (sym h) g
+pub bindings_both : (shapes : List Shape) (declared : List (Option (Meaning TypeId))) (n i m : ℕ) (later first : TypeEnvironment Name) → BindingsKnown shapes declared i m later → BindingsKnown shapes declared n i first → BindingsKnown shapes declared n m (later ++ first)
+bindings_both shapes declared n i m [] first h g = subst (λ z. BindingsKnown shapes declared n z first) (sym h) g
 bindings_both shapes declared n i m (b ∷ later) first h g = (h.0, h.1, h.2, h.3, bindings_both shapes declared n i h.0 later first h.4 g)
 
-pub bindings_later : (before after : List Shape) (old new : List (Option (Meaning TypeId))) (n m i : ℕ) → Longer before after → ((k : ℕ) → k < i → slice_index_or new k None ≡ slice_index_or old k None) → m ≤ i → (bs : TypeEnvironment Name) → BindingsStand before old n m bs → BindingsStand after new n m bs
+pub bindings_later : (before after : List Shape) (old new : List (Option (Meaning TypeId))) (n m i : ℕ) → Longer before after → ((k : ℕ) → k < i → slice_index_or new k None ≡ slice_index_or old k None) → m ≤ i → (bs : TypeEnvironment Name) → BindingsKnown before old n m bs → BindingsKnown after new n m bs
 bindings_later before after old new n m i longer kept le [] h = h
 bindings_later before after old new n m i longer kept le (b ∷ bs) h =
     let less : h.0 < i = omega (arith, le, h.1) in (
@@ -39,13 +39,13 @@ record Split (shapes : List Shape) (declared : List (Option (Meaning TypeId))) (
   first : TypeEnvironment Name
   rest : TypeEnvironment Name
   both : env ≡ first ++ rest
-  holds : NamesStand shapes declared l scope rest
-  bound : BindingsStand shapes declared n m first
+  holds : NamesKnown shapes declared l scope rest
+  bound : BindingsKnown shapes declared n m first
 
 split_one : (shapes : List Shape) (declared : List (Option (Meaning TypeId))) (l n m : ℕ) (x : Name) (scope : Scope Name) (env : TypeEnvironment Name) → Split shapes declared l (suc n) m ((x, n) ∷ scope) env → Split shapes declared l n m scope env
 split_one shapes declared l n m x scope env s = by s.rest s.both s.holds
   where
-    by : (rest : TypeEnvironment Name) → env ≡ s.first ++ rest → NamesStand shapes declared l ((x, n) ∷ scope) rest → Split shapes declared l n m scope env
+    by : (rest : TypeEnvironment Name) → env ≡ s.first ++ rest → NamesKnown shapes declared l ((x, n) ∷ scope) rest → Split shapes declared l n m scope env
     by [] both h = absurd h
     by (c ∷ rest) both h = record {
       first = s.first ++ c ∷ [];
@@ -55,7 +55,7 @@ split_one shapes declared l n m x scope env s = by s.rest s.both s.holds
       bound = bindings_both shapes declared n (suc n) m s.first (c ∷ []) s.bound (n, refl, h.2, h.3, refl);
     }
 
-split : (shapes : List Shape) (declared : List (Option (Meaning TypeId))) (l n : ℕ) (xs : List Name) (scope : Scope Name) (env : TypeEnvironment Name) → NamesStand shapes declared l (declare_names n xs scope) env → Split shapes declared l n (after_names n xs) scope env
+split : (shapes : List Shape) (declared : List (Option (Meaning TypeId))) (l n : ℕ) (xs : List Name) (scope : Scope Name) (env : TypeEnvironment Name) → NamesKnown shapes declared l (declare_names n xs scope) env → Split shapes declared l n (after_names n xs) scope env
 split shapes declared l n [] scope env h = record { first = []; rest = env; both = refl; holds = h; bound = refl }
 split shapes declared l n (x ∷ xs) scope env h = split_one shapes declared l n (after_names (suc n) xs) x scope env (split shapes declared l (suc n) xs ((x, n) ∷ scope) env h)
 
@@ -68,27 +68,27 @@ split_then shapes declared l n i m scope mid env s t = record {
   bound = bindings_both shapes declared n i m s.first t.first s.bound t.bound;
 }
 
-pub as_long : (shapes : List Shape) (declared : List (Option (Meaning TypeId))) (n : ℕ) (scope : Scope Name) (env : TypeEnvironment Name) → NamesStand shapes declared n scope env → length env ≡ length scope
+pub as_long : (shapes : List Shape) (declared : List (Option (Meaning TypeId))) (n : ℕ) (scope : Scope Name) (env : TypeEnvironment Name) → NamesKnown shapes declared n scope env → length env ≡ length scope
 as_long shapes declared n [] [] h = refl
 as_long shapes declared n [] (c ∷ env) h = absurd h
 as_long shapes declared n (b ∷ scope) [] h = absurd h
 as_long shapes declared n (b ∷ scope) (c ∷ env) h = ap suc (as_long shapes declared n scope env h.4)
 
-split_since : (shapes : List Shape) (declared : List (Option (Meaning TypeId))) (l n m : ℕ) (scope : Scope Name) (before env : TypeEnvironment Name) → length before ≡ length scope → Split shapes declared l n m scope env → BindingsStand shapes declared n m (since before env)
+split_since : (shapes : List Shape) (declared : List (Option (Meaning TypeId))) (l n m : ℕ) (scope : Scope Name) (before env : TypeEnvironment Name) → length before ≡ length scope → Split shapes declared l n m scope env → BindingsKnown shapes declared n m (since before env)
 split_since shapes declared l n m scope before env long s =
-    subst (BindingsStand shapes declared n m) (sym (ap (since before) s.both ∙ since-front before s.first s.rest (long ∙ sym (as_long shapes declared l scope s.rest s.holds)))) s.bound
+    subst (BindingsKnown shapes declared n m) (sym (ap (since before) s.both ∙ since-front before s.first s.rest (long ∙ sym (as_long shapes declared l scope s.rest s.holds)))) s.bound
 
 -- what names bind, after what there was; m is the first ordinal after theirs
-pub names_bind : (shapes : List Shape) (declared : List (Option (Meaning TypeId))) (l n m : ℕ) (xs : List Name) (scope : Scope Name) (before env : TypeEnvironment Name) → after_names n xs ≡ m → length before ≡ length scope → NamesStand shapes declared l (declare_names n xs scope) env
-    → BindingsStand shapes declared n m (since before env)
-names_bind shapes declared l n m xs scope before env e long h = subst (λ z. BindingsStand shapes declared n z (since before env)) e (split_since shapes declared l n (after_names n xs) scope before env long (split shapes declared l n xs scope env h))
+pub names_bind : (shapes : List Shape) (declared : List (Option (Meaning TypeId))) (l n m : ℕ) (xs : List Name) (scope : Scope Name) (before env : TypeEnvironment Name) → after_names n xs ≡ m → length before ≡ length scope → NamesKnown shapes declared l (declare_names n xs scope) env
+    → BindingsKnown shapes declared n m (since before env)
+names_bind shapes declared l n m xs scope before env e long h = subst (λ z. BindingsKnown shapes declared n z (since before env)) e (split_since shapes declared l n (after_names n xs) scope before env long (split shapes declared l n xs scope env h))
 
-split_to : (shapes : List Shape) (declared : List (Option (Meaning TypeId))) (l n m : ℕ) (xs : List Name) (scope : Scope Name) (env : TypeEnvironment Name) → after_names n xs ≡ m → NamesStand shapes declared l (declare_names n xs scope) env → Split shapes declared l n m scope env
+split_to : (shapes : List Shape) (declared : List (Option (Meaning TypeId))) (l n m : ℕ) (xs : List Name) (scope : Scope Name) (env : TypeEnvironment Name) → after_names n xs ≡ m → NamesKnown shapes declared l (declare_names n xs scope) env → Split shapes declared l n m scope env
 split_to shapes declared l n m xs scope env e h = subst (λ z. Split shapes declared l n z scope env) e (split shapes declared l n xs scope env h)
 
 -- the names of three sections
 pub sections_bind : (shapes : List Shape) (declared : List (Option (Meaning TypeId))) (l n i j m : ℕ) (xs ys zs : List Name) (scope : Scope Name) (before env : TypeEnvironment Name) → after_names n xs ≡ i → after_names i ys ≡ j → after_names j zs ≡ m → length before ≡ length scope
-    → NamesStand shapes declared l (declare_names j zs (declare_names i ys (declare_names n xs scope))) env → BindingsStand shapes declared n m (since before env)
+    → NamesKnown shapes declared l (declare_names j zs (declare_names i ys (declare_names n xs scope))) env → BindingsKnown shapes declared n m (since before env)
 sections_bind shapes declared l n i j m xs ys zs scope before env ei ej em long h =
     let first : Scope Name = declare_names n xs scope in
     let second : Scope Name = declare_names i ys first in

@@ -21,7 +21,7 @@ use Rattle.ob0_types_check.specs.WrittenTypeFaults.{reported_type}
 use Rattle.ob0_types_check.proofs.MadeOnce.{Apart, apart_same, apart_then}
 use Rattle.ob0_types_check.proofs.PartsFitting.{PartsFit}
 use Rattle.ob0_types_check.proofs.DeclaredNames.{ConstantsPlaced, Numbering, TypesPlaced, VariablesPlaced, after_names-map, names_listed-mapped, scope_following}
-use Rattle.ob0_types_check.proofs.DeclaredStanding.{Later, Stands, agrees_where_seen, all_defined, defined, later_same, later_then, holds_defined, holds_later}
+use Rattle.ob0_types_check.proofs.DeclaredKnown.{Later, IsKnownAt, agrees_where_seen, all_defined, defined, later_same, later_then, holds_defined, holds_later}
 use Rattle.ob0_types_check.proofs.DeclaredTypes.{none_both, type_denotes}
 
 -- declarations from the ordinal n on, up to m, with the constructors from k on, up to l, give an environment
@@ -31,9 +31,9 @@ pub record Declared (w : Numbering) (n m k l : ℕ) (p q : SoFar) (before : List
   pub after : List Shape
   pub apart : Apart k l before after
   pub later : Later n p q before after
-  pub holds : Stands w q after m scope env
+  pub holds : IsKnownAt w q after m scope env
 
-nothing_declared : (w : Numbering) (n k l : ℕ) → l ≡ k → (p : SoFar) (before : List Shape) (scope : Scope Name) (env : TypeEnvironment Name) → Stands w p before n scope env → Declared w n n k l p p before scope (Some env)
+nothing_declared : (w : Numbering) (n k l : ℕ) → l ≡ k → (p : SoFar) (before : List Shape) (scope : Scope Name) (env : TypeEnvironment Name) → IsKnownAt w p before n scope env → Declared w n n k l p p before scope (Some env)
 nothing_declared w n k l last p before scope env st = record { env = env; given_is = refl; after = before; apart = apart_same k l before last; later = later_same n p before st.table; holds = st }
 
 -- what is declared in two steps
@@ -55,7 +55,7 @@ pub next_le : (n : ℕ) → n ≤ suc n
 next_le n = le_of_lt (le_refl (suc n))
 
 module _ (w : Numbering) (fit : PartsFit) where
-  pub constants_declare : (cs : Tree ℕ (items constant)) (k n : ℕ) (p : SoFar) (before : List Shape) (scope : Scope Name) (env : TypeEnvironment Name) → Stands w p before n scope env → ConstantsPlaced w scope n cs → (reported_constants p cs).faults ≡ []
+  pub constants_declare : (cs : Tree ℕ (items constant)) (k n : ℕ) (p : SoFar) (before : List Shape) (scope : Scope Name) (env : TypeEnvironment Name) → IsKnownAt w p before n scope env → ConstantsPlaced w scope n cs → (reported_constants p cs).faults ≡ []
       → Declared w n (after_names n (constant_names cs)) k k p (reported_constants p cs).known before (scope_following w n (constant_names cs) scope) (declare_constants as_names env (named w.source cs))
   unfolding reported_constants constant_declared declare_constants
   constants_declare end k n p before scope env st placed h = nothing_declared w n k k refl p before scope env st
@@ -71,7 +71,7 @@ module _ (w : Numbering) (fit : PartsFit) where
       (constant_value (meanings as_names env) (named w.source e)) c.value (λ v. declare_constants as_names ((text_at w.source x, meant.a_constant v) ∷ env) (named w.source cs)) (next_le n) given (apart_same k k before refl) d.later
       (constants_declare cs k (suc n) q before ((text_at w.source x, n) ∷ scope) ((text_at w.source x, meant.a_constant c.value) ∷ env) next placed.2 a.1)
 
-  pub types_declare : (ds : Tree ℕ (items type_name)) (k n : ℕ) (p : SoFar) (before : List Shape) (scope : Scope Name) (env : TypeEnvironment Name) → length before ≡ k → Stands w p before n scope env → TypesPlaced w scope n ds → (reported_types p ds).faults ≡ []
+  pub types_declare : (ds : Tree ℕ (items type_name)) (k n : ℕ) (p : SoFar) (before : List Shape) (scope : Scope Name) (env : TypeEnvironment Name) → length before ≡ k → IsKnownAt w p before n scope env → TypesPlaced w scope n ds → (reported_types p ds).faults ≡ []
       → Declared w n (after_names n (named_types ds)) k (k + types_constructors (named w.source ds)) p (reported_types p ds).known before (scope_following w n (named_types ds) scope) (declare_types as_names env k (named w.source ds))
   unfolding reported_types type_declared declare_types
   types_declare end k n p before scope env at st placed h = nothing_declared w n k (k + 0) (omega arith) p before scope env st
@@ -96,7 +96,7 @@ module _ (w : Numbering) (fit : PartsFit) where
       sym (ap (λ zs. declare_names n zs scope) (map-append (text_at w.source) xs ys) ∙ (declare_names-append n (map (text_at w.source) xs) (map (text_at w.source) ys) scope
       ∙ (λ i. declare_names (after_names-map (text_at w.source) n xs i) (map (text_at w.source) ys) (declare_names n (map (text_at w.source) xs) scope))))
 
-  pub variables_declare : (gs : Tree ℕ (items variable)) (k n : ℕ) (p : SoFar) (before : List Shape) (scope : Scope Name) (env : TypeEnvironment Name) → length before ≡ k → Stands w p before n scope env → VariablesPlaced w scope n gs → (reported_variables p gs).faults ≡ []
+  pub variables_declare : (gs : Tree ℕ (items variable)) (k n : ℕ) (p : SoFar) (before : List Shape) (scope : Scope Name) (env : TypeEnvironment Name) → length before ≡ k → IsKnownAt w p before n scope env → VariablesPlaced w scope n gs → (reported_variables p gs).faults ≡ []
       → Declared w n (after_names n (variable_names gs)) k (k + variables_constructors (named w.source gs)) p (reported_variables p gs).known before (scope_following w n (variable_names gs) scope) (declare_typed as_names k (named w.source gs) env)
   unfolding reported_variables variables_declared declare_typed
   variables_declare end k n p before scope env at st placed h = nothing_declared w n k (k + 0) (omega arith) p before scope env st

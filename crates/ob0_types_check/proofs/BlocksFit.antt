@@ -24,11 +24,11 @@ use Rattle.ob0_types_check.proofs.PartsFitting.{PartsFit, parts_fit}
 use Rattle.ob0_types_check.specs.ModuleLaws.{ModulesFit}
 use Rattle.ob0_types_check.proofs.DeclaredModules.{module_placed, numbering_of}
 use Rattle.ob0_types_check.proofs.DeclaredNames.{AreSeen, BlockPlaced, ConstantsPlaced, IsPlaced, Numbering, ProcedurePlaced, ProceduresPlaced, SectionsPlaced, TypesPlaced, VariablesPlaced, after_names-map, following_constants, following_procedure, following_types, following_variables, constants-mapped, formals-mapped, scope_following, types-mapped, variables-mapped}
-use Rattle.ob0_types_check.proofs.DeclaredStanding.{Later, NamesStand, Stands, agrees_where_seen, defined, later_of, later_same, later_then, holds_defined, holds_later}
+use Rattle.ob0_types_check.proofs.DeclaredKnown.{Later, NamesKnown, IsKnownAt, agrees_where_seen, defined, later_of, later_same, later_then, holds_defined, holds_later}
 use Rattle.ob0_types_check.proofs.DeclaredTypes.{none_both}
 use Rattle.ob0_types_check.proofs.BlocksDeclared.{Declared, constants_declare, declared_then, more_constructors, next_le, types_declare, variables_declare}
 use Rattle.ob0_types_check.proofs.BindingsByOrdinal.{procedure-listed, procedures-listed}
-use Rattle.ob0_types_check.proofs.BlocksBound.{BindingsStand, as_long, bindings_both, bindings_later, heading_since, names_bind, sections_bind}
+use Rattle.ob0_types_check.proofs.BlocksBound.{BindingsKnown, as_long, bindings_both, bindings_later, heading_since, names_bind, sections_bind}
 use Rattle.ob0_types_check.proofs.MadeOnce.{Apart, apart_same, apart_then, apart_to}
 use Rattle.ob0_types_check.proofs.BlocksParameters.{formals_of, parameters_kept, parameters_over, sections_declare}
 
@@ -39,7 +39,7 @@ pub record FitsLater (n m k l : ℕ) (p q : SoFar) (before : List Shape) (fits :
   pub after : List Shape
   pub apart : Apart k l before after
   pub later : Later n p q before after
-  pub bound : BindingsStand after q.declared n m bindings
+  pub bound : BindingsKnown after q.declared n m bindings
 
 -- a procedure that fits, and what is known after it
 pub record ProcedureFits (w : Numbering) (n : ℕ) (p q : SoFar) (before : List Shape) (scope : Scope Name) (env : TypeEnvironment Name) (k : ℕ) (d : Tree ℕ (item procedure)) : Type 0 where
@@ -49,8 +49,8 @@ pub record ProcedureFits (w : Numbering) (n : ℕ) (p q : SoFar) (before : List 
   pub after : List Shape
   pub apart : Apart k (k + procedure_constructors (named w.source d)) before after
   pub later : Later n p q before after
-  pub holds : Stands w q after (after_procedure (suc n) d) (following_procedure w scope n d) (heading (procedure_name (named w.source d)) parameters env)
-  pub bound : BindingsStand after q.declared n (after_procedure (suc n) d) (procedure_bindings as_names env k (named w.source d))
+  pub holds : IsKnownAt w q after (after_procedure (suc n) d) (following_procedure w scope n d) (heading (procedure_name (named w.source d)) parameters env)
+  pub bound : BindingsKnown after q.declared n (after_procedure (suc n) d) (procedure_bindings as_names env k (named w.source d))
 
 -- what is known after a procedure's heading, where its parameters and it are known
 abbrev pub heading_known : SoFar → ℕ → Tree ℕ (maybe formals) → SoFar
@@ -62,8 +62,8 @@ pub record HeadingKnown (w : Numbering) (n : ℕ) (p : SoFar) (before : List Sha
   pub after : List Shape
   pub apart : Apart k (k + formals_constructors (formal_sections (named w.source fs))) before after
   pub later : Later n p (heading_known p x fs) before after
-  pub holds : Stands w (heading_known p x fs) after (suc n) ((text_at w.source x, n) ∷ scope) (heading (text_at w.source x) parameters env)
-  pub inside : Stands w (heading_known p x fs) after (after_names (suc n) (formal_names (formal_sections fs))) (scope_following w (suc n) (formal_names (formal_sections fs)) ((text_at w.source x, n) ∷ scope)) (bind_typed parameters (heading (text_at w.source x) parameters env))
+  pub holds : IsKnownAt w (heading_known p x fs) after (suc n) ((text_at w.source x, n) ∷ scope) (heading (text_at w.source x) parameters env)
+  pub inside : IsKnownAt w (heading_known p x fs) after (after_names (suc n) (formal_names (formal_sections fs))) (scope_following w (suc n) (formal_names (formal_sections fs)) ((text_at w.source x, n) ∷ scope)) (bind_typed parameters (heading (text_at w.source x) parameters env))
 
 -- the ordinal after a block's constructors
 block_end : (k t v p : ℕ) → k + t + v + p ≡ k + (t + (v + p))
@@ -78,7 +78,7 @@ above : (j n : ℕ) → n < j → j ≢ n
 above j n less e = absurd (omega (arith, e, less))
 
 module _ (w : Numbering) (fit : PartsFit) where
-  pub body_reported : (statements : Tree ℕ (maybe body)) (n : ℕ) (p : SoFar) (before : List Shape) (scope : Scope Name) (env : TypeEnvironment Name) → Stands w p before n scope env → AreSeen w scope statements → (reported_body p statements).faults ≡ [] → body_fits as_names env (named w.source statements) ≡ true
+  pub body_reported : (statements : Tree ℕ (maybe body)) (n : ℕ) (p : SoFar) (before : List Shape) (scope : Scope Name) (env : TypeEnvironment Name) → IsKnownAt w p before n scope env → AreSeen w scope statements → (reported_body p statements).faults ≡ [] → body_fits as_names env (named w.source statements) ≡ true
   unfolding reported_body body_fits
   body_reported none n p before scope env st seen h = refl
   body_reported (one (begins s)) n p before scope env st seen h =
@@ -86,7 +86,7 @@ module _ (w : Numbering) (fit : PartsFit) where
       ∙ fit.statements p before (text_at w.source) (meanings as_names env) s (agrees_where_seen w p false before n scope env st fit s seen) h
 
   -- a block's constants, types and variables
-  pub declarations_reported : (cs : Tree ℕ (maybe constants)) (ts : Tree ℕ (maybe type_names)) (vs : Tree ℕ (maybe variables)) (ps : Tree ℕ (items procedure)) (statements : Tree ℕ (maybe body)) (k n : ℕ) (p : SoFar) (before : List Shape) (scope : Scope Name) (env : TypeEnvironment Name) → length before ≡ k → Stands w p before n scope env
+  pub declarations_reported : (cs : Tree ℕ (maybe constants)) (ts : Tree ℕ (maybe type_names)) (vs : Tree ℕ (maybe variables)) (ps : Tree ℕ (items procedure)) (statements : Tree ℕ (maybe body)) (k n : ℕ) (p : SoFar) (before : List Shape) (scope : Scope Name) (env : TypeEnvironment Name) → length before ≡ k → IsKnownAt w p before n scope env
       → ConstantsPlaced w scope n (section_constants cs)
       → TypesPlaced w (following_constants w scope n (has_body (declares cs ts vs ps) statements)) (first_type n (has_body (declares cs ts vs ps) statements)) (section_types ts)
       → VariablesPlaced w (following_types w scope n (has_body (declares cs ts vs ps) statements)) (first_variable n (has_body (declares cs ts vs ps) statements)) (section_variables vs)
@@ -118,7 +118,7 @@ module _ (w : Numbering) (fit : PartsFit) where
 
   -- a block after its declarations
   block_then : (p v q : SoFar) (before : List Shape) (n m i k j l : ℕ) (scope : Scope Name) (env : TypeEnvironment Name) (given : Option (TypeEnvironment Name)) (statements : Tree ℕ (maybe body)) (test : TypeEnvironment Name → Bool) (bindings : TypeEnvironment Name → TypeEnvironment Name) → n ≤ m → (d : Declared w n m k j p v before scope given)
-      → BindingsStand d.after v.declared n m (since env d.env) → FitsLater m i j l v q d.after (test d.env) (bindings d.env)
+      → BindingsKnown d.after v.declared n m (since env d.env) → FitsLater m i j l v q d.after (test d.env) (bindings d.env)
       → FitsLater n i k l p (reported_body q statements).known before (some_and given test) (for_some given (λ inner. bindings inner ++ since env inner))
   block_then p v q before n m i k j l scope env given statements test bindings le d own f =
       subst (λ z. FitsLater n i k l p z before (some_and given test) (for_some given (λ inner. bindings inner ++ since env inner))) (sym (body_known q statements)) (record {
@@ -126,12 +126,12 @@ module _ (w : Numbering) (fit : PartsFit) where
         after = f.after;
         apart = apart_then k j l before d.after f.after d.apart f.apart;
         later = later_then n m p v q before d.after f.after le d.later f.later;
-        bound = subst (BindingsStand f.after q.declared n i) (sym (ap (λ o. for_some o (λ inner. bindings inner ++ since env inner)) d.given_is))
+        bound = subst (BindingsKnown f.after q.declared n i) (sym (ap (λ o. for_some o (λ inner. bindings inner ++ since env inner)) d.given_is))
             (bindings_both f.after q.declared n m i (bindings d.env) (since env d.env) f.bound (bindings_later d.after f.after v.declared q.declared n m m f.later.longer f.later.kept (le_refl m) (since env d.env) own));
       })
 
   -- a procedure's heading, and what is known after it
-  pub heading_reported : (x : ℕ) (fs : Tree ℕ (maybe formals)) (k n : ℕ) (p : SoFar) (before : List Shape) (scope : Scope Name) (env : TypeEnvironment Name) → length before ≡ k → Stands w p before n scope env → IsPlaced w n x → SectionsPlaced w scope (suc n) (formal_sections fs)
+  pub heading_reported : (x : ℕ) (fs : Tree ℕ (maybe formals)) (k n : ℕ) (p : SoFar) (before : List Shape) (scope : Scope Name) (env : TypeEnvironment Name) → length before ≡ k → IsKnownAt w p before n scope env → IsPlaced w n x → SectionsPlaced w scope (suc n) (formal_sections fs)
       → (reported_sections (record { formals = []; following = p }) (formal_sections fs)).faults ≡ [] → HeadingKnown w n p before scope env k x fs
   heading_reported x fs k n p before scope env at st placed sections unreported =
       let text : ℕ → Name = text_at w.source in
@@ -160,18 +160,18 @@ module _ (w : Numbering) (fit : PartsFit) where
           ordinals = own.ordinals;
           room = own.room;
           table = own.table;
-          names = subst (λ j. NamesStand ps.after q₁.declared j (scope_following w (suc n) names ((text x, n) ∷ scope)) (bind_typed ps.parameters (heading (text x) ps.parameters env))) (after_names-map text (suc n) names) inner;
+          names = subst (λ j. NamesKnown ps.after q₁.declared j (scope_following w (suc n) names ((text x, n) ∷ scope)) (bind_typed ps.parameters (heading (text x) ps.parameters env))) (after_names-map text (suc n) names) inner;
         };
       }
 
   -- a procedure's name and parameters
-  heading_bound : (x : ℕ) (fs : Tree ℕ (maybe formals)) (n : ℕ) (scope : Scope Name) (env : TypeEnvironment Name) (p : SoFar) (before : List Shape) {k : ℕ} → NamesStand before p.declared n scope env → (e : HeadingKnown w n p before scope env k x fs)
-      → BindingsStand e.after (heading_known p x fs).declared n (after_names (suc n) (formal_names (formal_sections fs))) (bind_typed e.parameters (heading (text_at w.source x) e.parameters []))
+  heading_bound : (x : ℕ) (fs : Tree ℕ (maybe formals)) (n : ℕ) (scope : Scope Name) (env : TypeEnvironment Name) (p : SoFar) (before : List Shape) {k : ℕ} → NamesKnown before p.declared n scope env → (e : HeadingKnown w n p before scope env k x fs)
+      → BindingsKnown e.after (heading_known p x fs).declared n (after_names (suc n) (formal_names (formal_sections fs))) (bind_typed e.parameters (heading (text_at w.source x) e.parameters []))
   heading_bound x fs n scope env p before names e =
       let text : ℕ → Name = text_at w.source in
       let xs : List ℕ = formal_names (formal_sections fs) in
       let m : ℕ = after_names (suc n) xs in
-      subst (BindingsStand e.after (heading_known p x fs).declared n m) (heading_since e.parameters (text x, meant.a_procedure (formals_of e.parameters)) env)
+      subst (BindingsKnown e.after (heading_known p x fs).declared n m) (heading_since e.parameters (text x, meant.a_procedure (formals_of e.parameters)) env)
       (names_bind e.after (heading_known p x fs).declared m n m (text x ∷ map text xs) scope env (bind_typed e.parameters (heading (text x) e.parameters env)) (after_names-map text (suc n) xs) (as_long before p.declared n scope env names) e.inside.names)
 
   -- the bindings of a procedure and those after it
@@ -185,7 +185,7 @@ module _ (w : Numbering) (fit : PartsFit) where
   mutual
     unfolding reported_block block_fits block_bindings
 
-    pub block_reported : (b : Tree ℕ block) (k n : ℕ) (p : SoFar) (before : List Shape) (scope : Scope Name) (env : TypeEnvironment Name) → length before ≡ k → Stands w p before n scope env → BlockPlaced w scope n b → (reported_block p b).faults ≡ []
+    pub block_reported : (b : Tree ℕ block) (k n : ℕ) (p : SoFar) (before : List Shape) (scope : Scope Name) (env : TypeEnvironment Name) → length before ≡ k → IsKnownAt w p before n scope env → BlockPlaced w scope n b → (reported_block p b).faults ≡ []
         → FitsLater n (after_block n b) k (k + block_constructors (named w.source b)) p (reported_block p b).known before (block_fits as_names env k (named w.source b)) (block_bindings as_names env k (named w.source b))
     block_reported (has_body (declares cs ts vs ps) statements) k n p before scope env at st placed h =
         let b : Tree ℕ block = has_body (declares cs ts vs ps) statements in
@@ -212,7 +212,7 @@ module _ (w : Numbering) (fit : PartsFit) where
         (block_then p t₃.known t₄.known before n (first_procedure n b) (after_block n b) k (after_variables k nb) l (following_variables w scope n b) env (option_and_then (declare_typed as_names (after_types k nb) (section_variables (named w.source vs))) (declare_first as_names env k nb)) statements
         (λ inner. procedures_fit as_names inner (after_variables k nb) (named w.source statements) (named w.source ps)) (λ inner. procedures_bindings as_names inner (after_variables k nb) (named w.source ps)) le d own rest)
 
-    procedures_reported : (ps : Tree ℕ (items procedure)) (statements : Tree ℕ (maybe body)) (k n : ℕ) (p : SoFar) (before : List Shape) (scope : Scope Name) (env : TypeEnvironment Name) → length before ≡ k → Stands w p before n scope env → ProceduresPlaced w scope n statements ps → (reported_procedures p ps).faults ≡ []
+    procedures_reported : (ps : Tree ℕ (items procedure)) (statements : Tree ℕ (maybe body)) (k n : ℕ) (p : SoFar) (before : List Shape) (scope : Scope Name) (env : TypeEnvironment Name) → length before ≡ k → IsKnownAt w p before n scope env → ProceduresPlaced w scope n statements ps → (reported_procedures p ps).faults ≡ []
         → (reported_body (reported_procedures p ps).known statements).faults ≡ [] → FitsLater n (after_procedures n ps) k (k + procedures_constructors (named w.source ps)) p (reported_procedures p ps).known before (procedures_fit as_names env k (named w.source statements) (named w.source ps)) (procedures_bindings as_names env k (named w.source ps))
     procedures_reported end statements k n p before scope env at st placed h last = record { right = body_reported statements n p before scope env st placed last; after = before; apart = apart_same k (k + 0) before (omega arith); later = later_same n p before st.table; bound = refl }
     procedures_reported (more d rest) statements k n p before scope env at st placed h last =
@@ -228,12 +228,12 @@ module _ (w : Numbering) (fit : PartsFit) where
           apart = apart_to k (k + procedure_constructors nd + procedures_constructors (named w.source rest)) (k + (procedure_constructors nd + procedures_constructors (named w.source rest))) before others.after (more_constructors k (procedure_constructors nd) (procedures_constructors (named w.source rest)))
               (apart_then k (k + procedure_constructors nd) (k + procedure_constructors nd + procedures_constructors (named w.source rest)) before f.after others.after f.apart others.apart);
           later = later_then n (after_procedure (suc n) d) p q (reported_procedures q rest).known before f.after others.after (le_trans (next_le n) (le-after_procedure (suc n) d)) f.later others.later;
-          bound = subst (BindingsStand others.after (reported_procedures q rest).known.declared n (after_procedures n (more d rest))) (sym (procedures_bound d rest k env f.parameters f.typed f.right))
+          bound = subst (BindingsKnown others.after (reported_procedures q rest).known.declared n (after_procedures n (more d rest))) (sym (procedures_bound d rest k env f.parameters f.typed f.right))
               (bindings_both others.after (reported_procedures q rest).known.declared n (after_procedure (suc n) d) (after_procedures n (more d rest)) (procedures_bindings as_names (heading (procedure_name nd) f.parameters env) (k + procedure_constructors nd) (named w.source rest)) (procedure_bindings as_names env k nd) others.bound
               (bindings_later f.after others.after q.declared (reported_procedures q rest).known.declared n (after_procedure (suc n) d) (after_procedure (suc n) d) others.later.longer others.later.kept (le_refl (after_procedure (suc n) d)) (procedure_bindings as_names env k nd) f.bound));
         }
 
-    pub procedure_reported : (d : Tree ℕ (item procedure)) (k n : ℕ) (p : SoFar) (before : List Shape) (scope : Scope Name) (env : TypeEnvironment Name) → length before ≡ k → Stands w p before n scope env → ProcedurePlaced w scope n d → (reported_procedure p d).faults ≡ []
+    pub procedure_reported : (d : Tree ℕ (item procedure)) (k n : ℕ) (p : SoFar) (before : List Shape) (scope : Scope Name) (env : TypeEnvironment Name) → length before ≡ k → IsKnownAt w p before n scope env → ProcedurePlaced w scope n d → (reported_procedure p d).faults ≡ []
         → ProcedureFits w n p (reported_procedure p d).known before scope env k d
     procedure_reported (declares_procedure x fs b closing) k n p before scope env at st placed h =
         let d : Tree ℕ (item procedure) = declares_procedure x fs b closing in
@@ -256,7 +256,7 @@ module _ (w : Numbering) (fit : PartsFit) where
               (apart_then k first (first + own) before e.after f.after e.apart f.apart);
           later = later_then n m p q₁ q before e.after f.after (le_trans (next_le n) le) e.later f.later;
           holds = holds_later w (suc n) m (after_procedure (suc n) d) q₁ q e.after f.after ((text x, n) ∷ scope) (heading (text x) e.parameters env) le (le-after_procedure (suc n) d) e.holds f.later;
-          bound = subst (BindingsStand f.after q.declared n (after_procedure (suc n) d)) (sym (procedure-listed as_names env k (text x) (named w.source fs) (named w.source b) (text closing) e.parameters e.typed))
+          bound = subst (BindingsKnown f.after q.declared n (after_procedure (suc n) d)) (sym (procedure-listed as_names env k (text x) (named w.source fs) (named w.source b) (text closing) e.parameters e.typed))
               (bindings_both f.after q.declared n m (after_procedure (suc n) d) (block_bindings as_names (bind_typed e.parameters (heading (text x) e.parameters env)) first (named w.source b)) (bind_typed e.parameters (heading (text x) e.parameters [])) f.bound
               (bindings_later e.after f.after q₁.declared q.declared n m m f.later.longer f.later.kept (le_refl m) (bind_typed e.parameters (heading (text x) e.parameters [])) (heading_bound x fs n scope env p before st.names e)));
         }
@@ -268,7 +268,7 @@ room_first xs =
     omega (arith, length-append predeclared_meanings later, count)
 
 -- where a module begins
-pub first_holds : (r : Resolution) → Stands (numbering_of r) (at_first r) [] 7 (predeclared_scope as_names) (outermost as_names)
+pub first_holds : (r : Resolution) → IsKnownAt (numbering_of r) (at_first r) [] 7 (predeclared_scope as_names) (outermost as_names)
 first_holds r = record {
   source = refl;
   ordinals = refl;

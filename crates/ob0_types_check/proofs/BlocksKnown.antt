@@ -24,7 +24,7 @@ use Rattle.ob0_types_check.specs.Known.{Meaning}
 use Rattle.ob0_types_check.specs.ModuleLaws.{DeclarationsKnown}
 use Rattle.ob0_types_check.specs.SoFar.{SoFar, at_first}
 use Rattle.ob0_types_check.proofs.BindingsByOrdinal.{InOrder, Ordered, module-block, module-ordered}
-use Rattle.ob0_types_check.proofs.BlocksBound.{BindingsStand, bindings_both, bindings_later, names_bind}
+use Rattle.ob0_types_check.proofs.BlocksBound.{BindingsKnown, bindings_both, bindings_later, names_bind}
 use Rattle.ob0_types_check.proofs.BlocksFit.{block_reported, first_holds, room_first}
 use Rattle.ob0_types_check.proofs.DeclaredModules.{module_counted, module_placed, numbering_of}
 use Rattle.ob0_types_check.proofs.DeclaredNames.{after_block-mapped}
@@ -36,11 +36,11 @@ abbrev IsKnownAs : List Shape → List (Option (Meaning TypeId)) → ℕ → Opt
 IsKnownAs shapes known k o = MeansAlike (shape_in shapes) (slice_index_or known k None) o × (7 ≤ k → is_standard o ≡ false)
 
 module _ (shapes : List Shape) (known : List (Option (Meaning TypeId))) where
-  known_at : (noted : TypeNoted Name) (m : ℕ) → InOrder 0 m noted → BindingsStand shapes known 0 m (typed_by_name noted) → (k : ℕ) → k < m → IsKnownAs shapes known k (object_bound (typed_by_ordinal noted) k)
+  known_at : (noted : TypeNoted Name) (m : ℕ) → InOrder 0 m noted → BindingsKnown shapes known 0 m (typed_by_name noted) → (k : ℕ) → k < m → IsKnownAs shapes known k (object_bound (typed_by_ordinal noted) k)
   known_at [] m order h k less = absurd (omega (arith, order, less))
   known_at (b ∷ noted) m order h k less =
       let same : h.0 ≡ b.ordinal = omega (arith, order.0, h.1) in
-      let rest : BindingsStand shapes known 0 b.ordinal (typed_by_name noted) = subst (λ z. BindingsStand shapes known 0 z (typed_by_name noted)) same h.4 in
+      let rest : BindingsKnown shapes known 0 b.ordinal (typed_by_name noted) = subst (λ z. BindingsKnown shapes known 0 z (typed_by_name noted)) same h.4 in
       subst (IsKnownAs shapes known k) (sym (newest-if (k == b.ordinal) (declared b.ordinal) b.object (typed_by_ordinal noted) (from_binding as_labels (typed_by_ordinal noted) (declared k))))
       (elim (k == b.ordinal) as (λ t. (k == b.ordinal) ≡ t → IsKnownAs shapes known k (cond t (Some b.object) (object_bound (typed_by_ordinal noted) k))) [
         | true ↦ λ e. subst (λ z. IsKnownAs shapes known z (Some b.object)) (same ∙ sym (eqb-true k b.ordinal e)) (h.2, h.3)
@@ -66,9 +66,9 @@ either {P} k m f g = by (nat_lt k m) refl
     by false e = g (ltb-false k m e)
 
 -- below the last ordinal, and past it
-module _ (shapes : List Shape) (known : List (Option (Meaning TypeId))) (m : ℕ) (names : TypeEnvironment Name) (labels : TypeEnvironment Label) (all : Ordered 0 m names labels) (bound : BindingsStand shapes known 0 m names) (room : length known ≡ m) where
+module _ (shapes : List Shape) (known : List (Option (Meaning TypeId))) (m : ℕ) (names : TypeEnvironment Name) (labels : TypeEnvironment Label) (all : Ordered 0 m names labels) (bound : BindingsKnown shapes known 0 m names) (room : length known ≡ m) where
   below : (k : ℕ) → k < m → IsKnownAs shapes known k (object_bound labels k)
-  below k less = subst (λ z. IsKnownAs shapes known k (object_bound z k)) (sym all.by_label) (known_at shapes known all.noted m all.in_order (subst (BindingsStand shapes known 0 m) all.by_name bound) k less)
+  below k less = subst (λ z. IsKnownAs shapes known k (object_bound z k)) (sym all.by_label) (known_at shapes known all.noted m all.in_order (subst (BindingsKnown shapes known 0 m) all.by_name bound) k less)
 
   past : (k : ℕ) → m ≤ k → (object_bound labels k ≡ None) × (slice_index_or known k None ≡ None)
   past k le = (ap (λ z. object_bound z k) all.by_label ∙ none_at all.noted m all.in_order k le, get_or_past known k None (subst (λ n. n ≤ k) (sym room) le))
@@ -110,9 +110,9 @@ declarations_known-holds r is h =
     let a = none_both (filter is_of_occurrences r.faults) (reported_block (at_first r) b).faults h in
     let st = first_holds r in
     let f = block_reported (numbering_of r) parts_fit b 0 7 (at_first r) [] (predeclared_scope as_names) (outermost as_names) refl st (module_placed r is a.0) a.1 in
-    let first : BindingsStand f.after q.declared 0 7 (outermost as_names) =
+    let first : BindingsKnown f.after q.declared 0 7 (outermost as_names) =
     bindings_later [] f.after (at_first r).declared q.declared 0 7 7 f.later.longer f.later.kept (le_refl 7) (outermost as_names) (names_bind [] (at_first r).declared 7 0 7 (map as_names.predeclared (0 ∷ 1 ∷ 2 ∷ 3 ∷ 4 ∷ 5 ∷ 6 ∷ [])) [] [] (outermost as_names) refl refl st.names) in
-    let bound : BindingsStand f.after q.declared 0 last (module_bindings as_names (named_tree_of m)) =
+    let bound : BindingsKnown f.after q.declared 0 last (module_bindings as_names (named_tree_of m)) =
     bindings_both f.after q.declared 0 7 last (block_bindings as_names (outermost as_names) 0 (module_block (named_tree_of m))) (outermost as_names) f.bound first in
     let all : Ordered 0 last (module_bindings as_names (named_tree_of m)) (module_bindings as_labels (numbered (named_tree_of m))) =
     subst (λ z. Ordered 0 z (module_bindings as_names (named_tree_of m)) (module_bindings as_labels (numbered (named_tree_of m)))) (after_block-mapped (text_at m.source) (value_at m.source) 7 7 refl b) (module-ordered (named_tree_of m) f.right) in

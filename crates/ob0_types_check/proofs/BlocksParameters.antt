@@ -25,19 +25,19 @@ use Rattle.ob0_types_check.proofs.MadeOnce.{Apart, apart_same, apart_then}
 use Rattle.ob0_types_check.proofs.PartsFitting.{PartsFit}
 use Rattle.ob0_types_check.proofs.DeclaredNames.{AreSeen, NamesPlaced, Numbering, SectionsPlaced, after_names-map, names_listed-mapped, scope_following}
 use Rattle.ob0_types_check.proofs.DeclaredShapes.{Longer}
-use Rattle.ob0_types_check.proofs.DeclaredStanding.{Later, NamesStand, Stands, all_defined, defined, formals_kept, later_same, later_then, names_later, holds_defined, holds_kept, holds_later}
+use Rattle.ob0_types_check.proofs.DeclaredKnown.{Later, NamesKnown, IsKnownAt, all_defined, defined, formals_kept, later_same, later_then, names_later, holds_defined, holds_kept, holds_later}
 use Rattle.ob0_types_check.proofs.DeclaredTypes.{none_both, type_denotes}
 
 -- parameters from an ordinal on, each known as a variable
-abbrev pub ParametersStand : List Shape → List (Option (Meaning TypeId)) → ℕ → List Name → List (TypedParameter Name) → Type 0
-ParametersStand shapes declared k [] [] = Unit {0}
-ParametersStand shapes declared k [] (p ∷ ps) = ⊥
-ParametersStand shapes declared k (x ∷ xs) [] = ⊥
-ParametersStand shapes declared k (x ∷ xs) (p ∷ ps) =
-    (p.name ≡ x) × MeansAlike (shape_in shapes) (slice_index_or declared k None) (Some (meant.a_variable p.formal.shape)) × ParametersStand shapes declared (suc k) xs ps
+abbrev pub ParametersKnown : List Shape → List (Option (Meaning TypeId)) → ℕ → List Name → List (TypedParameter Name) → Type 0
+ParametersKnown shapes declared k [] [] = Unit {0}
+ParametersKnown shapes declared k [] (p ∷ ps) = ⊥
+ParametersKnown shapes declared k (x ∷ xs) [] = ⊥
+ParametersKnown shapes declared k (x ∷ xs) (p ∷ ps) =
+    (p.name ≡ x) × MeansAlike (shape_in shapes) (slice_index_or declared k None) (Some (meant.a_variable p.formal.shape)) × ParametersKnown shapes declared (suc k) xs ps
 
 pub parameters_kept : (before after : List Shape) (old new : List (Option (Meaning TypeId))) (k m : ℕ) → Longer before after → ((j : ℕ) → k ≤ j → j < m → slice_index_or new j None ≡ slice_index_or old j None) → (xs : List Name) (ps : List (TypedParameter Name)) → after_names k xs ≤ m
-    → ParametersStand before old k xs ps → ParametersStand after new k xs ps
+    → ParametersKnown before old k xs ps → ParametersKnown after new k xs ps
 parameters_kept before after old new k m longer kept [] [] le h = tt
 parameters_kept before after old new k m longer kept [] (p ∷ ps) le h = absurd h
 parameters_kept before after old new k m longer kept (x ∷ xs) [] le h = absurd h
@@ -48,8 +48,8 @@ parameters_kept before after old new k m longer kept (x ∷ xs) (p ∷ ps) le h 
 )
 
 -- they are above what is
-pub parameters_over : (shapes : List Shape) (declared : List (Option (Meaning TypeId))) (k : ℕ) (scope : Scope Name) (env : TypeEnvironment Name) (xs : List Name) (ps : List (TypedParameter Name)) → NamesStand shapes declared k scope env → ParametersStand shapes declared k xs ps
-    → NamesStand shapes declared (after_names k xs) (declare_names k xs scope) (bind_typed ps env)
+pub parameters_over : (shapes : List Shape) (declared : List (Option (Meaning TypeId))) (k : ℕ) (scope : Scope Name) (env : TypeEnvironment Name) (xs : List Name) (ps : List (TypedParameter Name)) → NamesKnown shapes declared k scope env → ParametersKnown shapes declared k xs ps
+    → NamesKnown shapes declared (after_names k xs) (declare_names k xs scope) (bind_typed ps env)
 parameters_over shapes declared k scope env [] [] below h = below
 parameters_over shapes declared k scope env [] (p ∷ ps) below h = absurd h
 parameters_over shapes declared k scope env (x ∷ xs) [] below h = absurd h
@@ -57,7 +57,7 @@ parameters_over shapes declared k scope env (x ∷ xs) (p ∷ ps) below h =
     parameters_over shapes declared (suc k) ((x, k) ∷ scope) ((p.name, meant.a_variable p.formal.shape) ∷ env) xs ps
     (le_refl (suc k), h.0, h.1, λ le. refl, names_later shapes shapes declared declared k (suc k) (λ t s e. e) (λ j less. refl) (le_of_lt (le_refl (suc k))) scope env below) h.2
 
-parameters_both : (shapes : List Shape) (declared : List (Option (Meaning TypeId))) (k : ℕ) (xs ys : List Name) (ps qs : List (TypedParameter Name)) → ParametersStand shapes declared k xs ps → ParametersStand shapes declared (after_names k xs) ys qs → ParametersStand shapes declared k (xs ++ ys) (ps ++ qs)
+parameters_both : (shapes : List Shape) (declared : List (Option (Meaning TypeId))) (k : ℕ) (xs ys : List Name) (ps qs : List (TypedParameter Name)) → ParametersKnown shapes declared k xs ps → ParametersKnown shapes declared (after_names k xs) ys qs → ParametersKnown shapes declared k (xs ++ ys) (ps ++ qs)
 parameters_both shapes declared k [] ys [] qs h next = next
 parameters_both shapes declared k [] ys (p ∷ ps) qs h next = absurd h
 parameters_both shapes declared k (x ∷ xs) ys [] qs h next = absurd h
@@ -80,10 +80,10 @@ formals_same : (shape : TypeId → Option Shape) (text : ℕ → Name) (by : Boo
 formals_same shape text by t s e [] = tt
 formals_same shape text by t s e (x ∷ xs) = (refl, e, formals_same shape text by t s e xs)
 
-own_stand : (w : Numbering) (p : SoFar) (shapes : List Shape) (n : ℕ) (scope : Scope Name) (env : TypeEnvironment Name) (mode : Mode) (t : TypeId) (s : Shape) (xs : List ℕ) → shape_in shapes t ≡ Some s → Stands w p shapes n scope env → NamesPlaced w n xs
-    → ParametersStand shapes (define_all p (a_variable t) xs).declared n (map (text_at w.source) xs) (map (typed_as mode s) (map (text_at w.source) xs))
-own_stand w p shapes n scope env mode t s [] is st placed = tt
-own_stand w p shapes n scope env mode t s (x ∷ xs) is st placed =
+own_known : (w : Numbering) (p : SoFar) (shapes : List Shape) (n : ℕ) (scope : Scope Name) (env : TypeEnvironment Name) (mode : Mode) (t : TypeId) (s : Shape) (xs : List ℕ) → shape_in shapes t ≡ Some s → IsKnownAt w p shapes n scope env → NamesPlaced w n xs
+    → ParametersKnown shapes (define_all p (a_variable t) xs).declared n (map (text_at w.source) xs) (map (typed_as mode s) (map (text_at w.source) xs))
+own_known w p shapes n scope env mode t s [] is st placed = tt
+own_known w p shapes n scope env mode t s (x ∷ xs) is st placed =
     let q : SoFar = define p (a_variable t) x in
     let o : meant.Object Shape Signature = meant.a_variable s in
     let d = defined w p shapes n (a_variable t) x st.ordinals st.room st.table placed.0 in
@@ -92,7 +92,7 @@ own_stand w p shapes n scope env mode t s (x ∷ xs) is st placed =
     let slot : slice_index_or (define_all q (a_variable t) xs).declared n None ≡ Some (a_variable t) = rest.later.kept n (le_refl (suc n)) ∙ d.here in (
       refl,
       subst (λ z. MeansAlike (shape_in shapes) z (Some o)) (sym slot) (s, is, refl),
-      own_stand w q shapes (suc n) ((text_at w.source x, n) ∷ scope) ((text_at w.source x, o) ∷ env) mode t s xs is next placed.1,
+      own_known w q shapes (suc n) ((text_at w.source x, n) ∷ scope) ((text_at w.source x, o) ∷ env) mode t s xs is next placed.1,
     )
 
 -- parameters from the ordinal n on, after a heading's others
@@ -102,7 +102,7 @@ pub record Parameters (n k l : ℕ) (h g : KnownHeading) (before : List Shape) (
   pub after : List Shape
   pub apart : Apart k l before after
   pub later : Later n h.following g.following before after
-  pub own : ParametersStand after g.following.declared n xs parameters
+  pub own : ParametersKnown after g.following.declared n xs parameters
   pub formals : (signature : Signature) → FormalsAgree (shape_in before) h.formals signature → FormalsAgree (shape_in after) g.formals (signature ++ formals_of parameters)
 
 -- those of one type, and what is known after them
@@ -112,12 +112,12 @@ pub record OneType (w : Numbering) (n m k l : ℕ) (h g : KnownHeading) (before 
   pub after : List Shape
   pub apart : Apart k l before after
   pub later : Later n h.following g.following before after
-  pub holds : Stands w g.following after m scope (bind_names xs (meant.a_variable shape) env)
-  pub own : ParametersStand after g.following.declared n xs (map (typed_as mode shape) xs)
+  pub holds : IsKnownAt w g.following after m scope (bind_names xs (meant.a_variable shape) env)
+  pub own : ParametersKnown after g.following.declared n xs (map (typed_as mode shape) xs)
   pub formals : (signature : Signature) → FormalsAgree (shape_in before) h.formals signature → FormalsAgree (shape_in after) g.formals (signature ++ formals_of (map (typed_as mode shape) xs))
 
 module _ (w : Numbering) (fit : PartsFit) where
-  pub one_type : (by : Bool) (xs : List ℕ) (t : Tree ℕ written_type) (k n : ℕ) (h : KnownHeading) (before : List Shape) (scope : Scope Name) (env : TypeEnvironment Name) → length before ≡ k → Stands w h.following before n scope env → NamesPlaced w n xs → AreSeen w scope t → (reported_type 0 h.following t).faults ≡ []
+  pub one_type : (by : Bool) (xs : List ℕ) (t : Tree ℕ written_type) (k n : ℕ) (h : KnownHeading) (before : List Shape) (scope : Scope Name) (env : TypeEnvironment Name) → length before ≡ k → IsKnownAt w h.following before n scope env → NamesPlaced w n xs → AreSeen w scope t → (reported_type 0 h.following t).faults ≡ []
       → OneType w n (after_names n xs) k (k + constructors (named w.source t)) h (with_parameters h by xs (reported_type 0 h.following t).known) before (scope_following w n xs scope) env (mode_of by) (map (text_at w.source) xs) (denoted (meanings as_names env) k (named w.source t))
   one_type by xs t k n h before scope env at st placed seen none =
       let u : TypedAfter = (reported_type 0 h.following t).known in
@@ -131,7 +131,7 @@ module _ (w : Numbering) (fit : PartsFit) where
         apart = s.apart;
         later = later_then n n h.following u.following (define_all u.following (a_variable u.of) xs) before s.after s.after (le_refl n) s.later all.later;
         holds = all.holds;
-        own = own_stand w u.following s.after n scope env (mode_of by) u.of s.shape xs s.known following placed;
+        own = own_known w u.following s.after n scope env (mode_of by) u.of s.shape xs s.known following placed;
         formals = λ signature agree. formals_both (shape_in s.after) h.formals (map (λ x. record { by_place = by; of = u.of }) xs) signature (formals_of (map (typed_as (mode_of by) s.shape) (map (text_at w.source) xs)))
             (formals_kept before s.after s.later.longer h.formals signature agree) (formals_same (shape_in s.after) (text_at w.source) by u.of s.shape s.known xs);
       }
@@ -154,12 +154,12 @@ module _ (w : Numbering) (fit : PartsFit) where
         later = later_then n (after_names n xs) h.following g.following l.following before one.after rest.after (le-after_names n xs) one.later rest.later;
         own = parameters_both rest.after l.following.declared n (map (text_at w.source) xs) ys own rest.parameters
             (parameters_kept one.after rest.after g.following.declared l.following.declared n last rest.later.longer (λ j from to. rest.later.kept j (subst (λ m. j < m) same to)) (map (text_at w.source) xs) own (le_refl last) one.own)
-            (subst (λ m. ParametersStand rest.after l.following.declared m ys rest.parameters) (sym same) rest.own);
+            (subst (λ m. ParametersKnown rest.after l.following.declared m ys rest.parameters) (sym same) rest.own);
         formals = λ signature agree. subst (FormalsAgree (shape_in rest.after) l.formals) (append_assoc signature (formals_of own) (formals_of rest.parameters) ∙ ap (λ z. signature ++ z) (sym (map-append (λ p. p.formal) own rest.parameters)))
             (rest.formals (signature ++ formals_of own) (one.formals signature agree));
       }
 
-  pub sections_declare : (fs : Tree ℕ (items further_section)) (k n : ℕ) (h : KnownHeading) (before : List Shape) (scope : Scope Name) (env : TypeEnvironment Name) → length before ≡ k → Stands w h.following before n scope env → SectionsPlaced w scope n fs → (reported_sections h fs).faults ≡ []
+  pub sections_declare : (fs : Tree ℕ (items further_section)) (k n : ℕ) (h : KnownHeading) (before : List Shape) (scope : Scope Name) (env : TypeEnvironment Name) → length before ≡ k → IsKnownAt w h.following before n scope env → SectionsPlaced w scope n fs → (reported_sections h fs).faults ≡ []
       → Parameters n k (k + formals_constructors (named w.source fs)) h (reported_sections h fs).known before (map (text_at w.source) (formal_names fs)) (typed_parameters as_names env k (named w.source fs))
   unfolding reported_sections reported_section reported_parameters typed_parameters
   sections_declare end k n h before scope env at st placed none = record {

@@ -4,7 +4,7 @@ use Rattle.ob0_scope_rules.specs.Parts.{names_listed}
 use Rattle.ob0_tree.specs.Tree.{Tree, addend, adds, arguments, array_type, assigns, branches, calls, compares, designator, else_branch, else_part, elsif_branch, elsif_part, empty, end, expression, factor, field, fields, further_argument, further_fields, further_statement, index, integer, items, maybe, more, multiplier, multiplies, named_type, negation, no_arguments, no_fields, none, occurrences, one, parenthesised, product, record_type, relates, repeat_loop, runs, selector, sequence, simple, some_arguments, some_fields, statement, sum, term, then_argument, then_fields, then_statement, while_loop, written_type}
 use Rattle.ob0_types_rules.specs.Arguments.{arguments_listed, further_arguments}
 use Rattle.ob0_types_rules.specs.Expressions.{Meanings, Object, a_constant, a_procedure, a_standard, a_type, a_variable, evaluate}
-use Rattle.ob0_types_rules.specs.Typing.{add_type, array_length, complement_type, constant_of, constant_value, constants_only, denoted, denoted_group, denoted_groups, designated, element_type, field_type, given_value, group_constructors, multiply_type, object_type, relation_type, sign_type, type_at, type_of, type_of_addends, type_of_factor, type_of_multipliers, type_of_name, type_of_simple, type_of_term, with_fields, within_limits}
+use Rattle.ob0_types_rules.specs.Typing.{add_type, array_length, complement_type, constant_of, constant_value, constants_only, denoted, denoted_group, denoted_groups, lone_designator, element_type, field_type, given_value, group_constructors, multiply_type, object_type, relation_type, sign_type, type_at, type_of, type_of_addends, type_of_factor, type_of_multipliers, type_of_name, type_of_simple, type_of_term, with_fields, within_limits}
 use Rattle.ob0_types_rules.specs.WellTyped.{Formal, Mode, Signature, Typed, agree, argument_fits, arguments_fit, by_place, by_value, call_fits, condition_fits, else_fits, elsifs_fit, sequence_fits, signature_of, statement_fits, statements_fit, variable_type}
 use Rattle.ob0_values.specs.Values.{FieldShapes, Shape, Value, array_shape, boolean_shape, record_shape}
 use Rattle.ob0_types_check.proofs.DeclaredNames.{Each}
@@ -131,7 +131,7 @@ module _ {N : Type 0} (P : N → Type 0) (meaning : Typed N) (bound : (x : N) (o
       by-object (Some (a_variable v)) e h = (bound x (a_variable v) e, selectors-bound P meaning bound v path s h)
 
   -- an argument of a VAR parameter is a designator alone
-  place-bound : (e : Tree N expression) (s : Shape) → variable_type meaning (designated e) ≡ Some s → Each P (occurrences e)
+  place-bound : (e : Tree N expression) (s : Shape) → variable_type meaning (lone_designator e) ≡ Some s → Each P (occurrences e)
   unfolding variable_type
   place-bound (compares (sum (Some g) t rest) c) s h = absurd (some-none s (sym h))
   place-bound (compares (sum None (product (integer n) factors) rest) c) s h = absurd (some-none s (sym h))
@@ -148,9 +148,9 @@ module _ {N : Type 0} (P : N → Type 0) (meaning : Typed N) (bound : (x : N) (o
   unfolding argument_fits
   argument-bound f e h = by-mode f.mode h
     where
-      by-mode : (m : Mode) → agree (Some f.shape) (elim m [ by_value ↦ type_of meaning e | by_place ↦ variable_type meaning (designated e) ]) ≡ true → Each P (occurrences e)
+      by-mode : (m : Mode) → agree (Some f.shape) (elim m [ by_value ↦ type_of meaning e | by_place ↦ variable_type meaning (lone_designator e) ]) ≡ true → Each P (occurrences e)
       by-mode by_value h = let (s, own, typed) = agree-equal (Some f.shape) (type_of meaning e) h in expression-bound P meaning bound e s typed
-      by-mode by_place h = let (s, own, typed) = agree-equal (Some f.shape) (variable_type meaning (designated e)) h in place-bound e s typed
+      by-mode by_place h = let (s, own, typed) = agree-equal (Some f.shape) (variable_type meaning (lone_designator e)) h in place-bound e s typed
 
   abbrev EachBound : List (Tree N expression) → Type 0
   EachBound [] = Unit {0}

@@ -24,7 +24,7 @@ use Rattle.ob0_types_check.proofs.MadeOnce.{Apart, apart_made, apart_same, apart
 use Rattle.ob0_types_check.proofs.PartsFitting.{PartsFit}
 use Rattle.ob0_types_check.proofs.DeclaredNames.{AreSeen, IsSeen, Numbering, each_part, names_listed-mapped}
 use Rattle.ob0_types_check.proofs.DeclaredShapes.{GatheredAgrees, SizeAgrees, array_sized, followed, followed-assoc, followed-nothing, gathered_kept, is_limited, last_array, last_record, longer_more, longer_then, names_put, record_sized, size_agrees, table_long, table_more, with_fields-followed}
-use Rattle.ob0_types_check.proofs.DeclaredStanding.{Later, Stands, agrees_where_seen, later_same, later_then, seen_holds, holds_later}
+use Rattle.ob0_types_check.proofs.DeclaredKnown.{Later, IsKnownAt, agrees_where_seen, later_same, later_then, seen_holds, holds_later}
 
 -- where nothing is reported of both, nothing is reported of either
 pub none_both : (xs ys : List Fault) → xs ++ ys ≡ [] → (xs ≡ []) × (ys ≡ [])
@@ -206,7 +206,7 @@ module _ (w : Numbering) (fit : PartsFit) (n : ℕ) (scope : Scope Name) (env : 
   mutual
     unfolding reported_type denoted
 
-    pub type_denotes : (around k : ℕ) (t : Tree ℕ written_type) (p : SoFar) (before : List Shape) → length before + around ≡ k → Stands w p before n scope env → AreSeen w scope t → (reported_type around p t).faults ≡ []
+    pub type_denotes : (around k : ℕ) (t : Tree ℕ written_type) (p : SoFar) (before : List Shape) → length before + around ≡ k → IsKnownAt w p before n scope env → AreSeen w scope t → (reported_type around p t).faults ≡ []
         → Denotes n p before k (k + constructors (named w.source t)) (denoted (meanings as_names env) k (named w.source t)) (reported_type around p t).known
     type_denotes around k (named_type x) p before at st seen e =
         named_denotes n p p before k (k + 0) (omega arith) x ((facts_at p false).object_for x) ((meanings as_names env).object_for (text_at w.source x)) st.table (seen_holds w p false before n scope env st x seen.0) (none_both (type_meant (facts_at p false) x ((facts_at p false).object_for x)).faults [] e).0
@@ -244,7 +244,7 @@ module _ (w : Numbering) (fit : PartsFit) (n : ℕ) (scope : Scope Name) (env : 
         (record_denotes n p before k (suc k + c + d) word ordinal (option_and_then (λ ys. denoted_group (meanings as_names env) (suc k) ys (named w.source g)) (denoted_groups (meanings as_names env) (suc k + group_constructors (named w.source g)) (named w.source rest))) all.known here
         (both_gather n p before (suc k) (suc k + c) (suc k + c + d) no_field_shape (λ ys. denoted_group (meanings as_names env) (suc k) ys (named w.source g)) first.known all.known (denoted_groups (meanings as_names env) (suc k + group_constructors (named w.source g)) (named w.source rest)) one other) b.1)
 
-    pub group_gathers : (around k : ℕ) (t : Tree ℕ fields) (g : Gathered) (before : List Shape) (first : FieldShapes) → length before + around ≡ k → Stands w g.following before n scope env → AreSeen w scope t → GatheredAgrees before g first → (reported_fields around g t).faults ≡ []
+    pub group_gathers : (around k : ℕ) (t : Tree ℕ fields) (g : Gathered) (before : List Shape) (first : FieldShapes) → length before + around ≡ k → IsKnownAt w g.following before n scope env → AreSeen w scope t → GatheredAgrees before g first → (reported_fields around g t).faults ≡ []
         → GroupGathers n g.following before k (k + group_constructors (named w.source t)) first (λ ys. denoted_group (meanings as_names env) k ys (named w.source t)) (reported_fields around g t).known
     group_gathers around k no_fields g before first at st seen agrees h = record { own = no_field_shape; given_is = λ ys. refl; gathers = nothing_more n g before k (k + 0) (omega arith) first st.table agrees }
     group_gathers around k (some_fields ns t) g before first at st seen agrees h =
@@ -253,7 +253,7 @@ module _ (w : Numbering) (fit : PartsFit) (n : ℕ) (scope : Scope Name) (env : 
         names_gather n w g before k (k + constructors (named w.source t)) first (names_listed ns) (map (λ x. x) (names_listed (named w.source ns))) (denoted (meanings as_names env) k (named w.source t)) u.known st.source
         (map-same (names_listed (named w.source ns)) ∙ names_listed-mapped (text_at w.source) (value_at w.source) ns) agrees d
 
-    pub groups_gather : (around k : ℕ) (t : Tree ℕ (items further_fields)) (g : Gathered) (before : List Shape) (first : FieldShapes) → length before + around ≡ k → Stands w g.following before n scope env → AreSeen w scope t → GatheredAgrees before g first → (reported_groups around g t).faults ≡ []
+    pub groups_gather : (around k : ℕ) (t : Tree ℕ (items further_fields)) (g : Gathered) (before : List Shape) (first : FieldShapes) → length before + around ≡ k → IsKnownAt w g.following before n scope env → AreSeen w scope t → GatheredAgrees before g first → (reported_groups around g t).faults ≡ []
         → GroupsGather n g.following before k (k + groups_constructors (named w.source t)) first (denoted_groups (meanings as_names env) k (named w.source t)) (reported_groups around g t).known
     groups_gather around k end g before first at st seen agrees h = record { own = no_field_shape; given_is = refl; gathers = nothing_more n g before k (k + 0) (omega arith) first st.table agrees }
     groups_gather around k (more (then_fields f) rest) g before first at st seen agrees h =

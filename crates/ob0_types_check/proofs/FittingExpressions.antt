@@ -12,13 +12,13 @@ use Rattle.ob0_types_rules.specs.Expressions.{Meanings, a_variable, evaluate, ev
 use Rattle.ob0_types_rules.specs.Selected.{both}
 use Rattle.ob0_types_rules.specs.Typing.{add_type, complement_type, constant_of, constants_only, element_type, field_type, given_value, multiply_type, object_type, relation_type, sign_type, type_at, type_of, type_of_addends, type_of_factor, type_of_multipliers, type_of_simple, type_of_term}
 use Rattle.ob0_types_table.specs.Operators.{product_value, sum_value}
-use Rattle.ob0_values.specs.Values.{Place, Shape, Value, boolean_shape, integer_shape, negated, number, relate}
-use Rattle.ob0_values.specs.Values.{signed as with_sign}
+use Rattle.ob0_values.specs.Values.{Place, Shape, Value, boolean_shape, integer_shape, negate, number, relate}
+use Rattle.ob0_values.specs.Values.{apply_sign as with_sign}
 use Rattle.ob0_types_check.specs.ExpressionFaults.{reported_addends, reported_expression, reported_factor, reported_multipliers, reported_selectors, reported_simple, reported_term}
 use Rattle.ob0_types_check.specs.Known.{Facts, Operand}
 use Rattle.ob0_types_check.specs.Operations.{add_operands, complement_operand, element_selected, field_selected, multiply_operands, name_operand, relate_operands, sign_operand}
 use Rattle.ob0_types_check.specs.Agreement.{TypesAgree}
-use Rattle.ob0_types_check.proofs.Operands.{IsOf, added-fits, complement-of, complemented-fits, element-fits, field-fits, multiplied-fits, none-of, related-fits, relation-of, signed-fits, some-of}
+use Rattle.ob0_types_check.proofs.Operands.{IsOf, added-fits, complement-of, complemented-fits, element-fits, field-fits, multiplied-fits, none-of, related-fits, relation-of, apply_sign-fits, some-of}
 use Rattle.ob0_types_check.proofs.Unreported.{goes-on, none-reported, then-assoc, then-itself}
 use Rattle.ob0_types_check.proofs.Valued.{addend-valued, multiplier-valued, name-valued, negation-valued, parts-valued, related-valued, simple-valued, term-valued}
 
@@ -220,7 +220,7 @@ module _ {T N P : Type 0} (facts : Facts T) (shape : T → Option Shape) (types 
         of = boolean_shape;
         known = known;
         typed = goes-on complement_type (type_of_factor meaning (tree f)) ff.of (Some boolean_shape) ff.typed typed;
-        valued = ap (option_and_then (λ x. given_value (negated x))) ff.valued ∙ sym (negation-valued among (tree f));
+        valued = ap (option_and_then (λ x. given_value (negate x))) ff.valued ∙ sym (negation-valued among (tree f));
         scalar = complement-of (reported_factor facts f).known.value;
       }
 
@@ -286,7 +286,7 @@ module _ {T N P : Type 0} (facts : Facts T) (shape : T → Option Shape) (types 
         let left = none-reported (reported_term facts t).faults _ h in
         let right = none-reported (sign_operand facts g (reported_term facts t).known).faults _ left.1 in
         let ft : FitsTerm t = term-fits t parts.0 left.0 in
-        let (w, known, typed, keeps) = signed-fits facts shape types g (reported_term facts t).known ft.of ft.known right.0 in
+        let (w, known, typed, keeps) = apply_sign-fits facts shape types g (reported_term facts t).known ft.of ft.known right.0 in
         simple-whole g t rest ft w typed (addends-fit (sign_operand facts g (reported_term facts t).known).known w rest known (keeps ft.scalar) parts.1 right.1)
 
     addends-fit : (x : Operand T) (s : Shape) (rest : Tree ℕ (items addend)) → shape x.of ≡ Some s → IsOf s x.value → All rest → (reported_addends facts x rest).faults ≡ [] → FitsAddends x s rest

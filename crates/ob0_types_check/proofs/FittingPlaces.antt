@@ -5,7 +5,7 @@ use Rattle.ob0_tree.specs.declared.tree.Role.TheVariants as role
 use Rattle.ob0_tree.specs.Places.{value_at}
 use Rattle.ob0_tree.specs.Tree.{Sort, Tree, adds, compares, designator, end, expression, factor, identifiers, integer, items, mapped, more, multiplies, negation, none, one, parenthesised, product, relates, selector, sum}
 use Rattle.ob0_types_rules.specs.Expressions.{Meanings, a_variable}
-use Rattle.ob0_types_rules.specs.Typing.{designated, type_at}
+use Rattle.ob0_types_rules.specs.Typing.{lone_designator, type_at}
 use Rattle.ob0_types_rules.specs.WellTyped.{variable_type}
 use Rattle.ob0_values.specs.Values.{Shape}
 use Rattle.ob0_types_check.specs.ExpressionFaults.{reported_expression, reported_factor, reported_selectors, reported_term}
@@ -38,7 +38,7 @@ module _ {T N P : Type 0} (facts : Facts T) (shape : T → Option Shape) (types 
   pub record IsPlaced (o : Operand T) (e : Tree N expression) : Type 0 where
     pub of : Shape
     pub known : shape o.of ≡ Some of
-    pub placed : variable_type meaning (designated e) ≡ Some of
+    pub placed : variable_type meaning (lone_designator e) ≡ Some of
 
   designator-placed : (x : ℕ) (path : Tree ℕ (items selector)) (f : Tree N factor) → NameFits facts shape label meaning x → Agreed path → (reported_selectors facts (name_operand facts x).known path).faults ≡ []
       → (reported_selectors facts (name_operand facts x).known path).known.is_place ≡ true

@@ -10,7 +10,7 @@ use Rattle.ob0_tree.specs.Tree.{Sort, Tree, arguments, assigns, branches, calls,
 use Rattle.ob0_types_rules.specs.Arguments.{arguments_listed, further_arguments}
 use Rattle.ob0_types_rules.specs.Expressions as meant
 use Rattle.ob0_types_rules.specs.Expressions.{Object}
-use Rattle.ob0_types_rules.specs.Typing.{designated, type_of}
+use Rattle.ob0_types_rules.specs.Typing.{lone_designator, type_of}
 use Rattle.ob0_types_rules.specs.WellTyped.{Formal, Signature, Typed, agree, argument_fits, arguments_fit, by_place, by_value, call_fits, condition_fits, else_fits, elsifs_fit, sequence_fits, signature_of, statement_fits, statements_fit, variable_type}
 use Rattle.ob0_values.specs.Values.{Shape, boolean_shape}
 use Rattle.ob0_types_check.specs.ExpressionFaults.{reported_expression}
@@ -104,11 +104,11 @@ module _ {T N : Type 0} (facts : Facts T) (shape : T → Option Shape) (types : 
   passed-fits true of g e o fe mode wanted h =
       let parts = second-reported (not o.is_place) (record { known = facts.types.unknown; faults = at_operand facts code.NotVariable o }) (required facts of o) _ refl h in
       let (given, same) = requested-fits facts shape types of o fe.of g.shape fe.known wanted parts.1 in
-      (λ i. agree (Some g.shape) (elim (mode i) [ by_value ↦ type_of meaning (here e) | by_place ↦ variable_type meaning (designated (here e)) ]))
-      ∙ agree-same g.shape (Some g.shape) (variable_type meaning (designated (here e))) refl (fe.placed (not-false o.is_place parts.0) ∙ ap (λ s. Some s) same)
+      (λ i. agree (Some g.shape) (elim (mode i) [ by_value ↦ type_of meaning (here e) | by_place ↦ variable_type meaning (lone_designator (here e)) ]))
+      ∙ agree-same g.shape (Some g.shape) (variable_type meaning (lone_designator (here e))) refl (fe.placed (not-false o.is_place parts.0) ∙ ap (λ s. Some s) same)
   passed-fits false of g e o fe mode wanted h =
       let (given, same) = requested-fits facts shape types of o fe.of g.shape fe.known wanted h in
-      (λ i. agree (Some g.shape) (elim (mode i) [ by_value ↦ type_of meaning (here e) | by_place ↦ variable_type meaning (designated (here e)) ]))
+      (λ i. agree (Some g.shape) (elim (mode i) [ by_value ↦ type_of meaning (here e) | by_place ↦ variable_type meaning (lone_designator (here e)) ]))
       ∙ agree-same g.shape (Some g.shape) (type_of meaning (here e)) refl (fe.typed ∙ ap (λ s. Some s) same)
 
   argument-fits : (f : known.KnownFormal T) (g : Formal) (e : Tree ℕ expression) → g.mode ≡ mode_of f.by_place → shape f.of ≡ Some g.shape → Agreed e → reported_argument facts f e ≡ [] → argument_fits meaning g (here e) ≡ true

@@ -19,7 +19,7 @@ pub mod DeclaredNames
 pub mod DeclaredModules
 pub mod DeclaredShapes
 pub mod PartsFitting
-pub mod DeclaredStanding
+pub mod DeclaredKnown
 pub mod DeclaredTypes
 pub mod BlocksDeclared
 pub mod BlocksParameters

@@ -13,7 +13,7 @@ use Rattle.ob0_tree.specs.declared.tree.Sign.TheVariants as sign
 use Rattle.ob0_tree.specs.Places.{text_at}
 use Rattle.ob0_types_rules.specs.Selected.{both}
 use Rattle.ob0_types_rules.specs.Typing.{add_type, complement_type, element_type, field_type, given_value, multiply_type, relation_type, shape_of_field, sign_type, value_type}
-use Rattle.ob0_values.specs.Values.{Overflow, Shape, Value, add, add_is_settled, boolean_shape, divided, divided_by, ends, gives, in_range, integer_shape, multiply, multiply_is_settled, negated, number, quotient, relate, remainder, truth}
+use Rattle.ob0_values.specs.Values.{Overflow, Shape, Value, add, add_is_settled, boolean_shape, divided, divided_by, ends, gives, in_range, integer_shape, multiply, multiply_is_settled, negate, number, quotient, relate, remainder, truth}
 use Rattle.ob0_values.specs.Values as values
 use Rattle.ob0_types_check.specs.Known.{Facts, Form, Operand, Reported, a_record, a_scalar, an_array, unknown_form}
 use Rattle.ob0_types_check.specs.Operations.{add_operands, required, required_both, at_operand, complement_operand, element_in, element_selected, field_in, field_selected, fits, found_field, multiply_operands, relate_operands, sign_operand, comparison_type, required_by_add, required_by_equality, required_by_multiply, required_by_relation}
@@ -70,14 +70,14 @@ relate-of relation.Equal (truth a) (truth b) = some-of boolean_shape (truth _) r
 relate-of relation.NotEqual (truth a) (truth b) = some-of boolean_shape (truth _) refl
 relate-of _ _ _ = none-of boolean_shape
 
-signed-of : (s : Sign) (v : Value) → IsOf integer_shape (given_value (values.signed (Some s) v))
-signed-of sign.Plus (number a) = in_range-of a
-signed-of sign.Minus (number a) = in_range-of (neg_ℤ a)
-signed-of _ _ = none-of integer_shape
+apply_sign-of : (s : Sign) (v : Value) → IsOf integer_shape (given_value (values.apply_sign (Some s) v))
+apply_sign-of sign.Plus (number a) = in_range-of a
+apply_sign-of sign.Minus (number a) = in_range-of (neg_ℤ a)
+apply_sign-of _ _ = none-of integer_shape
 
-negated-of : (v : Value) → IsOf boolean_shape (given_value (negated v))
-negated-of (truth b) = some-of boolean_shape (truth _) refl
-negated-of _ = none-of boolean_shape
+negate-of : (v : Value) → IsOf boolean_shape (given_value (negate v))
+negate-of (truth b) = some-of boolean_shape (truth _) refl
+negate-of _ = none-of boolean_shape
 
 then-of : (s : Shape) (f : Value → Option Value) (c : Option Value) → ((v : Value) → c ≡ Some v → IsOf s (f v)) → IsOf s (option_and_then f c)
 then-of s f None each = none-of s
@@ -103,11 +103,11 @@ pub relation-of : (r : Relation) (a b : Option Value) → IsOf boolean_shape (bo
 relation-of r a b =
     then-of boolean_shape (λ x. option_and_then (λ y. given_value (relate r x y)) b) a (λ x e. then-of boolean_shape (λ y. given_value (relate r x y)) b (λ y f. relate-of r x y))
 
-sign-of : (s : Sign) (a : Option Value) → IsOf integer_shape (option_and_then (λ x. given_value (values.signed (Some s) x)) a)
-sign-of s a = then-of integer_shape (λ x. given_value (values.signed (Some s) x)) a (λ x e. signed-of s x)
+sign-of : (s : Sign) (a : Option Value) → IsOf integer_shape (option_and_then (λ x. given_value (values.apply_sign (Some s) x)) a)
+sign-of s a = then-of integer_shape (λ x. given_value (values.apply_sign (Some s) x)) a (λ x e. apply_sign-of s x)
 
-pub complement-of : (a : Option Value) → IsOf boolean_shape (option_and_then (λ x. given_value (negated x)) a)
-complement-of a = then-of boolean_shape (λ x. given_value (negated x)) a (λ x e. negated-of x)
+pub complement-of : (a : Option Value) → IsOf boolean_shape (option_and_then (λ x. given_value (negate x)) a)
+complement-of a = then-of boolean_shape (λ x. given_value (negate x)) a (λ x e. negate-of x)
 
 add-typed : (o : AddOperator) → add_type o (shape_added o) (shape_added o) ≡ Some (shape_added o)
 add-typed add_operator.Add = refl
@@ -204,10 +204,10 @@ module _ {T : Type 0} (facts : Facts T) (shape : T → Option Shape) (types : Ty
       let (known, left, right) = both-requested (required_by_relation facts.types r a.of) a b s t w hs ht hw (none-reported _ _ h).0 in
       (ap (λ u. shape (comparison_type facts.types u)) known ∙ truth-known (required_by_relation facts.types r a.of) w hw, (λ i. relation_type r (left i) (right i)) ∙ typed)
 
-  pub signed-fits : (g : Option Sign) (o : Operand T) (s : Shape) → shape o.of ≡ Some s → (sign_operand facts g o).faults ≡ []
+  pub apply_sign-fits : (g : Option Sign) (o : Operand T) (s : Shape) → shape o.of ≡ Some s → (sign_operand facts g o).faults ≡ []
       → (w : Shape) × (shape (sign_operand facts g o).known.of ≡ Some w) × (sign_type g s ≡ Some w) × (IsOf s o.value → IsOf w (sign_operand facts g o).known.value)
-  signed-fits None o s hs h = (s, hs, refl, λ has_value. has_value)
-  signed-fits (Some g) o s hs h =
+  apply_sign-fits None o s hs h = (s, hs, refl, λ has_value. has_value)
+  apply_sign-fits (Some g) o s hs h =
       let (known, right) = requested-fits facts.types.integer o s integer_shape hs types.integer (none-reported _ _ h).0 in
       (integer_shape, ap shape known ∙ types.integer, ap (sign_type (Some g)) right ∙ sign-typed g, λ has_value. sign-of g o.value)
 

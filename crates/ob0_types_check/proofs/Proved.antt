@@ -11,7 +11,7 @@ use Rattle.ob0_types_check.specs.ExpressionFaults.{reported_expression}
 use Rattle.ob0_types_check.specs.Known.{Facts, Operand}
 use Rattle.ob0_types_check.specs.Operations.{required, right}
 use Rattle.ob0_types_check.specs.SoFar.{facts_at}
-use Rattle.ob0_types_check.specs.TypeFaults.{evaluated, in_bounds, length_given, length_of, reported_constant, valued}
+use Rattle.ob0_types_check.specs.TypeFaults.{operand_value, in_bounds, length_given, length_of, reported_constant, valued}
 use Rattle.ob0_types_check.specs.Agreement.{Agrees, TypesAgree, shape_in}
 use Rattle.ob0_types_check.specs.ReportLaws.{ConstantsFit, ExpressionsFit, LengthsFit, OperandFits, meaning_here}
 use Rattle.ob0_types_check.proofs.FittingExpressions.{FitsExpression, expression-fits}
@@ -52,17 +52,17 @@ module _ {T N : Type 0} (facts : Facts T) (shape : T → Option Shape) (label : 
       }
 
 -- a value that is reported of nothing is there
-pub record IsWorth {T : Type 0} (o : Operand T) (reported : Option Value) : Type 0 where
+pub record HasReportedValue {T : Type 0} (o : Operand T) (reported : Option Value) : Type 0 where
   pub value : Value
   pub known : reported ≡ Some value
   pub there : o.value ≡ Some value
 
-value-there : {T : Type 0} (facts : Facts T) (o : Operand T) (c : Option Value) → o.value ≡ c → (valued facts o c).faults ≡ [] → IsWorth o (valued facts o c).known
+value-there : {T : Type 0} (facts : Facts T) (o : Operand T) (c : Option Value) → o.value ≡ c → (valued facts o c).faults ≡ [] → HasReportedValue o (valued facts o c).known
 value-there facts o None e h = absurd (cc)
 value-there facts o (Some v) e h = record { value = v; known = refl; there = e }
 
-pub evaluated-there : {T : Type 0} (facts : Facts T) (o : Operand T) → facts.types.same o.of facts.types.unknown ≡ false → (evaluated facts o).faults ≡ [] → IsWorth o (evaluated facts o).known
-evaluated-there facts o known h =
+pub operand_value-there : {T : Type 0} (facts : Facts T) (o : Operand T) → facts.types.same o.of facts.types.unknown ≡ false → (operand_value facts o).faults ≡ [] → HasReportedValue o (operand_value facts o).known
+operand_value-there facts o known h =
     let w = value-there facts o o.value refl (sym (ap (λ b. (if b then right None else valued facts o o.value).faults) known) ∙ h) in
     record { value = w.value; known = ap (λ b. (if b then right None else valued facts o o.value).known) known ∙ w.known; there = w.there }
 
@@ -73,7 +73,7 @@ constants_fit-holds p shapes label meaning e agrees h =
     let parts = none-reported (reported_expression facts e).faults _ h in
     let c = constant-known facts (shape_in shapes) label meaning e agrees refl parts.0 in
     let o : Operand _ = (reported_expression facts e).known in
-    let w = evaluated-there facts o (not-true (facts.types.same o.of facts.types.unknown) (is-known facts (shape_in shapes) agrees.types o.of c.of c.known)) parts.1 in
+    let w = operand_value-there facts o (not-true (facts.types.same o.of facts.types.unknown) (is-known facts (shape_in shapes) agrees.types o.of c.of c.known)) parts.1 in
     record { value = w.value; known = w.known; given = c.given w.value w.there; scalar = ap is_some (c.scalar w.value w.there) }
 
 pub expressions_fit-holds : {N : Type 0} → ExpressionsFit N

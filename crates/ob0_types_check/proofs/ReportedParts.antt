@@ -8,7 +8,7 @@ use Rattle.ob0_tree.specs.View.{items_of, selector_of}
 use Rattle.ob0_types_check.specs.Known.{Facts, Operand, Reported}
 use Rattle.ob0_types_check.specs.ExpressionFaults.{reported_addends, reported_expression, reported_factor, reported_multipliers, reported_selector, reported_selectors, reported_simple, reported_term}
 use Rattle.ob0_types_check.specs.Operations.{a_number, add_operands, complement_operand, element_selected, enclosed, field_selected, multiply_operands, name_operand, relate_operands, right, sign_operand, ◌>>=◌}
-use Rattle.ob0_types_check.specs.TypeFaults.{evaluated, reported_constant}
+use Rattle.ob0_types_check.specs.TypeFaults.{operand_value, reported_constant}
 use Rattle.ob0_types_check.proofs.Chains.{IsChain, reported_equal, then_assoc}
 
 -- one more operand
@@ -104,6 +104,6 @@ module _ {T : Type 0} (facts : Facts T) where
   nothing_selected x [] e = selected_ended x
   nothing_selected x (s ∷ xs) e = absurd (omega arith)
 
-  pub constant_reported : (e : Tree ℕ expression) → reported_constant facts e ≡ (reported_expression facts e >>= evaluated facts)
+  pub constant_reported : (e : Tree ℕ expression) → reported_constant facts e ≡ (reported_expression facts e >>= operand_value facts)
   unfolding reported_constant
   constant_reported e = refl

@@ -11,7 +11,7 @@ use Rattle.ob0_types_check.specs.ExpressionFaults.{reported_expression}
 use Rattle.ob0_types_check.specs.Known.{Facts, Operand}
 use Rattle.ob0_types_check.specs.Operations.{required, right}
 use Rattle.ob0_types_check.specs.SoFar.{facts_at}
-use Rattle.ob0_types_check.specs.TypeFaults.{evaluated, in_bounds, length_given, length_of, reported_constant, valued}
+use Rattle.ob0_types_check.specs.TypeFaults.{operand_value, in_bounds, length_given, length_of, reported_constant, valued}
 use Rattle.ob0_types_check.specs.Agreement.{Agrees, shape_in}
 use Rattle.ob0_types_check.specs.WellTypedLaws.{NoFaultInConstants, NoFaultInExpressions, NoFaultInLengths}
 use Rattle.ob0_types_check.proofs.FittingExpressions.{FitsExpression, expression-fits}
@@ -59,9 +59,9 @@ module _ {T N : Type 0} (facts : Facts T) (shape : T → Option Shape) (apart : 
       let value : (reported_expression facts e).known.value ≡ Some v = fe.valued ∙ (ap (λ m. given_value (evaluate {P = Unit {0}} m [] here)) (constants-again meaning) ∙ given) in
       record { none = none; of = fe.of; known = fe.known; value = value; scalar = fe.scalar v value }
 
-evaluated-right : {T : Type 0} (facts : Facts T) (o : Operand T) (b : Bool) (c : Option Value) (v : Value) → c ≡ Some v → (if b then right None else valued facts o c).faults ≡ []
-evaluated-right facts o true c v h = refl
-evaluated-right facts o false c v h = ap (λ c. (valued facts o c).faults) h
+operand_value-right : {T : Type 0} (facts : Facts T) (o : Operand T) (b : Bool) (c : Option Value) (v : Value) → c ≡ Some v → (if b then right None else valued facts o c).faults ≡ []
+operand_value-right facts o true c v h = refl
+operand_value-right facts o false c v h = ap (λ c. (valued facts o c).faults) h
 
 bounds-right : {T : Type 0} (facts : Facts T) (o : Operand T) (b : Bool) (c : Option Value) (v : Value) (n : ℕ) → c ≡ Some v → array_length v ≡ Some n → (if b then length_given facts o c else right None).faults ≡ []
 bounds-right facts o true c v n h k = ap (λ c. (length_given facts o c).faults) h ∙ ap (λ m. (in_bounds facts o m).faults) k
@@ -90,7 +90,7 @@ no_fault_in_constants-holds p shapes label meaning e agrees h =
     let (v, hv) = is-there (constant_value meaning (mapped label (value_at p.source) e)) h in
     let c = value-known facts (shape_in shapes) (types-apart p.made shapes) label meaning e agrees refl v hv in
     let o : Operand _ = (reported_expression facts e).known in
-    none-of-both (reported_expression facts e).faults (evaluated facts o).faults c.none (evaluated-right facts o (facts.types.same o.of facts.types.unknown) o.value v c.value)
+    none-of-both (reported_expression facts e).faults (operand_value facts o).faults c.none (operand_value-right facts o (facts.types.same o.of facts.types.unknown) o.value v c.value)
 
 pub no_fault_in_lengths-holds : {N : Type 0} → NoFaultInLengths N
 no_fault_in_lengths-holds p shapes label meaning e agrees h =

@@ -19,14 +19,14 @@ use Rattle.ob0_types_check.specs.WrittenTypeFaults.{reported_type}
 use Rattle.ob0_types_check.specs.WellTypedLaws.{EachOnce}
 use Rattle.ob0_types_check.proofs.BlocksParameters.{one_type, typed_as}
 use Rattle.ob0_types_check.proofs.DeclaredNames.{AreSeen, ConstantsPlaced, Numbering, SectionsPlaced, TypesPlaced, VariablesPlaced, names_listed-mapped, scope_following}
-use Rattle.ob0_types_check.proofs.DeclaredStanding.{Stands, agrees_where_seen, all_defined, defined, holds_defined, holds_later}
+use Rattle.ob0_types_check.proofs.DeclaredKnown.{IsKnownAt, agrees_where_seen, all_defined, defined, holds_defined, holds_later}
 use Rattle.ob0_types_check.proofs.DeclaredTypes.{type_denotes}
 use Rattle.ob0_types_check.proofs.PartsFitting.{PartsFit}
 use Rattle.ob0_types_check.proofs.TypedOperands.{and-then, none-of-both}
 use Rattle.ob0_types_check.proofs.TypedTypes.{PartsRight, given-again, some-there, type_right}
 
 module _ (w : Numbering) (fit : PartsFit) (fine : PartsRight) where
-  pub constants_right : (cs : Tree ℕ (items constant)) (n : ℕ) (p : SoFar) (before : List Shape) (scope : Scope Name) (env : TypeEnvironment Name) → Stands w p before n scope env → ConstantsPlaced w scope n cs
+  pub constants_right : (cs : Tree ℕ (items constant)) (n : ℕ) (p : SoFar) (before : List Shape) (scope : Scope Name) (env : TypeEnvironment Name) → IsKnownAt w p before n scope env → ConstantsPlaced w scope n cs
       → (after : TypeEnvironment Name) → declare_constants as_names env (named w.source cs) ≡ Some after → (reported_constants p cs).faults ≡ []
   unfolding reported_constants constant_declared declare_constants
   constants_right end n p before scope env st placed after h = refl
@@ -47,7 +47,7 @@ module _ (w : Numbering) (fit : PartsFit) (fine : PartsRight) where
       none-of-both (t.faults ++ []) (reported_constants q cs).faults (none-of-both t.faults [] unreported refl)
       (constants_right cs (suc n) q before ((text_at w.source x, n) ∷ scope) ((text_at w.source x, meant.a_constant c.value) ∷ env) following placed.2 after (given-again next value c.value (Some after) given h))
 
-  pub types_right : (ds : Tree ℕ (items type_name)) (k n : ℕ) (p : SoFar) (before : List Shape) (scope : Scope Name) (env : TypeEnvironment Name) → length before ≡ k → Stands w p before n scope env → TypesPlaced w scope n ds
+  pub types_right : (ds : Tree ℕ (items type_name)) (k n : ℕ) (p : SoFar) (before : List Shape) (scope : Scope Name) (env : TypeEnvironment Name) → length before ≡ k → IsKnownAt w p before n scope env → TypesPlaced w scope n ds
       → (after : TypeEnvironment Name) → declare_types as_names env k (named w.source ds) ≡ Some after → (reported_types p ds).faults ≡ []
   unfolding reported_types type_declared declare_types
   types_right end k n p before scope env at st placed after h = refl
@@ -65,7 +65,7 @@ module _ (w : Numbering) (fit : PartsFit) (fine : PartsRight) where
       none-of-both (u.faults ++ []) (reported_types q ds).faults (none-of-both u.faults [] unreported refl)
       (types_right ds (k + constructors (named w.source t)) (suc n) q s.after ((text_at w.source x, n) ∷ scope) ((text_at w.source x, meant.a_type s.shape) ∷ env) (omega (arith, at, s.apart.counted)) next_holds placed.2 after (given-again next given s.shape (Some after) s.given_is h))
 
-  pub variables_right : (gs : Tree ℕ (items variable)) (k n : ℕ) (p : SoFar) (before : List Shape) (scope : Scope Name) (env : TypeEnvironment Name) → length before ≡ k → Stands w p before n scope env → VariablesPlaced w scope n gs
+  pub variables_right : (gs : Tree ℕ (items variable)) (k n : ℕ) (p : SoFar) (before : List Shape) (scope : Scope Name) (env : TypeEnvironment Name) → length before ≡ k → IsKnownAt w p before n scope env → VariablesPlaced w scope n gs
       → (after : TypeEnvironment Name) → declare_typed as_names k (named w.source gs) env ≡ Some after → (reported_variables p gs).faults ≡ []
   unfolding reported_variables variables_declared declare_typed
   variables_right end k n p before scope env at st placed after h = refl
@@ -89,7 +89,7 @@ module _ (w : Numbering) (fit : PartsFit) (fine : PartsRight) where
   abbrev after_section : Mode → List Name → TypeEnvironment Name → ℕ → Tree Name (items further_section) → Shape → Option (List (TypedParameter Name))
   after_section mode ys env k fs s = option_and_then (λ rest. Some (map (typed_as mode s) ys ++ rest)) (typed_parameters as_names (bind_names ys (meant.a_variable s) env) k fs)
 
-  pub sections_right : (fs : Tree ℕ (items further_section)) (k n : ℕ) (h : KnownHeading) (before : List Shape) (scope : Scope Name) (env : TypeEnvironment Name) → length before ≡ k → Stands w h.following before n scope env → SectionsPlaced w scope n fs
+  pub sections_right : (fs : Tree ℕ (items further_section)) (k n : ℕ) (h : KnownHeading) (before : List Shape) (scope : Scope Name) (env : TypeEnvironment Name) → length before ≡ k → IsKnownAt w h.following before n scope env → SectionsPlaced w scope n fs
       → (ps : List (TypedParameter Name)) → typed_parameters as_names env k (named w.source fs) ≡ Some ps → (reported_sections h fs).faults ≡ []
   unfolding reported_sections reported_section reported_parameters typed_parameters
   sections_right end k n h before scope env at st placed ps e = refl
@@ -124,7 +124,7 @@ module _ (w : Numbering) (fit : PartsFit) (fine : PartsRight) where
       none-of-both (u.faults ++ []) (reported_sections g fs).faults (none-of-both u.faults [] unreported refl)
       (sections_right fs j (after_names n xs) g one.after (scope_following w n xs scope) (bind_names (map (text_at w.source) xs) (meant.a_variable one.shape) env) (omega (arith, at, one.apart.counted)) one.holds placed.2 rest hrest)
 
-  pub body_right : (statements : Tree ℕ (maybe body)) (n : ℕ) (p : SoFar) (before : List Shape) (scope : Scope Name) (env : TypeEnvironment Name) → Stands w p before n scope env → EachOnce before → AreSeen w scope statements
+  pub body_right : (statements : Tree ℕ (maybe body)) (n : ℕ) (p : SoFar) (before : List Shape) (scope : Scope Name) (env : TypeEnvironment Name) → IsKnownAt w p before n scope env → EachOnce before → AreSeen w scope statements
       → body_fits as_names env (named w.source statements) ≡ true → (reported_body p statements).faults ≡ []
   unfolding reported_body body_fits
   body_right none n p before scope env st once seen h = refl

@@ -12,8 +12,8 @@ use Rattle.ob0_types_check.specs.Known.{Facts, Operand}
 use Rattle.ob0_types_check.specs.Operations.{add_operands, element_selected, field_selected, multiply_operands, name_operand, sign_operand}
 use Rattle.ob0_types_check.specs.Agreement.{TypesAgree}
 use Rattle.ob0_types_check.proofs.FittingExpressions.{Fits, FitsExpression, FitsFactor, FitsSimple, FitsTerm, NameFits, TokensFit, expression-fits, factor-fits, simple-fits, split-tokens, term-fits}
-use Rattle.ob0_types_check.proofs.Operands.{added-fits, element-fits, field-fits, multiplied-fits, signed-fits}
-use Rattle.ob0_types_check.proofs.TypedOperands.{TypesApart, added-right, and-then, complemented-right, element-right, field-right, multiplied-right, none-of-both, related-right, signed-right}
+use Rattle.ob0_types_check.proofs.Operands.{added-fits, element-fits, field-fits, multiplied-fits, apply_sign-fits}
+use Rattle.ob0_types_check.proofs.TypedOperands.{TypesApart, added-right, and-then, complemented-right, element-right, field-right, multiplied-right, none-of-both, related-right, apply_sign-right}
 
 -- what is known of an operand is its type
 known-as : {T : Type 0} {shape : T → Option Shape} {o : Operand T} {type : Option Shape} {value : Option Value} (s : Shape) → Fits shape o type value → type ≡ Some s → shape o.of ≡ Some s
@@ -78,8 +78,8 @@ module _ {T N P : Type 0} (facts : Facts T) (shape : T → Option Shape) (types 
         let left = term-right t parts.0 u hu in
         let ft : FitsTerm facts shape types label meaning t = term-fits facts shape types label meaning t parts.0.0 left in
         let ht = known-as u ft hu in
-        let mid = signed-right facts shape types apart g (reported_term facts t).known u v hv ht in
-        let (w, known, typed, keeps) = signed-fits facts shape types g (reported_term facts t).known u ht mid in
+        let mid = apply_sign-right facts shape types apart g (reported_term facts t).known u v hv ht in
+        let (w, known, typed, keeps) = apply_sign-fits facts shape types g (reported_term facts t).known u ht mid in
         none-of-both (reported_term facts t).faults _ left
         (none-of-both (sign_operand facts g (reported_term facts t).known).faults _ mid (addends-right (sign_operand facts g (reported_term facts t).known).known v rest (known ∙ (sym typed ∙ hv)) parts.1 s last))
 

@@ -19,7 +19,7 @@ use Rattle.ob0_types_check.proofs.BlocksFit.{declarations_reported, first_holds,
 use Rattle.ob0_types_check.proofs.BoundModules.{held, names_bound-holds}
 use Rattle.ob0_types_check.proofs.DeclaredModules.{module_placed, numbering_of}
 use Rattle.ob0_types_check.proofs.DeclaredNames.{BlockPlaced, Numbering, ProcedurePlaced, ProceduresPlaced, following_constants, following_procedure, following_types, following_variables, constants-mapped, formals-mapped, scope_following, types-mapped, variables-mapped}
-use Rattle.ob0_types_check.proofs.DeclaredStanding.{Stands, later_same, holds_later}
+use Rattle.ob0_types_check.proofs.DeclaredKnown.{IsKnownAt, later_same, holds_later}
 use Rattle.ob0_types_check.proofs.EqualShapes.{each-true}
 use Rattle.ob0_types_check.proofs.MadeOnce.{Fresh, fresh_after, fresh_first}
 use Rattle.ob0_types_check.proofs.PartsFitting.{PartsFit, parts_fit}
@@ -36,7 +36,7 @@ module _ (w : Numbering) (fit : PartsFit) (fine : PartsRight) where
   mutual
     unfolding reported_block block_fits declare_first
 
-    pub block_right : (b : Tree ℕ block) (k n : ℕ) (p : SoFar) (before : List Shape) (scope : Scope Name) (env : TypeEnvironment Name) → Stands w p before n scope env → Fresh k before → BlockPlaced w scope n b
+    pub block_right : (b : Tree ℕ block) (k n : ℕ) (p : SoFar) (before : List Shape) (scope : Scope Name) (env : TypeEnvironment Name) → IsKnownAt w p before n scope env → Fresh k before → BlockPlaced w scope n b
         → block_fits as_names env k (named w.source b) ≡ true → (reported_block p b).faults ≡ []
     block_right (has_body (declares cs ts vs ps) statements) k n p before scope env st fresh placed h =
         let text : ℕ → Name = text_at w.source in
@@ -71,7 +71,7 @@ module _ (w : Numbering) (fit : PartsFit) (fine : PartsRight) where
         (none-of-both t₂.faults (t₃.faults ++ (t₄.faults ++ (reported_body t₄.known statements).faults)) none₂
         (none-of-both t₃.faults (t₄.faults ++ (reported_body t₄.known statements).faults) none₃ (none-of-both t₄.faults (reported_body t₄.known statements).faults rest.0 rest.1)))
 
-    procedures_right : (ps : Tree ℕ (items procedure)) (statements : Tree ℕ (maybe body)) (k n : ℕ) (p : SoFar) (before : List Shape) (scope : Scope Name) (env : TypeEnvironment Name) → Stands w p before n scope env → Fresh k before → ProceduresPlaced w scope n statements ps
+    procedures_right : (ps : Tree ℕ (items procedure)) (statements : Tree ℕ (maybe body)) (k n : ℕ) (p : SoFar) (before : List Shape) (scope : Scope Name) (env : TypeEnvironment Name) → IsKnownAt w p before n scope env → Fresh k before → ProceduresPlaced w scope n statements ps
         → procedures_fit as_names env k (named w.source statements) (named w.source ps) ≡ true → ((reported_procedures p ps).faults ≡ []) × ((reported_body (reported_procedures p ps).known statements).faults ≡ [])
     procedures_right end statements k n p before scope env st fresh placed h = (refl, body_right w fit fine statements n p before scope env st fresh.once placed h)
     procedures_right (more d rest) statements k n p before scope env st fresh placed h =
@@ -88,7 +88,7 @@ module _ (w : Numbering) (fit : PartsFit) (fine : PartsRight) where
         (fresh_after k (k + procedure_constructors nd) before f.after f.apart fresh) placed.1 both.1 in
         (none-of-both (reported_procedure p d).faults (reported_procedures q rest).faults none last.0, last.1)
 
-    procedure_right : (d : Tree ℕ (item procedure)) (k n : ℕ) (p : SoFar) (before : List Shape) (scope : Scope Name) (env : TypeEnvironment Name) → Stands w p before n scope env → Fresh k before → ProcedurePlaced w scope n d
+    procedure_right : (d : Tree ℕ (item procedure)) (k n : ℕ) (p : SoFar) (before : List Shape) (scope : Scope Name) (env : TypeEnvironment Name) → IsKnownAt w p before n scope env → Fresh k before → ProcedurePlaced w scope n d
         → (ps : List (TypedParameter Name)) → typed_parameters as_names env k (procedure_formals (named w.source d)) ≡ Some ps
         → procedure_fits as_names (bind_typed ps (heading (procedure_name (named w.source d)) ps env)) k (named w.source d) ≡ true → (reported_procedure p d).faults ≡ []
     procedure_right (declares_procedure x fs b closing) k n p before scope env st fresh placed ps hp h =

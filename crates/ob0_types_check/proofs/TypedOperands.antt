@@ -122,9 +122,9 @@ module _ {T : Type 0} (facts : Facts T) (shape : T → Option Shape) (types : Ty
   sign-required sign.Minus integer_shape w e = refl
   sign-required _ _ w e = absurd (cc)
 
-  pub signed-right : (g : Option Sign) (o : Operand T) (s w : Shape) → sign_type g s ≡ Some w → shape o.of ≡ Some s → (sign_operand facts g o).faults ≡ []
-  signed-right None o s w e h = refl
-  signed-right (Some g) o s w e h =
+  pub apply_sign-right : (g : Option Sign) (o : Operand T) (s w : Shape) → sign_type g s ≡ Some w → shape o.of ≡ Some s → (sign_operand facts g o).faults ≡ []
+  apply_sign-right None o s w e h = refl
+  apply_sign-right (Some g) o s w e h =
       none-of-both (required facts facts.types.integer o).faults [] (required-right facts.types.integer o (apart.integer o.of (h ∙ ap Some (sign-required g s w e)))) refl
 
   complement-required : (s w : Shape) → complement_type s ≡ Some w → s ≡ boolean_shape

@@ -11,7 +11,7 @@ use Rattle.ob0_tree.specs.Tree.{Sort, Tree, adds, arguments, assigns, branches, 
 use Rattle.ob0_types_rules.specs.Arguments.{arguments_listed}
 use Rattle.ob0_types_rules.specs.Expressions as meant
 use Rattle.ob0_types_rules.specs.Expressions.{Object}
-use Rattle.ob0_types_rules.specs.Typing.{designated, object_type, type_at, type_of, type_of_factor}
+use Rattle.ob0_types_rules.specs.Typing.{lone_designator, object_type, type_at, type_of, type_of_factor}
 use Rattle.ob0_types_rules.specs.WellTyped.{Formal, Signature, Typed, agree, argument_fits, arguments_fit, by_place, by_value, call_fits, condition_fits, else_fits, elsifs_fit, sequence_fits, signature_of, statement_fits, statements_fit, variable_type}
 use Rattle.ob0_values.specs.Values.{Shape, array_shape, boolean_shape, integer_shape, record_shape}
 use Rattle.ob0_types_check.specs.ExpressionFaults.{reported_expression}
@@ -86,7 +86,7 @@ module _ {T N : Type 0} (facts : Facts T) (shape : T → Option Shape) (types : 
   unfolding variable_type
   no-designator s h = absurd (some-none s (sym h))
 
-  place-known : (e : Tree ℕ expression) → Named e → (s : Shape) → variable_type meaning (designated (here e)) ≡ Some s → IsPlace e s
+  place-known : (e : Tree ℕ expression) → Named e → (s : Shape) → variable_type meaning (lone_designator (here e)) ≡ Some s → IsPlace e s
   unfolding reported_expression type_of variable_type
   place-known (compares (sum (Some g) t rest) c) k s h = no-designator s h
   place-known (compares (sum None (product (integer n) factors) rest) c) k s h = no-designator s h
@@ -108,14 +108,14 @@ module _ {T N : Type 0} (facts : Facts T) (shape : T → Option Shape) (types : 
   unfolding argument_fits
   passed-right true of g e mode wanted k h =
       let o : Operand T = (reported_expression facts e).known in
-      let (s, own, given) = agree-equal (Some g.shape) (variable_type meaning (designated (here e))) (sym (λ i. agree (Some g.shape) (elim (mode i) [ by_value ↦ type_of meaning (here e) | by_place ↦ variable_type meaning (designated (here e)) ])) ∙ h) in
+      let (s, own, given) = agree-equal (Some g.shape) (variable_type meaning (lone_designator (here e))) (sym (λ i. agree (Some g.shape) (elim (mode i) [ by_value ↦ type_of meaning (here e) | by_place ↦ variable_type meaning (lone_designator (here e)) ])) ∙ h) in
       let p : IsPlace e g.shape = place-known e k g.shape (given ∙ sym own) in
       none-of-both (reported_expression facts e).faults _ (expression-typed facts shape types apart only label meaning e k g.shape p.typed)
       (ap (λ b. (if not b then record { known = facts.types.unknown; faults = at_operand facts code.NotVariable o } else required facts of o).faults) p.placed
       ∙ required-right facts shape types apart of o (alike o.of of g.shape (operand-typed facts shape types apart only label meaning e k g.shape p.typed) wanted))
   passed-right false of g e mode wanted k h =
       let o : Operand T = (reported_expression facts e).known in
-      let (s, own, given) = agree-equal (Some g.shape) (type_of meaning (here e)) (sym (λ i. agree (Some g.shape) (elim (mode i) [ by_value ↦ type_of meaning (here e) | by_place ↦ variable_type meaning (designated (here e)) ])) ∙ h) in
+      let (s, own, given) = agree-equal (Some g.shape) (type_of meaning (here e)) (sym (λ i. agree (Some g.shape) (elim (mode i) [ by_value ↦ type_of meaning (here e) | by_place ↦ variable_type meaning (lone_designator (here e)) ])) ∙ h) in
       let typed : type_of meaning (here e) ≡ Some g.shape = given ∙ sym own in
       none-of-both (reported_expression facts e).faults _ (expression-typed facts shape types apart only label meaning e k g.shape typed)
       (required-right facts shape types apart of o (alike o.of of g.shape (operand-typed facts shape types apart only label meaning e k g.shape typed) wanted))

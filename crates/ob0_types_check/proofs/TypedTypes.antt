@@ -22,7 +22,7 @@ use Rattle.ob0_types_check.specs.Agreement.{MeansAlike, shape_in}
 use Rattle.ob0_types_check.specs.WellTypedLaws.{NoFaultInConstants, NoFaultInLengths, NoFaultInStatements}
 use Rattle.ob0_types_check.proofs.DeclaredNames.{AreSeen, IsSeen, Numbering, each_part}
 use Rattle.ob0_types_check.proofs.DeclaredShapes.{GatheredAgrees, SizeAgrees, array_sized, followed, record_sized, size_agrees}
-use Rattle.ob0_types_check.proofs.DeclaredStanding.{Stands, agrees_where_seen, seen_holds, holds_later}
+use Rattle.ob0_types_check.proofs.DeclaredKnown.{IsKnownAt, agrees_where_seen, seen_holds, holds_later}
 use Rattle.ob0_types_check.proofs.DeclaredTypes.{array_given, both_gather, group_gathers, grouped, groups_gather, none_both, nothing_agrees, of_limits, type_denotes}
 use Rattle.ob0_types_check.proofs.PartsFitting.{PartsFit}
 use Rattle.ob0_types_check.proofs.TypedConstants.{no_fault_in_constants-holds, no_fault_in_lengths-holds}
@@ -85,7 +85,7 @@ module _ (w : Numbering) (fit : PartsFit) (fine : PartsRight) (n : ℕ) (scope :
   mutual
     unfolding reported_type denoted
 
-    pub type_right : (around k : ℕ) (t : Tree ℕ written_type) (p : SoFar) (before : List Shape) → length before + around ≡ k → Stands w p before n scope env → AreSeen w scope t → (s : Shape) → denoted (meanings as_names env) k (named w.source t) ≡ Some s → (reported_type around p t).faults ≡ []
+    pub type_right : (around k : ℕ) (t : Tree ℕ written_type) (p : SoFar) (before : List Shape) → length before + around ≡ k → IsKnownAt w p before n scope env → AreSeen w scope t → (s : Shape) → denoted (meanings as_names env) k (named w.source t) ≡ Some s → (reported_type around p t).faults ≡ []
     type_right around k (named_type x) p before at st seen s h =
         none-of-both (type_meant (facts_at p false) x ((facts_at p false).object_for x)).faults []
         (meant-right p before x ((facts_at p false).object_for x) ((meanings as_names env).object_for (text_at w.source x)) (seen_holds w p false before n scope env st x seen.0) s h) refl
@@ -135,13 +135,13 @@ module _ (w : Numbering) (fit : PartsFit) (fine : PartsRight) (n : ℕ) (scope :
         let small = is-within (record_size all.known.size) (record_shape k whole.own) s (record_sized whole.gathers.after all.known k whole.own whole.gathers.agrees) limited in
         none-of-both first.faults _ none (none-of-both all.faults (record_made word (ordinal_here around p) all.known).faults rests (make-right all.known.following word (ordinal_here around p) (so_far.of_fields all.known.fields) (record_size all.known.size) small))
 
-    group_right : (around k : ℕ) (t : Tree ℕ fields) (g : Gathered) (before : List Shape) → length before + around ≡ k → Stands w g.following before n scope env → AreSeen w scope t → (later fs : FieldShapes) → denoted_group (meanings as_names env) k later (named w.source t) ≡ Some fs → (reported_fields around g t).faults ≡ []
+    group_right : (around k : ℕ) (t : Tree ℕ fields) (g : Gathered) (before : List Shape) → length before + around ≡ k → IsKnownAt w g.following before n scope env → AreSeen w scope t → (later fs : FieldShapes) → denoted_group (meanings as_names env) k later (named w.source t) ≡ Some fs → (reported_fields around g t).faults ≡ []
     group_right around k no_fields g before at st seen later fs h = refl
     group_right around k (some_fields ns t) g before at st seen later fs h =
         let (s, hs, last) = and-then (λ s. Some (with_fields (map (λ x. x) (names_listed (named w.source ns))) s later)) (denoted here k (named w.source t)) fs h in
         none-of-both (reported_type around g.following t).faults [] (type_right around k t g.following before at st seen s hs) refl
 
-    groups_right : (around k : ℕ) (t : Tree ℕ (items further_fields)) (g : Gathered) (before : List Shape) (first : FieldShapes) → length before + around ≡ k → Stands w g.following before n scope env → AreSeen w scope t → GatheredAgrees before g first
+    groups_right : (around k : ℕ) (t : Tree ℕ (items further_fields)) (g : Gathered) (before : List Shape) (first : FieldShapes) → length before + around ≡ k → IsKnownAt w g.following before n scope env → AreSeen w scope t → GatheredAgrees before g first
         → (fs : FieldShapes) → denoted_groups (meanings as_names env) k (named w.source t) ≡ Some fs → (reported_groups around g t).faults ≡ []
     groups_right around k end g before first at st seen agrees fs h = refl
     groups_right around k (more (then_fields f) rest) g before first at st seen agrees fs h =

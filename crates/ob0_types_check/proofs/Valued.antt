@@ -9,7 +9,7 @@ use Rattle.ob0_types_table.specs.Operators.{product_value, sum_value}
 use Rattle.ob0_types_rules.specs.Expressions.{Meanings, a_constant, element_step, evaluate, evaluate_addends, evaluate_factor, evaluate_multipliers, evaluate_simple, evaluate_term, follow, object_value}
 use Rattle.ob0_types_rules.specs.Selected.{both}
 use Rattle.ob0_types_rules.specs.Typing.{given_value, value_type}
-use Rattle.ob0_values.specs.Values.{Outcome, Place, Value, add, add_is_settled, at_path, elements, ends, gives, members, multiply, multiply_is_settled, negated, number, or_stuck, part, relate, signed, truth, ◌>>=◌}
+use Rattle.ob0_values.specs.Values.{Outcome, Place, Value, add, add_is_settled, at_path, elements, ends, gives, members, multiply, multiply_is_settled, negate, number, or_stuck, part, relate, apply_sign, truth, ◌>>=◌}
 
 given_step : (o : Outcome Value) (next : Value → Outcome Value) → given_value (o >>= next) ≡ option_and_then (λ x. given_value (next x)) (given_value o)
 given_step (gives v) next = refl
@@ -28,20 +28,20 @@ module _ {N : Type 0} (among : Meanings N Place (Unit {0})) where
       ∙ ap (λ next. option_and_then next (given_value (evaluate_simple among [] a))) (λ i x. given_step (evaluate_simple among [] b) (relate r x) i)
 
   pub simple-valued : (s : Option Sign) (t : Tree N term) (rest : Tree N (items addend))
-      → given_value (evaluate_simple among [] (sum s t rest)) ≡ option_and_then (λ x. option_and_then (λ y. given_value (evaluate_addends among [] y rest)) (given_value (signed s x))) (given_value (evaluate_term among [] t))
+      → given_value (evaluate_simple among [] (sum s t rest)) ≡ option_and_then (λ x. option_and_then (λ y. given_value (evaluate_addends among [] y rest)) (given_value (apply_sign s x))) (given_value (evaluate_term among [] t))
   unfolding evaluate
   simple-valued s t rest =
-      given_step (evaluate_term among [] t) (λ x. signed s x >>= (λ y. evaluate_addends among [] y rest))
-      ∙ ap (λ next. option_and_then next (given_value (evaluate_term among [] t))) (λ i x. given_step (signed s x) (λ y. evaluate_addends among [] y rest) i)
+      given_step (evaluate_term among [] t) (λ x. apply_sign s x >>= (λ y. evaluate_addends among [] y rest))
+      ∙ ap (λ next. option_and_then next (given_value (evaluate_term among [] t))) (λ i x. given_step (apply_sign s x) (λ y. evaluate_addends among [] y rest) i)
 
   pub term-valued : (f : Tree N factor) (rest : Tree N (items multiplier))
       → given_value (evaluate_term among [] (product f rest)) ≡ option_and_then (λ x. given_value (evaluate_multipliers among [] x rest)) (given_value (evaluate_factor among [] f))
   unfolding evaluate
   term-valued f rest = given_step (evaluate_factor among [] f) (λ x. evaluate_multipliers among [] x rest)
 
-  pub negation-valued : (f : Tree N factor) → given_value (evaluate_factor among [] (negation f)) ≡ option_and_then (λ x. given_value (negated x)) (given_value (evaluate_factor among [] f))
+  pub negation-valued : (f : Tree N factor) → given_value (evaluate_factor among [] (negation f)) ≡ option_and_then (λ x. given_value (negate x)) (given_value (evaluate_factor among [] f))
   unfolding evaluate
-  negation-valued f = given_step (evaluate_factor among [] f) negated
+  negation-valued f = given_step (evaluate_factor among [] f) negate
 
   -- one operand more
   pub addend-valued : (o : AddOperator) (t : Tree N term) (ts : Tree N (items addend)) (x : Value)

@@ -18,8 +18,8 @@ use Rattle.ob0_scope_rules.specs.Resolution.{span_at}
 use Rattle.ob0_types_table.specs.Operators.{product_value, sum_value}
 use Rattle.ob0_types_rules.specs.Selected.{both}
 use Rattle.ob0_types_rules.specs.Typing.{given_value}
-use Rattle.ob0_values.specs.Values.{Value, elements, members, negated, number, relate, truth}
-use Rattle.ob0_values.specs.Values.{signed as with_sign}
+use Rattle.ob0_values.specs.Values.{Value, elements, members, negate, number, relate, truth}
+use Rattle.ob0_values.specs.Values.{apply_sign as with_sign}
 use Rattle.ob0_types_check.specs.Known.{Facts, Form, Meaning, Operand, Reported, Types, a_constant, a_procedure, a_record, a_scalar, a_type, a_variable, an_array, unknown_form}
 
 -- the same after faults that were reported before
@@ -182,7 +182,7 @@ sign_operand facts (Some s) o = do
 abbrev pub complement_operand : {T : Type 0} → Facts T → Operand T → Reported (Operand T)
 complement_operand facts o = do
   t ← required facts facts.types.boolean o
-  right (after_sign t (option_and_then (λ x. given_value (negated x)) o.value) o)
+  right (after_sign t (option_and_then (λ x. given_value (negate x)) o.value) o)
 
 -- a number at this token
 abbrev pub a_number : {T : Type 0} → Facts T → ℕ → Operand T

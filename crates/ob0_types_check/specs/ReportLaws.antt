@@ -5,7 +5,7 @@ use Rattle.std.specs.Prelude.{◌≡◌, ℕ, Bool, true, false, List, [], Optio
 use Rattle.ob0_tree.specs.Places.{value_at}
 use Rattle.ob0_tree.specs.Tree.{Tree, expression, mapped, sequence}
 use Rattle.ob0_types_rules.specs.Expressions.{Meanings, evaluate}
-use Rattle.ob0_types_rules.specs.Typing.{array_length, constant_value, constants_only, designated, given_value, type_of, value_type}
+use Rattle.ob0_types_rules.specs.Typing.{array_length, constant_value, constants_only, lone_designator, given_value, type_of, value_type}
 use Rattle.ob0_types_rules.specs.WellTyped.{Typed, sequence_fits, variable_type}
 use Rattle.ob0_values.specs.Values.{Shape, Value}
 use Rattle.ob0_types_check.specs.ExpressionFaults.{reported_expression}
@@ -32,7 +32,7 @@ pub record OperandFits
   pub typed : type_of meaning e ≡ Some of
   pub valued : o.value ≡ given_value (evaluate {P = Unit {0}} (constants_only meaning) [] e)
   pub scalar : (v : Value) → o.value ≡ Some v → value_type v ≡ Some of
-  pub placed : o.is_place ≡ true → variable_type meaning (designated e) ≡ Some of
+  pub placed : o.is_place ≡ true → variable_type meaning (lone_designator e) ≡ Some of
 
 -- an expression of which nothing is reported
 abbrev pub ExpressionsFit : Type 0 → Type 0

@@ -31,8 +31,8 @@ valued facts o None = record { known = None; faults = at_operand facts code.Cons
 valued facts o (Some v) = right (Some v)
 
 -- the value of a constant expression, or `ConstFault`
-abbrev pub evaluated : {T : Type 0} → Facts T → Operand T → Reported (Option Value)
-evaluated facts o =
+abbrev pub operand_value : {T : Type 0} → Facts T → Operand T → Reported (Option Value)
+operand_value facts o =
     if facts.types.same o.of facts.types.unknown then right None else valued facts o o.value
 
 -- the right side of a constant's declaration, where names mean constants alone
@@ -41,7 +41,7 @@ unfoldable pub reported_constant : {T : Type 0}
     → Tree ℕ expression
     → Reported (Option Value)
 unfolding reported_expression
-reported_constant facts e = reported_expression facts e >>= evaluated facts
+reported_constant facts e = reported_expression facts e >>= operand_value facts
 
 -- an array's length is an INTEGER from 1 to 65,536
 abbrev pub in_bounds : {T : Type 0} → Facts T → Operand T → Option ℕ → Reported (Option ℕ)

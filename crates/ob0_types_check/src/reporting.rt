@@ -22,7 +22,7 @@ ghost use Rattle.ob0_types_check.specs.SupposedFacts.{known_meaning, so_far_in, 
 
 use crate::laws::declarations_known;
 use crate::reporting::objects::{define_standards, objects_of};
-use crate::reporting::supposed::{Meaning, Supposed, predeclared};
+use crate::reporting::supposed::{Meaning, Supposed, predeclared_meanings};
 use ob0_scan::{Code, Fault};
 use ob0_scope_rules::Resolved;
 use ob0_types_table::Known;
@@ -96,7 +96,7 @@ impl<'t> Reporter<'t> {
         ensures faults { IfOk result
             (λ t. t.faults.items ≡ filter is_of_occurrences resolved.now.faults) }
     {
-        let mut meanings = predeclared(alloc)?;
+        let mut meanings = predeclared_meanings(alloc)?;
         add_unknown(&mut meanings, resolved.declarations())?;
         let supposed = Supposed {
             resolved,
@@ -106,13 +106,13 @@ impl<'t> Reporter<'t> {
         Ok(Reporter {
             alloc,
             supposed,
-            faults: unbound(alloc, resolved)?,
+            faults: unbound_names(alloc, resolved)?,
         })
     }
 }
 
 /// The names that nothing binds.
-fn unbound(alloc: Global, resolved: &Resolved) -> Result<Vec<Fault>, AllocError>
+fn unbound_names(alloc: Global, resolved: &Resolved) -> Result<Vec<Fault>, AllocError>
     ensures { IfOk result (λ faults. faults.items ≡ filter is_of_occurrences resolved.now.faults) }
 {
     let mut faults = Vec::new(alloc);

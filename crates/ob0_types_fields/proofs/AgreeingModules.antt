@@ -14,8 +14,8 @@ use Rattle.ob0_types_rules.proofs.TypedElsewhere.{then_some}
 use Rattle.ob0_values.specs.Values.{Shape}
 use Rattle.ob0_types_fields.specs.Fields.{FieldNames, types_after_procedures, refield, refield_block, refield_formals, refield_procedure, refield_procedures, refield_section, refield_sections, refield_type_section, refield_types, refield_variable_section, refield_variables, refielded}
 use Rattle.ob0_types_fields.specs.Renaming.{records, records_in_block, records_in_procedure, records_in_procedures, records_in_sections, records_in_type, records_in_types, records_in_variables}
-use Rattle.ob0_types_fields.proofs.AgreeingFields.{NamesStand, ObjectAgrees, OptionAgrees, RecordsAgree, ShapeAgrees, denoted-agrees, records-split, sequence-alike, type-alike}
-use Rattle.ob0_types_fields.proofs.NamesMeant.{parameter_of, stands_in}
+use Rattle.ob0_types_fields.proofs.AgreeingFields.{ObjectsAgree, ObjectAgrees, OptionAgrees, RecordsAgree, ShapeAgrees, denoted-agrees, records-split, sequence-alike, type-alike}
+use Rattle.ob0_types_fields.proofs.NamesMeant.{parameter_of, object_in}
 
 -- environments
 
@@ -23,10 +23,10 @@ abbrev pub EnvironmentAgrees : FieldNames → FieldNames → TypeEnvironment Nam
 EnvironmentAgrees p q [] = Unit {0}
 EnvironmentAgrees p q (b ∷ env) = ObjectAgrees p q b.1 × EnvironmentAgrees p q env
 
-pub stands-agree : (p q : FieldNames) (env : TypeEnvironment Name) → EnvironmentAgrees p q env → NamesStand p q (stands_in env)
-stands-agree p q [] h x = tt
-stands-agree p q (b ∷ env) h x =
-    elim (same_name x b.0) as (λ v. OptionAgrees p q (newest (elim v [ true ↦ b ∷ env | false ↦ from_binding as_names env x ]))) [ true ↦ h.0 | false ↦ stands-agree p q env h.1 x ]
+pub objects-agree : (p q : FieldNames) (env : TypeEnvironment Name) → EnvironmentAgrees p q env → ObjectsAgree p q (object_in env)
+objects-agree p q [] h x = tt
+objects-agree p q (b ∷ env) h x =
+    elim (same_name x b.0) as (λ v. OptionAgrees p q (newest (elim v [ true ↦ b ∷ env | false ↦ from_binding as_names env x ]))) [ true ↦ h.0 | false ↦ objects-agree p q env h.1 x ]
 
 pub bind_names-agree : (p q : FieldNames) (xs : List Name) (o : Object Shape Signature) (env : TypeEnvironment Name) → ObjectAgrees p q o → EnvironmentAgrees p q env → EnvironmentAgrees p q (bind_names xs o env)
 bind_names-agree p q [] o env h k = k
@@ -55,7 +55,7 @@ types-agree p q env k end after h r e = subst (EnvironmentAgrees p q) (some_inve
 types-agree p q env k (more (declares_type x u) ds) after h r e =
     let r₁ = records-split p q (records_in_type k u) (records_in_types (k + constructors u) ds) r in
     let (s, es, e₁) = then_some (denoted (meanings as_names env) k u) (λ s. declare_types as_names ((x, a_type s) ∷ env) (k + constructors u) ds) after e in
-    types-agree p q ((x, a_type s) ∷ env) (k + constructors u) ds after (denoted-agrees p q (stands_in env) (stands-agree p q env h) k u s r₁.0 es, h) r₁.1 e₁
+    types-agree p q ((x, a_type s) ∷ env) (k + constructors u) ds after (denoted-agrees p q (object_in env) (objects-agree p q env h) k u s r₁.0 es, h) r₁.1 e₁
 
 variables-agree : (p q : FieldNames) (env : TypeEnvironment Name) (k : ℕ) (gs : Tree Name (items variable)) (after : TypeEnvironment Name) → EnvironmentAgrees p q env → RecordsAgree p q (records_in_variables k gs) → declare_typed as_names k gs env ≡ Some after → EnvironmentAgrees p q after
 unfolding declare_typed
@@ -64,7 +64,7 @@ variables-agree p q env k (more (declares_variable ns u) gs) after h r e =
     let r₁ = records-split p q (records_in_type k u) (records_in_variables (k + constructors u) gs) r in
     let (s, es, e₁) = then_some (denoted (meanings as_names env) k u) (λ s. declare_typed as_names (k + constructors u) gs (bind_names (names_listed ns) (a_variable s) env)) after e in
     variables-agree p q (bind_names (names_listed ns) (a_variable s) env) (k + constructors u) gs after
-    (bind_names-agree p q (names_listed ns) (a_variable s) env (denoted-agrees p q (stands_in env) (stands-agree p q env h) k u s r₁.0 es) h) r₁.1 e₁
+    (bind_names-agree p q (names_listed ns) (a_variable s) env (denoted-agrees p q (object_in env) (objects-agree p q env h) k u s r₁.0 es) h) r₁.1 e₁
 
 parameters-join : (p q : FieldNames) (m : Mode) (s : Shape) (xs : List Name) (rest : List (TypedParameter Name)) → ShapeAgrees p q s → ParametersAgree p q rest → ParametersAgree p q (map (parameter_of m s) xs ++ rest)
 parameters-join p q m s [] rest h k = k
@@ -77,7 +77,7 @@ parameters-agree p q env k (more (then_section f) fs) ps h r e =
     let r₁ = records-split p q (records_in_type k (section_type f)) (records_in_sections (k + constructors (section_type f)) fs) r in
     let (s, es, e₁) = then_some (denoted (meanings as_names env) k (section_type f)) (λ s. option_and_then (λ rest. Some (map (parameter_of (section_mode f) s) (section_names f) ++ rest)) (typed_parameters as_names (bind_names (section_names f) (a_variable s) env) (k + constructors (section_type f)) fs)) ps e in
     let (rest, er, e₂) = then_some (typed_parameters as_names (bind_names (section_names f) (a_variable s) env) (k + constructors (section_type f)) fs) (λ rest. Some (map (parameter_of (section_mode f) s) (section_names f) ++ rest)) ps e₁ in
-    let agrees : ShapeAgrees p q s = denoted-agrees p q (stands_in env) (stands-agree p q env h) k (section_type f) s r₁.0 es in
+    let agrees : ShapeAgrees p q s = denoted-agrees p q (object_in env) (objects-agree p q env h) k (section_type f) s r₁.0 es in
     subst (ParametersAgree p q) (some_inverse {a = map (parameter_of (section_mode f) s) (section_names f) ++ rest} {b = ps} e₂)
     (parameters-join p q (section_mode f) s (section_names f) rest agrees
     (parameters-agree p q (bind_names (section_names f) (a_variable s) env) (k + constructors (section_type f)) fs rest (bind_names-agree p q (section_names f) (a_variable s) env agrees h) r₁.1 er))
@@ -128,7 +128,7 @@ body-alike : (p q : FieldNames) (env : TypeEnvironment Name) (statements : Tree 
     → refield p (meanings as_names env) None statements ≡ refield q (meanings as_names env) None statements
 unfolding body_fits
 body-alike p q env none h e = refl
-body-alike p q env (one (begins a)) h e = λ i. one (begins (sequence-alike p q (stands_in env) (stands-agree p q env h) a e i))
+body-alike p q env (one (begins a)) h e = λ i. one (begins (sequence-alike p q (object_in env) (objects-agree p q env h) a e i))
 
 abbrev ProceduresAlike : FieldNames → FieldNames → TypeEnvironment Name → ℕ → Tree Name (maybe body) → Tree Name (items procedure) → Type 0
 ProceduresAlike p q env k statements ps =

@@ -44,33 +44,33 @@ module _ (r : Resolution) where
 
   -- ---- what holds of each declaration
 
-  abbrev pub TypesStand : Tree ℕ (items type_name) → Type 0
-  TypesStand end = Unit {0}
-  TypesStand (more (declares_type x u) ds) = ((s : Shape) × (meaning.object_for x ≡ Some (a_type s)) × Denotes u s) × TypesStand ds
+  abbrev pub TypesAreTyped : Tree ℕ (items type_name) → Type 0
+  TypesAreTyped end = Unit {0}
+  TypesAreTyped (more (declares_type x u) ds) = ((s : Shape) × (meaning.object_for x ≡ Some (a_type s)) × Denotes u s) × TypesAreTyped ds
 
   -- of names that are declared together the first
-  abbrev pub VariablesStand : Tree ℕ (items variable) → Type 0
-  VariablesStand end = Unit {0}
-  VariablesStand (more (declares_variable ns u) gs) = ((s : Shape) × (meaning.object_for (first_listed ns) ≡ Some (a_variable s)) × Denotes u s) × VariablesStand gs
+  abbrev pub VariablesAreTyped : Tree ℕ (items variable) → Type 0
+  VariablesAreTyped end = Unit {0}
+  VariablesAreTyped (more (declares_variable ns u) gs) = ((s : Shape) × (meaning.object_for (first_listed ns) ≡ Some (a_variable s)) × Denotes u s) × VariablesAreTyped gs
 
   abbrev pub first_parameter : Tree ℕ section → ℕ
   first_parameter (value_section ns u) = first_listed ns
   first_parameter (variable_section ns u) = first_listed ns
 
-  abbrev pub FormalsStand : Tree ℕ (items further_section) → Type 0
-  FormalsStand end = Unit {0}
-  FormalsStand (more (then_section f) fs) = ((s : Shape) × (meaning.object_for (first_parameter f) ≡ Some (a_variable s)) × Denotes (section_type f) s) × FormalsStand fs
+  abbrev pub FormalsAreTyped : Tree ℕ (items further_section) → Type 0
+  FormalsAreTyped end = Unit {0}
+  FormalsAreTyped (more (then_section f) fs) = ((s : Shape) × (meaning.object_for (first_parameter f) ≡ Some (a_variable s)) × Denotes (section_type f) s) × FormalsAreTyped fs
 
   abbrev mutual
-    pub BlockStands : Tree ℕ block → Type 0
-    BlockStands (has_body (declares cs ts vs ps) statements) = (TypesStand (section_types ts) × VariablesStand (section_variables vs)) × ProceduresStand ps
+    pub BlockIsTyped : Tree ℕ block → Type 0
+    BlockIsTyped (has_body (declares cs ts vs ps) statements) = (TypesAreTyped (section_types ts) × VariablesAreTyped (section_variables vs)) × ProceduresAreTyped ps
 
-    pub ProceduresStand : Tree ℕ (items procedure) → Type 0
-    ProceduresStand end = Unit {0}
-    ProceduresStand (more p rest) = ProcedureStands p × ProceduresStand rest
+    pub ProceduresAreTyped : Tree ℕ (items procedure) → Type 0
+    ProceduresAreTyped end = Unit {0}
+    ProceduresAreTyped (more p rest) = ProcedureIsTyped p × ProceduresAreTyped rest
 
-    pub ProcedureStands : Tree ℕ (item procedure) → Type 0
-    ProcedureStands (declares_procedure x fs b closing) = FormalsStand (formal_sections fs) × BlockStands b
+    pub ProcedureIsTyped : Tree ℕ (item procedure) → Type 0
+    ProcedureIsTyped (declares_procedure x fs b closing) = FormalsAreTyped (formal_sections fs) × BlockIsTyped b
 
   -- ---- bindings put before an environment, and what they say where they are right
 
@@ -97,8 +97,8 @@ module _ (r : Resolution) where
   put_weaker env after P Q f p = record { bound = p.bound; is = p.is; says = λ right. f (p.says right) }
 
   -- a token means what its label is bound to
-  stands : (x : ℕ) (o : Object Shape Signature) → at_label objects (label_in r x) ≡ Some o → meaning.object_for x ≡ Some o
-  stands x o h = go (ordinal_in r.ordinals x) h
+  has_object : (x : ℕ) (o : Object Shape Signature) → at_label objects (label_in r x) ≡ Some o → meaning.object_for x ≡ Some o
+  has_object x o h = go (ordinal_in r.ordinals x) h
     where
       go : (k : Option ℕ) → at_label objects (as_label as_names k (text_at r.module_read.source x)) ≡ Some o → option_and_then objects k ≡ Some o
       go None e = e
@@ -114,15 +114,15 @@ module _ (r : Resolution) where
       let mid : TypeEnvironment Label = (x, a_constant found.0) ∷ env in
       put_weaker env after _ (Unit {0}) (λ p. tt) (put_more env mid after _ _ (put_one env x (a_constant found.0)) (constants-put mid cs after found.2))
 
-  types-put : (env : TypeEnvironment Label) (k : ℕ) (ds : Tree ℕ (items type_name)) (after : TypeEnvironment Label) → declare_types as_labels env k (in_labels r ds) ≡ Some after → Put env after (TypesStand ds)
+  types-put : (env : TypeEnvironment Label) (k : ℕ) (ds : Tree ℕ (items type_name)) (after : TypeEnvironment Label) → declare_types as_labels env k (in_labels r ds) ≡ Some after → Put env after (TypesAreTyped ds)
   unfolding declare_types
   types-put env k end after h = subst (λ e. Put env e (Unit {0})) (some_inverse h) (put_nothing env (Unit {0}) tt)
   types-put env k (more (declares_type x u) ds) after h =
       let n : ℕ = k + constructors (in_labels r u) in
       let found = then_some (denoted (meanings as_labels env) k (in_labels r u)) (λ s. declare_types as_labels ((label_in r x, a_type s) ∷ env) n (in_labels r ds)) after h in
       let mid : TypeEnvironment Label = (label_in r x, a_type found.0) ∷ env in
-      put_weaker env after _ (TypesStand (more (declares_type x u) ds))
-      (λ p. ((found.0, stands x (a_type found.0) p.0, record { env = env; ordinal = k; denotes = found.1 }), p.1))
+      put_weaker env after _ (TypesAreTyped (more (declares_type x u) ds))
+      (λ p. ((found.0, has_object x (a_type found.0) p.0, record { env = env; ordinal = k; denotes = found.1 }), p.1))
       (put_more env mid after _ _ (put_one env (label_in r x) (a_type found.0)) (types-put mid n ds after found.2))
 
   names-put : (env : TypeEnvironment Label) (xs : List Label) (o : Object Shape Signature) → Put env (bind_names xs o env) (Unit {0})
@@ -131,7 +131,7 @@ module _ (r : Resolution) where
       let mid : TypeEnvironment Label = (x, o) ∷ env in
       put_weaker env (bind_names xs o mid) _ (Unit {0}) (λ p. tt) (put_more env mid (bind_names xs o mid) _ _ (put_one env x o) (names-put mid xs o))
 
-  variables-put : (env : TypeEnvironment Label) (k : ℕ) (gs : Tree ℕ (items variable)) (after : TypeEnvironment Label) → declare_typed as_labels k (in_labels r gs) env ≡ Some after → Put env after (VariablesStand gs)
+  variables-put : (env : TypeEnvironment Label) (k : ℕ) (gs : Tree ℕ (items variable)) (after : TypeEnvironment Label) → declare_typed as_labels k (in_labels r gs) env ≡ Some after → Put env after (VariablesAreTyped gs)
   unfolding declare_typed
   variables-put env k end after h = subst (λ e. Put env e (Unit {0})) (some_inverse h) (put_nothing env (Unit {0}) tt)
   variables-put env k (more (declares_variable (listed x rest) u) gs) after h =
@@ -141,15 +141,15 @@ module _ (r : Resolution) where
       let o : Object Shape Signature = a_variable found.0 in
       let first : TypeEnvironment Label = (label_in r x, o) ∷ env in
       let mid : TypeEnvironment Label = bind_names others o first in
-      put_weaker env after _ (VariablesStand (more (declares_variable (listed x rest) u) gs))
-      (λ p. ((found.0, stands x o p.0.0, record { env = env; ordinal = k; denotes = found.1 }), p.1))
+      put_weaker env after _ (VariablesAreTyped (more (declares_variable (listed x rest) u) gs))
+      (λ p. ((found.0, has_object x o p.0.0, record { env = env; ordinal = k; denotes = found.1 }), p.1))
       (put_more env mid after _ _ (put_more env first mid _ _ (put_one env (label_in r x) o) (names-put first others o)) (variables-put mid n gs after found.2))
 
-  type_section-put : (env : TypeEnvironment Label) (k : ℕ) (ts : Tree ℕ (maybe type_names)) (after : TypeEnvironment Label) → declare_types as_labels env k (section_types (in_labels r ts)) ≡ Some after → Put env after (TypesStand (section_types ts))
+  type_section-put : (env : TypeEnvironment Label) (k : ℕ) (ts : Tree ℕ (maybe type_names)) (after : TypeEnvironment Label) → declare_types as_labels env k (section_types (in_labels r ts)) ≡ Some after → Put env after (TypesAreTyped (section_types ts))
   type_section-put env k none after h = types-put env k end after h
   type_section-put env k (one (declares_types ts)) after h = types-put env k ts after h
 
-  variable_section-put : (env : TypeEnvironment Label) (k : ℕ) (vs : Tree ℕ (maybe variables)) (after : TypeEnvironment Label) → declare_typed as_labels k (section_variables (in_labels r vs)) env ≡ Some after → Put env after (VariablesStand (section_variables vs))
+  variable_section-put : (env : TypeEnvironment Label) (k : ℕ) (vs : Tree ℕ (maybe variables)) (after : TypeEnvironment Label) → declare_typed as_labels k (section_variables (in_labels r vs)) env ≡ Some after → Put env after (VariablesAreTyped (section_variables vs))
   variable_section-put env k none after h = variables-put env k end after h
   variable_section-put env k (one (declares_variables vs)) after h = variables-put env k vs after h
 
@@ -158,7 +158,7 @@ module _ (r : Resolution) where
   unfolding declare_first
   firsts env k b after h = then_some (declare_constants as_labels env (block_constants b)) (λ e. declare_types as_labels e k (block_types b)) after h
 
-  block-put : (env : TypeEnvironment Label) (k : ℕ) (b : Tree ℕ block) (inner : TypeEnvironment Label) → declare_block as_labels env k (in_labels r b) ≡ Some inner → Put env inner (TypesStand (block_types b) × VariablesStand (block_variables b))
+  block-put : (env : TypeEnvironment Label) (k : ℕ) (b : Tree ℕ block) (inner : TypeEnvironment Label) → declare_block as_labels env k (in_labels r b) ≡ Some inner → Put env inner (TypesAreTyped (block_types b) × VariablesAreTyped (block_variables b))
   block-put env k (has_body (declares cs ts vs ps) statements) inner h =
       let b : Tree Label block = in_labels r (has_body (declares cs ts vs ps) statements) in
       let two = then_some (declare_first as_labels env k b) (declare_typed as_labels (after_types k b) (block_variables b)) inner h in
@@ -181,15 +181,15 @@ module _ (r : Resolution) where
       (right_split objects (bind_typed ps []) one (subst (Right objects) (bind_typed-append ps [] one) right)).1.0
 
   -- a section, where those after it are
-  section-stands : (env : TypeEnvironment Label) (k : ℕ) (mode : Mode) (x : ℕ) (others : List Label) (u : Tree ℕ written_type) (fs : Tree ℕ (items further_section)) (qs : List (TypedParameter Label))
+  section-typed : (env : TypeEnvironment Label) (k : ℕ) (mode : Mode) (x : ℕ) (others : List Label) (u : Tree ℕ written_type) (fs : Tree ℕ (items further_section)) (qs : List (TypedParameter Label))
       → option_and_then
       (λ s. option_and_then (λ rest. Some (map (parameter_of mode s) (label_in r x ∷ others) ++ rest))
       (typed_parameters as_labels (bind_names (label_in r x ∷ others) (a_variable s) env) (k + constructors (in_labels r u)) (in_labels r fs)))
       (denoted (meanings as_labels env) k (in_labels r u))
       ≡ Some qs
-      → ((e : TypeEnvironment Label) (ps : List (TypedParameter Label)) → typed_parameters as_labels e (k + constructors (in_labels r u)) (in_labels r fs) ≡ Some ps → Right objects (bind_typed ps []) → FormalsStand fs)
-      → Right objects (bind_typed qs []) → ((s : Shape) × (meaning.object_for x ≡ Some (a_variable s)) × Denotes u s) × FormalsStand fs
-  section-stands env k mode x others u fs qs h later right =
+      → ((e : TypeEnvironment Label) (ps : List (TypedParameter Label)) → typed_parameters as_labels e (k + constructors (in_labels r u)) (in_labels r fs) ≡ Some ps → Right objects (bind_typed ps []) → FormalsAreTyped fs)
+      → Right objects (bind_typed qs []) → ((s : Shape) × (meaning.object_for x ≡ Some (a_variable s)) × Denotes u s) × FormalsAreTyped fs
+  section-typed env k mode x others u fs qs h later right =
       let n : ℕ = k + constructors (in_labels r u) in
       let xs : List Label = label_in r x ∷ others in
       let one = then_some (denoted (meanings as_labels env) k (in_labels r u)) (λ s. option_and_then (λ rest. Some (map (parameter_of mode s) xs ++ rest)) (typed_parameters as_labels (bind_names xs (a_variable s) env) n (in_labels r fs))) qs h in
@@ -200,29 +200,29 @@ module _ (r : Resolution) where
       let all : Right objects (bind_typed (here ++ rest) []) = subst (λ ps. Right objects (bind_typed ps [])) (sym (some_inverse two.2)) right in
       let parts = right_split objects (bind_typed rest []) (bind_typed here [])
       (subst (Right objects) (bind_typed-both here rest [] ∙ bind_typed-append rest [] (bind_typed here [])) all) in (
-        (s, stands x (a_variable s) (first-bound (label_in r x) (record { mode = mode; shape = s }) (map (parameter_of mode s) others) parts.1), record { env = env; ordinal = k; denotes = one.1 }),
+        (s, has_object x (a_variable s) (first-bound (label_in r x) (record { mode = mode; shape = s }) (map (parameter_of mode s) others) parts.1), record { env = env; ordinal = k; denotes = one.1 }),
         later (bind_names xs (a_variable s) env) rest two.1 parts.0,
       )
 
-  formals-stand : (env : TypeEnvironment Label) (k : ℕ) (fs : Tree ℕ (items further_section)) (qs : List (TypedParameter Label)) → typed_parameters as_labels env k (in_labels r fs) ≡ Some qs → Right objects (bind_typed qs []) → FormalsStand fs
+  formals-typed : (env : TypeEnvironment Label) (k : ℕ) (fs : Tree ℕ (items further_section)) (qs : List (TypedParameter Label)) → typed_parameters as_labels env k (in_labels r fs) ≡ Some qs → Right objects (bind_typed qs []) → FormalsAreTyped fs
   unfolding typed_parameters
-  formals-stand env k end qs h right = tt
-  formals-stand env k (more (then_section (value_section (listed x others) u)) fs) qs h right =
-      section-stands env k by_value x (further_names (in_labels r others)) u fs qs h (λ e ps. formals-stand e (k + constructors (in_labels r u)) fs ps) right
-  formals-stand env k (more (then_section (variable_section (listed x others) u)) fs) qs h right =
-      section-stands env k by_place x (further_names (in_labels r others)) u fs qs h (λ e ps. formals-stand e (k + constructors (in_labels r u)) fs ps) right
+  formals-typed env k end qs h right = tt
+  formals-typed env k (more (then_section (value_section (listed x others) u)) fs) qs h right =
+      section-typed env k by_value x (further_names (in_labels r others)) u fs qs h (λ e ps. formals-typed e (k + constructors (in_labels r u)) fs ps) right
+  formals-typed env k (more (then_section (variable_section (listed x others) u)) fs) qs h right =
+      section-typed env k by_place x (further_names (in_labels r others)) u fs qs h (λ e ps. formals-typed e (k + constructors (in_labels r u)) fs ps) right
 
-  formal_section-stands : (env : TypeEnvironment Label) (k : ℕ) (fs : Tree ℕ (maybe formals)) (qs : List (TypedParameter Label)) → typed_parameters as_labels env k (formal_sections (in_labels r fs)) ≡ Some qs
-      → Right objects (bind_typed qs []) → FormalsStand (formal_sections fs)
-  formal_section-stands env k none qs h right = tt
-  formal_section-stands env k (one no_formals) qs h right = tt
-  formal_section-stands env k (one (some_formals f fs)) qs h right = formals-stand env k (more (then_section f) fs) qs h right
+  formal_section-typed : (env : TypeEnvironment Label) (k : ℕ) (fs : Tree ℕ (maybe formals)) (qs : List (TypedParameter Label)) → typed_parameters as_labels env k (formal_sections (in_labels r fs)) ≡ Some qs
+      → Right objects (bind_typed qs []) → FormalsAreTyped (formal_sections fs)
+  formal_section-typed env k none qs h right = tt
+  formal_section-typed env k (one no_formals) qs h right = tt
+  formal_section-typed env k (one (some_formals f fs)) qs h right = formals-typed env k (more (then_section f) fs) qs h right
 
   -- ---- blocks and procedures
 
   mutual
-    block-stands : (env : TypeEnvironment Label) (k : ℕ) (b : Tree ℕ block) → block_fits as_labels env k (in_labels r b) ≡ true → Right objects (block_bindings as_labels env k (in_labels r b)) → BlockStands b
-    block-stands env k (has_body (declares cs ts vs ps) statements) h right =
+    block-typed : (env : TypeEnvironment Label) (k : ℕ) (b : Tree ℕ block) → block_fits as_labels env k (in_labels r b) ≡ true → Right objects (block_bindings as_labels env k (in_labels r b)) → BlockIsTyped b
+    block-typed env k (has_body (declares cs ts vs ps) statements) h right =
         let b : Tree ℕ block = has_body (declares cs ts vs ps) statements in
         let b' : Tree Label block = in_labels r b in
         let parts = block-parts env k b' h in
@@ -232,12 +232,12 @@ module _ (r : Resolution) where
         block-listed env k b' inner parts.1
         ∙ ap (λ e. procedures_bindings as_labels inner (after_variables k b') (in_labels r ps) ++ e) (ap (since env) put.is ∙ since-append put.bound env) in
         let two = right_split objects (procedures_bindings as_labels inner (after_variables k b') (in_labels r ps)) put.bound (subst (Right objects) listed right) in
-        (put.says two.1, procedures-stand inner (after_variables k b') (block_statements b') ps parts.2 two.0)
+        (put.says two.1, procedures-typed inner (after_variables k b') (block_statements b') ps parts.2 two.0)
 
-    procedures-stand : (env : TypeEnvironment Label) (k : ℕ) (statements : Tree Label (maybe body)) (ps : Tree ℕ (items procedure)) → procedures_fit as_labels env k statements (in_labels r ps) ≡ true
-        → Right objects (procedures_bindings as_labels env k (in_labels r ps)) → ProceduresStand ps
-    procedures-stand env k statements end h right = tt
-    procedures-stand env k statements (more (declares_procedure x fs b closing) rest) h right =
+    procedures-typed : (env : TypeEnvironment Label) (k : ℕ) (statements : Tree Label (maybe body)) (ps : Tree ℕ (items procedure)) → procedures_fit as_labels env k statements (in_labels r ps) ≡ true
+        → Right objects (procedures_bindings as_labels env k (in_labels r ps)) → ProceduresAreTyped ps
+    procedures-typed env k statements end h right = tt
+    procedures-typed env k statements (more (declares_procedure x fs b closing) rest) h right =
         let x' : Label = label_in r x in
         let fs' : Tree Label (maybe formals) = in_labels r fs in
         let b' : Tree Label block = in_labels r b in
@@ -251,15 +251,15 @@ module _ (r : Resolution) where
         let two = right_split objects (procedures_bindings as_labels (heading x' qs env) n rest') (inside ++ bind_typed qs own) (subst (Right objects) fit.listed right) in
         let three = right_split objects inside (bind_typed qs own) two.1 in
         let four = right_split objects (bind_typed qs []) own (subst (Right objects) (bind_typed-append qs [] own) three.1) in (
-          (formal_section-stands env k fs qs parts.1 four.0, block-stands (bind_typed qs (heading x' qs env)) (k + formals_constructors (formal_sections fs')) b fit.block_right three.0),
-          procedures-stand (heading x' qs env) n statements rest fit.rest_right two.0,
+          (formal_section-typed env k fs qs parts.1 four.0, block-typed (bind_typed qs (heading x' qs env)) (k + formals_constructors (formal_sections fs')) b fit.block_right three.0),
+          procedures-typed (heading x' qs env) n statements rest fit.rest_right two.0,
         )
 
-  pub module-stands : IsResolution r → WellTyped (named_tree_of r.module_read) → BlockStands (module_block (tree_of r.module_read))
+  pub module-typed : IsResolution r → WellTyped (named_tree_of r.module_read) → BlockIsTyped (module_block (tree_of r.module_read))
   unfolding WellTyped fits_over
-  module-stands is well =
+  module-typed is well =
       let m = named_tree_of r.module_read in
       let t : Tree Label module_text = in_labels r (tree_of r.module_read) in
       let fits : fits_over as_labels t ≡ true = ap (fits_over as_labels) (sym is.numbering) ∙ (sym (fits_by_ordinal-holds m) ∙ well.1) in
       let right : Right objects (module_bindings as_labels t) = subst (λ z. Right objects (module_bindings as_labels z)) is.numbering (bindings_right r well) in
-      block-stands (outermost as_labels) 0 (module_block (tree_of r.module_read)) fits (right_split objects (block_bindings as_labels (outermost as_labels) 0 (module_block t)) (outermost as_labels) right).0
+      block-typed (outermost as_labels) 0 (module_block (tree_of r.module_read)) fits (right_split objects (block_bindings as_labels (outermost as_labels) 0 (module_block t)) (outermost as_labels) right).0

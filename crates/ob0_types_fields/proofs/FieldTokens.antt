@@ -28,19 +28,19 @@ among_ascend [] low high h = h
 among_ascend ((x, None) ∷ xs) low high h = ascending_lower low (x + 1) (firsts (fields_among xs)) high (omega (arith, h.0)) (among_ascend xs (x + 1) high h.1)
 among_ascend ((x, Some k) ∷ xs) low high h = (h.0, among_ascend xs (x + 1) high h.1)
 
-among_stand : (ts : List Token) (xs : List (ℕ × Option ℕ)) → AreIdentifiers ts (tokens xs) → AreIdentifiers ts (firsts (fields_among xs))
-among_stand ts [] h = tt
-among_stand ts ((x, None) ∷ xs) h = among_stand ts xs h.1
-among_stand ts ((x, Some k) ∷ xs) h = (h.0, among_stand ts xs h.1)
+among_are_identifiers : (ts : List Token) (xs : List (ℕ × Option ℕ)) → AreIdentifiers ts (tokens xs) → AreIdentifiers ts (firsts (fields_among xs))
+among_are_identifiers ts [] h = tt
+among_are_identifiers ts ((x, None) ∷ xs) h = among_are_identifiers ts xs h.1
+among_are_identifiers ts ((x, Some k) ∷ xs) h = (h.0, among_are_identifiers ts xs h.1)
 
 pub fields_ascend : (r : Resolution) → IsParsed r.module_read → AreInTextOrder r.module_read.source (field_identifiers r)
 fields_ascend r parsed =
     let n : ℕ = length r.module_read.source.tokens in
     among_ascend (owned_tokens r) 0 n (subst (λ ts. Ascending 0 ts n) (sym (module-tokens _ (tree_of r.module_read))) (leaves_ascend r.module_read parsed))
 
-pub fields_stand : (r : Resolution) → IsParsed r.module_read → AreIdentifiers r.module_read.source.tokens (firsts (field_identifiers r))
-fields_stand r parsed =
-    among_stand r.module_read.source.tokens (owned_tokens r)
+pub fields_are_identifiers : (r : Resolution) → IsParsed r.module_read → AreIdentifiers r.module_read.source.tokens (firsts (field_identifiers r))
+fields_are_identifiers r parsed =
+    among_are_identifiers r.module_read.source.tokens (owned_tokens r)
     (subst (AreIdentifiers r.module_read.source.tokens) (sym (module-tokens _ (tree_of r.module_read))) (leaves_are_identifiers r.module_read parsed))
 
 -- ---- one field among fields
@@ -53,9 +53,9 @@ kept_ascend source k x (y ∷ ys) low high h = one (is_field source k x y) (kept
     one true e = (h.0, e)
     one false e = ascending_lower low (y.0 + 1) (tokens_among source k x ys) high (omega (arith, h.0)) e
 
-pub kept_stand : (source : Scanned) (k : ℕ) (x : Name) (ts : List Token) (xs : List (ℕ × ℕ)) → AreIdentifiers ts (firsts xs) → AreIdentifiers ts (tokens_among source k x xs)
-kept_stand source k x ts [] h = tt
-kept_stand source k x ts (y ∷ ys) h = one (is_field source k x y) (kept_stand source k x ts ys h.1)
+pub kept_are_identifiers : (source : Scanned) (k : ℕ) (x : Name) (ts : List Token) (xs : List (ℕ × ℕ)) → AreIdentifiers ts (firsts xs) → AreIdentifiers ts (tokens_among source k x xs)
+kept_are_identifiers source k x ts [] h = tt
+kept_are_identifiers source k x ts (y ∷ ys) h = one (is_field source k x y) (kept_are_identifiers source k x ts ys h.1)
   where
     one : (b : Bool) → AreIdentifiers ts (tokens_among source k x ys) → AreIdentifiers ts (if b then y.0 ∷ tokens_among source k x ys else tokens_among source k x ys)
     one true e = (h.0, e)
@@ -151,9 +151,9 @@ renamed_at_tokens-holds r k f new named fits =
     ∙ (λ j. mapped (λ i. if among i j then new else text_at m.source i) (value_at m.source) (tree_of m))
 
 -- so is the one that a place is on
-pub field_stands : (source : Scanned) (ts : List Token) (offset : ℕ) (xs : List (ℕ × ℕ)) → AreIdentifiers ts (firsts xs) → IfSome (field_on source offset xs) (λ x. IsIdentifierToken ts x.0)
-field_stands source ts offset [] stand = tt
-field_stands source ts offset (x ∷ xs) stand = one (is_on offset (span_at source x.0)) stand.0 (field_stands source ts offset xs stand.1)
+pub field_is_identifier : (source : Scanned) (ts : List Token) (offset : ℕ) (xs : List (ℕ × ℕ)) → AreIdentifiers ts (firsts xs) → IfSome (field_on source offset xs) (λ x. IsIdentifierToken ts x.0)
+field_is_identifier source ts offset [] identified = tt
+field_is_identifier source ts offset (x ∷ xs) identified = one (is_on offset (span_at source x.0)) identified.0 (field_is_identifier source ts offset xs identified.1)
   where
     one : (b : Bool) → IsIdentifierToken ts x.0 → IfSome (field_on source offset xs) (λ y. IsIdentifierToken ts y.0)
         → IfSome (if b then Some x else field_on source offset xs) (λ y. IsIdentifierToken ts y.0)

@@ -8,11 +8,11 @@ use Rattle.ob0_values.specs.Values.{Shape}
 
 -- names and fields as written
 abbrev pub named : {V P : Type 0} → (Name → Option (Object V P)) → Meanings Name V P
-named stands = record { object_for = stands; written = λ x. x }
+named objects = record { object_for = objects; written = λ x. x }
 
 -- what a name means in an environment
-abbrev pub stands_in : TypeEnvironment Name → Name → Option (Object Shape Signature)
-stands_in env x = newest (from_binding as_names env x)
+abbrev pub object_in : TypeEnvironment Name → Name → Option (Object Shape Signature)
+object_in env x = newest (from_binding as_names env x)
 
 -- a parameter of a name, its mode and its type
 abbrev pub parameter_of : Mode → Shape → Name → TypedParameter Name

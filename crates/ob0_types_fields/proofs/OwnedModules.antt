@@ -34,7 +34,7 @@ use Rattle.ob0_types_fields.specs.Owners.{of_records}
 use Rattle.ob0_types_fields.specs.Owned.{HasOwners, OwnersByDeclaration, owned, owned_block, owned_formals, owned_procedure, owned_procedures, owned_type_section, owned_variable_section, token_objects, unowned}
 use Rattle.ob0_types_fields.proofs.OwnedStatements.{Alike, SameTypes, owned-alike, owners_split, recorded, recorded-alike, recorded-mapped, unowned-all}
 use Rattle.ob0_types_fields.proofs.OwnedTypes.{counted_formals_section, counted_procedure, counted_type_section, counted_variable_section, formals-owned, type_section-owned, variable_section-owned}
-use Rattle.ob0_types_fields.proofs.NamesMeant.{stands_in}
+use Rattle.ob0_types_fields.proofs.NamesMeant.{object_in}
 use Rattle.ob0_types_fields.proofs.Selecting.{body-selects, here}
 use Rattle.ob0_types_fields.proofs.DeclaredInOrder.{Descends, Grown, Right, block_grows, bound_right, descends_join, heading_grows, right_join, right_split}
 
@@ -142,13 +142,13 @@ entered noted j k below statements fs b closing rest h =
     record { listed = f.0; by_name = f.1; names = f.3; parts = subst (FitParts env j statements (declared k) fs' b closing rest) (sym f.2) p.2 }
 
 -- what a name is bound to is what its ordinal means
-stands-right : (objects : ℕ → Option (Object Shape Signature)) (noted : TypeNoted Name) → Right objects (typed_by_ordinal noted) → (x : Name)
+object-right : (objects : ℕ → Option (Object Shape Signature)) (noted : TypeNoted Name) → Right objects (typed_by_ordinal noted) → (x : Name)
     → newest (from_binding as_names (typed_by_name noted) x) ≡ option_and_then objects (ordinal_of as_names (typed_scope noted) x)
-stands-right objects [] right x = refl
-stands-right objects (b ∷ noted) right x =
+object-right objects [] right x = refl
+object-right objects (b ∷ noted) right x =
     elim (same_name x b.name) as (λ v. newest (elim v [ true ↦ (b.name, b.object) ∷ typed_by_name noted | false ↦ from_binding as_names (typed_by_name noted) x ])
     ≡ option_and_then objects (elim v [ true ↦ Some b.ordinal | false ↦ ordinal_of as_names (typed_scope noted) x ]))
-    [ true ↦ sym right.0 | false ↦ stands-right objects noted right.1 x ]
+    [ true ↦ sym right.0 | false ↦ object-right objects noted right.1 x ]
 
 label_back : (o : Option ℕ) (x : Name) → label_ordinal (as_label as_names o x) ≡ o
 label_back None x = refl
@@ -197,7 +197,7 @@ module _ (l : ℕ → Name → Name) (at : ℕ → Option ℕ) (text : ℕ → N
   alike-listed noted right (x ∷ xs) e =
       let h = heads e in
       let same : ordinal_of as_names (typed_scope noted) (text x) ≡ ordinal x = sym (label_back (ordinal_of as_names (typed_scope noted) (text x)) (text x)) ∙ (ap label_ordinal h.0 ∙ label_back (ordinal x) (text x)) in
-      (ap object_type (stands-right objects noted right (text x) ∙ ap (option_and_then objects) same), alike-listed noted right xs h.1)
+      (ap object_type (object-right objects noted right (text x) ∙ ap (option_and_then objects) same), alike-listed noted right xs h.1)
 
   body-alike : (noted : TypeNoted Name) → Right objects (typed_by_ordinal noted) → (st : Tree ℕ (maybe body)) → relabel_uses as_names (as_label as_names) (typed_scope noted) (mapped text value st) ≡ mapped label value st
       → Alike (meanings as_names (typed_by_name noted)) by_token (occurrences st)
@@ -249,7 +249,7 @@ module _ (l : ℕ → Name → Name) (at : ℕ → Option ℕ) (text : ℕ → N
       let alike = body-alike last right st (ap (λ s. relabel_uses as_names (as_label as_names) s (mapped text value st)) scoped ∙ numbered) in
       let fitting : body_fits as_names (typed_by_name last) (mapped text value st) ≡ true =
       sym (body_fits-agrees as_names n last below (mapped text value st)) ∙ ((λ i. body_fits as_labels (typed_by_ordinal last) (relabel_uses as_names (as_label as_names) (scoped i) (mapped text value st))) ∙ fits) in
-      let by_name : Meanings ℕ Shape Signature = here (stands_in (typed_by_name last)) text value in
+      let by_name : Meanings ℕ Shape Signature = here (object_in (typed_by_name last)) text value in
       let types = same-types (meanings as_names (typed_by_name last)) (occurrences st) alike in
       let selecting : owned by_token None st ≡ recorded by_token None st =
       sym (owned-alike by_name by_token (λ x. refl) None st types) ∙ (body-selects (typed_by_name last) text value st fitting ∙ recorded-alike by_name by_token (λ x. refl) None st types) in

@@ -187,21 +187,21 @@ kept_below ((x, Some k) ∷ xs) table low high i ascend below =
     let other : i ≢ x = omega (arith, ascend.0, below) in
     kept_below xs (set table x (Some k)) (x + 1) high i ascend.1 (omega (arith, ascend.0, below)) ∙ get_or-set_other table x i (Some k) None other
 
-fields_stand : (xs : List (ℕ × Option ℕ)) (table : List (Option ℕ)) (low high : ℕ) → Ascending low (tokens xs) high → high ≤ length table → ((i : ℕ) → low ≤ i → i < high → ordinal_in table i ≡ None)
+fields_are_identifiers : (xs : List (ℕ × Option ℕ)) (table : List (Option ℕ)) (low high : ℕ) → Ascending low (tokens xs) high → high ≤ length table → ((i : ℕ) → low ≤ i → i < high → ordinal_in table i ≡ None)
     → HasOwners (ordinal_in (with_fields_at table (fields_among xs))) xs
-fields_stand [] table low high ascend within vacant = tt
-fields_stand ((x, None) ∷ xs) table low high ascend within vacant =
+fields_are_identifiers [] table low high ascend within vacant = tt
+fields_are_identifiers ((x, None) ∷ xs) table low high ascend within vacant =
     let last = ascends_to (x + 1) (tokens xs) high ascend.1 in (
       kept_below xs table (x + 1) high x ascend.1 (omega arith) ∙ vacant x ascend.0 (omega (arith, last)),
-      fields_stand xs table (x + 1) high ascend.1 within (λ i l u. vacant i (omega (arith, l, ascend.0)) u),
+      fields_are_identifiers xs table (x + 1) high ascend.1 within (λ i l u. vacant i (omega (arith, l, ascend.0)) u),
     )
-fields_stand ((x, Some k) ∷ xs) table low high ascend within vacant =
+fields_are_identifiers ((x, Some k) ∷ xs) table low high ascend within vacant =
     let next : List (Option ℕ) = set table x (Some k) in
     let last = ascends_to (x + 1) (tokens xs) high ascend.1 in
     let inside : x < length table = omega (arith, last, within) in
     let still : high ≤ length next = subst (λ n. high ≤ n) (sym (length-set table x (Some k))) within in (
       kept_below xs next (x + 1) high x ascend.1 (omega arith) ∙ get_or-set_same table x (Some k) None inside,
-      fields_stand xs next (x + 1) high ascend.1 still (λ i l u. let other : i ≢ x = omega (arith, l) in get_or-set_other table x i (Some k) None other ∙ vacant i (omega (arith, l, ascend.0)) u),
+      fields_are_identifiers xs next (x + 1) high ascend.1 still (λ i l u. let other : i ≢ x = omega (arith, l) in get_or-set_other table x i (Some k) None other ∙ vacant i (omega (arith, l, ascend.0)) u),
     )
 
 -- the empty table, one entry a token, with the fields of a module written into it
@@ -214,7 +214,7 @@ fields_have-owners r named =
     let nothing : Option ℕ = None in
     let vacant : List (Option ℕ) = replicate n nothing in
     let ascend = subst (λ ts. Ascending 0 ts n) (sym (module-tokens _ (tree_of r.module_read))) (leaves_ascend r.module_read named.parsed) in
-    fields_stand (owned_tokens r) vacant 0 n ascend (subst (λ z. n ≤ z) (sym (length-replicate n nothing)) (le_refl n)) (λ i l u. get_or-replicate n i nothing None u)
+    fields_are_identifiers (owned_tokens r) vacant 0 n ascend (subst (λ z. n ≤ z) (sym (length-replicate n nothing)) (le_refl n)) (λ i l u. get_or-replicate n i nothing None u)
 
 pub owners_of_fields-holds : OwnersOfFields
 owners_of_fields-holds r named fits = owners_by_declaration-holds r (with_owners r) named fits (fields_have-owners r named)

@@ -26,7 +26,7 @@ use Rattle.ob0_values.specs.Values.{FieldShapes, Shape, array_shape, integer_sha
 use Rattle.ob0_types_fields.specs.FieldTypes.{FieldsTyped, TypedField, constructed, typed_field_named, first_listed, typed_field}
 use Rattle.ob0_types_fields.specs.Identifiers.{declared_fields, declared_in_block, declared_in_procedure, declared_in_procedures, declaring_field, field_identifiers, first, is_field, tokens_among}
 use Rattle.ob0_types_fields.specs.Owned.{marked_group, marked_groups, marked_sections, marked_type, marked_types, marked_variables}
-use Rattle.ob0_types_fields.proofs.DeclaredTypes.{BlockStands, Denotes, FormalsStand, ProcedureStands, ProceduresStand, TypesStand, VariablesStand, meaning, module-stands}
+use Rattle.ob0_types_fields.proofs.DeclaredTypes.{BlockIsTyped, Denotes, FormalsAreTyped, ProcedureIsTyped, ProceduresAreTyped, TypesAreTyped, VariablesAreTyped, meaning, module-typed}
 use Rattle.ob0_types_fields.proofs.FieldLabels.{AllWritten, BlockPlain, GroupPlain, GroupsPlain, IsWritten, ProcedurePlain, ProceduresPlain, SectionsPlain, TypePlain, TypesPlain, VariablesPlain, numbered-plain}
 use Rattle.ob0_types_fields.proofs.FieldsDeclared.{fields_declared-holds}
 
@@ -377,55 +377,55 @@ module _ (r : Resolution) where
   declared-have t u s is d plain once k =
       subst (λ z. AllByRecursion (HasField (constructed (meaning r) z u) k) (marked_type k u)) (sym is) (type-have d.env d.ordinal u s d.denotes plain once k)
 
-  types-have : (ds : Tree ℕ (items type_name)) → TypesStand r ds → TypesPlain (in_labels r ds) → types_once (mapped text value ds) ≡ true → (k : ℕ) → AllByRecursion (HasField (constructed (meaning r) None ds) k) (marked_types k ds)
-  types-have end stand plain once k = tt
-  types-have (more (declares_type x u) ds) stand plain once k =
+  types-have : (ds : Tree ℕ (items type_name)) → TypesAreTyped r ds → TypesPlain (in_labels r ds) → types_once (mapped text value ds) ≡ true → (k : ℕ) → AllByRecursion (HasField (constructed (meaning r) None ds) k) (marked_types k ds)
+  types-have end are_typed plain once k = tt
+  types-have (more (declares_type x u) ds) are_typed plain once k =
       let o = and_parts (fields_once (mapped text value u)) (types_once (mapped text value ds)) once in
       let t : Option Shape = type_declared ((meaning r).object_for x) in
       parts-have (constructed (meaning r) t u) (constructed (meaning r) None ds) k (k + constructors u) (marked_type k u) (marked_types (k + constructors u) ds) (ap (λ c. k + c) (sym (type-counted r t u)))
-      (declared-have t u stand.0.0 (ap type_declared stand.0.1) stand.0.2 plain.0 o.0 k) (types-have ds stand.1 plain.1 o.1 (k + constructors u))
+      (declared-have t u are_typed.0.0 (ap type_declared are_typed.0.1) are_typed.0.2 plain.0 o.0 k) (types-have ds are_typed.1 plain.1 o.1 (k + constructors u))
 
-  variables-have : (gs : Tree ℕ (items variable)) → VariablesStand r gs → VariablesPlain (in_labels r gs) → variables_once (mapped text value gs) ≡ true → (k : ℕ) → AllByRecursion (HasField (constructed (meaning r) None gs) k) (marked_variables k gs)
-  variables-have end stand plain once k = tt
-  variables-have (more (declares_variable (listed x others) u) gs) stand plain once k =
+  variables-have : (gs : Tree ℕ (items variable)) → VariablesAreTyped r gs → VariablesPlain (in_labels r gs) → variables_once (mapped text value gs) ≡ true → (k : ℕ) → AllByRecursion (HasField (constructed (meaning r) None gs) k) (marked_variables k gs)
+  variables-have end are_typed plain once k = tt
+  variables-have (more (declares_variable (listed x others) u) gs) are_typed plain once k =
       let o = and_parts (fields_once (mapped text value u)) (variables_once (mapped text value gs)) once in
       let t : Option Shape = type_declared ((meaning r).object_for x) in
       parts-have (constructed (meaning r) t u) (constructed (meaning r) None gs) k (k + constructors u) (marked_type k u) (marked_variables (k + constructors u) gs) (ap (λ c. k + c) (sym (type-counted r t u)))
-      (declared-have t u stand.0.0 (ap type_declared stand.0.1) stand.0.2 plain.0 o.0 k) (variables-have gs stand.1 plain.1 o.1 (k + constructors u))
+      (declared-have t u are_typed.0.0 (ap type_declared are_typed.0.1) are_typed.0.2 plain.0 o.0 k) (variables-have gs are_typed.1 plain.1 o.1 (k + constructors u))
 
-  sections-have : (fs : Tree ℕ (items further_section)) → FormalsStand r fs → SectionsPlain (in_labels r fs) → formals_once (mapped text value fs) ≡ true → (k : ℕ) → AllByRecursion (HasField (constructed (meaning r) None fs) k) (marked_sections k fs)
-  sections-have end stand plain once k = tt
-  sections-have (more (then_section (value_section (listed x others) u)) fs) stand plain once k =
+  sections-have : (fs : Tree ℕ (items further_section)) → FormalsAreTyped r fs → SectionsPlain (in_labels r fs) → formals_once (mapped text value fs) ≡ true → (k : ℕ) → AllByRecursion (HasField (constructed (meaning r) None fs) k) (marked_sections k fs)
+  sections-have end are_typed plain once k = tt
+  sections-have (more (then_section (value_section (listed x others) u)) fs) are_typed plain once k =
       let o = and_parts (fields_once (mapped text value u)) (formals_once (mapped text value fs)) once in
       let t : Option Shape = type_declared ((meaning r).object_for x) in
       parts-have (constructed (meaning r) t u) (constructed (meaning r) None fs) k (k + constructors u) (marked_type k u) (marked_sections (k + constructors u) fs) (ap (λ c. k + c) (sym (type-counted r t u)))
-      (declared-have t u stand.0.0 (ap type_declared stand.0.1) stand.0.2 plain.0 o.0 k) (sections-have fs stand.1 plain.1 o.1 (k + constructors u))
-  sections-have (more (then_section (variable_section (listed x others) u)) fs) stand plain once k =
+      (declared-have t u are_typed.0.0 (ap type_declared are_typed.0.1) are_typed.0.2 plain.0 o.0 k) (sections-have fs are_typed.1 plain.1 o.1 (k + constructors u))
+  sections-have (more (then_section (variable_section (listed x others) u)) fs) are_typed plain once k =
       let o = and_parts (fields_once (mapped text value u)) (formals_once (mapped text value fs)) once in
       let t : Option Shape = type_declared ((meaning r).object_for x) in
       parts-have (constructed (meaning r) t u) (constructed (meaning r) None fs) k (k + constructors u) (marked_type k u) (marked_sections (k + constructors u) fs) (ap (λ c. k + c) (sym (type-counted r t u)))
-      (declared-have t u stand.0.0 (ap type_declared stand.0.1) stand.0.2 plain.0 o.0 k) (sections-have fs stand.1 plain.1 o.1 (k + constructors u))
+      (declared-have t u are_typed.0.0 (ap type_declared are_typed.0.1) are_typed.0.2 plain.0 o.0 k) (sections-have fs are_typed.1 plain.1 o.1 (k + constructors u))
 
-  type_section-have : (ts : Tree ℕ (maybe type_names)) → TypesStand r (section_types ts) → TypesPlain (section_types (in_labels r ts)) → types_once (section_types (mapped text value ts)) ≡ true → (k : ℕ)
+  type_section-have : (ts : Tree ℕ (maybe type_names)) → TypesAreTyped r (section_types ts) → TypesPlain (section_types (in_labels r ts)) → types_once (section_types (mapped text value ts)) ≡ true → (k : ℕ)
       → AllByRecursion (HasField (constructed (meaning r) None ts) k) (marked_types k (section_types ts))
-  type_section-have none stand plain once k = tt
-  type_section-have (one (declares_types ts)) stand plain once k = types-have ts stand plain once k
+  type_section-have none are_typed plain once k = tt
+  type_section-have (one (declares_types ts)) are_typed plain once k = types-have ts are_typed plain once k
 
-  variable_section-have : (vs : Tree ℕ (maybe variables)) → VariablesStand r (section_variables vs) → VariablesPlain (section_variables (in_labels r vs)) → variables_once (section_variables (mapped text value vs)) ≡ true → (k : ℕ)
+  variable_section-have : (vs : Tree ℕ (maybe variables)) → VariablesAreTyped r (section_variables vs) → VariablesPlain (section_variables (in_labels r vs)) → variables_once (section_variables (mapped text value vs)) ≡ true → (k : ℕ)
       → AllByRecursion (HasField (constructed (meaning r) None vs) k) (marked_variables k (section_variables vs))
-  variable_section-have none stand plain once k = tt
-  variable_section-have (one (declares_variables vs)) stand plain once k = variables-have vs stand plain once k
+  variable_section-have none are_typed plain once k = tt
+  variable_section-have (one (declares_variables vs)) are_typed plain once k = variables-have vs are_typed plain once k
 
-  formal_section-have : (fs : Tree ℕ (maybe formals)) → FormalsStand r (formal_sections fs) → SectionsPlain (formal_sections (in_labels r fs)) → formals_once (formal_sections (mapped text value fs)) ≡ true → (k : ℕ)
+  formal_section-have : (fs : Tree ℕ (maybe formals)) → FormalsAreTyped r (formal_sections fs) → SectionsPlain (formal_sections (in_labels r fs)) → formals_once (formal_sections (mapped text value fs)) ≡ true → (k : ℕ)
       → AllByRecursion (HasField (constructed (meaning r) None fs) k) (marked_sections k (formal_sections fs))
-  formal_section-have none stand plain once k = tt
-  formal_section-have (one no_formals) stand plain once k = tt
-  formal_section-have (one (some_formals (value_section ns u) fs)) stand plain once k = sections-have (more (then_section (value_section ns u)) fs) stand plain once k
-  formal_section-have (one (some_formals (variable_section ns u) fs)) stand plain once k = sections-have (more (then_section (variable_section ns u)) fs) stand plain once k
+  formal_section-have none are_typed plain once k = tt
+  formal_section-have (one no_formals) are_typed plain once k = tt
+  formal_section-have (one (some_formals (value_section ns u) fs)) are_typed plain once k = sections-have (more (then_section (value_section ns u)) fs) are_typed plain once k
+  formal_section-have (one (some_formals (variable_section ns u) fs)) are_typed plain once k = sections-have (more (then_section (variable_section ns u)) fs) are_typed plain once k
 
   mutual
-    block-has : (own : List Name) (b : Tree ℕ block) → BlockStands r b → BlockPlain (in_labels r b) → block_once own (mapped text value b) ≡ true → (k : ℕ) → AllByRecursion (HasField (constructed (meaning r) None b) k) (declared_in_block k b)
-    block-has own (has_body (declares cs ts vs ps) statements) stand plain once k =
+    block-has : (own : List Name) (b : Tree ℕ block) → BlockIsTyped r b → BlockPlain (in_labels r b) → block_once own (mapped text value b) ≡ true → (k : ℕ) → AllByRecursion (HasField (constructed (meaning r) None b) k) (declared_in_block k b)
+    block-has own (has_body (declares cs ts vs ps) statements) are_typed plain once k =
         let b : Tree ℕ block = has_body (declares cs ts vs ps) statements in
         let T : Bool = types_once (section_types (mapped text value ts)) in
         let V : Bool = variables_once (section_variables (mapped text value vs)) in
@@ -435,28 +435,28 @@ module _ (r : Resolution) where
         let o3 = and_parts V P o2.1 in
         parts-have (constructed (meaning r) None ts) (constructed (meaning r) None vs ++ constructed (meaning r) None ps) k (after_types k b)
         (marked_types k (section_types ts)) (marked_variables (after_types k b) (section_variables vs) ++ declared_in_procedures (after_variables k b) ps) (ap (λ c. k + c) (sym (type_section-counted r ts)))
-        (type_section-have ts stand.0.0 plain.0.0 o2.0 k)
+        (type_section-have ts are_typed.0.0 plain.0.0 o2.0 k)
         (parts-have (constructed (meaning r) None vs) (constructed (meaning r) None ps) (after_types k b) (after_variables k b)
         (marked_variables (after_types k b) (section_variables vs)) (declared_in_procedures (after_variables k b) ps) (ap (λ c. after_types k b + c) (sym (variable_section-counted r vs)))
-        (variable_section-have vs stand.0.1 plain.0.1 o3.0 (after_types k b)) (procedures-have ps stand.1 plain.1 o3.1 (after_variables k b)))
+        (variable_section-have vs are_typed.0.1 plain.0.1 o3.0 (after_types k b)) (procedures-have ps are_typed.1 plain.1 o3.1 (after_variables k b)))
 
-    procedures-have : (ps : Tree ℕ (items procedure)) → ProceduresStand r ps → ProceduresPlain (in_labels r ps) → procedures_once (mapped text value ps) ≡ true → (k : ℕ) → AllByRecursion (HasField (constructed (meaning r) None ps) k) (declared_in_procedures k ps)
-    procedures-have end stand plain once k = tt
-    procedures-have (more q rest) stand plain once k =
+    procedures-have : (ps : Tree ℕ (items procedure)) → ProceduresAreTyped r ps → ProceduresPlain (in_labels r ps) → procedures_once (mapped text value ps) ≡ true → (k : ℕ) → AllByRecursion (HasField (constructed (meaning r) None ps) k) (declared_in_procedures k ps)
+    procedures-have end are_typed plain once k = tt
+    procedures-have (more q rest) are_typed plain once k =
         let o = and_parts (procedure_once (mapped text value q)) (procedures_once (mapped text value rest)) once in
         parts-have (constructed (meaning r) None q) (constructed (meaning r) None rest) k (k + procedure_constructors q)
         (declared_in_procedure k q) (declared_in_procedures (k + procedure_constructors q) rest) (ap (λ c. k + c) (sym (procedure-counted r q)))
-        (procedure-has q stand.0 plain.0 o.0 k) (procedures-have rest stand.1 plain.1 o.1 (k + procedure_constructors q))
+        (procedure-has q are_typed.0 plain.0 o.0 k) (procedures-have rest are_typed.1 plain.1 o.1 (k + procedure_constructors q))
 
-    procedure-has : (q : Tree ℕ (item procedure)) → ProcedureStands r q → ProcedurePlain (in_labels r q) → procedure_once (mapped text value q) ≡ true → (k : ℕ) → AllByRecursion (HasField (constructed (meaning r) None q) k) (declared_in_procedure k q)
-    procedure-has (declares_procedure x fs b closing) stand plain once k =
+    procedure-has : (q : Tree ℕ (item procedure)) → ProcedureIsTyped r q → ProcedurePlain (in_labels r q) → procedure_once (mapped text value q) ≡ true → (k : ℕ) → AllByRecursion (HasField (constructed (meaning r) None q) k) (declared_in_procedure k q)
+    procedure-has (declares_procedure x fs b closing) are_typed plain once k =
         let F : Bool = formals_once (formal_sections (mapped text value fs)) in
         let B : Bool = block_once (formal_names (formal_sections (mapped text value fs))) (mapped text value b) in
         let o1 = and_parts (same_name (text x) (text closing)) (F && B) once in
         let o2 = and_parts F B o1.1 in
         let n : ℕ = after_formals k (declares_procedure x fs b closing) in
         parts-have (constructed (meaning r) None fs) (constructed (meaning r) None b) k n (marked_sections k (formal_sections fs)) (declared_in_block n b) (ap (λ c. k + c) (sym (formal_section-counted r fs)))
-        (formal_section-have fs stand.0 plain.0 o2.0 k) (block-has (formal_names (formal_sections (mapped text value fs))) b stand.1 plain.1 o2.1 n)
+        (formal_section-have fs are_typed.0 plain.0 o2.0 k) (block-has (formal_names (formal_sections (mapped text value fs))) b are_typed.1 plain.1 o2.1 n)
 
   -- all types that a module constructs
   abbrev made_in_module : List (Option Shape)
@@ -468,7 +468,7 @@ module _ (r : Resolution) where
       let b : Tree ℕ block = module_block (tree_of r.module_read) in
       let plain : BlockPlain (in_labels r b) = subst (λ (z : Tree Label module_text). BlockPlain (module_block z)) is.numbering (numbered-plain (named_tree_of r.module_read)) in
       let once = and_parts (same_name (text r.module_read.name) (text r.module_read.closing)) (block_once [] (mapped text value b)) well.0 in
-      block-has [] b (module-stands r is well) plain once.1 0
+      block-has [] b (module-typed r is well) plain once.1 0
 
   -- a field that some identifier declares
   declaring-has : (k : ℕ) (x : Name) (xs : List (ℕ × ℕ)) → AllByRecursion (HasField made_in_module 0) xs → is_some (first (tokens_among r.module_read.source k x xs)) ≡ true → Has made_in_module 0 k x

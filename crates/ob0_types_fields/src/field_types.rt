@@ -94,7 +94,7 @@ struct ConstructorWalk<'a, 't> {
 
 impl<'a, 't> ConstructorWalk<'a, 't> {
     /// The type of what the name at a token declares.
-    fn declared(&self, token: usize) -> Option<TypeId>
+    fn declared_type(&self, token: usize) -> Option<TypeId>
         ensures { type_in self.now result
             ≡ type_declared ((meanings_in self.now).object_for token) }
     {
@@ -173,7 +173,7 @@ impl<'a, 't> ConstructorWalk<'a, 't> {
         };
         let mut search = search;
         for d in declared {
-            search = self.written_type(search, self.declared(d.name), &d.written);
+            search = self.written_type(search, self.declared_type(d.name), &d.written);
         }
         search
     }
@@ -188,7 +188,7 @@ impl<'a, 't> ConstructorWalk<'a, 't> {
         };
         let mut search = search;
         for v in declared {
-            search = self.written_type(search, self.declared(v.names.first), &v.written);
+            search = self.written_type(search, self.declared_type(v.names.first), &v.written);
         }
         search
     }
@@ -213,7 +213,7 @@ impl<'a, 't> ConstructorWalk<'a, 't> {
             ≡ after_all (sought_in self.now search)
             (constructed (meanings_in self.now) None (section_of s.now)) }
     {
-        self.written_type(search, self.declared(s.names.first), &s.written)
+        self.written_type(search, self.declared_type(s.names.first), &s.written)
     }
 
     /// The search after the declarations of a block.

@@ -17,7 +17,7 @@ use Rattle.ob0_types_rules.specs.Expressions.{a_constant, a_procedure, a_type, a
 use Rattle.ob0_types_rules.specs.Typing.{constant_value, constructors, denoted}
 use Rattle.ob0_types_rules.specs.WellTyped.{Signature, TypeEnvironment, TypedParameter, bind_names, bind_typed, block_fits, body_fits, declare_typed, heading, some_and, procedure_fits, procedures_fit, section_mode, typed_parameters}
 use Rattle.ob0_types_rules.proofs.Agreeing.{Agree, HoldsOf}
-use Rattle.ob0_types_rules.proofs.EditedDeclarations.{Outside, Worth, constants-edited, outside-right}
+use Rattle.ob0_types_rules.proofs.EditedDeclarations.{Outside, HasValueBetween, constants-edited, outside-right}
 use Rattle.ob0_types_rules.proofs.EditedParts.{all-left, body-has_value, constants-has_value, first-edited, heading-outside, mark_all, names_of, own-has_value, procedures-has_value, read-all, rest-has_value, types-outside, with_value}
 use Rattle.ob0_types_rules.proofs.EditedTypes.{Checked, LeftTyped, anything, as_signed, bind_typed-all, declarations-edited, parameter_pairs, parameter_pairs-names, parameters-edited, typed-names}
 use Rattle.ob0_types_rules.proofs.Leaves.{Here, Literal, known-value, read-object_for, read_meanings}
@@ -31,8 +31,8 @@ use Rattle.std.proofs.lemmas.Bool.{and_parts}
 abbrev pub IsOf : ℕ → Scope Name → Name → Type 0
 IsOf d scope x = ordinal_of as_names scope x ≡ Some d
 
-abbrev pub StandsAlone : ℕ → Placed
-StandsAlone d s j scope t = NoneOf (IsOf d scope) (names_elsewhere t)
+abbrev pub IsAlone : ℕ → Placed
+IsAlone d s j scope t = NoneOf (IsOf d scope) (names_elsewhere t)
 
 pub holds-constant : {V P Q : Type 0} (edit : Edit) (w : Value) (X : Marks V P → Name → ℕ → P → Type 0) (p : ℕ → P → Q) (n : ℕ) (marks : Marks V P) → Sound edit w X n marks → AreConstant (IsOf edit.constant (scope_marked marks)) (read_meanings p marks) w
 holds-constant edit w X p n marks s x k = read-object_for p marks x ∙ has_value-found edit w p (found marks x) (found-right edit w X n marks x s) (sym (ordinal-found marks x) ∙ k)
@@ -49,8 +49,8 @@ held None test h = absurd (true≢false (sym h))
 held (Some a) test h = (a, refl, h)
 
 pub alone-constants : {V P Q : Type 0} (edit : Edit) (w : Value) (X : Marks V P → Name → ℕ → P → Type 0) (p : ℕ → P → Q) (j k : ℕ) (marks : Marks V P) → Sound edit w X k marks → 7 ≤ k → (cs : Tree Name (items constant))
-    → Worth edit w k (after_names k (constant_names cs)) (value_among (knowns marks) edit.constant k cs) → (env : Environment Name V Q) → declare_constants as_names (read p marks) cs ≡ Some env
-    → EachConstant (StandsAlone edit.constant) j (scope_marked marks) k cs
+    → HasValueBetween edit w k (after_names k (constant_names cs)) (value_among (knowns marks) edit.constant k cs) → (env : Environment Name V Q) → declare_constants as_names (read p marks) cs ≡ Some env
+    → EachConstant (IsAlone edit.constant) j (scope_marked marks) k cs
 unfolding declare_constants value_among
 alone-constants edit w X p j k marks s seven end has_value env h = tt
 alone-constants {V} {P} edit w X p j k marks s seven (more (declares_constant x e) cs) has_value env h =
@@ -75,7 +75,7 @@ alone-constants {V} {P} edit w X p j k marks s seven (more (declares_constant x 
     )
 
 pub alone-types : {V P Q : Type 0} (edit : Edit) (w : Value) (X : Marks V P → Name → ℕ → P → Type 0) (p : ℕ → P → Q) (i j k : ℕ) (marks : Marks V P) → Sound edit w X k marks → 7 ≤ k → (ds : Tree Name (items type_name))
-    → Outside edit k (after_names k (named_types ds)) → (env : Environment Name V Q) → declare_types as_names (read p marks) i ds ≡ Some env → EachType (StandsAlone edit.constant) j (scope_marked marks) k ds
+    → Outside edit k (after_names k (named_types ds)) → (env : Environment Name V Q) → declare_types as_names (read p marks) i ds ≡ Some env → EachType (IsAlone edit.constant) j (scope_marked marks) k ds
 unfolding declare_types
 alone-types edit w X p i j k marks s seven end outside env h = tt
 alone-types edit w X p i j k marks s seven (more (declares_type x t) ds) outside env h =
@@ -87,7 +87,7 @@ alone-types edit w X p i j k marks s seven (more (declares_type x t) ds) outside
     )
 
 pub alone-variables : (edit : Edit) (w : Value) (i j k : ℕ) (marks : Marks Shape Signature) → Checked edit w k marks → 7 ≤ k → (gs : Tree Name (items variable))
-    → Outside edit k (after_names k (variable_names gs)) → (env : TypeEnvironment Name) → declare_typed as_names i gs (read as_signed marks) ≡ Some env → EachVariable (StandsAlone edit.constant) j (scope_marked marks) k gs
+    → Outside edit k (after_names k (variable_names gs)) → (env : TypeEnvironment Name) → declare_typed as_names i gs (read as_signed marks) ≡ Some env → EachVariable (IsAlone edit.constant) j (scope_marked marks) k gs
 unfolding declare_typed
 alone-variables edit w i j k marks s seven end outside env h = tt
 alone-variables edit w i j k marks s seven (more (declares_variable ns t) gs) outside env h =
@@ -101,13 +101,13 @@ alone-variables edit w i j k marks s seven (more (declares_variable ns t) gs) ou
     let inner : Marks Shape Signature = mark_all k (with_value shape xs) marks in
     let bound = typed-names edit w k xs shape marks s seven (λ l m. outside l (omega (arith, m, whole, last))) in (
       denoted-elsewhere (IsOf edit.constant (scope_marked marks)) (read_meanings as_signed marks) w (holds-constant edit w anything as_signed k marks s) i t shape es,
-      subst (λ scope. EachVariable (StandsAlone edit.constant) (j + length (occurrences t)) scope n gs) bound.0.scoped
+      subst (λ scope. EachVariable (IsAlone edit.constant) (j + length (occurrences t)) scope n gs) bound.0.scoped
           (alone-variables edit w (i + constructors t) (j + length (occurrences t)) n inner bound.0.sound (omega (arith, seven, above)) gs (λ l m. outside (omega (arith, l, above)) (omega (arith, m, whole))) env
           (ap (declare_typed as_names (i + constructors t) gs) (sym bound.1) ∙ h₁)),
     )
 
 pub alone-sections : (edit : Edit) (w : Value) (i j k : ℕ) (marks : Marks Shape Signature) → Checked edit w k marks → 7 ≤ k → (fs : Tree Name (items further_section))
-    → Outside edit k (after_names k (formal_names fs)) → (ps : List (TypedParameter Name)) → typed_parameters as_names (read as_signed marks) i fs ≡ Some ps → EachSection (StandsAlone edit.constant) j (scope_marked marks) k fs
+    → Outside edit k (after_names k (formal_names fs)) → (ps : List (TypedParameter Name)) → typed_parameters as_names (read as_signed marks) i fs ≡ Some ps → EachSection (IsAlone edit.constant) j (scope_marked marks) k fs
 unfolding typed_parameters
 alone-sections edit w i j k marks s seven end outside ps h = tt
 alone-sections edit w i j k marks s seven (more (then_section f) fs) outside ps h =
@@ -125,7 +125,7 @@ alone-sections edit w i j k marks s seven (more (then_section f) fs) outside ps 
     let inner : Marks Shape Signature = mark_all k (with_value shape xs) marks in
     let bound = typed-names edit w k xs shape marks s seven (λ l m. outside l (omega (arith, m, whole, last))) in (
       denoted-elsewhere (IsOf edit.constant (scope_marked marks)) (read_meanings as_signed marks) w (holds-constant edit w anything as_signed k marks s) i t shape es,
-      subst (λ scope. EachSection (StandsAlone edit.constant) (j + length (occurrences f)) scope n fs) bound.0.scoped
+      subst (λ scope. EachSection (IsAlone edit.constant) (j + length (occurrences f)) scope n fs) bound.0.scoped
           (alone-sections edit w (i + constructors t) (j + length (occurrences f)) n inner bound.0.sound (omega (arith, seven, above)) fs (λ l m. outside (omega (arith, l, above)) (omega (arith, m, whole))) rest
           (ap (λ env. typed_parameters as_names env (i + constructors t) fs) (sym bound.1) ∙ er)),
     )
@@ -144,8 +144,8 @@ mutual
   unfolding block_fits
 
   pub alone-block : (edit : Edit) (w : Value) → Literal edit w → (i j k : ℕ) (marks : Marks Shape Signature) → Checked edit w k marks → 7 ≤ k → (b : Tree Name block)
-      → EachBlock (Here edit w) j (scope_marked marks) k b → Worth edit w k (after_block k b) (value_in_block (knowns marks) edit.constant k b)
-      → block_fits as_names (read as_signed marks) i b ≡ true → EachBlock (StandsAlone edit.constant) j (scope_marked marks) k b
+      → EachBlock (Here edit w) j (scope_marked marks) k b → HasValueBetween edit w k (after_block k b) (value_in_block (knowns marks) edit.constant k b)
+      → block_fits as_names (read as_signed marks) i b ≡ true → EachBlock (IsAlone edit.constant) j (scope_marked marks) k b
   alone-block edit w lit i j k marks s seven (has_body (declares cs ts vs ps) statements) here has_value h =
       let b : Tree Name block = has_body (declares cs ts vs ps) statements in
       let d : ℕ = edit.constant in
@@ -174,20 +174,20 @@ mutual
       (subst (λ scope. EachProcedure (Here edit w) jp scope (first_procedure k b) ps) (sym left₂.scoped) here.3) (procedures-has_value edit w (knowns marks) (knowns inner₂) k b has_value left₂.value)
       (ap (λ env. procedures_fit as_names env (after_variables i b) statements ps) r₂ ∙ fits) in (
         alone-constants edit w anything as_signed j k marks s seven (section_constants cs) (constants-has_value edit w (knowns marks) k b has_value) env₀ e₀,
-        subst (λ scope. EachType (StandsAlone d) jt scope (first_type k b) (section_types ts)) left₀.scoped
+        subst (λ scope. EachType (IsAlone d) jt scope (first_type k b) (section_types ts)) left₀.scoped
             (alone-types edit w anything as_signed i jt (first_type k b) inner₀ left₀.sound (omega (arith, seven, above)) (section_types ts) (λ l m. types-outside edit w (knowns marks) k b has_value l (omega (arith, m, variables))) env₁
             (ap (λ env. declare_types as_names env i (section_types ts)) r₀ ∙ f₀)),
-        subst (λ scope. EachVariable (StandsAlone d) jv scope (first_variable k b) (section_variables vs)) left₁.scoped
+        subst (λ scope. EachVariable (IsAlone d) jv scope (first_variable k b) (section_variables vs)) left₁.scoped
             (alone-variables edit w (after_types i b) jv (first_variable k b) inner₁ left₁.sound (omega (arith, seven, above, types)) (section_variables vs) (λ l m. types-outside edit w (knowns marks) k b has_value (omega (arith, l, types)) m) env₂
             (ap (declare_typed as_names (after_types i b) (section_variables vs)) r₁ ∙ f₁)),
-        subst (λ scope. EachProcedure (StandsAlone d) jp scope (first_procedure k b) ps) left₂.scoped later.0,
+        subst (λ scope. EachProcedure (IsAlone d) jp scope (first_procedure k b) ps) left₂.scoped later.0,
         subst (λ scope. NoneOf (IsOf d (declare_procedure_names (first_procedure k b) ps scope)) (names_elsewhere statements)) left₂.scoped later.1,
       )
 
   pub alone-procedures : (edit : Edit) (w : Value) → Literal edit w → (i j js k : ℕ) (marks : Marks Shape Signature) → Checked edit w k marks → 7 ≤ k → (statements : Tree Name (maybe body)) (ps : Tree Name (items procedure))
-      → EachProcedure (Here edit w) j (scope_marked marks) k ps → Worth edit w k (after_procedures k ps) (value_in_procedures (knowns marks) edit.constant k ps)
+      → EachProcedure (Here edit w) j (scope_marked marks) k ps → HasValueBetween edit w k (after_procedures k ps) (value_in_procedures (knowns marks) edit.constant k ps)
       → procedures_fit as_names (read as_signed marks) i statements ps ≡ true
-      → EachProcedure (StandsAlone edit.constant) j (scope_marked marks) k ps × NoneOf (IsOf edit.constant (declare_procedure_names k ps (scope_marked marks))) (names_elsewhere statements)
+      → EachProcedure (IsAlone edit.constant) j (scope_marked marks) k ps × NoneOf (IsOf edit.constant (declare_procedure_names k ps (scope_marked marks))) (names_elsewhere statements)
   alone-procedures edit w lit i j js k marks s seven statements end here has_value h = (tt, alone-body edit w k marks s statements h)
   alone-procedures edit w lit i j js k marks s seven statements (more (declares_procedure x fs b closing) rest) here has_value h =
       let p : Tree Name (item procedure) = declares_procedure x fs b closing in
@@ -196,7 +196,7 @@ mutual
       let xs : List Name = formal_names (formal_sections fs) in
       let n : ℕ = after_names (suc k) xs in
       let jr : ℕ = j + length (occurrences p) in
-      let mine : Worth edit w k (after_procedure (suc k) p) (value_in_procedure ((x, no_constant) ∷ knowns marks) edit.constant (suc k) p) = own-has_value edit w (knowns marks) k p rest has_value in
+      let mine : HasValueBetween edit w k (after_procedure (suc k) p) (value_in_procedure ((x, no_constant) ∷ knowns marks) edit.constant (suc k) p) = own-has_value edit w (knowns marks) k p rest has_value in
       let outside : Outside edit k n = heading-outside edit w ((x, no_constant) ∷ knowns marks) k x closing fs b mine in
       let above : suc k ≤ n = le-after_names (suc k) xs in
       let following : suc k ≤ after_procedure (suc k) p = le-after_procedure (suc k) p in
@@ -219,10 +219,10 @@ mutual
         (
           (
             alone-sections edit w i j (suc k) marks later (omega (arith, seven)) (formal_sections fs) outside' ps e,
-            subst (λ scope. EachBlock (StandsAlone d) jb scope n b) left.scoped
+            subst (λ scope. EachBlock (IsAlone d) jb scope n b) left.scoped
                 (alone-block edit w lit (i + formals_constructors (formal_sections fs)) jb n (mark_all (suc k) pairs inner) left.sound (omega (arith, seven, above)) b
                 (subst (λ scope. EachBlock (Here edit w) jb scope n b) (sym left.scoped) here.0.1)
-                (subst (λ known. Worth edit w n (after_block n b) (value_in_block known edit.constant n b)) (some_inverse left.value) (body-has_value edit w ((x, no_constant) ∷ knowns marks) k x closing fs b mine))
+                (subst (λ known. HasValueBetween edit w n (after_block n b) (value_in_block known edit.constant n b)) (some_inverse left.value) (body-has_value edit w ((x, no_constant) ∷ knowns marks) k x closing fs b mine))
                 (sym (ap (λ env. block_fits as_names env (i + formals_constructors (formal_sections fs)) b) (bind_typed-all ps (heading x ps (read as_signed marks)) ∙ read-all as_signed (suc k) pairs inner)) ∙ both.0)),
           ),
           last.0,

@@ -4,7 +4,7 @@ use Rattle.ob0_tree.specs.Tree.{Tree, addend, adds, compares, designator, end, e
 use Rattle.ob0_types_rules.specs.Expressions.{Meanings, Object, a_constant, a_procedure, a_standard, a_type, a_variable, element_step, evaluate, evaluate_addends, evaluate_factor, evaluate_multipliers, evaluate_simple, evaluate_term, follow, object_value}
 use Rattle.ob0_types_rules.specs.Laws.{ConstantsEvaluate}
 use Rattle.ob0_types_rules.specs.Typing.{constant_of, constant_value, constants_only, given_value, type_of}
-use Rattle.ob0_values.specs.Values.{Outcome, Place, Step, Store, Value, add, add_is_settled, at_field, at_path, ends, gives, multiply, multiply_is_settled, negated, or_stuck, part, relate, signed, ◌>>=◌}
+use Rattle.ob0_values.specs.Values.{Outcome, Place, Step, Store, Value, add, add_is_settled, at_field, at_path, ends, gives, multiply, multiply_is_settled, negate, or_stuck, part, relate, apply_sign, ◌>>=◌}
 
 pub then-gives : {A B : Type 0} (o : Outcome A) (next : A → Outcome B) (b : B) → o >>= next ≡ gives b → (a : A) × (o ≡ gives a) × (next a ≡ gives b)
 then-gives (gives a) next b h = (a, refl, h)
@@ -50,10 +50,10 @@ mutual
   pub evaluate_simple-held : {N V P Q : Type 0} (checked : Meanings N V P) (active : Meanings N Place Q) (store : Store) → HasConstants checked active → (a : Tree N simple) (v : Value)
       → evaluate_simple {P = Unit {0}} (constants_only checked) [] a ≡ gives v → evaluate_simple active store a ≡ gives v
   evaluate_simple-held checked active store has (sum s t rest) v h =
-      let (x, ex, h₁) = then-gives (evaluate_term {P = Unit {0}} (constants_only checked) [] t) (λ x. signed s x >>= (λ y. evaluate_addends {P = Unit {0}} (constants_only checked) [] y rest)) v h in
-      let (y, ey, h₂) = then-gives (signed s x) (λ y. evaluate_addends {P = Unit {0}} (constants_only checked) [] y rest) v h₁ in
-      then-goes (evaluate_term active store t) (λ x. signed s x >>= (λ y. evaluate_addends active store y rest)) x v (evaluate_term-held checked active store has t x ex)
-      (then-goes (signed s x) (λ y. evaluate_addends active store y rest) y v ey (evaluate_addends-held checked active store has y rest v h₂))
+      let (x, ex, h₁) = then-gives (evaluate_term {P = Unit {0}} (constants_only checked) [] t) (λ x. apply_sign s x >>= (λ y. evaluate_addends {P = Unit {0}} (constants_only checked) [] y rest)) v h in
+      let (y, ey, h₂) = then-gives (apply_sign s x) (λ y. evaluate_addends {P = Unit {0}} (constants_only checked) [] y rest) v h₁ in
+      then-goes (evaluate_term active store t) (λ x. apply_sign s x >>= (λ y. evaluate_addends active store y rest)) x v (evaluate_term-held checked active store has t x ex)
+      (then-goes (apply_sign s x) (λ y. evaluate_addends active store y rest) y v ey (evaluate_addends-held checked active store has y rest v h₂))
 
   pub evaluate_addends-held : {N V P Q : Type 0} (checked : Meanings N V P) (active : Meanings N Place Q) (store : Store) → HasConstants checked active → (x : Value) (a : Tree N (items addend)) (v : Value)
       → evaluate_addends {P = Unit {0}} (constants_only checked) [] x a ≡ gives v → evaluate_addends active store x a ≡ gives v
@@ -92,8 +92,8 @@ mutual
   evaluate_factor-held checked active store has (integer n) v h = h
   evaluate_factor-held checked active store has (parenthesised e) v h = evaluate-held checked active store has e v h
   evaluate_factor-held checked active store has (negation f) v h =
-      let (x, ex, h₁) = then-gives (evaluate_factor {P = Unit {0}} (constants_only checked) [] f) negated v h in
-      then-goes (evaluate_factor active store f) negated x v (evaluate_factor-held checked active store has f x ex) h₁
+      let (x, ex, h₁) = then-gives (evaluate_factor {P = Unit {0}} (constants_only checked) [] f) negate v h in
+      then-goes (evaluate_factor active store f) negate x v (evaluate_factor-held checked active store has f x ex) h₁
 
   pub follow-held : {N V P Q : Type 0} (checked : Meanings N V P) (active : Meanings N Place Q) (store : Store) → HasConstants checked active → (w : Value) (a : Tree N (items selector)) (steps : List Step)
       → follow {P = Unit {0}} (constants_only checked) [] w a ≡ gives steps → follow active store w a ≡ gives steps

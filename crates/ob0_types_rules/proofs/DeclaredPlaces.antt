@@ -23,8 +23,8 @@ use Rattle.ob0_types_rules.proofs.Proved.{fits_by_ordinal-holds}
 use Rattle.ob0_types_rules.proofs.TypesByOrdinal.{TypeNoted, TypedBelow, TypedBelow-weaken, typed_by_ordinal, typed_outermost, typed_scope}
 
 -- what an environment has, a list of bindings has too
-abbrev Stands : TypeEnvironment Label → TypeEnvironment Label → Type 0
-Stands all env = (d : ℕ) (o : Object Shape Signature) → object_bound env d ≡ Some o → object_bound all d ≡ Some o
+abbrev Includes : TypeEnvironment Label → TypeEnvironment Label → Type 0
+Includes all env = (d : ℕ) (o : Object Shape Signature) → object_bound env d ≡ Some o → object_bound all d ≡ Some o
 
 -- of ordinals from k on and below n a list of bindings has what another has
 abbrev Has : ℕ → ℕ → TypeEnvironment Label → TypeEnvironment Label → Type 0
@@ -40,7 +40,7 @@ bound-none k n d xs b h = ap (λ e. object_bound e d) (sym (append-nil xs)) ∙ 
 nothing : {A : Type 0} (o : A) → None ≡ Some o → ⊥
 nothing o e = cc
 
-holds-grown : (all env own : TypeEnvironment Label) (k n : ℕ) → k ≤ n → Stands all env → Binds 0 k env → Binds k n own → Has k n all own → Stands all (own ++ env)
+holds-grown : (all env own : TypeEnvironment Label) (k n : ℕ) → k ≤ n → Includes all env → Binds 0 k env → Binds k n own → Has k n all own → Includes all (own ++ env)
 holds-grown all env own k n le st envb ownb has = λ d o h. by d o h (nat_lt d k) refl (nat_lt d n) refl
   where
     by : (d : ℕ) (o : Object Shape Signature) → object_bound (own ++ env) d ≡ Some o → (s : Bool) → nat_lt d k ≡ s → (t : Bool) → nat_lt d n ≡ t → object_bound all d ≡ Some o
@@ -63,15 +63,15 @@ unfolding block_bodies
 procedures-bodied env j statements x fs b closing rest qs e =
     ap (λ o. for_some o (λ ps. block_bodies as_labels (bind_typed ps (heading x ps env)) (j + formals_constructors (formal_sections fs)) b ++ procedures_bodies as_labels (heading x ps env) (j + procedure_constructors (declares_procedure x fs b closing)) statements rest)) e
 
-last-body : (all env : TypeEnvironment Label) (j : ℕ) (statements : Tree Label (maybe body)) → Stands all env → All (λ (place : BodyAt Label). Stands all place.environment) (procedures_bodies as_labels env j statements end)
+last-body : (all env : TypeEnvironment Label) (j : ℕ) (statements : Tree Label (maybe body)) → Includes all env → All (λ (place : BodyAt Label). Includes all place.environment) (procedures_bodies as_labels env j statements end)
 unfolding block_bodies
-last-body all env j statements st = All-cons (λ (place : BodyAt Label). Stands all place.environment) (record { environment = env; statements = statements }) [] st (λ k d l. absurd (omega (arith, l)))
+last-body all env j statements st = All-cons (λ (place : BodyAt Label). Includes all place.environment) (record { environment = env; statements = statements }) [] st (λ k d l. absurd (omega (arith, l)))
 
 mutual
-  block-holds : (known : Known) (noted : TypeNoted Name) (j k : ℕ) → Knows known noted → TypedBelow k noted → (all : TypeEnvironment Label) → Stands all (typed_by_ordinal noted) → (b : Tree Name block)
+  block-holds : (known : Known) (noted : TypeNoted Name) (j k : ℕ) → Knows known noted → TypedBelow k noted → (all : TypeEnvironment Label) → Includes all (typed_by_ordinal noted) → (b : Tree Name block)
       → block_fits as_labels (typed_by_ordinal noted) j (relabel_block as_names (as_label as_names) (typed_scope noted) k b) ≡ true
       → Has k (after_block k b) all (block_bindings as_labels (typed_by_ordinal noted) j (relabel_block as_names (as_label as_names) (typed_scope noted) k b))
-      → All (λ (place : BodyAt Label). Stands all place.environment) (block_bodies as_labels (typed_by_ordinal noted) j (relabel_block as_names (as_label as_names) (typed_scope noted) k b))
+      → All (λ (place : BodyAt Label). Includes all place.environment) (block_bodies as_labels (typed_by_ordinal noted) j (relabel_block as_names (as_label as_names) (typed_scope noted) k b))
   block-holds known noted j k knows below all st (has_body (declares cs ts vs ps) statements) h has =
       let b : Tree Name block = has_body (declares cs ts vs ps) statements in
       let env : TypeEnvironment Label = typed_by_ordinal noted in
@@ -94,17 +94,17 @@ mutual
       block-listed env j b' parts.0 parts.1
       ∙ (λ i. procedures_bindings as_labels (o.reads i) jv (relabel_procedures as_names (as_label as_names) (sym o.scoped i) kp ps) ++ opened-since known noted k b parts.0 o i) in
       let each : Has k n all (P ++ own) = λ d l m. has d l m ∙ ap (λ e. object_bound e d) listed in
-      let inner : Stands all (typed_by_ordinal o.last) = subst (Stands all) (sym (opened-grown known noted k b parts.0 o) ∙ o.reads)
+      let inner : Includes all (typed_by_ordinal o.last) = subst (Includes all) (sym (opened-grown known noted k b parts.0 o) ∙ o.reads)
       (holds-grown all env own k kp first st (noted-binds k noted below) own_binds (λ d l m. each d l (omega (arith, m, last)) ∙ bound-elsewhere kp n d P own p.binds (λ a z. omega (arith, a, m)))) in
-      subst (All (λ (place : BodyAt Label). Stands all place.environment))
+      subst (All (λ (place : BodyAt Label). Includes all place.environment))
       ((λ i. procedures_bodies as_labels (sym o.reads i) jv (block_statements b') (relabel_procedures as_names (as_label as_names) (o.scoped i) kp ps)) ∙ sym (block-bodied env j b' parts.0 parts.1))
       (procedures-hold known' o.last jv kp (o.others.knows o.constants.known_after o.constants.knows) o.below all inner (block_statements b') ps fits
       (λ d l m. each d (omega (arith, l, first)) m ∙ bound-first k kp d P own own_binds (λ a z. omega (arith, l, z))))
 
-  procedures-hold : (known : Known) (noted : TypeNoted Name) (j k : ℕ) → Knows known noted → TypedBelow k noted → (all : TypeEnvironment Label) → Stands all (typed_by_ordinal noted) → (statements : Tree Label (maybe body)) (ps : Tree Name (items procedure))
+  procedures-hold : (known : Known) (noted : TypeNoted Name) (j k : ℕ) → Knows known noted → TypedBelow k noted → (all : TypeEnvironment Label) → Includes all (typed_by_ordinal noted) → (statements : Tree Label (maybe body)) (ps : Tree Name (items procedure))
       → procedures_fit as_labels (typed_by_ordinal noted) j statements (relabel_procedures as_names (as_label as_names) (typed_scope noted) k ps) ≡ true
       → Has k (after_procedures k ps) all (procedures_bindings as_labels (typed_by_ordinal noted) j (relabel_procedures as_names (as_label as_names) (typed_scope noted) k ps))
-      → All (λ (place : BodyAt Label). Stands all place.environment) (procedures_bodies as_labels (typed_by_ordinal noted) j statements (relabel_procedures as_names (as_label as_names) (typed_scope noted) k ps))
+      → All (λ (place : BodyAt Label). Includes all place.environment) (procedures_bodies as_labels (typed_by_ordinal noted) j statements (relabel_procedures as_names (as_label as_names) (typed_scope noted) k ps))
   procedures-hold known noted j k knows below all st statements end h has = last-body all (typed_by_ordinal noted) j statements st
   procedures-hold known noted j k knows below all st statements (more (declares_procedure x fs b closing) rest) h has =
       let scope : Scope Name = typed_scope noted in
@@ -142,14 +142,14 @@ mutual
       each d l (omega (arith, u, inside, last)) ∙ bound-elsewhere q n d R (B ++ H) later.binds (λ a z. omega (arith, a, u, inside)) ∙ bound-elsewhere m q d B H inside_block.binds (λ a z. omega (arith, a, u)) in
       let each_top : Has k (suc k) all top = λ d l u.
       each_H d l (omega (arith, u, above)) ∙ ap (λ z. object_bound z d) (bind_typed-append qs [] top) ∙ bound-elsewhere (suc k) m d (bind_typed qs []) top e.parameters_bind (λ a z. omega (arith, a, u)) in
-      let inner : Stands all (typed_by_ordinal e.inner) = subst (Stands all) (sym (bind_typed-append qs top env) ∙ sym e.opened)
+      let inner : Includes all (typed_by_ordinal e.inner) = subst (Includes all) (sym (bind_typed-append qs top env) ∙ sym e.opened)
       (holds-grown all env H k m (omega (arith, above)) st (noted-binds k noted below) e.binds each_H) in
-      let following : Stands all (typed_by_ordinal e.own) = subst (Stands all) (sym e.headed)
+      let following : Includes all (typed_by_ordinal e.own) = subst (Includes all) (sym e.headed)
       (holds-grown all env top k (suc k) (omega arith) st (noted-binds k noted below) ((k, refl, le_refl k, le_refl (suc k)), tt) each_top) in
-      subst (All (λ (place : BodyAt Label). Stands all place.environment))
+      subst (All (λ (place : BodyAt Label). Includes all place.environment))
       ((λ i. block_bodies as_labels (e.opened i) jb (relabel_block as_names (as_label as_names) (e.scoped i) m b) ++ procedures_bodies as_labels (e.headed i) jr statements (relabel_procedures as_names (as_label as_names) (e.own_scope i) q rest))
       ∙ sym (procedures-bodied env j statements (declared k) fs' b' (declared k) rest' qs f.typed))
-      (All-append (λ (place : BodyAt Label). Stands all place.environment)
+      (All-append (λ (place : BodyAt Label). Includes all place.environment)
       (block_bodies as_labels (typed_by_ordinal e.inner) jb (relabel_block as_names (as_label as_names) (typed_scope e.inner) m b))
       (procedures_bodies as_labels (typed_by_ordinal e.own) jr statements (relabel_procedures as_names (as_label as_names) (typed_scope e.own) q rest))
       (block-holds (bind_names xs no_constant ((x, no_constant) ∷ known)) e.inner jb m e.knows e.below all inner b inside_fits
@@ -157,9 +157,9 @@ mutual
       (procedures-hold ((x, no_constant) ∷ known) e.own jr q e.own_knows later_below all following statements rest later_fits
       (λ d l u. each d (omega (arith, l, inside, above)) u ∙ bound-first k q d R (B ++ H) one_binds (λ a z. omega (arith, l, z)))))
 
-pub declarations_stand-holds : NamesAreDeclared
+pub names_are_declared-holds : NamesAreDeclared
 unfolding WellTyped fits_over all_known
-declarations_stand-holds (is_module x b closing) well =
+names_are_declared-holds (is_module x b closing) well =
     let h : fits_over as_labels (numbered (is_module x b closing)) ≡ true = sym (fits_by_ordinal-holds (is_module x b closing)) ∙ well.1 in
     let noted : TypeNoted Name = typed_outermost as_names in
     let b' : Tree Label block = relabel_block as_names (as_label as_names) (typed_scope noted) 7 b in

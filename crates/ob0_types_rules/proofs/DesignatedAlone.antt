@@ -8,12 +8,12 @@ use Rattle.ob0_tree.specs.declared.tree.Multiplier.{Multiplier}
 use Rattle.ob0_tree.specs.declared.tree.Sign.{Sign}
 use Rattle.ob0_scope_rules.specs.Names.{Label}
 use Rattle.ob0_scope_rules.specs.Resolution.{Resolution}
-use Rattle.ob0_types_rules.specs.Typing.{designated}
-use Rattle.ob0_types_rules.specs.Designators.{designated_factor, designated_simple, designated_term}
+use Rattle.ob0_types_rules.specs.Typing.{lone_designator}
+use Rattle.ob0_types_rules.specs.Designators.{designator_of_factor, designator_of_simple, designator_of_term}
 use Rattle.ob0_types_rules.specs.InLabels.{in_labels, label_in}
 
 module _ {N : Type 0} where
-  pub alone_designated : (a : Tree N simple) → designated (compares a none) ≡ designated_simple a
+  pub alone_designated : (a : Tree N simple) → lone_designator (compares a none) ≡ designator_of_simple a
   alone_designated (sum (Some s) t rest) = refl
   alone_designated (sum None (product (designator x path) end) end) = refl
   alone_designated (sum None (product (designator x path) end) (more a rest)) = refl
@@ -32,13 +32,13 @@ module _ {N : Type 0} where
   alone_designated (sum None (product (negation f) (more m ms)) end) = refl
   alone_designated (sum None (product (negation f) (more m ms)) (more a rest)) = refl
 
-  pub one_designated : (f : Tree N factor) → designated_factor f ≡ designated (compares (sum None (product f end) end) none)
+  pub one_designated : (f : Tree N factor) → designator_of_factor f ≡ lone_designator (compares (sum None (product f end) end) none)
   one_designated (designator x path) = refl
   one_designated (integer n) = refl
   one_designated (parenthesised e) = refl
   one_designated (negation f) = refl
 
-  pub compared_designated : (a : Tree N simple) (c : Tree N (item comparison)) → designated (compares a (one c)) ≡ None
+  pub compared_designated : (a : Tree N simple) (c : Tree N (item comparison)) → lone_designator (compares a (one c)) ≡ None
   compared_designated (sum (Some s) t rest) c = refl
   compared_designated (sum None (product (designator x path) end) end) c = refl
   compared_designated (sum None (product (designator x path) end) (more a rest)) c = refl
@@ -48,22 +48,22 @@ module _ {N : Type 0} where
   compared_designated (sum None (product (negation f) ms) rest) c = refl
 
 -- the tests of the code
-pub signed_designated : (s : Option Sign) (t : Tree ℕ term) (rest : Tree ℕ (items addend)) (g : Sign) → s ≡ Some g → designated_simple (sum s t rest) ≡ None
-signed_designated s t rest g h = ap (λ s. designated_simple (sum s t rest)) h
+pub signed_designated : (s : Option Sign) (t : Tree ℕ term) (rest : Tree ℕ (items addend)) (g : Sign) → s ≡ Some g → designator_of_simple (sum s t rest) ≡ None
+signed_designated s t rest g h = ap (λ s. designator_of_simple (sum s t rest)) h
 
-pub term_designated : (s : Option Sign) (t : Tree ℕ term) (xs : List Addend) → s ≡ None → length xs ≡ 0 → designated_simple (sum s t (items_of addend_of xs)) ≡ designated_term t
-term_designated s t [] h empty = ap (λ s. designated_simple (sum s t end)) h
+pub term_designated : (s : Option Sign) (t : Tree ℕ term) (xs : List Addend) → s ≡ None → length xs ≡ 0 → designator_of_simple (sum s t (items_of addend_of xs)) ≡ designator_of_term t
+term_designated s t [] h empty = ap (λ s. designator_of_simple (sum s t end)) h
 term_designated s t (x ∷ xs) h empty = absurd (omega arith)
 
-pub added_designated : (s : Option Sign) (t : Tree ℕ term) (xs : List Addend) → s ≡ None → 0 < length xs → designated_simple (sum s t (items_of addend_of xs)) ≡ None
+pub added_designated : (s : Option Sign) (t : Tree ℕ term) (xs : List Addend) → s ≡ None → 0 < length xs → designator_of_simple (sum s t (items_of addend_of xs)) ≡ None
 added_designated s t [] h some = absurd (omega arith)
-added_designated s t (x ∷ xs) h some = ap (λ s. designated_simple (sum s t (items_of addend_of (x ∷ xs)))) h
+added_designated s t (x ∷ xs) h some = ap (λ s. designator_of_simple (sum s t (items_of addend_of (x ∷ xs)))) h
 
-pub factor_designated : (f : Factor) (xs : List Multiplier) → length xs ≡ 0 → designated_term (product (factor_of f) (items_of multiplier_of xs)) ≡ designated_factor (factor_of f)
+pub factor_designated : (f : Factor) (xs : List Multiplier) → length xs ≡ 0 → designator_of_term (product (factor_of f) (items_of multiplier_of xs)) ≡ designator_of_factor (factor_of f)
 factor_designated f [] empty = refl
 factor_designated f (x ∷ xs) empty = absurd (omega arith)
 
-pub multiplied_designated : (f : Factor) (xs : List Multiplier) → 0 < length xs → designated_term (product (factor_of f) (items_of multiplier_of xs)) ≡ None
+pub multiplied_designated : (f : Factor) (xs : List Multiplier) → 0 < length xs → designator_of_term (product (factor_of f) (items_of multiplier_of xs)) ≡ None
 multiplied_designated f [] some = absurd (omega arith)
 multiplied_designated f (x ∷ xs) some = refl
 
@@ -71,7 +71,7 @@ multiplied_designated f (x ∷ xs) some = refl
 abbrev pub parts_in : Resolution → ℕ × Tree ℕ (items selector) → Label × Tree Label (items selector)
 parts_in r p = (label_in r p.0, in_labels r p.1)
 
-labelled_simple : (r : Resolution) (a : Tree ℕ simple) → designated_simple (in_labels r a) ≡ option_map (parts_in r) (designated_simple a)
+labelled_simple : (r : Resolution) (a : Tree ℕ simple) → designator_of_simple (in_labels r a) ≡ option_map (parts_in r) (designator_of_simple a)
 labelled_simple r (sum (Some s) t rest) = refl
 labelled_simple r (sum None (product f ms) (more a rest)) = refl
 labelled_simple r (sum None (product f (more m ms)) end) = refl
@@ -80,6 +80,6 @@ labelled_simple r (sum None (product (integer n) end) end) = refl
 labelled_simple r (sum None (product (parenthesised e) end) end) = refl
 labelled_simple r (sum None (product (negation f) end) end) = refl
 
-pub labelled_designator : (r : Resolution) (e : Tree ℕ expression) → designated (in_labels r e) ≡ option_map (parts_in r) (designated e)
+pub labelled_designator : (r : Resolution) (e : Tree ℕ expression) → lone_designator (in_labels r e) ≡ option_map (parts_in r) (lone_designator e)
 labelled_designator r (compares a none) = alone_designated (in_labels r a) ∙ labelled_simple r a ∙ sym (ap (option_map (parts_in r)) (alone_designated a))
 labelled_designator r (compares a (one c)) = compared_designated (in_labels r a) (in_labels r c) ∙ sym (ap (option_map (parts_in r)) (compared_designated a c))

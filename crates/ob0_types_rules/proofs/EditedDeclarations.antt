@@ -36,8 +36,8 @@ abbrev pub Outside : Edit → ℕ → ℕ → Type 0
 Outside edit k n = k ≤ edit.constant → edit.constant < n → ⊥
 
 -- where the constant's ordinal is one from k on and below n, the value is w
-abbrev pub Worth : Edit → Value → ℕ → ℕ → Option Value → Type 0
-Worth edit w k n o = k ≤ edit.constant → edit.constant < n → o ≡ Some w
+abbrev pub HasValueBetween : Edit → Value → ℕ → ℕ → Option Value → Type 0
+HasValueBetween edit w k n o = k ≤ edit.constant → edit.constant < n → o ≡ Some w
 
 pub outside-right : {V P : Type 0} (edit : Edit) (w : Value) (x : Name) (k : ℕ) (o : Object V P) → 7 ≤ k → Outside edit k (suc k) → IsRight {V = V} {P = P} edit w record { name = x; ordinal = k; object = o }
 outside-right edit w x k o seven outside = record {
@@ -54,8 +54,8 @@ pub record Left {V P : Type 0} (edit : Edit) (w : Value) (X : Marks V P → Name
 
 -- a constant's declaration and those after it, the constant's value v being known; `next` is what follows
 constants-tail : {V P Q : Type 0} (edit : Edit) (w : Value) (X : Marks V P → Name → ℕ → P → Type 0) (p q : ℕ → P → Q) (k : ℕ) (marks : Marks V P) → Sound edit w X k marks → 7 ≤ k → (x : Name) (e : Tree Name expression) (cs cs' : Tree Name (items constant))
-    → Worth edit w k (after_names (suc k) (constant_names cs)) (value_among (knowns marks) edit.constant k (more (declares_constant x e) cs))
-    → ((b : Mark V P) → IsRight edit w b → (b.ordinal ≡ k) → OfProcedure (X marks b.name b.ordinal) b.object → b.name ≡ x → Worth edit w (suc k) (after_names (suc k) (constant_names cs)) (value_among (knowns (b ∷ marks)) edit.constant (suc k) cs)
+    → HasValueBetween edit w k (after_names (suc k) (constant_names cs)) (value_among (knowns marks) edit.constant k (more (declares_constant x e) cs))
+    → ((b : Mark V P) → IsRight edit w b → (b.ordinal ≡ k) → OfProcedure (X marks b.name b.ordinal) b.object → b.name ≡ x → HasValueBetween edit w (suc k) (after_names (suc k) (constant_names cs)) (value_among (knowns (b ∷ marks)) edit.constant (suc k) cs)
     → Agree (read p) (read_edited edit q) (Left edit w X (after_names (suc k) (constant_names cs)) (declare_names (suc k) (constant_names cs) (scope_marked (b ∷ marks))) (declare_constants as_names (knowns (b ∷ marks)) cs))
     (declare_constants as_names (read p (b ∷ marks)) cs) (declare_constants as_names (read_edited edit q (b ∷ marks)) cs'))
     → (v : Value) → constant_value (meanings as_names (knowns marks)) e ≡ Some v
@@ -86,7 +86,7 @@ value-known known d k x e cs w h = go (constant_value (meanings as_names known) 
     go (Some v) h = (v, refl)
 
 pub constants-edited : {V P Q : Type 0} (edit : Edit) (w : Value) → Literal edit w → (X : Marks V P → Name → ℕ → P → Type 0) (p q : ℕ → P → Q) (j k : ℕ) (marks : Marks V P) → Sound edit w X k marks → 7 ≤ k → (cs : Tree Name (items constant))
-    → EachConstant (Here edit w) j (scope_marked marks) k cs → Worth edit w k (after_names k (constant_names cs)) (value_among (knowns marks) edit.constant k cs)
+    → EachConstant (Here edit w) j (scope_marked marks) k cs → HasValueBetween edit w k (after_names k (constant_names cs)) (value_among (knowns marks) edit.constant k cs)
     → Agree (read p) (read_edited edit q) (Left edit w X (after_names k (constant_names cs)) (declare_names k (constant_names cs) (scope_marked marks)) (declare_constants as_names (knowns marks) cs))
     (declare_constants as_names (read p marks) cs) (declare_constants as_names (read_edited edit q marks) (edited_constants edit j k cs))
 unfolding declare_constants

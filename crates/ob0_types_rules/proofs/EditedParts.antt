@@ -16,7 +16,7 @@ use Rattle.ob0_types_rules.specs.Typing.{constructors}
 use Rattle.ob0_types_rules.specs.WellTyped.{bind_names, section_mode}
 use Rattle.ob0_types_rules.proofs.Agreeing.{Agree, HoldsOf, agree-then}
 use Rattle.ob0_types_rules.proofs.DenotedInlined.{constructors-inlined}
-use Rattle.ob0_types_rules.proofs.EditedDeclarations.{Left, Outside, Worth, constants-edited, not-constant, outside-right, types-edited}
+use Rattle.ob0_types_rules.proofs.EditedDeclarations.{Left, Outside, HasValueBetween, constants-edited, not-constant, outside-right, types-edited}
 use Rattle.ob0_types_rules.proofs.Leaves.{Here, Literal}
 use Rattle.ob0_types_rules.proofs.Literals.{some_inverse}
 use Rattle.ob0_types_rules.proofs.Marks.{Marks, Sound, knowns, read, read_edited, scope_marked}
@@ -167,8 +167,8 @@ first_procedure-below k (has_body (declares cs ts vs ps) statements) = le-after_
 pub types-below : (k : ℕ) (b : Tree Name block) → first_type k b ≤ first_procedure k b
 types-below k b = le_trans (le-after_names (first_type k b) (named_types (block_types b))) (le-after_names (first_variable k b) (variable_names (block_variables b)))
 
-pub constants-has_value : (edit : Edit) (w : Value) (known : Known) (k : ℕ) (b : Tree Name block) → Worth edit w k (after_block k b) (value_in_block known edit.constant k b)
-    → Worth edit w k (first_type k b) (value_among known edit.constant k (block_constants b))
+pub constants-has_value : (edit : Edit) (w : Value) (known : Known) (k : ℕ) (b : Tree Name block) → HasValueBetween edit w k (after_block k b) (value_in_block known edit.constant k b)
+    → HasValueBetween edit w k (first_type k b) (value_among known edit.constant k (block_constants b))
 unfolding value_in_block
 constants-has_value edit w known k (has_body (declares cs ts vs ps) statements) has_value l m =
     let b : Tree Name block = has_body (declares cs ts vs ps) statements in
@@ -176,7 +176,7 @@ constants-has_value edit w known k (has_body (declares cs ts vs ps) statements) 
     sym (ap (λ t. if t then value_among known edit.constant k (section_constants cs) else if nat_lt edit.constant (first_procedure k b) then None else option_and_then (λ inner. value_in_procedures (bind_names (named_types (section_types ts) ++ variable_names (section_variables vs)) no_constant inner) edit.constant (first_procedure k b) ps) (declare_constants as_names known (section_constants cs)))
     (lt-ltb edit.constant (first_type k b) m)) ∙ has_value l (omega (arith, m, below))
 
-pub types-outside : (edit : Edit) (w : Value) (known : Known) (k : ℕ) (b : Tree Name block) → Worth edit w k (after_block k b) (value_in_block known edit.constant k b) → Outside edit (first_type k b) (first_procedure k b)
+pub types-outside : (edit : Edit) (w : Value) (known : Known) (k : ℕ) (b : Tree Name block) → HasValueBetween edit w k (after_block k b) (value_in_block known edit.constant k b) → Outside edit (first_type k b) (first_procedure k b)
 unfolding value_in_block
 types-outside edit w known k (has_body (declares cs ts vs ps) statements) has_value l m =
     let b : Tree Name block = has_body (declares cs ts vs ps) statements in
@@ -188,9 +188,9 @@ types-outside edit w known k (has_body (declares cs ts vs ps) statements) has_va
     ∙ ap (λ t. if t then None else last) (lt-ltb edit.constant (first_procedure k b) m)) ∙ has_value (omega (arith, l, above)) (omega (arith, m, below)) in
     absurd (cc)
 
-pub procedures-has_value : (edit : Edit) (w : Value) (known inner : Known) (k : ℕ) (b : Tree Name block) → Worth edit w k (after_block k b) (value_in_block known edit.constant k b)
+pub procedures-has_value : (edit : Edit) (w : Value) (known inner : Known) (k : ℕ) (b : Tree Name block) → HasValueBetween edit w k (after_block k b) (value_in_block known edit.constant k b)
     → option_map (bind_names (variable_names (block_variables b)) no_constant) (option_map (bind_names (named_types (block_types b)) no_constant) (declare_constants as_names known (block_constants b))) ≡ Some inner
-    → Worth edit w (first_procedure k b) (after_block k b) (value_in_procedures inner edit.constant (first_procedure k b) (block_procedures b))
+    → HasValueBetween edit w (first_procedure k b) (after_block k b) (value_in_procedures inner edit.constant (first_procedure k b) (block_procedures b))
 unfolding value_in_block
 procedures-has_value edit w known inner k (has_body (declares cs ts vs ps) statements) has_value e l m =
     let b : Tree Name block = has_body (declares cs ts vs ps) statements in
@@ -209,16 +209,16 @@ procedures-has_value edit w known inner k (has_body (declares cs ts vs ps) state
         ap (λ env. value_in_procedures env edit.constant (first_procedure k (has_body (declares cs ts vs ps) statements)) ps)
         (sym (bind_names-append (named_types (section_types ts)) (variable_names (section_variables vs)) no_constant known ∙ some_inverse e)) ∙ h
 
-pub own-has_value : (edit : Edit) (w : Value) (known : Known) (k : ℕ) (p : Tree Name (item procedure)) (rest : Tree Name (items procedure)) → Worth edit w k (after_procedures k (more p rest)) (value_in_procedures known edit.constant k (more p rest))
-    → Worth edit w k (after_procedure (suc k) p) (value_in_procedure ((procedure_name p, no_constant) ∷ known) edit.constant (suc k) p)
+pub own-has_value : (edit : Edit) (w : Value) (known : Known) (k : ℕ) (p : Tree Name (item procedure)) (rest : Tree Name (items procedure)) → HasValueBetween edit w k (after_procedures k (more p rest)) (value_in_procedures known edit.constant k (more p rest))
+    → HasValueBetween edit w k (after_procedure (suc k) p) (value_in_procedure ((procedure_name p, no_constant) ∷ known) edit.constant (suc k) p)
 unfolding value_in_block
 own-has_value edit w known k p rest has_value l m =
     let below : after_procedure (suc k) p ≤ after_procedures (after_procedure (suc k) p) rest = le-after_procedures (after_procedure (suc k) p) rest in
     sym (ap (λ t. if t then value_in_procedure ((procedure_name p, no_constant) ∷ known) edit.constant (suc k) p else value_in_procedures ((procedure_name p, no_constant) ∷ known) edit.constant (after_procedure (suc k) p) rest)
     (lt-ltb edit.constant (after_procedure (suc k) p) m)) ∙ has_value l (omega (arith, m, below))
 
-pub rest-has_value : (edit : Edit) (w : Value) (known : Known) (k : ℕ) (p : Tree Name (item procedure)) (rest : Tree Name (items procedure)) → Worth edit w k (after_procedures k (more p rest)) (value_in_procedures known edit.constant k (more p rest))
-    → Worth edit w (after_procedure (suc k) p) (after_procedures (after_procedure (suc k) p) rest) (value_in_procedures ((procedure_name p, no_constant) ∷ known) edit.constant (after_procedure (suc k) p) rest)
+pub rest-has_value : (edit : Edit) (w : Value) (known : Known) (k : ℕ) (p : Tree Name (item procedure)) (rest : Tree Name (items procedure)) → HasValueBetween edit w k (after_procedures k (more p rest)) (value_in_procedures known edit.constant k (more p rest))
+    → HasValueBetween edit w (after_procedure (suc k) p) (after_procedures (after_procedure (suc k) p) rest) (value_in_procedures ((procedure_name p, no_constant) ∷ known) edit.constant (after_procedure (suc k) p) rest)
 unfolding value_in_block
 rest-has_value edit w known k p rest has_value l m =
     let below : suc k ≤ after_procedure (suc k) p = le-after_procedure (suc k) p in
@@ -227,7 +227,7 @@ rest-has_value edit w known k p rest has_value l m =
 
 -- the procedure's own ordinal and its parameters' aren't the constant's
 pub heading-outside : (edit : Edit) (w : Value) (known : Known) (k : ℕ) (x closing : Name) (fs : Tree Name (maybe formals)) (b : Tree Name block)
-    → Worth edit w k (after_procedure (suc k) (declares_procedure x fs b closing)) (value_in_procedure known edit.constant (suc k) (declares_procedure x fs b closing)) → Outside edit k (after_names (suc k) (formal_names (formal_sections fs)))
+    → HasValueBetween edit w k (after_procedure (suc k) (declares_procedure x fs b closing)) (value_in_procedure known edit.constant (suc k) (declares_procedure x fs b closing)) → Outside edit k (after_names (suc k) (formal_names (formal_sections fs)))
 unfolding value_in_block
 heading-outside edit w known k x closing fs b has_value l m =
     let n : ℕ = after_names (suc k) (formal_names (formal_sections fs)) in
@@ -237,8 +237,8 @@ heading-outside edit w known k x closing fs b has_value l m =
     absurd (cc)
 
 pub body-has_value : (edit : Edit) (w : Value) (known : Known) (k : ℕ) (x closing : Name) (fs : Tree Name (maybe formals)) (b : Tree Name block)
-    → Worth edit w k (after_procedure (suc k) (declares_procedure x fs b closing)) (value_in_procedure known edit.constant (suc k) (declares_procedure x fs b closing))
-    → Worth edit w (after_names (suc k) (formal_names (formal_sections fs))) (after_block (after_names (suc k) (formal_names (formal_sections fs))) b)
+    → HasValueBetween edit w k (after_procedure (suc k) (declares_procedure x fs b closing)) (value_in_procedure known edit.constant (suc k) (declares_procedure x fs b closing))
+    → HasValueBetween edit w (after_names (suc k) (formal_names (formal_sections fs))) (after_block (after_names (suc k) (formal_names (formal_sections fs))) b)
     (value_in_block (bind_names (formal_names (formal_sections fs)) no_constant known) edit.constant (after_names (suc k) (formal_names (formal_sections fs))) b)
 unfolding value_in_block
 body-has_value edit w known k x closing fs b has_value l m =
@@ -248,7 +248,7 @@ body-has_value edit w known k x closing fs b has_value l m =
 
 -- constants, then types
 pub first-edited : {V P Q : Type 0} (edit : Edit) (w : Value) → Literal edit w → (X : Marks V P → Name → ℕ → P → Type 0) (p q : ℕ → P → Q) (i j k : ℕ) (marks : Marks V P) → Sound edit w X k marks → 7 ≤ k → (b : Tree Name block)
-    → EachBlock (Here edit w) j (scope_marked marks) k b → Worth edit w k (after_block k b) (value_in_block (knowns marks) edit.constant k b)
+    → EachBlock (Here edit w) j (scope_marked marks) k b → HasValueBetween edit w k (after_block k b) (value_in_block (knowns marks) edit.constant k b)
     → Agree (read p) (read_edited edit q) (Left edit w X (first_variable k b) (variables_scope k b (scope_marked marks)) (option_map (bind_names (named_types (block_types b)) no_constant) (declare_constants as_names (knowns marks) (block_constants b))))
     (declare_first as_names (read p marks) i b) (declare_first as_names (read_edited edit q marks) i (edited_block edit j k b))
 unfolding declare_first

@@ -13,12 +13,12 @@ use Rattle.ob0_types_rules.specs.Declarations.{after_types, after_variables, dec
 use Rattle.ob0_types_rules.specs.EditLaws.{IsScalar}
 use Rattle.ob0_types_rules.specs.Environments.{meanings}
 use Rattle.ob0_types_rules.specs.Expressions.{Meanings, a_procedure, a_variable}
-use Rattle.ob0_types_rules.specs.Typing.{constructors, denoted, designated, type_at}
+use Rattle.ob0_types_rules.specs.Typing.{constructors, denoted, lone_designator, type_at}
 use Rattle.ob0_types_rules.specs.WellTyped.{Mode, Signature, TypeEnvironment, Typed, TypedParameter, bind_names, bind_typed, block_fits, body_fits, declare_typed, heading, some_and, procedure_fits, procedures_fit, section_mode, sequence_fits, typed_parameters, variable_type}
 use Rattle.ob0_types_rules.specs.Written.{written_value}
 use Rattle.ob0_types_rules.proofs.Agreeing.{Agree, agree-then}
 use Rattle.ob0_types_rules.proofs.DenotedInlined.{constructors-inlined}
-use Rattle.ob0_types_rules.proofs.EditedDeclarations.{Left, Outside, Worth, agree-known, not-constant, outside-right}
+use Rattle.ob0_types_rules.proofs.EditedDeclarations.{Left, Outside, HasValueBetween, agree-known, not-constant, outside-right}
 use Rattle.ob0_types_rules.proofs.EditedParts.{agree-weaken, all-left, bind_all, bind_all-names, body-has_value, edited-all, first-edited, formals-of, formals_constructors-leaf, heading-outside, left-join, left-then, mark_all, names_of, names_of-with_value, own-has_value, procedure_constructors-edited, procedures-has_value, read-all, rest-has_value, section_mode-leaf, section_names-leaf, section_type-leaf, types-below, types-of, types-outside, types_constructors-leaf, variables-of, variables_constructors-leaf, with_value}
 use Rattle.ob0_types_rules.proofs.FitInlined.{alone, sequence_fits-written}
 use Rattle.ob0_types_rules.proofs.FitNaturality.{sequence_fits-map}
@@ -43,17 +43,17 @@ Checked edit w n marks = Sound edit w anything n marks
 abbrev pub LeftTyped : Edit → Value → ℕ → Scope Name → Option Known → Marks Shape Signature → Type 0
 LeftTyped edit w = Left edit w anything
 
-pub literal-no_variable : (meaning : Typed Name) (v : Tree Name factor) (w : Value) → written_value w ≡ Some v → IsScalar w → IsSeen meaning w → variable_type meaning (designated (alone v)) ≡ None
+pub literal-no_variable : (meaning : Typed Name) (v : Tree Name factor) (w : Value) → written_value w ≡ Some v → IsScalar w → IsSeen meaning w → variable_type meaning (lone_designator (alone v)) ≡ None
 unfolding variable_type
-literal-no_variable meaning v (number (pos n)) e h seen = subst (λ v. variable_type meaning (designated (alone v)) ≡ None) (some_inverse e) refl
+literal-no_variable meaning v (number (pos n)) e h seen = subst (λ v. variable_type meaning (lone_designator (alone v)) ≡ None) (some_inverse e) refl
 literal-no_variable meaning v (number (negsuc n)) e h seen =
-    subst (λ v. variable_type meaning (designated (alone v)) ≡ None) (some_inverse e)
-    (elim (nat_lt n 2147483647) as (λ b. variable_type meaning (designated (alone (if b then parenthesised (compares (sum (Some sign.Minus) (product (integer (suc n)) end) end) none) else parenthesised (compares (sum (Some sign.Minus) (product (integer 2147483647) end) (more (adds add_operator.Subtract (product (integer 1) end)) end)) none)))) ≡ None)
+    subst (λ v. variable_type meaning (lone_designator (alone v)) ≡ None) (some_inverse e)
+    (elim (nat_lt n 2147483647) as (λ b. variable_type meaning (lone_designator (alone (if b then parenthesised (compares (sum (Some sign.Minus) (product (integer (suc n)) end) end) none) else parenthesised (compares (sum (Some sign.Minus) (product (integer 2147483647) end) (more (adds add_operator.Subtract (product (integer 1) end)) end)) none)))) ≡ None)
     [ true ↦ refl | false ↦ refl ])
 literal-no_variable meaning v (truth true) e h seen =
-    subst (λ v. variable_type meaning (designated (alone v)) ≡ None) (some_inverse e) (ap (λ o. elim o [ Some (a_variable s) ↦ type_at meaning s end | _ ↦ None ]) seen)
+    subst (λ v. variable_type meaning (lone_designator (alone v)) ≡ None) (some_inverse e) (ap (λ o. elim o [ Some (a_variable s) ↦ type_at meaning s end | _ ↦ None ]) seen)
 literal-no_variable meaning v (truth false) e h seen =
-    subst (λ v. variable_type meaning (designated (alone v)) ≡ None) (some_inverse e) (ap (λ o. elim o [ Some (a_variable s) ↦ type_at meaning s end | _ ↦ None ]) seen)
+    subst (λ v. variable_type meaning (lone_designator (alone v)) ≡ None) (some_inverse e) (ap (λ o. elim o [ Some (a_variable s) ↦ type_at meaning s end | _ ↦ None ]) seen)
 literal-no_variable meaning v (elements vs) e h seen = absurd h
 literal-no_variable meaning v (members k ms) e h seen = absurd h
 
@@ -170,7 +170,7 @@ parameters-edited edit w lit i j k marks s seven (more (then_section f) fs) here
 
 -- a block's constants, types and variables
 pub declarations-edited : (edit : Edit) (w : Value) → Literal edit w → (i j k : ℕ) (marks : Marks Shape Signature) → Checked edit w k marks → 7 ≤ k → (b : Tree Name block)
-    → EachBlock (Here edit w) j (scope_marked marks) k b → Worth edit w k (after_block k b) (value_in_block (knowns marks) edit.constant k b)
+    → EachBlock (Here edit w) j (scope_marked marks) k b → HasValueBetween edit w k (after_block k b) (value_in_block (knowns marks) edit.constant k b)
     → Agree (read as_signed) (read_edited edit as_signed)
     (LeftTyped edit w (first_procedure k b) (procedures_scope k b (scope_marked marks)) (option_map (bind_names (variable_names (block_variables b)) no_constant) (option_map (bind_names (named_types (block_types b)) no_constant) (declare_constants as_names (knowns marks) (block_constants b)))))
     (option_and_then (declare_typed as_names (after_types i b) (block_variables b)) (declare_first as_names (read as_signed marks) i b))
@@ -220,7 +220,7 @@ mutual
   unfolding block_fits
 
   pub block_fits-edited : (edit : Edit) (w : Value) → Literal edit w → (i j k : ℕ) (marks : Marks Shape Signature) → Checked edit w k marks → 7 ≤ k → (b : Tree Name block)
-      → EachBlock (Here edit w) j (scope_marked marks) k b → Worth edit w k (after_block k b) (value_in_block (knowns marks) edit.constant k b)
+      → EachBlock (Here edit w) j (scope_marked marks) k b → HasValueBetween edit w k (after_block k b) (value_in_block (knowns marks) edit.constant k b)
       → block_fits as_names (read_edited edit as_signed marks) i (edited_block edit j k b) ≡ block_fits as_names (read as_signed marks) i b
   block_fits-edited edit w lit i j k marks s seven (has_body (declares cs ts vs ps) statements) here has_value =
       let b : Tree Name block = has_body (declares cs ts vs ps) statements in
@@ -246,7 +246,7 @@ mutual
       (procedures-has_value edit w (knowns marks) (knowns inner) k b has_value left.value))
 
   pub procedures_fit-edited : (edit : Edit) (w : Value) → Literal edit w → (i j js k : ℕ) (marks : Marks Shape Signature) → Checked edit w k marks → 7 ≤ k → (statements : Tree Name (maybe body)) (ps : Tree Name (items procedure))
-      → EachProcedure (Here edit w) j (scope_marked marks) k ps → Here edit w (maybe body) js (declare_procedure_names k ps (scope_marked marks)) statements → Worth edit w k (after_procedures k ps) (value_in_procedures (knowns marks) edit.constant k ps)
+      → EachProcedure (Here edit w) j (scope_marked marks) k ps → Here edit w (maybe body) js (declare_procedure_names k ps (scope_marked marks)) statements → HasValueBetween edit w k (after_procedures k ps) (value_in_procedures (knowns marks) edit.constant k ps)
       → procedures_fit as_names (read_edited edit as_signed marks) i (leaf edit js statements) (edited_procedures edit j k ps) ≡ procedures_fit as_names (read as_signed marks) i statements ps
   procedures_fit-edited edit w lit i j js k marks s seven statements end here below has_value = body_fits-edited edit w lit k marks s js statements below
   procedures_fit-edited edit w lit i j js k marks s seven statements (more (declares_procedure x fs b closing) rest) here below has_value =
@@ -257,7 +257,7 @@ mutual
       let jr : ℕ = j + length (occurrences p) in
       let rest' : Tree Name (items procedure) = edited_procedures edit jr (after_procedure (suc k) p) rest in
       let statements' : Tree Name (maybe body) = leaf edit js statements in
-      let mine : Worth edit w k (after_procedure (suc k) p) (value_in_procedure ((x, no_constant) ∷ knowns marks) edit.constant (suc k) p) = own-has_value edit w (knowns marks) k p rest has_value in
+      let mine : HasValueBetween edit w k (after_procedure (suc k) p) (value_in_procedure ((x, no_constant) ∷ knowns marks) edit.constant (suc k) p) = own-has_value edit w (knowns marks) k p rest has_value in
       let outside : Outside edit k n = heading-outside edit w ((x, no_constant) ∷ knowns marks) k x closing fs b mine in
       let above : suc k ≤ n = le-after_names (suc k) (formal_names (formal_sections fs)) in
       let following : suc k ≤ after_procedure (suc k) p = le-after_procedure (suc k) p in
@@ -285,7 +285,7 @@ mutual
       (i + (ap formals_constructors (formals-of edit j fs) ∙ formals_constructors-leaf edit j (formal_sections fs)) m) (edited_block edit jb n b))
       ∙ (block_fits-edited edit w lit (i + formals_constructors (formal_sections fs)) jb n (mark_all (suc k) pairs inner) left.sound (omega (arith, seven, above)) b
       (subst (λ scope. EachBlock (Here edit w) jb scope n b) (sym left.scoped) here.0.1)
-      (subst (λ known. Worth edit w n (after_block n b) (value_in_block known edit.constant n b)) (some_inverse left.value) (body-has_value edit w ((x, no_constant) ∷ knowns marks) k x closing fs b mine))
+      (subst (λ known. HasValueBetween edit w n (after_block n b) (value_in_block known edit.constant n b)) (some_inverse left.value) (body-has_value edit w ((x, no_constant) ∷ knowns marks) k x closing fs b mine))
       ∙ sym (ap (λ env. block_fits as_names env (i + formals_constructors (formal_sections fs)) b) (bind_typed-all ps (heading x ps (read as_signed marks)) ∙ read-all as_signed (suc k) pairs inner))) in
       let second : procedures_fit as_names (heading x ps (read_edited edit as_signed marks)) (i + procedure_constructors p') statements' rest' ≡ procedures_fit as_names (heading x ps (read as_signed marks)) (i + procedure_constructors p) statements rest =
       (λ m. procedures_fit as_names (bound m) (i + procedure_constructors-edited edit j (suc k) p m) statements' rest')

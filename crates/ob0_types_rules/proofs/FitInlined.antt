@@ -7,7 +7,7 @@ use Rattle.ob0_values.specs.Values.{Value, boolean_shape}
 use Rattle.ob0_types_rules.specs.Arguments.{arguments_listed, further_arguments}
 use Rattle.ob0_types_rules.specs.Expressions.{a_constant, a_variable}
 use Rattle.ob0_types_rules.specs.Laws.{UsesAre}
-use Rattle.ob0_types_rules.specs.Typing.{designated, type_at, type_of, type_of_factor, value_type}
+use Rattle.ob0_types_rules.specs.Typing.{lone_designator, type_at, type_of, type_of_factor, value_type}
 use Rattle.ob0_types_rules.specs.WellTyped.{Formal, Signature, Typed, agree, argument_fits, arguments_fit, by_place, by_value, call_fits, condition_fits, else_fits, elsifs_fit, sequence_fits, signature_of, statement_fits, statements_fit, variable_type}
 use Rattle.ob0_types_rules.proofs.Inlined.{uses-split}
 use Rattle.ob0_types_rules.proofs.InlinedTypes.{IsConstant, type_at-inlined, type_of-inlined}
@@ -16,19 +16,19 @@ abbrev pub alone : Tree Name factor → Tree Name expression
 alone f = compares (sum None (product f end) end) none
 
 -- an expression with more than a factor is no designator
-pub compared-no_designator : (f : Tree Name factor) (c : Tree Name (item comparison)) → designated (compares (sum None (product f end) end) (one c)) ≡ None
+pub compared-no_designator : (f : Tree Name factor) (c : Tree Name (item comparison)) → lone_designator (compares (sum None (product f end) end) (one c)) ≡ None
 compared-no_designator (designator x path) c = refl
 compared-no_designator (integer n) c = refl
 compared-no_designator (parenthesised e) c = refl
 compared-no_designator (negation f) c = refl
 
-pub sum-no_designator : (f : Tree Name factor) (a : Tree Name (item addend)) (rest : Tree Name (items addend)) (c : Tree Name (maybe comparison)) → designated (compares (sum None (product f end) (more a rest)) c) ≡ None
+pub sum-no_designator : (f : Tree Name factor) (a : Tree Name (item addend)) (rest : Tree Name (items addend)) (c : Tree Name (maybe comparison)) → lone_designator (compares (sum None (product f end) (more a rest)) c) ≡ None
 sum-no_designator (designator x path) a rest c = refl
 sum-no_designator (integer n) a rest c = refl
 sum-no_designator (parenthesised e) a rest c = refl
 sum-no_designator (negation f) a rest c = refl
 
-pub product-no_designator : (f : Tree Name factor) (m : Tree Name (item multiplier)) (ms : Tree Name (items multiplier)) (rest : Tree Name (items addend)) (c : Tree Name (maybe comparison)) → designated (compares (sum None (product f (more m ms)) rest) c) ≡ None
+pub product-no_designator : (f : Tree Name factor) (m : Tree Name (item multiplier)) (ms : Tree Name (items multiplier)) (rest : Tree Name (items addend)) (c : Tree Name (maybe comparison)) → lone_designator (compares (sum None (product f (more m ms)) rest) c) ≡ None
 product-no_designator (designator x path) m ms rest c = refl
 product-no_designator (integer n) m ms rest c = refl
 product-no_designator (parenthesised e) m ms rest c = refl
@@ -37,7 +37,7 @@ product-no_designator (negation f) m ms rest c = refl
 -- what is known of a literal: its type is the constant's, and it isn't a variable
 pub record Written (checked : Typed Name) (v : Tree Name factor) (w : Value) : Type 0 where
   pub typed : type_of_factor checked v ≡ value_type w
-  pub no_variable : variable_type checked (designated (alone v)) ≡ None
+  pub no_variable : variable_type checked (lone_designator (alone v)) ≡ None
 
 abbrev pub AreUses : Typed Name → Value → Uses → ℕ → List Name → Type 0
 AreUses checked w uses k xs = UsesAre uses (IsConstant checked w) k xs
@@ -55,26 +55,26 @@ use-no_variable : (checked : Typed Name) (x : Name) (w : Value) → checked.obje
 unfolding variable_type
 use-no_variable checked x w e = ap (λ o. elim o [ Some (a_variable s) ↦ type_at checked s end | _ ↦ None ]) e
 
-pub designated-written : (checked : Typed Name) (uses : Uses) (v : Tree Name factor) (w : Value) → Written checked v w → (k : ℕ) (e : Tree Name expression) → AreUses checked w uses k (occurrences e)
-    → variable_type checked (designated (inline_in uses v k e)) ≡ variable_type checked (designated e)
-designated-written checked uses v w h k (compares (sum None (product (designator x end) end) end) none) u =
-    (elim (uses k) as (λ b. uses k ≡ b → variable_type checked (designated (alone (if b then v else designator x end))) ≡ variable_type checked (Some (x, end)))
+pub lone_designator-written : (checked : Typed Name) (uses : Uses) (v : Tree Name factor) (w : Value) → Written checked v w → (k : ℕ) (e : Tree Name expression) → AreUses checked w uses k (occurrences e)
+    → variable_type checked (lone_designator (inline_in uses v k e)) ≡ variable_type checked (lone_designator e)
+lone_designator-written checked uses v w h k (compares (sum None (product (designator x end) end) end) none) u =
+    (elim (uses k) as (λ b. uses k ≡ b → variable_type checked (lone_designator (alone (if b then v else designator x end))) ≡ variable_type checked (Some (x, end)))
     [ true ↦ λ e. h.no_variable ∙ sym (use-no_variable checked x w (u.0 e)) | false ↦ λ e. refl ]) refl
-designated-written checked uses v w h k (compares (sum None (product (designator x (more s rest)) end) end) none) u =
+lone_designator-written checked uses v w h k (compares (sum None (product (designator x (more s rest)) end) end) none) u =
     variable-written checked uses v w h (suc k) x (more s rest) (uses-split uses (IsConstant checked w) (suc k) (occurrences (more s rest)) [] (uses-split uses (IsConstant checked w) (suc k) (occurrences (more s rest) ++ []) [] (uses-split uses (IsConstant checked w) (suc k) ((occurrences (more s rest) ++ []) ++ []) [] u.1).0).0).0
-designated-written checked uses v w h k (compares (sum None (product (designator x end) end) end) (one c)) u =
+lone_designator-written checked uses v w h k (compares (sum None (product (designator x end) end) end) (one c)) u =
     ap (variable_type checked) (compared-no_designator (if uses k then v else designator x end) _)
-designated-written checked uses v w h k (compares (sum None (product (designator x end) end) (more a rest)) c) u =
+lone_designator-written checked uses v w h k (compares (sum None (product (designator x end) end) (more a rest)) c) u =
     ap (variable_type checked) (sum-no_designator (if uses k then v else designator x end) _ _ _)
-designated-written checked uses v w h k (compares (sum None (product (designator x end) (more m ms)) rest) c) u =
+lone_designator-written checked uses v w h k (compares (sum None (product (designator x end) (more m ms)) rest) c) u =
     ap (variable_type checked) (product-no_designator (if uses k then v else designator x end) _ _ _ _)
-designated-written checked uses v w h k _ u = refl
+lone_designator-written checked uses v w h k _ u = refl
 
 pub argument_fits-written : (checked : Typed Name) (uses : Uses) (v : Tree Name factor) (w : Value) → Written checked v w → (f : Formal) (k : ℕ) (e : Tree Name expression) → AreUses checked w uses k (occurrences e)
     → argument_fits checked f (inline_in uses v k e) ≡ argument_fits checked f e
 unfolding argument_fits
 argument_fits-written checked uses v w h f k e u = λ i.
-    agree (Some f.shape) (elim f.mode [ by_value ↦ type-written checked uses v w h k e u i | by_place ↦ designated-written checked uses v w h k e u i ])
+    agree (Some f.shape) (elim f.mode [ by_value ↦ type-written checked uses v w h k e u i | by_place ↦ lone_designator-written checked uses v w h k e u i ])
 
 pub further_fit-written : (checked : Typed Name) (uses : Uses) (v : Tree Name factor) (w : Value) → Written checked v w → (fs : Signature) (k : ℕ) (es : Tree Name (items further_argument)) → AreUses checked w uses k (occurrences es)
     → arguments_fit checked fs (further_arguments (inline_in uses v k es)) ≡ arguments_fit checked fs (further_arguments es)

@@ -4,10 +4,10 @@ use Rattle.ob0_tree.specs.Tree.{Tree, arguments, assigns, branches, calls, else_
 use Rattle.ob0_scope_rules.specs.Mapping.{with_names}
 use Rattle.ob0_types_rules.specs.Arguments.{arguments_listed}
 use Rattle.ob0_types_rules.specs.Expressions.{Meanings, a_variable}
-use Rattle.ob0_types_rules.specs.Typing.{designated}
+use Rattle.ob0_types_rules.specs.Typing.{lone_designator}
 use Rattle.ob0_values.specs.Values.{Shape, boolean_shape}
 use Rattle.ob0_types_rules.specs.WellTyped.{Formal, Signature, Typed, agree, argument_fits, arguments_fit, by_place, by_value, call_fits, condition_fits, else_fits, elsifs_fit, sequence_fits, signature_of, statement_fits, statements_fit, variable_type}
-use Rattle.ob0_types_rules.proofs.Naturality.{arguments-map, designated-map, map_designator, through}
+use Rattle.ob0_types_rules.proofs.Naturality.{arguments-map, lone_designator-map, map_designator, through}
 use Rattle.ob0_types_rules.proofs.TypeNaturality.{type_at-map, type_of-map}
 
 pub variable_type-map : {N M P : Type 0} (f h : N → M) (meaning : Meanings M Shape P) (d : Option (N × Tree N (items selector))) → variable_type meaning (option_map (map_designator f h) d) ≡ variable_type (through f h meaning) d
@@ -18,7 +18,7 @@ variable_type-map f h meaning (Some (x, path)) = λ i. elim (meaning.object_for 
 pub argument_fits-map : {N M P : Type 0} (f h : N → M) (meaning : Meanings M Shape P) (g : Formal) (e : Tree N expression) → argument_fits meaning g (with_names f h e) ≡ argument_fits (through f h meaning) g e
 unfolding argument_fits
 argument_fits-map f h meaning g e = λ i.
-    agree (Some g.shape) (elim g.mode [ by_value ↦ type_of-map f h meaning e i | by_place ↦ (ap (variable_type meaning) (designated-map f h e) ∙ variable_type-map f h meaning (designated e)) i ])
+    agree (Some g.shape) (elim g.mode [ by_value ↦ type_of-map f h meaning e i | by_place ↦ (ap (variable_type meaning) (lone_designator-map f h e) ∙ variable_type-map f h meaning (lone_designator e)) i ])
 
 pub arguments_fit-map : {N M P : Type 0} (f h : N → M) (meaning : Meanings M Shape P) (gs : Signature) (es : List (Tree N expression)) → arguments_fit meaning gs (map (with_names f h) es) ≡ arguments_fit (through f h meaning) gs es
 unfolding arguments_fit

@@ -15,7 +15,7 @@ use Rattle.ob0_values.specs.Values.{Value, elements, members, number, truth}
 use Rattle.ob0_types_rules.specs.EditLaws.{InliningEverywhereKeepsWellTyped, IsConstantWritten, IsPredeclaredTruth}
 use Rattle.ob0_types_rules.specs.WellTyped.{WellTyped, fits_over}
 use Rattle.ob0_types_rules.specs.Written.{written_value}
-use Rattle.ob0_types_rules.proofs.AloneInBlocks.{IsOf, StandsAlone, alone-block}
+use Rattle.ob0_types_rules.proofs.AloneInBlocks.{IsOf, IsAlone, alone-block}
 use Rattle.ob0_types_rules.proofs.EditedModules.{IsFitted, IsShownAs, all-at, all-shown, label_ordinal-of, marked_outermost, outermost-sound, seven-or-less, shown-from, truth_name, well_typed-edited}
 use Rattle.ob0_types_rules.proofs.EditedTypes.{anything}
 use Rattle.ob0_types_rules.proofs.Leaves.{AllStay, Here, Literal, Writes, none-used, same_ordinal-true, shown}
@@ -30,8 +30,8 @@ abbrev pub IsUseOf : Uses → ℕ → ℕ → Label → Type 0
 IsUseOf uses d j l = (uses j ≡ true → label_ordinal l ≡ Some d) × (label_ordinal l ≡ Some d → uses j ≡ true)
 
 -- what the labels tell of a place
-abbrev pub Told : Edit → Value → Placed
-Told edit w s j scope t = Each (Writes edit w) j scope (occurrences t) × AllGiveWay edit.uses (IsOf edit.constant scope) j (occurrences t)
+abbrev pub IsLabelled : Edit → Value → Placed
+IsLabelled edit w s j scope t = Each (Writes edit w) j scope (occurrences t) × AllGiveWay edit.uses (IsOf edit.constant scope) j (occurrences t)
 
 -- the names in a literal
 literal-names : (d : ℕ) (w : Value) (v : Tree Name factor) → written_value w ≡ Some v → 7 ≤ d → (scope : Scope Name) → shown w scope ≡ true → NoneOf (IsOf d scope) (occurrences v)
@@ -59,7 +59,7 @@ none-of-unshown edit w j scope (x ∷ xs) e reported gives_way =
     (λ k. true≢false (sym (reported.0.1 (gives_way.0 k)) ∙ e), none-of-unshown edit w (suc j) scope xs e reported.1 gives_way.1)
 
 -- where the constant's names are alone as factors, none is left
-pub here-everywhere : (edit : Edit) (w : Value) → Literal edit w → (s : Sort) (j : ℕ) (scope : Scope Name) (t : Tree Name s) → Told edit w s j scope t → StandsAlone edit.constant s j scope t → Here edit w s j scope t
+pub here-everywhere : (edit : Edit) (w : Value) → Literal edit w → (s : Sort) (j : ℕ) (scope : Scope Name) (t : Tree Name s) → IsLabelled edit w s j scope t → IsAlone edit.constant s j scope t → Here edit w s j scope t
 here-everywhere edit w lit s j scope t reported alone_there = (
   reported.0,
   all-stay edit scope (occurrences (leaf edit j t))
@@ -97,7 +97,7 @@ bound-exactly m d i l e =
     (λ u. sym bound ∙ same_ordinal-true (binds m i) d u, λ k. ap (λ o. same_ordinal o d) (bound ∙ k) ∙ eq-eqb d d refl)
 
 -- in a well-typed module the constant's names are alone as factors
-pub alone-module : (m : Tree Name module_text) (d : ℕ) (w : Value) (v : Tree Name factor) → IsConstantWritten m d w v → WellTyped m → EachBlock (StandsAlone d) 0 (predeclared_scope as_names) 7 (module_block m)
+pub alone-module : (m : Tree Name module_text) (d : ℕ) (w : Value) (v : Tree Name factor) → IsConstantWritten m d w v → WellTyped m → EachBlock (IsAlone d) 0 (predeclared_scope as_names) 7 (module_block m)
 unfolding WellTyped fits_over
 alone-module (is_module x b closing) d w v c well =
     let m : Tree Name module_text = is_module x b closing in
@@ -118,11 +118,11 @@ everywhere-fitted (is_module x b closing) d w v c seen well =
     let low = seven-or-less m d w c.value in
     let lit : Literal edit w = record { written = c.literal; scalar = c.scalar; ordinal = low.0 } in
     let scope : Scope Name = predeclared_scope as_names in
-    let reported : EachBlock (Told edit w) 0 scope 7 b =
-    each-block as_names (looking_for (truth_name w)) (IsUseOf uses d) (IsShownAs uses w) (Told edit w) (λ s j scope t both. reported-from edit w j scope (occurrences t) both) 0 scope 7 b
+    let reported : EachBlock (IsLabelled edit w) 0 scope 7 b =
+    each-block as_names (looking_for (truth_name w)) (IsUseOf uses d) (IsShownAs uses w) (IsLabelled edit w) (λ s j scope t both. reported-from edit w j scope (occurrences t) both) 0 scope 7 b
     (all-at (IsUseOf uses d) 0 (occurrences (relabelled as_names (as_label as_names) m)) (λ i l e. subst (λ n. IsUseOf uses d n l) (sym (zero-add i)) (bound-exactly m d i l e)))
     (all-shown m w uses (λ k u. seen k (same_ordinal-true (binds m k) d u))) in
-    record { literal = lit; here = both-block (Told edit w) (StandsAlone d) (Here edit w) (here-everywhere edit w lit) 0 scope 7 b reported (alone-module m d w v c well); has_value = low.1 }
+    record { literal = lit; here = both-block (IsLabelled edit w) (IsAlone d) (Here edit w) (here-everywhere edit w lit) 0 scope 7 b reported (alone-module m d w v c well); has_value = low.1 }
 
 pub inlining_everywhere_keeps_well_typed-holds : InliningEverywhereKeepsWellTyped
 inlining_everywhere_keeps_well_typed-holds m d w v c seen well =

@@ -15,7 +15,7 @@ use Rattle.ob0_types_rules.specs.Expressions.{Meanings, Object, a_constant, a_pr
 use Rattle.ob0_types_rules.specs.Laws.{UsesAre}
 use Rattle.ob0_types_rules.specs.Typing.{constant_of, constant_value, constants_only, denoted, type_of_name}
 use Rattle.ob0_types_rules.specs.Written.{written_value}
-use Rattle.ob0_types_rules.proofs.DenotedInlined.{ConstantWritten, StandsFor, constant_value-written, denoted-written}
+use Rattle.ob0_types_rules.proofs.DenotedInlined.{ConstantWritten, NamesConstant, constant_value-written, denoted-written}
 use Rattle.ob0_types_rules.proofs.Literals.{IsSeen, literal-typed, literal-has_value}
 use Rattle.ob0_types_rules.proofs.Marks.{Mark, Marks, Sound, Stays, edited-holds, found, found-right, known-found, knowns, no-found, object_as, object_of, ordinal-found, read, read-from, read-holds, read_edited, read_edited-from, scope_marked, has_value-found, yes-found}
 use Rattle.ob0_types_rules.proofs.TypeNaturality.{constant_value-map, denoted-map}
@@ -69,7 +69,7 @@ pub read-object_for : {V P Q : Type 0} (q : ℕ → P → Q) (marks : Marks V P)
 read-object_for q marks x = ap newest (read-from q marks x) ∙ read-holds q marks x
 
 pub uses-read : {V P Q : Type 0} (edit : Edit) (w : Value) (X : Marks V P → Name → ℕ → P → Type 0) (p : ℕ → P → Q) (n : ℕ) (marks : Marks V P) → Sound edit w X n marks → (j : ℕ) (xs : List Name)
-    → Each (Writes edit w) j (scope_marked marks) xs → UsesAre edit.uses (StandsFor (read_meanings p marks) w) j xs
+    → Each (Writes edit w) j (scope_marked marks) xs → UsesAre edit.uses (NamesConstant (read_meanings p marks) w) j xs
 uses-read edit w X p n marks s j [] reported = tt
 uses-read edit w X p n marks s j (x ∷ xs) reported = (
   λ u. read-object_for p marks x ∙ has_value-found edit w p (found marks x) (found-right edit w X n marks x s) (sym (ordinal-found marks x) ∙ reported.0.0 u),

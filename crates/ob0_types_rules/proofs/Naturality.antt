@@ -4,8 +4,8 @@ use Rattle.ob0_tree.specs.Tree.{Tree, addend, adds, arguments, compares, designa
 use Rattle.ob0_scope_rules.specs.Mapping.{with_names}
 use Rattle.ob0_types_rules.specs.Arguments.{arguments_listed, further_arguments}
 use Rattle.ob0_types_rules.specs.Expressions.{Meanings, designate, element_step, evaluate, evaluate_addends, evaluate_factor, evaluate_multipliers, evaluate_simple, evaluate_term, follow, object_place, object_value}
-use Rattle.ob0_types_rules.specs.Typing.{designated}
-use Rattle.ob0_values.specs.Values.{Place, Store, Value, add, add_is_settled, at_field, at_path, gives, multiply, multiply_is_settled, negated, or_stuck, part, read_place, relate, signed, ◌>>=◌}
+use Rattle.ob0_types_rules.specs.Typing.{lone_designator}
+use Rattle.ob0_values.specs.Values.{Place, Store, Value, add, add_is_settled, at_field, at_path, gives, multiply, multiply_is_settled, negate, or_stuck, part, read_place, relate, apply_sign, ◌>>=◌}
 
 -- what names mean, each under another name
 abbrev pub through : {N M V P : Type 0} → (N → M) → (N → M) → Meanings M V P → Meanings N V P
@@ -21,7 +21,7 @@ mutual
 
   pub evaluate_simple-map : {N M P : Type 0} (f h : N → M) (meaning : Meanings M Place P) (store : Store) (a : Tree N simple) → evaluate_simple meaning store (with_names f h a) ≡ evaluate_simple (through f h meaning) store a
   evaluate_simple-map f h meaning store (sum s t rest) = λ i.
-      evaluate_term-map f h meaning store t i >>= (λ x. signed s x >>= (λ y. evaluate_addends-map f h meaning store y rest i))
+      evaluate_term-map f h meaning store t i >>= (λ x. apply_sign s x >>= (λ y. evaluate_addends-map f h meaning store y rest i))
 
   pub evaluate_addends-map : {N M P : Type 0} (f h : N → M) (meaning : Meanings M Place P) (store : Store) (x : Value) (rest : Tree N (items addend)) → evaluate_addends meaning store x (with_names f h rest) ≡ evaluate_addends (through f h meaning) store x rest
   evaluate_addends-map f h meaning store x end = refl
@@ -44,7 +44,7 @@ mutual
       object_value store (meaning.object_for (f x)) >>= (λ v. follow-map f h meaning store v path i >>= (λ steps. or_stuck (at_path steps v)))
   evaluate_factor-map f h meaning store (integer n) = refl
   evaluate_factor-map f h meaning store (parenthesised e) = evaluate-map f h meaning store e
-  evaluate_factor-map f h meaning store (negation a) = λ i. evaluate_factor-map f h meaning store a i >>= negated
+  evaluate_factor-map f h meaning store (negation a) = λ i. evaluate_factor-map f h meaning store a i >>= negate
 
   pub follow-map : {N M P : Type 0} (f h : N → M) (meaning : Meanings M Place P) (store : Store) (v : Value) (path : Tree N (items selector)) → follow meaning store v (with_names f h path) ≡ follow (through f h meaning) store v path
   follow-map f h meaning store v end = refl
@@ -62,9 +62,9 @@ abbrev pub map_designator : {N M : Type 0} → (N → M) → (N → M) → N × 
 map_designator f h d = (f d.0, with_names f h d.1)
 
 -- whether an expression is a designator alone doesn't hang on names
-pub designated-map : {N M : Type 0} (f h : N → M) (e : Tree N expression) → designated (with_names f h e) ≡ option_map (map_designator f h) (designated e)
-designated-map f h (compares (sum None (product (designator x path) end) end) none) = refl
-designated-map f h _ = refl
+pub lone_designator-map : {N M : Type 0} (f h : N → M) (e : Tree N expression) → lone_designator (with_names f h e) ≡ option_map (map_designator f h) (lone_designator e)
+lone_designator-map f h (compares (sum None (product (designator x path) end) end) none) = refl
+lone_designator-map f h _ = refl
 
 pub further_arguments-map : {N M : Type 0} (f h : N → M) (es : Tree N (items further_argument)) → further_arguments (with_names f h es) ≡ map (with_names f h) (further_arguments es)
 further_arguments-map f h end = refl

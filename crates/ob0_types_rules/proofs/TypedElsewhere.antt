@@ -8,7 +8,7 @@ use Rattle.ob0_scope_rules.proofs.NoneLeft.{NoneOf, none-of-join}
 use Rattle.ob0_values.specs.Values.{FieldShapes, Shape, Value, array_shape, boolean_shape, elements, integer_shape, members, number, record_shape, truth}
 use Rattle.ob0_types_rules.specs.Arguments.{arguments_listed, further_arguments}
 use Rattle.ob0_types_rules.specs.Expressions.{Meanings, Object, a_constant, a_procedure, a_standard, a_type, a_variable, evaluate}
-use Rattle.ob0_types_rules.specs.Typing.{add_type, array_length, complement_type, constant_of, constant_value, constants_only, denoted, denoted_group, denoted_groups, designated, element_type, field_type, given_value, group_constructors, multiply_type, object_type, relation_type, sign_type, type_at, type_of, type_of_addends, type_of_factor, type_of_multipliers, type_of_name, type_of_simple, type_of_term, value_type, with_fields, within_limits}
+use Rattle.ob0_types_rules.specs.Typing.{add_type, array_length, complement_type, constant_of, constant_value, constants_only, denoted, denoted_group, denoted_groups, lone_designator, element_type, field_type, given_value, group_constructors, multiply_type, object_type, relation_type, sign_type, type_at, type_of, type_of_addends, type_of_factor, type_of_multipliers, type_of_name, type_of_simple, type_of_term, value_type, with_fields, within_limits}
 use Rattle.ob0_types_rules.specs.WellTyped.{Formal, Mode, Signature, Typed, agree, argument_fits, arguments_fit, by_place, by_value, call_fits, condition_fits, else_fits, elsifs_fit, sequence_fits, signature_of, statement_fits, statements_fit, variable_type}
 use Rattle.std.proofs.lemmas.Bool.{and_parts}
 
@@ -148,21 +148,21 @@ variable-elsewhere K meaning w c x path t h =
     let (s, es, h₁) = variable-parts meaning path (meaning.object_for x) t h in
     (λ k. let e : Some (a_variable s) ≡ Some (a_constant w) = sym es ∙ c x k in absurd (cc), type_at-elsewhere K meaning w c s path t h₁)
 
-pub designated-elsewhere : (K : Name → Type 0) (meaning : Typed Name) (w : Value) → AreConstant K meaning w → (e : Tree Name expression) (t : Shape) → variable_type meaning (designated e) ≡ Some t → NoneOf K (names_elsewhere e)
+pub lone_designator-elsewhere : (K : Name → Type 0) (meaning : Typed Name) (w : Value) → AreConstant K meaning w → (e : Tree Name expression) (t : Shape) → variable_type meaning (lone_designator e) ≡ Some t → NoneOf K (names_elsewhere e)
 unfolding variable_type
-designated-elsewhere K meaning w c (compares (sum None (product (designator x end) end) end) none) t h = tt
-designated-elsewhere K meaning w c (compares (sum None (product (designator x (more s rest)) end) end) none) t h =
+lone_designator-elsewhere K meaning w c (compares (sum None (product (designator x end) end) end) none) t h = tt
+lone_designator-elsewhere K meaning w c (compares (sum None (product (designator x (more s rest)) end) end) none) t h =
     let v = variable-elsewhere K meaning w c x (more s rest) t h in
     none-of-join K ((x ∷ names_elsewhere (more s rest)) ++ [] ++ []) [] (none-of-join K ((x ∷ names_elsewhere (more s rest)) ++ []) [] (none-of-join K (x ∷ names_elsewhere (more s rest)) [] v tt) tt) tt
-designated-elsewhere K meaning w c _ t h = absurd (cc)
+lone_designator-elsewhere K meaning w c _ t h = absurd (cc)
 
 pub argument-elsewhere : (K : Name → Type 0) (meaning : Typed Name) (w : Value) → AreConstant K meaning w → (f : Formal) (e : Tree Name expression) → argument_fits meaning f e ≡ true → NoneOf K (names_elsewhere e)
 unfolding argument_fits
 argument-elsewhere K meaning w c f e h = go f.mode h
   where
-    go : (m : Mode) → agree (Some f.shape) (elim m [ by_value ↦ type_of meaning e | by_place ↦ variable_type meaning (designated e) ]) ≡ true → NoneOf K (names_elsewhere e)
+    go : (m : Mode) → agree (Some f.shape) (elim m [ by_value ↦ type_of meaning e | by_place ↦ variable_type meaning (lone_designator e) ]) ≡ true → NoneOf K (names_elsewhere e)
     go by_value h = let (s, t, a, b) = agree-parts (Some f.shape) (type_of meaning e) h in type_of-elsewhere K meaning w c e t b
-    go by_place h = let (s, t, a, b) = agree-parts (Some f.shape) (variable_type meaning (designated e)) h in designated-elsewhere K meaning w c e t b
+    go by_place h = let (s, t, a, b) = agree-parts (Some f.shape) (variable_type meaning (lone_designator e)) h in lone_designator-elsewhere K meaning w c e t b
 
 pub further-elsewhere : (K : Name → Type 0) (meaning : Typed Name) (w : Value) → AreConstant K meaning w → (fs : Signature) (es : Tree Name (items further_argument)) → arguments_fit meaning fs (further_arguments es) ≡ true → NoneOf K (names_elsewhere es)
 unfolding arguments_fit

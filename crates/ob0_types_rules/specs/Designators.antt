@@ -15,19 +15,19 @@ abbrev pub designator_parts : Designator → ℕ × Tree ℕ (items selector)
 designator_parts d = ((out-Designator d).name, selectors_in d)
 
 -- a designator alone, where no sign and no operator is beside it
-abbrev pub designated_factor : {N : Type 0} → Tree N factor → Option (N × Tree N (items selector))
-designated_factor (designator x path) = Some (x, path)
-designated_factor _ = None
+abbrev pub designator_of_factor : {N : Type 0} → Tree N factor → Option (N × Tree N (items selector))
+designator_of_factor (designator x path) = Some (x, path)
+designator_of_factor _ = None
 
 -- the designator that a term is, alone
-abbrev pub designated_term : {N : Type 0} → Tree N term → Option (N × Tree N (items selector))
-designated_term (product f end) = designated_factor f
-designated_term _ = None
+abbrev pub designator_of_term : {N : Type 0} → Tree N term → Option (N × Tree N (items selector))
+designator_of_term (product f end) = designator_of_factor f
+designator_of_term _ = None
 
 -- the designator that a simple expression is, alone
-abbrev pub designated_simple : {N : Type 0} → Tree N simple → Option (N × Tree N (items selector))
-designated_simple (sum None t end) = designated_term t
-designated_simple _ = None
+abbrev pub designator_of_simple : {N : Type 0} → Tree N simple → Option (N × Tree N (items selector))
+designator_of_simple (sum None t end) = designator_of_term t
+designator_of_simple _ = None
 
 -- several expressions, in order
 abbrev pub all_in_labels : Resolution → List Expression → List (Tree Label expression)

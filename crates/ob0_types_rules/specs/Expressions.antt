@@ -3,7 +3,7 @@
 use Rattle.std.specs.Prelude.{true, false, List, [], ◌∷◌, ◌++◌, pos, negsuc, if◌then◌else◌, nat_lt, Some, Option}
 use Rattle.ob0_tree.specs.Tree.{Tree, addend, adds, compares, designator, end, expression, factor, field, index, integer, items, more, multiplier, multiplies, negation, none, one, parenthesised, product, relates, selector, simple, sum, term}
 use Rattle.ob0_scope_rules.specs.Names.{Name}
-use Rattle.ob0_values.specs.Values.{Index, Outcome, Place, Shape, Step, Store, Stuck, Value, add, add_is_settled, at_field, at_index, at_path, count_values, elements, ends, gives, multiply, multiply_is_settled, negated, number, or_stuck, part, read_place, relate, signed, ◌>>=◌}
+use Rattle.ob0_values.specs.Values.{Index, Outcome, Place, Shape, Step, Store, Stuck, Value, add, add_is_settled, at_field, at_index, at_path, count_values, elements, ends, gives, multiply, multiply_is_settled, negate, number, or_stuck, part, read_place, relate, apply_sign, ◌>>=◌}
 
 -- the standard procedures
 pub data Standard : Type 0 where
@@ -54,7 +54,7 @@ unfoldable mutual
   pub evaluate_simple : {N P : Type 0} → Meanings N Place P → Store → Tree N simple → Outcome Value
   evaluate_simple meaning store (sum s t rest) = do
     x ← evaluate_term meaning store t
-    y ← signed s x
+    y ← apply_sign s x
     evaluate_addends meaning store y rest
 
   -- operators of one level group to the left
@@ -97,7 +97,7 @@ unfoldable mutual
     or_stuck (at_path steps v)
   evaluate_factor meaning store (integer n) = gives (number (pos n))
   evaluate_factor meaning store (parenthesised e) = evaluate meaning store e
-  evaluate_factor meaning store (negation f) = evaluate_factor meaning store f >>= negated
+  evaluate_factor meaning store (negation f) = evaluate_factor meaning store f >>= negate
 
   -- the path that selectors take from a value
   pub follow : {N P : Type 0}

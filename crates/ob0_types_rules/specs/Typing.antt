@@ -292,9 +292,9 @@ unfoldable mutual
     denoted_group meaning k later g
 
 -- a designator alone, without sign or parentheses
-abbrev pub designated : {N : Type 0} → Tree N expression → Option (N × Tree N (items selector))
-designated (compares (sum None (product (designator x path) end) end) none) = Some (x, path)
-designated _ = None
+abbrev pub lone_designator : {N : Type 0} → Tree N expression → Option (N × Tree N (items selector))
+lone_designator (compares (sum None (product (designator x path) end) end) none) = Some (x, path)
+lone_designator _ = None
 
 -- the type of a type's name, of a variable or parameter, and of a constant; a procedure has none
 abbrev pub type_declared : {P : Type 0} → Option (Object Shape P) → Option Shape

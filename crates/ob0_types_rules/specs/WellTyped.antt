@@ -9,7 +9,7 @@ use Rattle.ob0_types_rules.specs.Arguments.{arguments_listed}
 use Rattle.ob0_types_rules.specs.Declarations.{after_types, after_variables, declare_first, formals_constructors, procedure_constructors}
 use Rattle.ob0_types_rules.specs.Environments.{Environment, meanings, outermost}
 use Rattle.ob0_types_rules.specs.Expressions.{Meanings, Object, a_procedure, a_standard, a_variable, reads, writes, writes_line}
-use Rattle.ob0_types_rules.specs.Typing.{constructors, denoted, designated, type_at, type_of, ◌>>=◌}
+use Rattle.ob0_types_rules.specs.Typing.{constructors, denoted, lone_designator, type_at, type_of, ◌>>=◌}
 use Rattle.ob0_values.specs.Values.{FieldShapes, Shape, array_shape, boolean_shape, integer_shape, next_field_shape, no_field_shape, record_shape}
 
 -- two types are the same where they are equal
@@ -90,7 +90,7 @@ unfoldable pub argument_fits : {N P : Type 0}
 unfolding type_of variable_type
 argument_fits meaning f e =
     agree (Some f.shape) (elim f.mode
-    [ by_value ↦ type_of meaning e | by_place ↦ variable_type meaning (designated e) ])
+    [ by_value ↦ type_of meaning e | by_place ↦ variable_type meaning (lone_designator e) ])
 
 -- as many arguments as parameters, each of them fitting (rules 2 and 5)
 unfoldable pub arguments_fit : {N P : Type 0}

@@ -2,38 +2,38 @@
 
 ghost use Rattle.std.specs.Prelude.{◌≡◌, option_map};
 ghost use Rattle.ob0_tree.specs.View.{compound_of, expression_of, factor_of, simple_of, term_of};
-ghost use Rattle.ob0_types_rules.specs.Designators.{designated_factor, designated_simple, designated_term, designator_parts};
-ghost use Rattle.ob0_types_rules.specs.Typing.{designated};
+ghost use Rattle.ob0_types_rules.specs.Designators.{designator_of_factor, designator_of_simple, designator_of_term, designator_parts};
+ghost use Rattle.ob0_types_rules.specs.Typing.{lone_designator};
 
 use ob0_tree::{Compound, Designator, Expression, Factor, Simple, Term};
 
 /// A designator alone, without sign, operators or parentheses.
-pub fn designated(e: &Expression) -> Option<&Designator>
-    ensures { option_map (λ d. designator_parts d.now) result ≡ designated (expression_of e.now) }
+pub fn lone_designator(e: &Expression) -> Option<&Designator>
+    ensures { option_map (λ d. designator_parts d.now) result ≡ lone_designator (expression_of e.now) }
 {
     match e {
-        Expression::Factor(f) => designated_factor(f),
-        Expression::Compound(c) => designated_compound(c),
+        Expression::Factor(f) => designator_of_factor(f),
+        Expression::Compound(c) => designator_of_compound(c),
     }
 }
 
-fn designated_compound(c: &Compound) -> Option<&Designator>
-    ensures { option_map (λ d. designator_parts d.now) result ≡ designated (compound_of c.now) }
+fn designator_of_compound(c: &Compound) -> Option<&Designator>
+    ensures { option_map (λ d. designator_parts d.now) result ≡ lone_designator (compound_of c.now) }
 {
     match &c.compared {
-        None => designated_simple(&c.left),
+        None => designator_of_simple(&c.left),
         Some(_) => None,
     }
 }
 
-fn designated_simple(s: &Simple) -> Option<&Designator>
+fn designator_of_simple(s: &Simple) -> Option<&Designator>
     ensures { option_map (λ d. designator_parts d.now) result
-        ≡ designated_simple (simple_of s.now) }
+        ≡ designator_of_simple (simple_of s.now) }
 {
     match s.sign {
         None => {
             if s.more.is_empty() {
-                designated_term(&s.first)
+                designator_of_term(&s.first)
             } else {
                 None
             }
@@ -42,18 +42,18 @@ fn designated_simple(s: &Simple) -> Option<&Designator>
     }
 }
 
-fn designated_term(t: &Term) -> Option<&Designator>
-    ensures { option_map (λ d. designator_parts d.now) result ≡ designated_term (term_of t.now) }
+fn designator_of_term(t: &Term) -> Option<&Designator>
+    ensures { option_map (λ d. designator_parts d.now) result ≡ designator_of_term (term_of t.now) }
 {
     if !t.more.is_empty() {
         return None;
     }
-    designated_factor(&t.first)
+    designator_of_factor(&t.first)
 }
 
-fn designated_factor(f: &Factor) -> Option<&Designator>
+fn designator_of_factor(f: &Factor) -> Option<&Designator>
     ensures { option_map (λ d. designator_parts d.now) result
-        ≡ designated_factor (factor_of f.now) }
+        ≡ designator_of_factor (factor_of f.now) }
 {
     match f {
         Factor::Designator(d) => Some(d),

@@ -11,7 +11,7 @@ ghost use Rattle.ob0_types_rules.specs.Typing.{given_value};
 use ob0_tree::{AddOperator, MultiplyOperator, Relation, Sign};
 use ob0_values::Scalar;
 use ob0_values::scalar::{
-    add, add_is_settled, multiply, multiply_is_settled, negated, relate, signed,
+    add, add_is_settled, multiply, multiply_is_settled, negate, relate, apply_sign,
 };
 
 /// The truth value of a relation; None where a side has no value, or they don't fit.
@@ -36,23 +36,23 @@ pub fn value_of_relation(
 /// The value of a first term with its sign, if there is one; None where it overflows.
 pub fn with_sign(sign: Option<Sign>, operand: Option<Scalar>) -> Option<Scalar>
     ensures { option_map scalar_value result
-        ≡ option_and_then (λ x. given_value (values.signed sign x))
+        ≡ option_and_then (λ x. given_value (values.apply_sign sign x))
         (option_map scalar_value operand) }
 {
     match operand {
         None => None,
-        Some(operand) => signed(sign, operand).ok(),
+        Some(operand) => apply_sign(sign, operand).ok(),
     }
 }
 
 /// The value of `~` with its operand.
 pub fn complement(operand: Option<Scalar>) -> Option<Scalar>
     ensures { option_map scalar_value result
-        ≡ option_and_then (λ x. given_value (values.negated x)) (option_map scalar_value operand) }
+        ≡ option_and_then (λ x. given_value (values.negate x)) (option_map scalar_value operand) }
 {
     match operand {
         None => None,
-        Some(operand) => negated(operand).ok(),
+        Some(operand) => negate(operand).ok(),
     }
 }
 

@@ -1,7 +1,7 @@
 //! Numbers and truths, and what the operators give of them (Wirth, Compiler Construction, Oberon-0).
 
 ghost use Rattle.std.specs.Prelude.{◌≡◌};
-ghost use Rattle.ob0_values.specs.Values.{add, add_is_settled, compare_numbers, divided_by, in_range, multiply, multiply_is_settled, negated, number, relate, signed, truth};
+ghost use Rattle.ob0_values.specs.Values.{add, add_is_settled, compare_numbers, divided_by, in_range, multiply, multiply_is_settled, negate, number, relate, apply_sign, truth};
 ghost use Rattle.ob0_values.specs.Scalars.{number_outcome, scalar_outcome, scalar_value};
 ghost use Rattle.ob0_tree.specs.declared.tree.MultiplyOperator.TheVariants.{Divide, Modulo};
 
@@ -228,8 +228,8 @@ fn relate_truths(relation: Relation, a: bool, b: bool) -> Result<Scalar, Operato
 /// # Errors
 ///
 /// `Overflow` for the negative of the least number, `Operand` for the sign of a truth.
-pub fn signed(sign: Option<Sign>, operand: Scalar) -> Result<Scalar, OperatorFault>
-    ensures { scalar_outcome result ≡ signed sign (scalar_value operand) }
+pub fn apply_sign(sign: Option<Sign>, operand: Scalar) -> Result<Scalar, OperatorFault>
+    ensures { scalar_outcome result ≡ apply_sign sign (scalar_value operand) }
 {
     match sign {
         None => Ok(operand),
@@ -248,8 +248,8 @@ pub fn signed(sign: Option<Sign>, operand: Scalar) -> Result<Scalar, OperatorFau
 /// # Errors
 ///
 /// `Operand` for a number.
-pub fn negated(operand: Scalar) -> Result<Scalar, OperatorFault>
-    ensures { scalar_outcome result ≡ negated (scalar_value operand) }
+pub fn negate(operand: Scalar) -> Result<Scalar, OperatorFault>
+    ensures { scalar_outcome result ≡ negate (scalar_value operand) }
 {
     match operand {
         Scalar::Number(_) => Err(OperatorFault::Operand),

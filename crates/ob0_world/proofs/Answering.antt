@@ -24,7 +24,7 @@ use Rattle.ob0_rpc.specs.Shapes.{result_message, error_message}
 use Rattle.ob0_rpc.specs.declared.clients.Client.{Client}
 use Rattle.ob0_session_edits.specs.Actions.{RequestedActions, ListsActions, Offers, wants_inlining, actions_offset, actions_value}
 use Rattle.ob0_session_server.specs.Answers as answers_of
-use Rattle.ob0_session_server.specs.Answers.{ServerState, Reply, Says, Sends, Reaction, reacts, reaction_to, hears, reaction_to_call, reaction_to_request as requested_in, calls, answers_about, lays_out, renames, offers_actions, published, Answers, AnswersInState, AnswersGoingOn, says}
+use Rattle.ob0_session_server.specs.Answers.{ServerState, Reply, SaysReply, Sends, Reaction, reacts, reaction_to, hears, reaction_to_call, reaction_to_request as requested_in, calls, answers_about, lays_out, renames, offers_actions, published, Answers, AnswersInState, AnswersGoingOn, says}
 use Rattle.ob0_analysis.specs.Diagnosed.{Complaint, IsWellTypedModule, Reports, ReportsFaults, complaint_of}
 use Rattle.ob0_session_edits.specs.Diagnostics.{Diagnoses, diagnostic_of}
 use Rattle.ob0_analysis.specs.Texts.{utf8}
@@ -96,8 +96,8 @@ some_reported text reported (inr (inr types)) none = go types.faults types.some 
     go (f ∷ fs) some none = cc
 
 reports_right : (unit : Unit) (text : List ℕ) (ds : List Diagnostic) → Diagnoses unit text ds → IsEmptyIfCorrect text (has_none (items_of (map diagnostic_value ds)))
-reports_right unit text ds (reported, telling, is) =
-    subst (λ ds. IsEmptyIfCorrect text (has_none (items_of (map diagnostic_value ds)))) (sym is) (go telling)
+reports_right unit text ds (reported, reporting, is) =
+    subst (λ ds. IsEmptyIfCorrect text (has_none (items_of (map diagnostic_value ds)))) (sym is) (go reporting)
   where
     go : Reports (utf8 text) reported → IsEmptyIfCorrect text (has_none (items_of (map diagnostic_value (map (diagnostic_of unit text) reported))))
     go (inl (found, none)) = (λ empty. found, λ well_typed. empty_none (diagnostic_of unit text) reported none)
@@ -112,7 +112,7 @@ pub record Noted (requested : List SentAsk) (held : OpenDocuments) (uri : List �
   pub replies : Publishes uri o said (option_to_list (made_first held said))
 
 publishes_step : (requested : List SentAsk) (held : OpenDocuments) (uri : List ℕ) (version : ℤ) (text : List ℕ) (sent : List (List ℕ)) → document_at held uri ≡ Some (InStep version text) → as_i64 (of_integer version) ≡ Some version
-    → Says (published held.unit uri (Some (InStep version text))) sent → Noted requested held uri (Some (InStep version text)) sent
+    → SaysReply (published held.unit uri (Some (InStep version text))) sent → Noted requested held uri (Some (InStep version text)) sent
 publishes_step requested held uri version text sent at fits (ds, diagnoses, sends) =
     let empty : Bool = has_none (items_of (map diagnostic_value ds)) in
     record {
@@ -122,7 +122,7 @@ publishes_step requested held uri version text sent at fits (ds, diagnoses, send
     }
 
 publishes_now : (requested : List SentAsk) (held : OpenDocuments) (uri : List ℕ) (version : ℤ) (t : Option (List ℕ)) (sent : List (List ℕ)) → document_at held uri ≡ Some (document version t) → as_i64 (of_integer version) ≡ Some version
-    → Says (published held.unit uri (Some (document version t))) sent → Noted requested held uri (Some (document version t)) sent
+    → SaysReply (published held.unit uri (Some (document version t))) sent → Noted requested held uri (Some (document version t)) sent
 publishes_now requested held uri version (Some text) sent at fits saying = publishes_step requested held uri version text sent at fits saying
 publishes_now requested held uri version None sent at fits saying = record { said = []; heard = heard_none requested sent saying; replies = (refl, refl) }
 
@@ -144,10 +144,10 @@ opened_at held uri version text =
     get_put held.by_uri uri (InStep version text) uri ∙ ap (λ b. cond b (Some (InStep version text)) (document_at held uri)) (uri_itself uri)
 
 -- what is said of the document that is held now
-noted_at : (requested : List SentAsk) (held : OpenDocuments) (uri : List ℕ) (o : Option Document) (sent : List (List ℕ)) → document_at held uri ≡ o → (Says (published held.unit uri o) sent → Noted requested held uri o sent)
-    → Says (published held.unit uri (document_at held uri)) sent → Noted requested held uri (document_at held uri) sent
+noted_at : (requested : List SentAsk) (held : OpenDocuments) (uri : List ℕ) (o : Option Document) (sent : List (List ℕ)) → document_at held uri ≡ o → (SaysReply (published held.unit uri o) sent → Noted requested held uri o sent)
+    → SaysReply (published held.unit uri (document_at held uri)) sent → Noted requested held uri (document_at held uri) sent
 noted_at requested held uri o sent at then_noted saying =
-    subst (λ o. Noted requested held uri o sent) (sym at) (then_noted (subst (λ o. Says (published held.unit uri o) sent) at saying))
+    subst (λ o. Noted requested held uri o sent) (sym at) (then_noted (subst (λ o. SaysReply (published held.unit uri o) sent) at saying))
 
 -- ---- what may be sent
 
@@ -160,7 +160,7 @@ pub record Served (requested : List SentAsk) (m : ToServer) (before after : Serv
   pub replies : Replies before.held m said (option_to_list (made_first after.held said))
 
 -- the reaction to a notification, and what it saying
-note_served : (requested : List SentAsk) (note : DocumentEvent) (before after : ServerState) (sent : List (List ℕ)) → IsRunning before → HasVersion note → after ≡ (reaction_to before (sent_as note)).after → Says (reaction_to before (sent_as note)).say sent
+note_served : (requested : List SentAsk) (note : DocumentEvent) (before after : ServerState) (sent : List (List ℕ)) → IsRunning before → HasVersion note → after ≡ (reaction_to before (sent_as note)).after → SaysReply (reaction_to before (sent_as note)).say sent
     → Served requested (notifies note) before after sent
 note_served requested (Opened uri version text) before after sent running fits is saying =
     let held : OpenDocuments = opened before.held uri version text in
@@ -174,7 +174,7 @@ note_served requested (Changed uri version how) before after sent running fits i
     subst (λ a. Served requested (notifies (Changed uri version how)) before a sent) (sym is)
     (record { running = running; held = refl; said = noted.said; heard = noted.heard; replies = noted.replies })
   where
-    go : (held : OpenDocuments) (o : Option Document) → document_at held uri ≡ option_map (changed_document before.held.unit version how) o → Says (published held.unit uri (document_at held uri)) sent → Noted requested held uri (document_at held uri) sent
+    go : (held : OpenDocuments) (o : Option Document) → document_at held uri ≡ option_map (changed_document before.held.unit version how) o → SaysReply (published held.unit uri (document_at held uri)) sent → Noted requested held uri (document_at held uri) sent
     go held None at saying = noted_at requested held uri None sent at (λ saying. record { said = []; heard = heard_none requested sent saying; replies = (refl, refl) }) saying
     go held (Some d) at saying =
         let t : Option (List ℕ) = fold (changed_text before.held.unit) (text_of d) how in
@@ -185,7 +185,7 @@ note_served requested (Lost uri) before after sent running fits is saying =
 note_served requested (Closed uri) before after sent running fits is saying =
     subst (λ a. Served requested (notifies (Closed uri)) before a sent) (sym is) (go (is_some (document_at before.held uri)) refl saying)
   where
-    go : (b : Bool) → is_some (document_at before.held uri) ≡ b → Says (cond b (says (publication uri None [])) answers_of.nothing) sent → Served requested (notifies (Closed uri)) before (reaction_to before (sent_as (Closed uri))).after sent
+    go : (b : Bool) → is_some (document_at before.held uri) ≡ b → SaysReply (cond b (says (publication uri None [])) answers_of.nothing) sent → Served requested (notifies (Closed uri)) before (reaction_to before (sent_as (Closed uri))).after sent
     go true was saying = record {
       running = running;
       held = refl;
@@ -226,7 +226,7 @@ unfit_answer : (unit : Unit) (text : List ℕ) (ask : Ask) → ¬ IsWellTypedMod
 unfit_answer unit text ask unfit = inr (inr unfit, refl)
 
 formatted : (requested : List SentAsk) (k : ℕ) (uri : List ℕ) (indent : Indent) (unit : Unit) (version : ℤ) (text : List ℕ) (sent : List (List ℕ)) → IsAsk requested k uri (format indent)
-    → Says (lays_out unit (number (unsigned k)) (indent_read indent) text) sent → Answered requested k (format indent) unit (Some (InStep version text)) sent
+    → SaysReply (lays_out unit (number (unsigned k)) (indent_read indent) text) sent → Answered requested k (format indent) unit (Some (InStep version text)) sent
 formatted requested k uri indent unit version text sent of (message, how, sends) = go how
   where
     go : AnswersFormatting unit (number (unsigned k)) (indent_read indent) text message → Answered requested k (format indent) unit (Some (InStep version text)) sent
@@ -262,7 +262,7 @@ rename_requested client k uri position name version =
     record { id = number (unsigned k); client = client; at = record { uri = uri; position = position }; version = version; new = name }
 
 renamed : (requested : List SentAsk) (k : ℕ) (uri : List ℕ) (position : Position) (name : List ℕ) (client : Client) (unit : Unit) (version : ℤ) (text : List ℕ) (sent : List (List ℕ)) → client.takes_document_changes ≡ true → IsAsk requested k uri (rename position name)
-    → Says (renames unit (rename_requested client k uri position name version) text) sent → Answered requested k (rename position name) unit (Some (InStep version text)) sent
+    → SaysReply (renames unit (rename_requested client k uri position name version) text) sent → Answered requested k (rename position name) unit (Some (InStep version text)) sent
 renamed requested k uri position name client unit version text sent takes of (message, how, sends) = go how
   where
     go : AnswersRenaming unit (rename_requested client k uri position name version) text message → Answered requested k (rename position name) unit (Some (InStep version text)) sent
@@ -336,7 +336,7 @@ actions_requested_at client k uri position version =
 
 inlined : (how : Inlining) (requested : List SentAsk) (k : ℕ) (uri : List ℕ) (position : Position) (client : Client) (unit : Unit) (version : ℤ) (text : List ℕ) (sent : List (List ℕ)) → client.takes_document_changes ≡ true → client.takes_literal_actions ≡ true
     → IsAsk requested k uri (inlining_at how position)
-    → Says (offers_actions unit (actions_requested_at client k uri position version) text) sent → Answered requested k (inlining_at how position) unit (Some (InStep version text)) sent
+    → SaysReply (offers_actions unit (actions_requested_at client k uri position version) text) sent → Answered requested k (inlining_at how position) unit (Some (InStep version text)) sent
 inlined how requested k uri position client unit version text sent takes literal of (message, (value, how_listed, is), sends) = go how_listed
   where
     request : RequestedActions
@@ -379,8 +379,8 @@ asks_served requested k uri ask before after sent running same answer =
 
 -- an ask about a document, where its answer is known for the text of one that is in step
 about_document : (requested : List SentAsk) (k : ℕ) (uri : List ℕ) (ask : Ask) (say : ℤ → List ℕ → Reply) (before after : ServerState) (sent : List (List ℕ)) → IsRunning before → IsAsk requested k uri ask
-    → ((version : ℤ) (text : List ℕ) → Says (say version text) sent → Answered requested k ask before.held.unit (Some (InStep version text)) sent)
-    → (o : Option Document) → document_at before.held uri ≡ o → after ≡ (answers_about before (number (unsigned k)) o say).after → Says (answers_about before (number (unsigned k)) o say).say sent → Served requested (requests k uri ask) before after sent
+    → ((version : ℤ) (text : List ℕ) → SaysReply (say version text) sent → Answered requested k ask before.held.unit (Some (InStep version text)) sent)
+    → (o : Option Document) → document_at before.held uri ≡ o → after ≡ (answers_about before (number (unsigned k)) o say).after → SaysReply (answers_about before (number (unsigned k)) o say).say sent → Served requested (requests k uri ask) before after sent
 about_document requested k uri ask say before after sent running of in_step None at same saying =
     asks_served requested k uri ask before after sent running same (refused requested k uri ask before.held.unit (document_at before.held uri) (minus 32803) (codes "unopened") sent of saying (subst (λ o. IsAnswer before.held.unit o ask []) (sym at) refl))
 about_document requested k uri ask say before after sent running of in_step (Some OutOfStep) at same saying =
@@ -390,35 +390,35 @@ about_document requested k uri ask say before after sent running of in_step (Som
 
 -- a request of the editor, while the session runs
 request_served : (requested : List SentAsk) (k : ℕ) (uri : List ℕ) (ask : Ask) (params : Data) (before after : ServerState) (sent : List (List ℕ)) → IsRunning before → IsAsk requested k uri ask → request_by_method (method_of ask) params ≡ Ok (call_for uri ask)
-    → after ≡ (reaction_to_call before (number (unsigned k)) (method_of ask) params).after → Says (reaction_to_call before (number (unsigned k)) (method_of ask) params).say sent → Served requested (requests k uri ask) before after sent
+    → after ≡ (reaction_to_call before (number (unsigned k)) (method_of ask) params).after → SaysReply (reaction_to_call before (number (unsigned k)) (method_of ask) params).say sent → Served requested (requests k uri ask) before after sent
 request_served requested k uri (rename position name) params before after sent running of call is saying =
     let id : Data = number (unsigned k) in
     let say : ℤ → List ℕ → Reply = λ version. renames before.held.unit (rename_requested before.client k uri position name version) in
     let so : reaction_to_call before id (method_of (rename position name)) params ≡ answers_about before id (document_at before.held uri) say = ap (calls before id) call in
     about_document requested k uri (rename position name) say before after sent running of
     (λ version text. renamed requested k uri position name before.client before.held.unit version text sent running.1 of) (document_at before.held uri) refl
-    (is ∙ ap (λ (x : Reaction). x.after) so) (subst (λ (x : Reaction). Says x.say sent) so saying)
+    (is ∙ ap (λ (x : Reaction). x.after) so) (subst (λ (x : Reaction). SaysReply x.say sent) so saying)
 request_served requested k uri (inline_here position) params before after sent running of call is saying =
     let id : Data = number (unsigned k) in
     let say : ℤ → List ℕ → Reply = λ version. offers_actions before.held.unit (actions_requested_at before.client k uri position version) in
     let so : reaction_to_call before id (method_of (inline_here position)) params ≡ answers_about before id (document_at before.held uri) say = ap (calls before id) call in
     about_document requested k uri (inline_here position) say before after sent running of
     (λ version text. inlined Here requested k uri position before.client before.held.unit version text sent running.1 running.2 of) (document_at before.held uri) refl
-    (is ∙ ap (λ (x : Reaction). x.after) so) (subst (λ (x : Reaction). Says x.say sent) so saying)
+    (is ∙ ap (λ (x : Reaction). x.after) so) (subst (λ (x : Reaction). SaysReply x.say sent) so saying)
 request_served requested k uri (inline_all position) params before after sent running of call is saying =
     let id : Data = number (unsigned k) in
     let say : ℤ → List ℕ → Reply = λ version. offers_actions before.held.unit (actions_requested_at before.client k uri position version) in
     let so : reaction_to_call before id (method_of (inline_all position)) params ≡ answers_about before id (document_at before.held uri) say = ap (calls before id) call in
     about_document requested k uri (inline_all position) say before after sent running of
     (λ version text. inlined Everywhere requested k uri position before.client before.held.unit version text sent running.1 running.2 of) (document_at before.held uri) refl
-    (is ∙ ap (λ (x : Reaction). x.after) so) (subst (λ (x : Reaction). Says x.say sent) so saying)
+    (is ∙ ap (λ (x : Reaction). x.after) so) (subst (λ (x : Reaction). SaysReply x.say sent) so saying)
 request_served requested k uri (format indent) params before after sent running of call is saying =
     let id : Data = number (unsigned k) in
     let say : ℤ → List ℕ → Reply = λ version. lays_out before.held.unit id (indent_read indent) in
     let so : reaction_to_call before id (method_of (format indent)) params ≡ answers_about before id (document_at before.held uri) say = ap (calls before id) call in
     about_document requested k uri (format indent) say before after sent running of
     (λ version text. formatted requested k uri indent before.held.unit version text sent of) (document_at before.held uri) refl
-    (is ∙ ap (λ (x : Reaction). x.after) so) (subst (λ (x : Reaction). Says x.say sent) so saying)
+    (is ∙ ap (λ (x : Reaction). x.after) so) (subst (λ (x : Reaction). SaysReply x.say sent) so saying)
 
 -- ---- messages
 
@@ -427,21 +427,21 @@ going_on : (before after : ServerState) (content : List ℕ) (sent : List (List 
 going_on before after content sent running h = subst (λ phase. AnswersInState phase before content sent after) running.0 h
 
 -- what comes of a content with this meaning
-pub reacts_so : (before after : ServerState) (content : List ℕ) (sent : List (List ℕ)) (d : Data) → AnswersGoingOn before content sent after → ReadsContent content (Some d) → (after ≡ (reacts before (meaning_of d)).after) × Says (reacts before (meaning_of d)).say sent
+pub reacts_so : (before after : ServerState) (content : List ℕ) (sent : List (List ℕ)) (d : Data) → AnswersGoingOn before content sent after → ReadsContent content (Some d) → (after ≡ (reacts before (meaning_of d)).after) × SaysReply (reacts before (meaning_of d)).say sent
 reacts_so before after content sent d (json, reads, answer) known =
-    subst (λ j. (after ≡ (reacts before (meaning j)).after) × Says (reacts before (meaning j)).say sent) (same_json content json d reads known) answer
+    subst (λ j. (after ≡ (reacts before (meaning j)).after) × SaysReply (reacts before (meaning j)).say sent) (same_json content json d reads known) answer
 
 pub served : (requested : List SentAsk) (m : ToServer) (before after : ServerState) (content : List ℕ) (sent : List (List ℕ)) → IsRunning before → heard_as.SaysToServer requested m content → Answers before content sent after → Served requested m before after sent
 served requested (notifies note) before after content sent running is h =
     let answer = reacts_so before after content sent is.json (going_on before after content sent running h) is.reads in
     let so : reacts before (meaning_of is.json) ≡ reaction_to before (sent_as note) =
     ap (reacts before) is.means ∙ ap (λ phase. hears phase before is.method is.params) running.0 ∙ ap (reaction_to before) is.reported in
-    note_served requested note before after sent running is.fits (answer.0 ∙ ap (λ (x : Reaction). x.after) so) (subst (λ (x : Reaction). Says x.say sent) so answer.1)
+    note_served requested note before after sent running is.fits (answer.0 ∙ ap (λ (x : Reaction). x.after) so) (subst (λ (x : Reaction). SaysReply x.say sent) so answer.1)
 served requested (requests k uri ask) before after content sent running (is, of) h =
     let answer = reacts_so before after content sent is.json (going_on before after content sent running h) is.reads in
     let so : reacts before (meaning_of is.json) ≡ reaction_to_call before (number (unsigned k)) (method_of ask) is.params =
     ap (reacts before) is.means ∙ ap (λ phase. requested_in phase before (number (unsigned k)) (method_of ask) is.params) running.0 ∙ begun ask before is.params k in
-    request_served requested k uri ask is.params before after sent running of is.calls (answer.0 ∙ ap (λ (x : Reaction). x.after) so) (subst (λ (x : Reaction). Says x.say sent) so answer.1)
+    request_served requested k uri ask is.params before after sent running of is.calls (answer.0 ∙ ap (λ (x : Reaction). x.after) so) (subst (λ (x : Reaction). SaysReply x.say sent) so answer.1)
   where
     begun : (ask : Ask) (s : ServerState) (params : Data) (k : ℕ) → requested_in Running s (number (unsigned k)) (method_of ask) params ≡ reaction_to_call s (number (unsigned k)) (method_of ask) params
     begun (rename position name) s params k = refl

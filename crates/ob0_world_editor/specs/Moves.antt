@@ -86,15 +86,15 @@ IsRewritten e (makes f a message) None = ⊥
 IsRewritten e (makes f a message) (Some r) = Rewrites e f a message r
 
 -- the editor has it, and this content is the notification
-abbrev pub IsTaken : Editor → rewritten.Rewritten → Vec ℕ Global → Editor → Type 0
-IsTaken old r content new =
+abbrev pub StoresRewritten : Editor → rewritten.Rewritten → Vec ℕ Global → Editor → Type 0
+StoresRewritten old r content new =
     (new ≡ with_text old r) × SaysToServer new.requested (text_sent r) content.items
 
 -- the edit was made, and this content is the notification
-abbrev pub IsMade : Editor → rewritten.Rewritten → applying.Applying → Editor → Type 0
-IsMade old r applying.TheVariants.NotHeld new = ⊥
-IsMade old r applying.TheVariants.Dropped new = ⊥
-IsMade old r (applying.TheVariants.Made applied content) new =
+abbrev pub IsAppliedAs : Editor → rewritten.Rewritten → applying.Applying → Editor → Type 0
+IsAppliedAs old r applying.TheVariants.NotHeld new = ⊥
+IsAppliedAs old r applying.TheVariants.Dropped new = ⊥
+IsAppliedAs old r (applying.TheVariants.Made applied content) new =
     (new ≡ with_text old r)
     × (applied_of applied ≡ applied_of r.applied)
     × SaysToServer new.requested (text_sent r) content.items

@@ -25,7 +25,7 @@ pub enum Applying {
 }
 
 /// An edit of a document that had the text `before`.
-pub fn applied_to(
+pub fn applied_edit(
     alloc: Global,
     uri: &str,
     before: &str,

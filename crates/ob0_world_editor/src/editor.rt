@@ -7,10 +7,10 @@ ghost use Rattle.ob0_world_rules.specs.Editing.{opens_document, changes_document
 ghost use Rattle.ob0_world_editor.specs.Code.{ask_of, message_of, requested_of};
 ghost use Rattle.ob0_world_editor.specs.Entries.{open_document};
 ghost use Rattle.ob0_world_rules.specs.Edited.{edited, replacements};
-ghost use Rattle.ob0_world_editor.specs.Moves.{AreFew, Moves, ComesOf, IsRewritten, IsMade, IsTaken, IsPlaceOf};
+ghost use Rattle.ob0_world_editor.specs.Moves.{AreFew, Moves, ComesOf, IsRewritten, IsAppliedAs, StoresRewritten, IsPlaceOf};
 ghost use Rattle.ob0_world_editor.specs.Understood.{understood};
 
-use crate::applied::{Applied, Applying, applied_to};
+use crate::applied::{Applied, Applying, applied_edit};
 use crate::asks::{Ask, copy_of};
 use crate::documents::{Open, OpenDocuments};
 use crate::reading::{Message, numbered_ask, read_message};
@@ -265,7 +265,7 @@ impl Editor {
         let Some(after) = apply_edits::<Whole>(self.alloc, self.unit, before, edits)? else {
             return Ok(None);
         };
-        let applied = applied_to(self.alloc, uri, before, after)?;
+        let applied = applied_edit(self.alloc, uri, before, after)?;
         Ok(Some(Rewritten {
             applied,
             version: document.version + 1,
@@ -276,7 +276,7 @@ impl Editor {
     /// Takes a document's new text, and notifies the server.
     fn make(&mut self, rewritten: Rewritten) -> Result<Applying, AllocError>
         requires { rewritten.version < 2 ^ 63 }
-        ensures ok { IfOk result (λ applying. IsMade self.old rewritten applying self.new) }
+        ensures ok { IfOk result (λ applying. IsAppliedAs self.old rewritten applying self.new) }
         ensures err { OnErr result (self.new ≡ self.old) }
     {
         let content = self.take_text(&rewritten)?;
@@ -289,7 +289,7 @@ impl Editor {
     /// Takes a copy of a document's new text; the content is the notification.
     fn take_text(&mut self, rewritten: &Rewritten) -> Result<Vec<u8>, AllocError>
         requires { rewritten.now.version < 2 ^ 63 }
-        ensures ok { IfOk result (λ content. IsTaken self.old rewritten.now content self.new) }
+        ensures ok { IfOk result (λ content. StoresRewritten self.old rewritten.now content self.new) }
         ensures err { OnErr result (self.new ≡ self.old) }
     {
         let uri = rewritten.applied.uri.as_str();

@@ -32,7 +32,7 @@ use Rattle.ob0_inline.specs.Declarations.{is_inside, is_semicolon}
 use Rattle.ob0_inline.specs.Everywhere.{AnswersEverywhere, IsConstantAt, any_hidden, refusal_everywhere}
 use Rattle.ob0_inline.specs.Uses.{AnswersHere, IsUseAt, is_predeclared_truth, refusal_here}
 use Rattle.ob0_inline.specs.Values.{value_factor, value_text}
-use Rattle.ob0_inline.proofs.UsesStand.{one_place}
+use Rattle.ob0_inline.proofs.UsesAreIdentifiers.{one_place}
 use Rattle.ob0_session_offers.specs.Inlinings.{InlinesIn, IsNotInlinedIn}
 use Rattle.ob0_session_offers.specs.declared.inlining.Inlining.{Inlining}
 use Rattle.ob0_session_offers.specs.declared.inlining.Inlining.TheVariants.{Here, Everywhere}

@@ -34,11 +34,11 @@ same_module text m n scan parsed other too =
     let both = same (tree_of m) (tree_of n) (EndOfText ∷ []) (EndOfText ∷ []) (omega arith) (omega arith) (parsed.places ∙ (ap (λ (s : Scanned). lexemes s.tokens) source ∙ sym too.places)) in
     record { source = source; tree = both.0 }
 
-abbrev pub standing_of : Scanned → Tree ℕ module_text → List BoundIdentifier
-standing_of s t = zip (identifiers role.Declaring t) (leaves (numbered (named s t)))
+abbrev pub identifiers_of : Scanned → Tree ℕ module_text → List BoundIdentifier
+identifiers_of s t = zip (identifiers role.Declaring t) (leaves (numbered (named s t)))
 
 abbrev name_in : Scanned → Tree ℕ module_text → ℕ → Option Named
-name_in s t offset = option_and_then named_by (find (λ x. is_on offset (span_at s x.0.1)) (standing_of s t))
+name_in s t offset = option_and_then named_by (find (λ x. is_on offset (span_at s x.0.1)) (identifiers_of s t))
 
 module _ {m n : Parsed} (e : Same m n) where
   pub one_named_tree : named_tree_of m ≡ named_tree_of n

@@ -33,7 +33,7 @@ use Rattle.ob0_rename.specs.Renaming.{Meant, Renaming, declaration, field_of, fi
 use Rattle.ob0_rename.specs.Answers.{AreEdits, IsRefused, IsRefusedTo, IsRefusedToField, IsRefusedToNamed, Renames, RenamesField, WritesName}
 use Rattle.ob0_rename.specs.InTexts.{IsRefusedIn, RenamesIn, renaming_of}
 use Rattle.ob0_world_rules.specs.Edited.{replacements}
-use Rattle.ob0_world_rules.proofs.OneModule.{Same, same_module, one_named_tree, one_name, standing_of, same_parts}
+use Rattle.ob0_world_rules.proofs.OneModule.{Same, same_module, one_named_tree, one_name, identifiers_of, same_parts}
 use Rattle.ob0_world_rules.proofs.OneFields.{one_list_of_fields}
 
 -- where the new name of a declaration is written, by the tokens and the tree over them
@@ -41,7 +41,7 @@ abbrev is_declared_in : Scanned → Tree ℕ module_text → ℕ → Name → Bo
 is_declared_in s t d new = elim (token_declaring (declaring_only (identifiers role.Declaring t)) d) [ Some token ↦ same_name (text_at s token) new | None ↦ false ]
 
 abbrev tokens_in : Scanned → Tree ℕ module_text → ℕ → Name → List ℕ
-tokens_in s t d new = if is_declared_in s t d new then [] else map (λ x. x.0.1) (filter (refers true d) (standing_of s t))
+tokens_in s t d new = if is_declared_in s t d new then [] else map (λ x. x.0.1) (filter (refers true d) (identifiers_of s t))
 
 -- ---- the refusals, by what they say
 

@@ -7,5 +7,5 @@ returns-clause-all c m p = leaves_parsed m p
 pub returns-clause-ascend : goal.returns-clause-ascend
 returns-clause-ascend c m p = leaves_ascend m p
 
-pub returns-clause-stand : goal.returns-clause-stand
-returns-clause-stand c m p = leaves_are_identifiers m p
+pub returns-clause-are_identifiers : goal.returns-clause-are_identifiers
+returns-clause-are_identifiers c m p = leaves_are_identifiers m p

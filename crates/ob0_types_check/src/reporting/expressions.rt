@@ -7,7 +7,7 @@ ghost use Rattle.ob0_tree.specs.View.{compound_of, expression_of, factor_of, sel
 ghost use Rattle.ob0_types_rules.specs.Selected.{selectors_in};
 ghost use Rattle.ob0_types_check.specs.ExpressionFaults.{reported_expression, reported_factor, reported_selector, reported_selectors, reported_simple, reported_term};
 ghost use Rattle.ob0_types_check.specs.Operations.{ReportsAfter, a_constant_name, a_number, add_operands, required, required_both, at_operand, after_sign, complement_operand, element_in, element_selected, enclosed, field_in, field_selected, fits, joint_operand, multiply_operands, name_operand, part_of, relate_operands, sign_operand, comparison_type, required_by_add, required_by_equality, required_by_multiply, required_by_relation, value_type};
-ghost use Rattle.ob0_types_check.specs.TypeFaults.{evaluated, reported_constant};
+ghost use Rattle.ob0_types_check.specs.TypeFaults.{operand_value, reported_constant};
 ghost use Rattle.ob0_types_check.specs.SoFar.{same_type};
 ghost use Rattle.ob0_types_check.specs.SupposedFacts.{facts_in, form_in, operand_of, known_types};
 
@@ -108,7 +108,7 @@ fn fits(of: TypeId, wanted: TypeId) -> bool
 }
 
 /// The type that was required, where it is there.
-fn given(of: TypeId, wanted: TypeId) -> TypeId
+fn agreed_type(of: TypeId, wanted: TypeId) -> TypeId
     ensures { result ≡ (if same_type of wanted then wanted else type.Unknown) }
 {
     if same_type(of, wanted) {
@@ -189,7 +189,7 @@ impl<'t> Supposed<'t> {
         if !fits(operand.of, wanted) {
             self.report_operand(faults, Code::TypeMismatch, operand)?;
         }
-        Ok(given(operand.of, wanted))
+        Ok(agreed_type(operand.of, wanted))
     }
 
     /// Requires the same type on both sides, and gives it where it is there. Only one wrong operand is reported, the
@@ -375,7 +375,7 @@ impl<'t> Supposed<'t> {
                 if d.selectors.is_empty() {
                     Ok(base)
                 } else {
-                    self.selected(faults, base, d, only_constants)
+                    self.apply_selectors(faults, base, d, only_constants)
                 }
             }
             Factor::Integer(token) => Ok(self.integer(*token)),
@@ -465,7 +465,7 @@ impl<'t> Supposed<'t> {
 
     /// A designator whose name is this operand, with its selectors.
     #[cycle(expressions)]
-    pub(crate) fn selected(
+    pub(crate) fn apply_selectors(
         &self,
         faults: &mut Vec<Fault>,
         base: Operand,
@@ -610,18 +610,18 @@ impl<'t> Supposed<'t> {
             (reported_constant (facts_in self.now true) (expression_of e.now))) }
     {
         let constant = self.expression(faults, e, true)?;
-        self.evaluated(faults, constant)
+        self.operand_value(faults, constant)
     }
 
     /// The value of an operand of a constant expression. In one with a fault nothing is evaluated.
-    fn evaluated(
+    fn operand_value(
         &self,
         faults: &mut Vec<Fault>,
         constant: Operand,
     ) -> Result<Option<Scalar>, AllocError>
         ensures { IfOk result (λ v. ReportsAfter faults.old.items faults.new.items
             (option_map scalar_value v)
-            (evaluated (facts_in self.now false) (operand_of constant))) }
+            (operand_value (facts_in self.now false) (operand_of constant))) }
     {
         if same_type(constant.of, TypeId::Unknown) {
             return Ok(None);

@@ -121,7 +121,7 @@ impl<'t> Supposed<'t> {
             first: token,
             last: token,
         };
-        let target = self.selected(faults, base, &a.target, false)?;
+        let target = self.apply_selectors(faults, base, &a.target, false)?;
         self.right_side(faults, target.of, &a.value)
     }
 

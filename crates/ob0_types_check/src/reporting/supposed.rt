@@ -28,7 +28,7 @@ pub(crate) enum Meaning {
 }
 
 /// The predeclared names, in the order of their ordinals.
-pub(crate) fn predeclared(alloc: Global) -> Result<Vec<Option<Meaning>>, AllocError>
+pub(crate) fn predeclared_meanings(alloc: Global) -> Result<Vec<Option<Meaning>>, AllocError>
     ensures { IfOk result (λ ms. map (option_map known_meaning) ms.items ≡ predeclared_meanings) }
 {
     let mut meanings = Vec::new(alloc);
@@ -198,12 +198,12 @@ impl<'t> Supposed<'t> {
     {
         match self.resolved.ordinal_at(token) {
             None => None,
-            Some(ordinal) => self.declared(ordinal),
+            Some(ordinal) => self.meaning_of(ordinal),
         }
     }
 
     /// What the declaration of an ordinal is.
-    fn declared(&self, ordinal: usize) -> Option<&Meaning>
+    fn meaning_of(&self, ordinal: usize) -> Option<&Meaning>
         ensures { option_map (λ m. m.now) result
             ≡ slice_index_or self.now.meanings.items ordinal None }
     {

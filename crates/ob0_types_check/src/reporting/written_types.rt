@@ -280,12 +280,12 @@ impl<'t> Reporter<'t> {
     {
         match group {
             Fields::Empty => Ok(()),
-            Fields::Listed(list) => self.listed(list, gathered, around),
+            Fields::Listed(list) => self.field_group(list, gathered, around),
         }
     }
 
     #[cycle(types)]
-    fn listed(
+    fn field_group(
         &mut self,
         list: &FieldGroup,
         gathered: &mut Gathered,

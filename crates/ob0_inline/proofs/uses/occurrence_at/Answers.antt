@@ -2,7 +2,7 @@ use Rattle.std.proofs.Common.{◌==◌, length, subst, sym, ap, ◌∙◌}
 use Rattle.std.specs.List.{position_from}
 use Rattle.ob0_tree.specs.Order.{Ascending}
 use Rattle.ob0_inline.proofs.OccurrenceAt.{halved}
-use Rattle.ob0_inline.proofs.UsesStand.{uses_ascend}
+use Rattle.ob0_inline.proofs.UsesAreIdentifiers.{uses_ascend}
 use Rattle.ob0_inline.proofs.uses.occurrence_at.Goals as goal
 
 pub returns : goal.returns

@@ -20,9 +20,9 @@ returns-then-branch-clause-too_deep g c = λ alone _.
     let content = g.T.TextStore.content c.args.store.now in
     let ws : List Word = changed_words (at_each places (value_words c.args.value)) 0 (words_of m.source) in
     let spelled = inlined_spelled m c.module-read.ensures.resolved.parsed places c.requires.names c.args.value alone in
-    let stands = subst (λ n. ReplacesName n (value_words c.args.value)) (sym (c.deref.ensures ∙ c.in_ok-text.ensures.text)) c.value_text.ensures.stands in
+    let can_replace = subst (λ n. ReplacesName n (value_words c.args.value)) (sym (c.deref.ensures ∙ c.in_ok-text.ensures.text)) c.value_text.ensures.can_replace in
     let leaves : LeavesWords unit content c.in_ok-edits.edits.items ws =
-    subst (λ (s : Scanned). LeavesWords unit content c.in_ok-edits.edits.items (changed_words (at_each places (value_words c.args.value)) 0 (words_of s))) c.tokens.ensures (c.in_ok-edits.ensures.words (value_words c.args.value) stands) in
+    subst (λ (s : Scanned). LeavesWords unit content c.in_ok-edits.edits.items (changed_words (at_each places (value_words c.args.value)) 0 (words_of s))) c.tokens.ensures (c.in_ok-edits.ensures.words (value_words c.args.value) can_replace) in
     let shallow = subst (λ (p : Parsed). nesting (inlined_at m places c.args.value) ≤ nesting (tree_of p) + 1) (sym c.module-read.ensures.value) (inlined_shallow m places c.args.value) in
     let passed = subst (λ (es : List Edit). LeavesWords unit content es ws) (sym c.deref-2.ensures.value) leaves in
     ltb-true 100 (nesting (inlined_at m places c.args.value)) (sym (c.in_ok-is_too_deep.ensures.deep ws (inlined_at m places c.args.value) passed spelled shallow) ∙ c.if-branch.true)
@@ -35,9 +35,9 @@ returns-clause-inlined g c = λ alone.
     let content = g.T.TextStore.content c.args.store.now in
     let ws : List Word = changed_words (at_each places (value_words c.args.value)) 0 (words_of m.source) in
     let spelled = inlined_spelled m c.module-read.ensures.resolved.parsed places c.requires.names c.args.value alone in
-    let stands = subst (λ n. ReplacesName n (value_words c.args.value)) (sym (c.deref.ensures ∙ c.in_ok-text.ensures.text)) c.value_text.ensures.stands in
+    let can_replace = subst (λ n. ReplacesName n (value_words c.args.value)) (sym (c.deref.ensures ∙ c.in_ok-text.ensures.text)) c.value_text.ensures.can_replace in
     let leaves : LeavesWords unit content c.in_ok-edits.edits.items ws =
-    subst (λ (s : Scanned). LeavesWords unit content c.in_ok-edits.edits.items (changed_words (at_each places (value_words c.args.value)) 0 (words_of s))) c.tokens.ensures (c.in_ok-edits.ensures.words (value_words c.args.value) stands) in
+    subst (λ (s : Scanned). LeavesWords unit content c.in_ok-edits.edits.items (changed_words (at_each places (value_words c.args.value)) 0 (words_of s))) c.tokens.ensures (c.in_ok-edits.ensures.words (value_words c.args.value) can_replace) in
     let shallow = subst (λ (p : Parsed). nesting (inlined_at m places c.args.value) ≤ nesting (tree_of p) + 1) (sym c.module-read.ensures.value) (inlined_shallow m places c.args.value) in
     let passed = subst (λ (es : List Edit). LeavesWords unit content es ws) (sym c.deref-2.ensures.value) leaves in
     let low = ltb-false 100 (nesting (inlined_at m places c.args.value)) (sym (c.in_ok-is_too_deep.ensures.deep ws (inlined_at m places c.args.value) passed spelled shallow) ∙ c.if-branch.false) in

@@ -10,7 +10,7 @@ returns-then-kept-at-clause-stay c = λ ts h. each_before (IsWaiting ts) c.pop_b
 pub returns-then-kept-at-clause-placed : goal.returns-then-kept-at-clause-placed
 returns-then-kept-at-clause-placed c = λ ts h.
     let all = subst (λ (l : List KeptProcedure). Each (IsWaiting ts) l) c.in-Some.ensures.rest (c.loop-kept.invariant ts h) in
-    subst (λ i. IsTakenAt ts i c.placed.result) c.if-kept-at.true (c.placed.ensures ts (each_following (IsWaiting ts) c.pop_by.new.waiting.items (c.in-Some.kept ∷ []) all).0)
+    subst (λ i. IsTakenAt ts i c.put_in_place.result) c.if-kept-at.true (c.put_in_place.ensures ts (each_following (IsWaiting ts) c.pop_by.new.waiting.items (c.in-Some.kept ∷ []) all).0)
 
 pub loop-kept-preserved : goal.loop-kept-preserved
 loop-kept-preserved c = λ ts h. each_before (IsWaiting ts) c.pop_by.new.waiting.items _ (subst (λ (l : List KeptProcedure). Each (IsWaiting ts) l) c.pop_by.ensures.rest (c.loop-kept.invariant ts h))

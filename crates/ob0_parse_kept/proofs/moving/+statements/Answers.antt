@@ -25,20 +25,20 @@ elsifs-returns t c = parts_moved elsif_of c.args.by _ _ (ends c.loop-i.invariant
 pub statement-returns-in-While : goal.statement-returns-in-While
 statement-returns-in-While t c =
     let was : c.deref_mut-in-While.result.now ≡ c.in-While.w.value = c.deref_mut-in-While.ensures.value ∙ ap (λ (b : Box While Global). b.value) c.in-While.w-is in
-    let all : statement_of (statement_module.While record c.in-While.w { value = c.repeated_while.new.w }) ≡ moved c.args.by (statement_of c.args.s.now) =
-    while_moved c.args.by c.in-While.w record c.in-While.w { value = c.repeated_while.new.w }
-    (c.repeated_while.ensures.condition ∙ ap (λ (w : While). moved c.args.by (expression_of w.condition)) was)
-    (c.repeated_while.ensures.body ∙ ap (λ (w : While). moved c.args.by (sequence_listed w.body.items)) was)
+    let all : statement_of (statement_module.While record c.in-While.w { value = c.while_loop.new.w }) ≡ moved c.args.by (statement_of c.args.s.now) =
+    while_moved c.args.by c.in-While.w record c.in-While.w { value = c.while_loop.new.w }
+    (c.while_loop.ensures.condition ∙ ap (λ (w : While). moved c.args.by (expression_of w.condition)) was)
+    (c.while_loop.ensures.body ∙ ap (λ (w : While). moved c.args.by (sequence_listed w.body.items)) was)
     ∙ ap (λ s. moved c.args.by (statement_of s)) (sym c.in-While.is) in
     search (rules, statement_module.the_lemmas, all)
 
 pub statement-returns-in-Repeat : goal.statement-returns-in-Repeat
 statement-returns-in-Repeat t c =
     let was : c.deref_mut-in-Repeat.result.now ≡ c.in-Repeat.r.value = c.deref_mut-in-Repeat.ensures.value ∙ ap (λ (b : Box Repeat Global). b.value) c.in-Repeat.r-is in
-    let all : statement_of (statement_module.Repeat record c.in-Repeat.r { value = c.repeated_until.new.r }) ≡ moved c.args.by (statement_of c.args.s.now) =
-    repeat_moved c.args.by c.in-Repeat.r record c.in-Repeat.r { value = c.repeated_until.new.r }
-    (c.repeated_until.ensures.body ∙ ap (λ (r : Repeat). moved c.args.by (sequence_listed r.body.items)) was)
-    (c.repeated_until.ensures.condition ∙ ap (λ (r : Repeat). moved c.args.by (expression_of r.condition)) was)
+    let all : statement_of (statement_module.Repeat record c.in-Repeat.r { value = c.repeat_loop.new.r }) ≡ moved c.args.by (statement_of c.args.s.now) =
+    repeat_moved c.args.by c.in-Repeat.r record c.in-Repeat.r { value = c.repeat_loop.new.r }
+    (c.repeat_loop.ensures.body ∙ ap (λ (r : Repeat). moved c.args.by (sequence_listed r.body.items)) was)
+    (c.repeat_loop.ensures.condition ∙ ap (λ (r : Repeat). moved c.args.by (expression_of r.condition)) was)
     ∙ ap (λ s. moved c.args.by (statement_of s)) (sym c.in-Repeat.is) in
     search (rules, all)
 

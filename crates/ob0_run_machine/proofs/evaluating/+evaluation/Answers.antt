@@ -22,7 +22,7 @@ operations-loop-link-init t c = let a : SFits w32 c.in_ok-left.left = search rul
     rw (to_z-of_z a) (chain_begins (levels_of c.args.level.now) c.args.cells.now (first_of (out-Chain c.args.c.now).first) (out-Chain c.args.c.now).rest.items _ c.in_ok-left.ensures)
 
 pub evaluate_number-returns-in-Chain : goal.evaluate_number-returns-in-Chain
-evaluate_number-returns-in-Chain t c = c.unpacked-in-Chain.ensures ∙ c.chain.ensures ∙ ap (number (levels_of c.args.level.now) c.args.cells.now) (ap chained_in c.deref-in-Chain.ensures ∙ sym (chain_made c.in-Chain.c) ∙ ap number_of (sym c.in-Chain.is))
+evaluate_number-returns-in-Chain t c = c.into_result-in-Chain.ensures ∙ c.chain.ensures ∙ ap (number (levels_of c.args.level.now) c.args.cells.now) (ap chained_in c.deref-in-Chain.ensures ∙ sym (chain_made c.in-Chain.c) ∙ ap number_of (sym c.in-Chain.is))
 
 pub any_operation-returns-in-Ok : goal.any_operation-returns-in-Ok
 any_operation-returns-in-Ok t c =

@@ -10,4 +10,4 @@ loop-index-preserved c =
     let here = c.index.result.now in
     let inside : c.loop-index.index < length c.args.tokens.now.items = omega (arith, c.loop-index-test.true, c.len-index-end.ensures, c.args.tokens.now.ok) in
     changed_on change c.args.tokens.now.items c.args.first c.requires.inside c.loop-index.index c.loop-index.tokens.items here inside c.loop-index.invariant _
-    (ap (λ (s : Span). record { kind = here.kind; span = s }) c.moved.ensures ∙ ap change c.index.ensures)
+    (ap (λ (s : Span). record { kind = here.kind; span = s }) c.move_span.ensures ∙ ap change c.index.ensures)

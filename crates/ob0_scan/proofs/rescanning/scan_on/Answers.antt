@@ -4,7 +4,7 @@ use Rattle.ob0_scan.specs.declared.lexeme.Token.{Token}
 use Rattle.ob0_scan.specs.declared.rescanning.Pieces.{Pieces}
 use Rattle.ob0_scan.specs.Reused.{IsReplaced, NoOldBegins, back_tokens, back_comments}
 use Rattle.ob0_scan.specs.Rescanning.{token_begins, comment_begins}
-use Rattle.ob0_scan.proofs.Standing.{back_again}
+use Rattle.ob0_scan.proofs.AtLexemes.{back_again}
 use Rattle.ob0_scan.proofs.Between.{reads_none, reads_more, none_begins, end_met}
 use Rattle.ob0_scan.proofs.rescanning.scan_on.Goals as goal
 use Rattle.ob0_scan.proofs.rescanning.scan_on.Goals.{then-is_empty+then-scanner-change+else-begin_at, else-is_empty, else-is_empty-via-then-is_empty+else-scanner-change, else-is_empty-via-else-is_empty}

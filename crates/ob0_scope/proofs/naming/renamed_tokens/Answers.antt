@@ -2,7 +2,7 @@ use Rattle.std.proofs.Common.{true, length, sym, subst}
 use Rattle.std.proofs.lemmas.Result.{MatchResult-weaker}
 use Rattle.ob0_tree.specs.Order.{AreIdentifiers, Ascending}
 use Rattle.ob0_scope.specs.NamesAtPlaces.{IsRenamedAt}
-use Rattle.ob0_scope.proofs.Written.{bound_ascend, bound_stand, renamed_there}
+use Rattle.ob0_scope.proofs.Written.{bound_ascend, bound_are_identifiers, renamed_there}
 use Rattle.ob0_scope.proofs.naming.renamed_tokens.Goals as goal
 
 pub returns-clause-ascend : goal.returns-clause-ascend
@@ -11,11 +11,11 @@ returns-clause-ascend c =
     MatchResult-weaker c.tokens_bound.result c.tokens_bound.ensures
     (λ found e. subst (λ xs. Ascending 0 xs (length r.module_read.source.tokens)) (sym e) (bound_ascend r c.args.declaration true c.module.ensures.resolved)) (λ y h. h)
 
-pub returns-clause-stand : goal.returns-clause-stand
-returns-clause-stand c =
+pub returns-clause-are_identifiers : goal.returns-clause-are_identifiers
+returns-clause-are_identifiers c =
     let r = c.args.names.now in
     MatchResult-weaker c.tokens_bound.result c.tokens_bound.ensures
-    (λ found e. subst (AreIdentifiers r.module_read.source.tokens) (sym e) (bound_stand r c.args.declaration true c.module.ensures.resolved)) (λ y h. h)
+    (λ found e. subst (AreIdentifiers r.module_read.source.tokens) (sym e) (bound_are_identifiers r c.args.declaration true c.module.ensures.resolved)) (λ y h. h)
 
 pub returns-clause-renamed : goal.returns-clause-renamed
 returns-clause-renamed c =

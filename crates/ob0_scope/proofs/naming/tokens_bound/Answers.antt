@@ -1,6 +1,6 @@
 use Rattle.std.proofs.Common.{◌∙◌, ap}
 use Rattle.std.proofs.lemmas.Result.{MatchResult-weaker}
-use Rattle.ob0_scope.specs.Listing.{first_token, omitted, tokens_from}
+use Rattle.ob0_scope.specs.Listing.{first_token, omitted_token, tokens_from}
 use Rattle.ob0_scope.proofs.TokensWith.{bound_with}
 use Rattle.ob0_scope.proofs.naming.tokens_bound.Goals as goal
 
@@ -12,4 +12,4 @@ returns c =
     let declaring = c.declaring_token-declaring.ensures in
     let first = c.first_token.ensures ∙ ap first_token declaring in
     MatchResult-weaker c.tokens_from.result c.tokens_from.ensures
-    (λ found e. e ∙ ((λ i. tokens_from ((c.omitted.ensures ∙ ap (omitted include) declaring) i) d (first i) (c.ordinals.ensures i)) ∙ bound_with r d include c.module.ensures.resolved)) (λ y h. h)
+    (λ found e. e ∙ ((λ i. tokens_from ((c.omitted_token.ensures ∙ ap (omitted_token include) declaring) i) d (first i) (c.ordinals.ensures i)) ∙ bound_with r d include c.module.ensures.resolved)) (λ y h. h)

@@ -3,7 +3,7 @@ use Rattle.std.specs.List.{filter}
 use Rattle.ob0_scope_rules.specs.Resolution.{is_of_declarations}
 use Rattle.ob0_types.specs.CheckedModules.{CheckedModule}
 use Rattle.ob0_types.specs.FaultOrder.{AreFirstOf}
-use Rattle.ob0_types.proofs.AllTold.{checked_reported}
+use Rattle.ob0_types.proofs.AllReported.{checked_reported}
 use Rattle.ob0_types.proofs.FieldsKept.{fields_kept}
 use Rattle.ob0_types.proofs.checked.types_of.Goals as goal
 

@@ -5,7 +5,7 @@ use Rattle.ob0_tree.specs.Order.{IsIdentifierToken}
 use Rattle.ob0_tree.specs.Parsed.{IsParsed}
 use Rattle.ob0_scope_rules.specs.Resolution.{Resolution}
 use Rattle.ob0_types_fields.specs.Identifiers.{AreInTextOrder, field_at, field_identifiers, field_on}
-use Rattle.ob0_types_fields.proofs.FieldTokens.{field_stands, fields_ascend, fields_stand}
+use Rattle.ob0_types_fields.proofs.FieldTokens.{field_is_identifier, fields_ascend, fields_are_identifiers}
 use Rattle.ob0_types.proofs.fields.field_at.Goals as goal
 
 -- the fields of a module are in text order
@@ -21,11 +21,11 @@ returns-clause-value c =
     let source = c.tokens.ensures ∙ ap (λ (r : Resolution). r.module_read.source) c.resolved-names.ensures.value in
     found_at r _ _ c.args.offset _ c.resolved-names.ensures.well_typed.resolved.parsed source c.fields.ensures.1 c.at.ensures
 
-pub returns-clause-stand : goal.returns-clause-stand
-returns-clause-stand c =
+pub returns-clause-are_identifiers : goal.returns-clause-are_identifiers
+returns-clause-are_identifiers c =
     let r = c.args.well_typed.now in
     let parsed = c.resolved-names.ensures.well_typed.resolved.parsed in
     let source = c.tokens.ensures ∙ ap (λ (r : Resolution). r.module_read.source) c.resolved-names.ensures.value in
     let same = found_at r _ _ c.args.offset _ parsed source c.fields.ensures.1 c.at.ensures in
     subst (λ found. IfSome found (λ x. IsIdentifierToken r.module_read.source.tokens x.0)) (sym same)
-    (field_stands r.module_read.source r.module_read.source.tokens c.args.offset (field_identifiers r) (fields_stand r parsed))
+    (field_is_identifier r.module_read.source r.module_read.source.tokens c.args.offset (field_identifiers r) (fields_are_identifiers r parsed))

@@ -168,21 +168,21 @@ factor-returns-in_err-designator-in-Identifier t c =
     let p = err_from_is_err_and c.from_residual.result c.from_residual.ensures.1 in
     rw (p.1, p.2) (factor_fails_designator here c.in_err-designator-in-Identifier.ensures)
 
-pub parenthesised-returns : goal.parenthesised-returns
-parenthesised-returns t c = rw c.in_ok-boxed.ensures.ok (taken_parenthesised _ c.in_ok-inner.ensures c.requires.0 c.in_ok-expression.ensures c.in_ok-next.ensures)
+pub parenthesised_factor-returns : goal.parenthesised_factor-returns
+parenthesised_factor-returns t c = rw c.in_ok-boxed.ensures.ok (taken_parenthesised _ c.in_ok-inner.ensures c.requires.0 c.in_ok-expression.ensures c.in_ok-next.ensures)
 
-pub parenthesised-returns-in_err-inner : goal.parenthesised-returns-in_err-inner
-parenthesised-returns-in_err-inner t c =
+pub parenthesised_factor-returns-in_err-inner : goal.parenthesised_factor-returns-in_err-inner
+parenthesised_factor-returns-in_err-inner t c =
     let p = err_from_is_err_and c.from_residual.result c.from_residual.ensures.1 in
     rw (p.1, p.2) (factor_fails_open c.requires.1 c.in_err-inner.ensures c.requires.0)
 
-pub parenthesised-returns-in_err-expression : goal.parenthesised-returns-in_err-expression
-parenthesised-returns-in_err-expression t c =
+pub parenthesised_factor-returns-in_err-expression : goal.parenthesised_factor-returns-in_err-expression
+parenthesised_factor-returns-in_err-expression t c =
     let p = err_from_is_err_and c.from_residual-in_err-expression.result c.from_residual-in_err-expression.ensures.1 in
     rw (p.1, p.2) (factor_fails_inner c.in_ok-inner.ensures c.requires.0 c.in_err-expression.ensures)
 
-pub parenthesised-returns-in_err-next : goal.parenthesised-returns-in_err-next
-parenthesised-returns-in_err-next t c =
+pub parenthesised_factor-returns-in_err-next : goal.parenthesised_factor-returns-in_err-next
+parenthesised_factor-returns-in_err-next t c =
     let p = err_from_is_err_and c.from_residual-in_err-next.result c.from_residual-in_err-next.ensures.1 in
     rw (p.1, p.2) (factor_fails_close (expression_of c.in_ok-expression.expression) c.in_ok-inner.ensures c.requires.0 c.in_ok-expression.ensures (fails_in_token c.in_err-next.ensures))
 

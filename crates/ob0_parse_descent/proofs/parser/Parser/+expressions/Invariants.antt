@@ -36,8 +36,8 @@ decreases-operand l = 14 * l.room + 4
 abbrev pub decreases-factor : goal.decreases-factor
 decreases-factor l = 14 * l.room + 3
 
-abbrev pub decreases-parenthesised : goal.decreases-parenthesised
-decreases-parenthesised l = 14 * l.room + 2
+abbrev pub decreases-parenthesised_factor : goal.decreases-parenthesised_factor
+decreases-parenthesised_factor l = 14 * l.room + 2
 
 abbrev pub decreases-negation : goal.decreases-negation
 decreases-negation l = 14 * l.room + 2

@@ -17,7 +17,7 @@ record-returns t c =
     ∙ ap (λ xs. c.distinct.new.self ++ groups_twice src (items_of further_fields_of_group xs)) c.deref-group-items-2.ensures.value in
     record_reported src c.args.self.now c.distinct.new.self c.loop-group-2.self gs c.loop-group.names.items found named rest
 
-pub written-returns-in-Record : goal.written-returns-in-Record
-written-returns-in-Record t c =
+pub written_type-returns-in-Record : goal.written_type-returns-in-Record
+written_type-returns-in-Record t c =
     subst (λ r. OnOk c.record.result (c.record.new.self ≡ c.args.self.now ++ fields_twice c.args.tokens.now r))
     (sym (record_made c.in-Record.r) ∙ sym (ap type_of c.in-Record.is)) c.record.ensures

@@ -3,7 +3,7 @@ use Rattle.std.proofs.Math.Facts.{to_z-of_z}
 use Rattle.std.proofs.lemmas.Result.{IfOk-weaker}
 use Rattle.std.specs.Option.{option_to_list}
 use Rattle.ob0_text.specs.OpenDocuments.{changed, document_at, reported_change}
-use Rattle.ob0_session_server.specs.Answers.{ServerState, Says, published}
+use Rattle.ob0_session_server.specs.Answers.{ServerState, SaysReply, published}
 use Rattle.ob0_session_server.proofs.Answering.{publishes}
 use Rattle.ob0_session_server.proofs.server.Server.change.Goals as goal
 
@@ -17,4 +17,4 @@ returns g c =
     rw (c.publish.ensures.same, is, ap (λ s. s.phase) c.self.view_is, ap (λ s. s.client) c.self.view_is, c.as_str.ensures.value) refl in
     IfOk-weaker c.publish.result _ _ (λ sent said.
     publishes c.args.self.now c.publish.new.self uri reported held sent c.as_str-2.ensures.value after
-    (subst (λ (s : ServerState). Says (published s.held.unit reported (document_at s.held reported)) (option_to_list (option_map (λ v. v.items) sent))) (sym c.publish.ensures.same) said)) c.publish.ensures.says
+    (subst (λ (s : ServerState). SaysReply (published s.held.unit reported (document_at s.held reported)) (option_to_list (option_map (λ v. v.items) sent))) (sym c.publish.ensures.same) said)) c.publish.ensures.says

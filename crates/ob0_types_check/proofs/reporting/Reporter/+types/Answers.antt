@@ -58,8 +58,8 @@ group-returns-in-Empty t c = λ g h.
     let n = c.args.around in
     gathers (reports_same (reports_nothing now g) (sym (ap (λ f. reported_fields n g (fields_of f)) c.in-Empty.is ∙ no_fields_reported n g))) h
 
-pub listed-returns : goal.listed-returns
-listed-returns t c =
+pub field_group-returns : goal.field_group-returns
+field_group-returns t c =
     let s = c.args.self.now.supposed in
     let n = c.args.around in
     let l = c.args.list.now in

@@ -8,4 +8,4 @@ use Rattle.ob0_types_fields.proofs.field_types.ConstructorWalk.types.Goals as go
 pub loop-d-preserved : goal.loop-d-preserved
 loop-d-preserved c =
     items_go_on c.d-item.result (sought_in c.args.self.now c.written_type-search.result) c.loop-d.invariant c.loop-d-test.true c.d-item.is
-    (c.written_type-search.ensures ∙ ap (λ t. after_all (sought_in c.args.self.now c.loop-d.search) (constructed (meanings_in c.args.self.now) t (type_of c.d-item.result.written))) c.declared.ensures)
+    (c.written_type-search.ensures ∙ ap (λ t. after_all (sought_in c.args.self.now c.loop-d.search) (constructed (meanings_in c.args.self.now) t (type_of c.d-item.result.written))) c.declared_type.ensures)

@@ -2,7 +2,7 @@ use Rattle.std.proofs.Common.{true, sym}
 use Rattle.std.proofs.lemmas.Result.{IfOk-weaker}
 use Rattle.ob0_tree.specs.View.{expression_of}
 use Rattle.ob0_types_check.specs.SupposedFacts.{facts_in}
-use Rattle.ob0_types_check.specs.TypeFaults.{evaluated}
+use Rattle.ob0_types_check.specs.TypeFaults.{operand_value}
 use Rattle.ob0_types_check.proofs.Chains.{steps, reports_same}
 use Rattle.ob0_types_check.proofs.ReportedParts.{constant_reported}
 use Rattle.ob0_types_check.proofs.reporting.supposed.Supposed.constant_value.Goals as goal
@@ -10,4 +10,4 @@ use Rattle.ob0_types_check.proofs.reporting.supposed.Supposed.constant_value.Goa
 pub returns : goal.returns
 returns c =
     let facts = facts_in c.args.self.now true in
-    IfOk-weaker c.evaluated.result _ _ (λ v h. reports_same (steps (evaluated facts) c.in_ok-constant.ensures h) (sym (constant_reported facts (expression_of c.args.e.now)))) c.evaluated.ensures
+    IfOk-weaker c.operand_value.result _ _ (λ v h. reports_same (steps (operand_value facts) c.in_ok-constant.ensures h) (sym (constant_reported facts (expression_of c.args.e.now)))) c.operand_value.ensures

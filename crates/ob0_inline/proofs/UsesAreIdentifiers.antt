@@ -21,7 +21,7 @@ use Rattle.ob0_scope_rules.specs.Inlining.{Uses, inline_in}
 use Rattle.ob0_scope_rules.specs.Names.{Label, Name, as_names, declared}
 use Rattle.ob0_scope_rules.specs.Resolution.{IsResolution, Resolution, label_at, ordinal_in}
 use Rattle.ob0_scope_rules.specs.Scopes.{as_label, numbered}
-use Rattle.ob0_scope.proofs.SeenInPlaces.{AllTold, occurrence_table, uses_reported}
+use Rattle.ob0_scope.proofs.SeenInPlaces.{AllMarked, occurrence_table, uses_reported}
 use Rattle.ob0_inline.proofs.Alone.{NoneFor, NoneOther, alone, elsewhere-mapped}
 use Rattle.ob0_inline.proofs.OnOccurrences.{agrees_each, same}
 
@@ -45,13 +45,13 @@ looked_up_ascend low high ((role.ClosingName, i) ∷ xs) a = lowered low (i + 1)
 looked_up_ascend low high ((role.FieldName, i) ∷ xs) a = lowered low (i + 1) high _ (omega (arith, a.0)) (looked_up_ascend (i + 1) high xs a.1)
 looked_up_ascend low high ((role.ModuleName, i) ∷ xs) a = lowered low (i + 1) high _ (omega (arith, a.0)) (looked_up_ascend (i + 1) high xs a.1)
 
-looked_up_stand : (ts : List Token) (xs : List (Role × ℕ)) → AreIdentifiers ts (names_only xs) → AreIdentifiers ts (looked_up_only xs)
-looked_up_stand ts [] h = tt
-looked_up_stand ts ((role.LookedUp, i) ∷ xs) h = (h.0, looked_up_stand ts xs h.1)
-looked_up_stand ts ((role.Declaring, i) ∷ xs) h = looked_up_stand ts xs h.1
-looked_up_stand ts ((role.ClosingName, i) ∷ xs) h = looked_up_stand ts xs h.1
-looked_up_stand ts ((role.FieldName, i) ∷ xs) h = looked_up_stand ts xs h.1
-looked_up_stand ts ((role.ModuleName, i) ∷ xs) h = looked_up_stand ts xs h.1
+looked_up_are_identifiers : (ts : List Token) (xs : List (Role × ℕ)) → AreIdentifiers ts (names_only xs) → AreIdentifiers ts (looked_up_only xs)
+looked_up_are_identifiers ts [] h = tt
+looked_up_are_identifiers ts ((role.LookedUp, i) ∷ xs) h = (h.0, looked_up_are_identifiers ts xs h.1)
+looked_up_are_identifiers ts ((role.Declaring, i) ∷ xs) h = looked_up_are_identifiers ts xs h.1
+looked_up_are_identifiers ts ((role.ClosingName, i) ∷ xs) h = looked_up_are_identifiers ts xs h.1
+looked_up_are_identifiers ts ((role.FieldName, i) ∷ xs) h = looked_up_are_identifiers ts xs h.1
+looked_up_are_identifiers ts ((role.ModuleName, i) ∷ xs) h = looked_up_are_identifiers ts xs h.1
 
 found_looked_up : (r : Resolution) → IsResolution r → looked_up_only (identifiers role.Declaring (tree_of r.module_read)) ≡ r.uses
 found_looked_up r is = looked_up-occurrences role.Declaring (λ n xs. refl) (tree_of r.module_read) ∙ sym is.occurring
@@ -65,7 +65,7 @@ uses_ascend r is =
 pub uses_are_identifiers : (r : Resolution) → IsResolution r → AreIdentifiers r.module_read.source.tokens r.uses
 uses_are_identifiers r is =
     let m = r.module_read in
-    subst (AreIdentifiers m.source.tokens) (found_looked_up r is) (looked_up_stand m.source.tokens (identifiers role.Declaring (tree_of m)) (leaves_are_identifiers m is.parsed))
+    subst (AreIdentifiers m.source.tokens) (found_looked_up r is) (looked_up_are_identifiers m.source.tokens (identifiers role.Declaring (tree_of m)) (leaves_are_identifiers m is.parsed))
 
 pub inside : {a b : ℕ} → Some a ≡ Some b → a ≡ b
 inside {a} e = ap (λ (o : Option ℕ). elim o [ Some n ↦ n | None ↦ a ]) e
@@ -80,7 +80,7 @@ abbrev pub AreBound : Resolution → ℕ → List ℕ → Type 0
 AreBound r d [] = Unit {0}
 AreBound r d (p ∷ ps) = (((k : ℕ) × (slice_get r.uses k ≡ Some p)) × (ordinal_in r.ordinals p ≡ Some d)) × AreBound r d ps
 
-in_table : (table : List (Option ℕ)) (xs : List (Role × ℕ)) (k i : ℕ) → AllTold table xs → slice_get (looked_up_only xs) k ≡ Some i → ordinal_in table i ≡ Some 0
+in_table : (table : List (Option ℕ)) (xs : List (Role × ℕ)) (k i : ℕ) → AllMarked table xs → slice_get (looked_up_only xs) k ≡ Some i → ordinal_in table i ≡ Some 0
 in_table table [] k i a e = absurd (cc)
 in_table table ((role.LookedUp, x) ∷ xs) zero i a e = ap (ordinal_in table) (sym (inside e)) ∙ a.0
 in_table table ((role.LookedUp, x) ∷ xs) (suc k) i a e = in_table table xs k i a.1 e
@@ -113,7 +113,7 @@ nothing_at : (places : List ℕ) (v : Tree Name factor) (i : ℕ) → (is_among 
 nothing_at places v i h =
     (elim (is_among i places) as (λ b. is_among i places ≡ b → (if b then Some v else None) ≡ None) [ true ↦ (λ e. absurd (h e)) | false ↦ (λ e. refl) ]) refl
 
-none_other : (r : Resolution) → IsResolution r → (d : ℕ) (v : Tree Name factor) (places : List ℕ) → AreBound r d places → (xs : List (Role × ℕ)) → AllTold (occurrence_table r) xs → NoneOther (factor_at places v) xs
+none_other : (r : Resolution) → IsResolution r → (d : ℕ) (v : Tree Name factor) (places : List ℕ) → AreBound r d places → (xs : List (Role × ℕ)) → AllMarked (occurrence_table r) xs → NoneOther (factor_at places v) xs
 none_other r is d v places h [] a = tt
 none_other r is d v places h ((role.LookedUp, i) ∷ xs) a = (tt, none_other r is d v places h xs a.1)
 none_other r is d v places h ((role.Declaring, i) ∷ xs) a = (nothing_at places v i (λ e. let z = among_bound r is d i places h e in let w = z.occurs in let u = a.0 in cc), none_other r is d v places h xs a.1)
@@ -132,9 +132,9 @@ none_elsewhere r is d v places h (i ∷ xs) a =
     )
 
 -- the uses of a constant, of which none is elsewhere, are alone as factors
-pub stand_alone : (r : Resolution) → IsResolution r → (d : ℕ) (v : Tree Name factor) (places : List ℕ) → AreBound r d places → All (λ l. l ≢ declared d) (names_elsewhere (numbered (named_tree_of r.module_read)))
+pub are_alone : (r : Resolution) → IsResolution r → (d : ℕ) (v : Tree Name factor) (places : List ℕ) → AreBound r d places → All (λ l. l ≢ declared d) (names_elsewhere (numbered (named_tree_of r.module_read)))
     → ReplacesFactors (factor_at places v) (tree_of r.module_read)
-stand_alone r is d v places h a =
+are_alone r is d v places h a =
     let m = r.module_read in
     let elsewhere : names_elsewhere (numbered (named_tree_of m)) ≡ map (label_at m.source r.ordinals) (names_elsewhere (tree_of m)) =
     ap names_elsewhere is.numbering ∙ elsewhere-mapped (label_at m.source r.ordinals) (leaf.value_at m.source) (tree_of m) in

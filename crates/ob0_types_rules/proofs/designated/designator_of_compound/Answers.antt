@@ -3,18 +3,18 @@ use Rattle.ob0_tree.specs.declared.tree.Compound.{out-Compound}
 use Rattle.ob0_tree.specs.declared.tree.Comparison.{out-Comparison}
 use Rattle.ob0_tree.specs.Tree.{relates}
 use Rattle.ob0_tree.specs.View.{simple_of}
-use Rattle.ob0_types_rules.specs.Typing.{designated}
+use Rattle.ob0_types_rules.specs.Typing.{lone_designator}
 use Rattle.ob0_types_rules.proofs.DesignatedAlone.{alone_designated, compared_designated}
 use Rattle.ob0_types_rules.proofs.TreeParts.{compound_alone, compound_related}
-use Rattle.ob0_types_rules.proofs.designated.designated_compound.Goals as goal
+use Rattle.ob0_types_rules.proofs.designated.designator_of_compound.Goals as goal
 
 pub returns-in-None : goal.returns-in-None
 returns-in-None c =
     let left = simple_of (out-Compound c.args.c.now).left in
-    c.designated_simple.ensures ∙ sym (alone_designated left) ∙ sym (ap designated (compound_alone c.args.c.now c.in-None.is))
+    c.designator_of_simple.ensures ∙ sym (alone_designated left) ∙ sym (ap lone_designator (compound_alone c.args.c.now c.in-None.is))
 
 pub returns-in-Some : goal.returns-in-Some
 returns-in-Some c =
     let left = simple_of (out-Compound c.args.c.now).left in
     let compared = out-Comparison c.in-Some.field-0.value in
-    sym (compared_designated left (relates compared.relation (simple_of compared.right))) ∙ sym (ap designated (compound_related c.args.c.now c.in-Some.field-0 c.in-Some.is))
+    sym (compared_designated left (relates compared.relation (simple_of compared.right))) ∙ sym (ap lone_designator (compound_related c.args.c.now c.in-Some.field-0 c.in-Some.is))

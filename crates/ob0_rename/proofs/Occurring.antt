@@ -20,9 +20,9 @@ first_inside (x ∷ xs) (y ∷ ys) k e = one (same_binding x y) (first_differenc
     one false o is e later = let same : 0 ≡ k = cc in omega (arith, same)
 
 -- an occurrence that is bound elsewhere has a token
-pub occurrence_stands : (r : Resolution) (bound : List Label) (k : ℕ) → IsResolution r → first_difference bound (bindings (named_tree_of r.module_read)) ≡ Some k
+pub occurrence_is_there : (r : Resolution) (bound : List Label) (k : ℕ) → IsResolution r → first_difference bound (bindings (named_tree_of r.module_read)) ≡ Some k
     → (token : ℕ) × (slice_get (occurrences (tree_of r.module_read)) k ≡ Some token)
-occurrence_stands r bound k is e =
+occurrence_is_there r bound k is e =
     let uses = occurrences (tree_of r.module_read) in
     let low = first_inside bound (bindings (named_tree_of r.module_read)) k e in
     let count = ap length (bindings_by_table r.module_read r.ordinals is.numbering) ∙ length-map uses (label_at r.module_read.source r.ordinals) in

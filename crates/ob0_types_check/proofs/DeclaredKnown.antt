@@ -39,14 +39,14 @@ holds_kept before after longer (Some m) o h = meaning_kept before after longer m
 
 -- each name of a scope means the same in the environment beside it, as is known of its declaration; all ordinals are below n,
 -- and the standard procedures have those below 7
-abbrev pub NamesStand : List Shape → List (Option (Meaning TypeId)) → ℕ → Scope Name → TypeEnvironment Name → Type 0
-NamesStand shapes declared n [] [] = Unit {0}
-NamesStand shapes declared n [] (c ∷ env) = ⊥
-NamesStand shapes declared n (b ∷ scope) [] = ⊥
-NamesStand shapes declared n (b ∷ scope) (c ∷ env) =
-    (b.1 < n) × (c.0 ≡ b.0) × MeansAlike (shape_in shapes) (slice_index_or declared b.1 None) (Some c.1) × (7 ≤ b.1 → is_standard (Some c.1) ≡ false) × NamesStand shapes declared n scope env
+abbrev pub NamesKnown : List Shape → List (Option (Meaning TypeId)) → ℕ → Scope Name → TypeEnvironment Name → Type 0
+NamesKnown shapes declared n [] [] = Unit {0}
+NamesKnown shapes declared n [] (c ∷ env) = ⊥
+NamesKnown shapes declared n (b ∷ scope) [] = ⊥
+NamesKnown shapes declared n (b ∷ scope) (c ∷ env) =
+    (b.1 < n) × (c.0 ≡ b.0) × MeansAlike (shape_in shapes) (slice_index_or declared b.1 None) (Some c.1) × (7 ≤ b.1 → is_standard (Some c.1) ≡ false) × NamesKnown shapes declared n scope env
 
-pub names_later : (before after : List Shape) (old new : List (Option (Meaning TypeId))) (n m : ℕ) → Longer before after → ((k : ℕ) → k < n → slice_index_or new k None ≡ slice_index_or old k None) → n ≤ m → (scope : Scope Name) (env : TypeEnvironment Name) → NamesStand before old n scope env → NamesStand after new m scope env
+pub names_later : (before after : List Shape) (old new : List (Option (Meaning TypeId))) (n m : ℕ) → Longer before after → ((k : ℕ) → k < n → slice_index_or new k None ≡ slice_index_or old k None) → n ≤ m → (scope : Scope Name) (env : TypeEnvironment Name) → NamesKnown before old n scope env → NamesKnown after new m scope env
 names_later before after old new n m longer kept le [] [] h = tt
 names_later before after old new n m longer kept le [] (c ∷ env) h = absurd h
 names_later before after old new n m longer kept le (b ∷ scope) [] h = absurd h
@@ -67,7 +67,7 @@ first_found : (shapes : List Shape) (declared : List (Option (Meaning TypeId))) 
 first_found shapes declared j k c env below true o h next e = subst (λ i. MeansAlike (shape_in shapes) (slice_index_or declared i None) (Some c.1)) (ap (λ u. elim u [ None ↦ j | Some i ↦ i ]) e) h
 first_found shapes declared j k c env below false o h next e = next e
 
-name_found : (shapes : List Shape) (declared : List (Option (Meaning TypeId))) (n : ℕ) (scope : Scope Name) (env : TypeEnvironment Name) → NamesStand shapes declared n scope env → (x : Name) (k : ℕ) → ordinal_of as_names scope x ≡ Some k
+name_found : (shapes : List Shape) (declared : List (Option (Meaning TypeId))) (n : ℕ) (scope : Scope Name) (env : TypeEnvironment Name) → NamesKnown shapes declared n scope env → (x : Name) (k : ℕ) → ordinal_of as_names scope x ≡ Some k
     → MeansAlike (shape_in shapes) (slice_index_or declared k None) (newest (from_binding as_names env x))
 name_found shapes declared n [] [] h x k e = absurd (cc)
 name_found shapes declared n [] (c ∷ env) h x k e = absurd h
@@ -77,12 +77,12 @@ name_found shapes declared n (b ∷ scope) (c ∷ env) h x k e =
     (first_found shapes declared b.1 k c env (from_binding as_names env x) (same_name x b.0) (ordinal_of as_names scope x) h.2 (name_found shapes declared n scope env h.4 x k) e)
 
 -- what is known at a place, beside the scope and the environment there; n is the next ordinal
-pub record Stands (w : Numbering) (p : SoFar) (shapes : List Shape) (n : ℕ) (scope : Scope Name) (env : TypeEnvironment Name) : Type 0 where
+pub record IsKnownAt (w : Numbering) (p : SoFar) (shapes : List Shape) (n : ℕ) (scope : Scope Name) (env : TypeEnvironment Name) : Type 0 where
   pub source : p.source ≡ w.source
   pub ordinals : p.ordinals ≡ w.ordinals
   pub room : length p.declared ≡ w.room
   pub table : TableAgrees p.made shapes
-  pub names : NamesStand shapes p.declared n scope env
+  pub names : NamesKnown shapes p.declared n scope env
 
 -- what is known later: declarations before the ordinal n are what they were
 pub record Later (n : ℕ) (p q : SoFar) (before after : List Shape) : Type 0 where
@@ -109,7 +109,7 @@ later_then n m p q r a b c le f g = record {
 pub later_of : (n m : ℕ) (p q : SoFar) (a b : List Shape) → n ≤ m → Later m p q a b → Later n p q a b
 later_of n m p q a b le f = record { source = f.source; ordinals = f.ordinals; room = f.room; kept = λ k less. f.kept k (le_trans less le); longer = f.longer; table = f.table }
 
-pub holds_later : (w : Numbering) (n m l : ℕ) (p q : SoFar) (before after : List Shape) (scope : Scope Name) (env : TypeEnvironment Name) → n ≤ m → n ≤ l → Stands w p before n scope env → Later m p q before after → Stands w q after l scope env
+pub holds_later : (w : Numbering) (n m l : ℕ) (p q : SoFar) (before after : List Shape) (scope : Scope Name) (env : TypeEnvironment Name) → n ≤ m → n ≤ l → IsKnownAt w p before n scope env → Later m p q before after → IsKnownAt w q after l scope env
 holds_later w n m l p q before after scope env le up h f = record {
   source = f.source ∙ h.source;
   ordinals = f.ordinals ∙ h.ordinals;
@@ -151,8 +151,8 @@ defined w p shapes n m x ordinals room table placed =
       others = λ k other. other_kept p.declared (Some m) n k other;
     })
 
-pub holds_defined : (w : Numbering) (p q : SoFar) (shapes : List Shape) (n : ℕ) (scope : Scope Name) (env : TypeEnvironment Name) (m : Meaning TypeId) (x : Name) (o : meant.Object Shape Signature) → Stands w p shapes n scope env → Defined w p q shapes n m → is_standard (Some o) ≡ false → MeaningAgrees (shape_in shapes) m (Some o)
-    → Stands w q shapes (suc n) ((x, n) ∷ scope) ((x, o) ∷ env)
+pub holds_defined : (w : Numbering) (p q : SoFar) (shapes : List Shape) (n : ℕ) (scope : Scope Name) (env : TypeEnvironment Name) (m : Meaning TypeId) (x : Name) (o : meant.Object Shape Signature) → IsKnownAt w p shapes n scope env → Defined w p q shapes n m → is_standard (Some o) ≡ false → MeaningAgrees (shape_in shapes) m (Some o)
+    → IsKnownAt w q shapes (suc n) ((x, n) ∷ scope) ((x, o) ∷ env)
 holds_defined w p q shapes n scope env m x o h d own agrees =
     let less : n < suc n = le_refl (suc n) in
     let rest = holds_later w n n (suc n) p q shapes shapes scope env (le_refl n) (le_of_lt less) h d.later in
@@ -165,7 +165,7 @@ holds_defined w p q shapes n scope env m x o h d own agrees =
     }
 
 -- an expression or statements where all names are seen
-module _ (w : Numbering) (p : SoFar) (only_constants : Bool) (shapes : List Shape) (n : ℕ) (scope : Scope Name) (env : TypeEnvironment Name) (h : Stands w p shapes n scope env) where
+module _ (w : Numbering) (p : SoFar) (only_constants : Bool) (shapes : List Shape) (n : ℕ) (scope : Scope Name) (env : TypeEnvironment Name) (h : IsKnownAt w p shapes n scope env) where
   pub seen_holds : (x : ℕ) → IsSeen w scope x → MeansAlike (shape_in shapes) ((facts_at p only_constants).object_for x) ((meanings as_names env).object_for (text_at w.source x))
   seen_holds x (k, at, there) =
       subst (λ o. MeansAlike (shape_in shapes) (option_and_then (λ j. slice_index_or p.declared j None) o) (newest (from_binding as_names env (text_at w.source x)))) (sym (ap (λ os. ordinal_in os x) h.ordinals ∙ at))
@@ -188,9 +188,9 @@ module _ (w : Numbering) (p : SoFar) (only_constants : Bool) (shapes : List Shap
 -- several names of one object
 pub record AllDefined (w : Numbering) (p q : SoFar) (shapes : List Shape) (n m : ℕ) (scope : Scope Name) (env : TypeEnvironment Name) : Type 0 where
   pub later : Later n p q shapes shapes
-  pub holds : Stands w q shapes m scope env
+  pub holds : IsKnownAt w q shapes m scope env
 
-pub all_defined : (w : Numbering) (p : SoFar) (shapes : List Shape) (n : ℕ) (scope : Scope Name) (env : TypeEnvironment Name) (m : Meaning TypeId) (xs : List ℕ) (o : meant.Object Shape Signature) → Stands w p shapes n scope env → NamesPlaced w n xs → is_standard (Some o) ≡ false → MeaningAgrees (shape_in shapes) m (Some o)
+pub all_defined : (w : Numbering) (p : SoFar) (shapes : List Shape) (n : ℕ) (scope : Scope Name) (env : TypeEnvironment Name) (m : Meaning TypeId) (xs : List ℕ) (o : meant.Object Shape Signature) → IsKnownAt w p shapes n scope env → NamesPlaced w n xs → is_standard (Some o) ≡ false → MeaningAgrees (shape_in shapes) m (Some o)
     → AllDefined w p (define_all p m xs) shapes n (after_names n xs) (scope_following w n xs scope) (bind_names (map (text_at w.source) xs) o env)
 all_defined w p shapes n scope env m [] o h placed own agrees = record { later = later_same n p shapes h.table; holds = h }
 all_defined w p shapes n scope env m (x ∷ xs) o h placed own agrees =

@@ -1,6 +1,6 @@
 use Rattle.std.proofs.Common.{◌≡◌, ◌++◌, drop}
 use Rattle.ob0_scope_rules.specs.Resolution.{undeclared_at}
-use Rattle.ob0_scope.proofs.table.undeclared.Given as goal
+use Rattle.ob0_scope.proofs.table.report_undeclared.Given as goal
 
 abbrev pub invariant-loop-token : goal.invariant-loop-token
 invariant-loop-token l = l.faults.items ++ undeclared_at l.tokens l.ordinals (drop l.token-index l.occurrences) ≡ l.initial.faults.items ++ undeclared_at l.tokens l.ordinals l.occurrences

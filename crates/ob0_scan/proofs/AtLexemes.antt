@@ -11,11 +11,11 @@ use Rattle.ob0_scan.specs.declared.lexeme.Span.{Span}
 use Rattle.ob0_scan.specs.declared.lexeme.Token.{Token}
 use Rattle.ob0_scan.specs.Lexed.{Lexeme, joined, AreLexemes}
 use Rattle.ob0_scan.specs.Scanned.{span_from, token_at, comment_at, tokens_from, comments_from}
-use Rattle.ob0_scan.specs.Reused.{moved, moved_token}
+use Rattle.ob0_scan.specs.Reused.{move_span, moved_token}
 use Rattle.ob0_scan.proofs.Cuts.{nonempty}
 
 -- what is where lexemes do: each lexeme has at most one of it, at the lexeme's place
-pub record Standing (X : Type 0) : Type 0 where
+pub record AtLexemes (X : Type 0) : Type 0 where
   pub span : X → Span
   pub head : ℕ → Lexeme → List X
   pub all : ℕ → List Lexeme → List X
@@ -33,7 +33,7 @@ comment_one lexeme.Space place = inl refl
 comment_one lexeme.Comment place = inr (place, refl, refl)
 comment_one (lexeme.Token k) place = inl refl
 
-abbrev pub of_tokens : Standing Token
+abbrev pub of_tokens : AtLexemes Token
 of_tokens = record {
   span = λ (t : Token). t.span;
   head = λ s l. token_at l.kind (span_from s (length l.text));
@@ -43,7 +43,7 @@ of_tokens = record {
   one = λ s l. token_one l.kind (span_from s (length l.text));
 }
 
-abbrev pub of_comments : Standing Span
+abbrev pub of_comments : AtLexemes Span
 of_comments = record {
   span = λ (c : Span). c;
   head = λ s l. comment_at l.kind (span_from s (length l.text));
@@ -72,13 +72,13 @@ pub record Lies (low high : ℕ) (s : Span) : Type 0 where
   pub some : s.start < s.end
   pub ends : s.end ≤ high
 
-pub head_all : {X : Type 0} (g : Standing X) (P : X → Type 0) (s : ℕ) (l : Lexeme) → ((x : X) → g.span x ≡ span_from s (length l.text) → P x) → All P (g.head s l)
+pub head_all : {X : Type 0} (g : AtLexemes X) (P : X → Type 0) (s : ℕ) (l : Lexeme) → ((x : X) → g.span x ≡ span_from s (length l.text) → P x) → All P (g.head s l)
 head_all g P s l h = ⊎_elim
     (λ nothing. All-same P (g.head s l) [] nothing (All-nil P))
     (λ one. All-same P (g.head s l) (one.0 ∷ []) one.1 (All-cons P one.0 [] (h one.0 one.2) (All-nil P)))
     (g.one s l)
 
-pub lies : {X : Type 0} (g : Standing X) (s : ℕ) (ls : List Lexeme) → Full ls → All (λ x. Lies s (s + length (joined ls)) (g.span x)) (g.all s ls)
+pub lies : {X : Type 0} (g : AtLexemes X) (s : ℕ) (ls : List Lexeme) → Full ls → All (λ x. Lies s (s + length (joined ls)) (g.span x)) (g.all s ls)
 lies g s [] h = All-same (λ x. Lies s (s + length (joined [])) (g.span x)) (g.all s []) [] (g.none s) (All-nil (λ x. Lies s (s + length (joined [])) (g.span x)))
 lies {X} g s (l ∷ ls) h =
     let long : length (joined (l ∷ ls)) ≡ length l.text + length (joined ls) = length-append l.text (joined ls) in
@@ -90,7 +90,7 @@ lies {X} g s (l ∷ ls) h =
     (All-weaker (λ x. Lies (s + length l.text) (s + length l.text + length (joined ls)) (g.span x)) P (λ x w. record { starts = omega (arith, w.starts); some = w.some; ends = omega (arith, w.ends) }) (g.all (s + length l.text) ls)
     (lies g (s + length l.text) ls h.1)))
 
-pub all-append : {X : Type 0} (g : Standing X) (s : ℕ) (xs ys : List Lexeme) → g.all s (xs ++ ys) ≡ g.all s xs ++ g.all (s + length (joined xs)) ys
+pub all-append : {X : Type 0} (g : AtLexemes X) (s : ℕ) (xs ys : List Lexeme) → g.all s (xs ++ ys) ≡ g.all s xs ++ g.all (s + length (joined xs)) ys
 all-append g s [] ys = sym (ap₂ (λ t n. t ++ g.all n ys) (g.none s) (add-zero s))
 all-append g s (x ∷ xs) ys =
     let place : s + length x.text + length (joined xs) ≡ s + length (joined (x ∷ xs)) = omega (arith, length-append x.text (joined xs)) in
@@ -114,7 +114,7 @@ not_below : (a b : ℕ) → b ≤ a → ltb a b ≡ false
 not_below a b h = false_from_ne_true (ltb a b) (λ e. absurd (omega (arith, ltb-true a b e)))
 
 -- those that begin at the end of some lexemes or after it are those of the others
-pub back_split : {X : Type 0} (g : Standing X) (s place : ℕ) (xs ys : List Lexeme) → Full xs → Full ys → s + length (joined xs) ≡ place → drop (prefix_len (λ x. ltb (g.span x).start place) (g.all s (xs ++ ys))) (g.all s (xs ++ ys)) ≡ g.all place ys
+pub back_split : {X : Type 0} (g : AtLexemes X) (s place : ℕ) (xs ys : List Lexeme) → Full xs → Full ys → s + length (joined xs) ≡ place → drop (prefix_len (λ x. ltb (g.span x).start place) (g.all s (xs ++ ys))) (g.all s (xs ++ ys)) ≡ g.all place ys
 back_split {X} g s place xs ys f h e =
     let q : X → Bool = λ x. ltb (g.span x).start place in
     let split : g.all s (xs ++ ys) ≡ g.all s xs ++ g.all place ys = all-append g s xs ys ∙ ap (λ n. g.all s xs ++ g.all n ys) e in
@@ -125,7 +125,7 @@ back_split {X} g s place xs ys f h e =
     ∙ drop-append_seam (g.all s xs) (g.all place ys)
 
 -- those that end before a place are those of the lexemes that do
-pub front_split : {X : Type 0} (g : Standing X) (s at place : ℕ) (xs ys : List Lexeme) → Full xs → (0 < length xs → s + length (joined xs) < place) → s + length (joined xs) ≡ at → prefix_len (λ x. ltb (g.span x).end place) (g.all at ys) ≡ 0 → take (prefix_len (λ x. ltb (g.span x).end place) (g.all s (xs ++ ys))) (g.all s (xs ++ ys)) ≡ g.all s xs
+pub front_split : {X : Type 0} (g : AtLexemes X) (s at place : ℕ) (xs ys : List Lexeme) → Full xs → (0 < length xs → s + length (joined xs) < place) → s + length (joined xs) ≡ at → prefix_len (λ x. ltb (g.span x).end place) (g.all at ys) ≡ 0 → take (prefix_len (λ x. ltb (g.span x).end place) (g.all s (xs ++ ys))) (g.all s (xs ++ ys)) ≡ g.all s xs
 front_split {X} g s at place xs ys f near e none =
     let q : X → Bool = λ x. ltb (g.span x).end place in
     let split : g.all s (xs ++ ys) ≡ g.all s xs ++ g.all at ys = all-append g s xs ys ∙ ap (λ n. g.all s xs ++ g.all n ys) e in
@@ -139,7 +139,7 @@ front_split {X} g s at place xs ys f near e none =
           All-weaker (λ x. Lies s (s + length (joined (z ∷ zs))) (g.span x)) (λ x. ltb (g.span x).end place ≡ true) (λ x w. lt-ltb (g.span x).end place (omega (arith, w.ends, close))) (g.all s (z ∷ zs)) (lies g s (z ∷ zs) f)
 
 -- where the first lexeme ends after a place, nothing ends before it
-pub none_end : {X : Type 0} (g : Standing X) (place s : ℕ) (l : Lexeme) (ls : List Lexeme) → Full (l ∷ ls) → place ≤ s + length l.text → prefix_len (λ x. ltb (g.span x).end place) (g.all s (l ∷ ls)) ≡ 0
+pub none_end : {X : Type 0} (g : AtLexemes X) (place s : ℕ) (l : Lexeme) (ls : List Lexeme) → Full (l ∷ ls) → place ≤ s + length l.text → prefix_len (λ x. ltb (g.span x).end place) (g.all s (l ∷ ls)) ≡ 0
 none_end {X} g place s l ls f far =
     let P : X → Type 0 = λ x. ltb (g.span x).end place ≡ false in
     none_pass (λ x. ltb (g.span x).end place) (g.all s (l ∷ ls)) (All-same P (g.all s (l ∷ ls)) (g.head s l ++ g.all (s + length l.text) ls) (g.step s l ls)
@@ -162,7 +162,7 @@ further_border s place l ls b = record {
   at = omega (arith, length-append l.text (joined b.front), b.at);
 }
 
-pub begin_at_borders : {X : Type 0} (g : Standing X) (s : ℕ) (ls : List Lexeme) → All (λ x. Border s ls (g.span x).start) (g.all s ls)
+pub begin_at_borders : {X : Type 0} (g : AtLexemes X) (s : ℕ) (ls : List Lexeme) → All (λ x. Border s ls (g.span x).start) (g.all s ls)
 begin_at_borders g s [] = All-same (λ x. Border s [] (g.span x).start) (g.all s []) [] (g.none s) (All-nil (λ x. Border s [] (g.span x).start))
 begin_at_borders {X} g s (l ∷ ls) =
     let P : X → Type 0 = λ x. Border s (l ∷ ls) (g.span x).start in
@@ -176,14 +176,14 @@ abbrev pub Ascending : {X : Type 0} → (X → ℕ) → List X → Type 0
 Ascending start [] = Unit {0}
 Ascending start (x ∷ xs) = All (λ y. start x < start y) xs × Ascending start xs
 
-ascending_head : {X : Type 0} (g : Standing X) (s : ℕ) (l : Lexeme) (rest : List X) → 0 < length l.text → All (λ x. s + length l.text ≤ (g.span x).start) rest → Ascending (λ x. (g.span x).start) rest → Ascending (λ x. (g.span x).start) (g.head s l ++ rest)
+ascending_head : {X : Type 0} (g : AtLexemes X) (s : ℕ) (l : Lexeme) (rest : List X) → 0 < length l.text → All (λ x. s + length l.text ≤ (g.span x).start) rest → Ascending (λ x. (g.span x).start) rest → Ascending (λ x. (g.span x).start) (g.head s l ++ rest)
 ascending_head {X} g s l rest some later h = ⊎_elim
     (λ nothing. subst (λ t. Ascending (λ x. (g.span x).start) (t ++ rest)) (sym nothing) h)
     (λ one. subst (λ t. Ascending (λ x. (g.span x).start) (t ++ rest)) (sym one.1)
     (All-weaker (λ x. s + length l.text ≤ (g.span x).start) (λ y. (g.span one.0).start < (g.span y).start) (λ y w. let here : (g.span one.0).start ≡ s = ap (λ (v : Span). v.start) one.2 in omega (arith, w, here, some)) rest later, h))
     (g.one s l)
 
-pub ascending : {X : Type 0} (g : Standing X) (s : ℕ) (ls : List Lexeme) → Full ls → Ascending (λ x. (g.span x).start) (g.all s ls)
+pub ascending : {X : Type 0} (g : AtLexemes X) (s : ℕ) (ls : List Lexeme) → Full ls → Ascending (λ x. (g.span x).start) (g.all s ls)
 ascending g s [] h = subst (Ascending (λ x. (g.span x).start)) (sym (g.none s)) tt
 ascending g s (l ∷ ls) h = subst (Ascending (λ x. (g.span x).start)) (sym (g.step s l ls))
     (ascending_head g s l (g.all (s + length l.text) ls) h.0
@@ -253,18 +253,18 @@ make_span start end = record { start = start; end = end }
 
 -- where lexemes are moved, so are their tokens and comments
 module _ (removed added : ℕ) where
-  moved_span : (at place n : ℕ) → at + removed ≡ place + added → removed ≤ place → span_from at n ≡ moved removed added (span_from place n)
+  moved_span : (at place n : ℕ) → at + removed ≡ place + added → removed ≤ place → span_from at n ≡ move_span removed added (span_from place n)
   moved_span at place n e h =
       let start : at ≡ place + added - removed = omega arith in
       let end : at + n ≡ place + n + added - removed = omega arith in
       ap₂ make_span start end
 
-  token_moved : (k : LexemeKind) (here there : Span) → here ≡ moved removed added there → token_at k here ≡ map (moved_token removed added) (token_at k there)
+  token_moved : (k : LexemeKind) (here there : Span) → here ≡ move_span removed added there → token_at k here ≡ map (moved_token removed added) (token_at k there)
   token_moved lexeme.Space here there e = refl
   token_moved lexeme.Comment here there e = refl
   token_moved (lexeme.Token k) here there e = ap (token_at (lexeme.Token k)) e
 
-  comment_moved : (k : LexemeKind) (here there : Span) → here ≡ moved removed added there → comment_at k here ≡ map (moved removed added) (comment_at k there)
+  comment_moved : (k : LexemeKind) (here there : Span) → here ≡ move_span removed added there → comment_at k here ≡ map (move_span removed added) (comment_at k there)
   comment_moved lexeme.Space here there e = refl
   comment_moved lexeme.Comment here there e = ap (comment_at lexeme.Comment) e
   comment_moved (lexeme.Token k) here there e = refl
@@ -275,8 +275,8 @@ module _ (removed added : ℕ) where
       ap₂ (λ xs ys. xs ++ ys) (token_moved l.kind (span_from at (length l.text)) (span_from place (length l.text)) (moved_span at place (length l.text) e h)) (tokens_moved (at + length l.text) (place + length l.text) ls (omega arith) (omega arith))
       ∙ sym (map-append (moved_token removed added) (token_at l.kind (span_from place (length l.text))) (tokens_from (place + length l.text) ls))
 
-  pub comments_moved : (at place : ℕ) (ls : List Lexeme) → at + removed ≡ place + added → removed ≤ place → comments_from at ls ≡ map (moved removed added) (comments_from place ls)
+  pub comments_moved : (at place : ℕ) (ls : List Lexeme) → at + removed ≡ place + added → removed ≤ place → comments_from at ls ≡ map (move_span removed added) (comments_from place ls)
   comments_moved at place [] e h = refl
   comments_moved at place (l ∷ ls) e h =
       ap₂ (λ xs ys. xs ++ ys) (comment_moved l.kind (span_from at (length l.text)) (span_from place (length l.text)) (moved_span at place (length l.text) e h)) (comments_moved (at + length l.text) (place + length l.text) ls (omega arith) (omega arith))
-      ∙ sym (map-append (moved removed added) (comment_at l.kind (span_from place (length l.text))) (comments_from (place + length l.text) ls))
+      ∙ sym (map-append (move_span removed added) (comment_at l.kind (span_from place (length l.text))) (comments_from (place + length l.text) ls))

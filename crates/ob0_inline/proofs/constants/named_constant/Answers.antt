@@ -5,7 +5,7 @@ use Rattle.ob0_scan.specs.Scanned.{Scanned}
 use Rattle.ob0_values.specs.Scalars.{scalar_value}
 use Rattle.ob0_inline.specs.Declarations.{is_semicolon}
 use Rattle.ob0_inline.proofs.Ended.{end_known, none_some, token_known}
-use Rattle.ob0_inline.proofs.constants.declared.Goals as goal
+use Rattle.ob0_inline.proofs.constants.named_constant.Goals as goal
 
 pub returns-in-None-end_of_declaration : goal.returns-in-None-end_of_declaration
 returns-in-None-end_of_declaration c =

@@ -41,17 +41,17 @@ formals_declared (one (some_formals s fs)) = sections_declared (more (then_secti
 
 -- ---- a heading among declaring identifiers
 
-record Stands (all : List ℕ) (heading : ℕ × List ℕ) : Type 0 where
+record IsAmong (all : List ℕ) (heading : ℕ × List ℕ) : Type 0 where
   pub before : List ℕ
   pub after : List ℕ
   pub is : all ≡ before ++ (heading.0 ∷ (heading.1 ++ after))
 
-stands_after : (xs : List ℕ) (all : List ℕ) (h : ℕ × List ℕ) → Stands all h → Stands (xs ++ all) h
-stands_after xs all h s =
+among_after : (xs : List ℕ) (all : List ℕ) (h : ℕ × List ℕ) → IsAmong all h → IsAmong (xs ++ all) h
+among_after xs all h s =
     record { before = xs ++ s.before; after = s.after; is = ap (λ ys. xs ++ ys) s.is ∙ sym (append_assoc xs s.before (h.0 ∷ (h.1 ++ s.after))) }
 
-stands_before : (all ys : List ℕ) (h : ℕ × List ℕ) → Stands all h → Stands (all ++ ys) h
-stands_before all ys h s =
+among_before : (all ys : List ℕ) (h : ℕ × List ℕ) → IsAmong all h → IsAmong (all ++ ys) h
+among_before all ys h s =
     record {
       before = s.before;
       after = s.after ++ ys;
@@ -61,46 +61,46 @@ stands_before all ys h s =
 abbrev declaring : {s : Sort} → Tree ℕ s → List ℕ
 declaring t = declaring_only (identifiers role.Declaring t)
 
-abbrev AllStand : List ℕ → List (ℕ × List ℕ) → Type 0
-AllStand all hs = All (Stands all) hs
+abbrev AreAmong : List ℕ → List (ℕ × List ℕ) → Type 0
+AreAmong all hs = All (IsAmong all) hs
 
 -- after other identifiers, and before others
-all_after : (xs ys : List (Role × ℕ)) (hs : List (ℕ × List ℕ)) → AllStand (declaring_only ys) hs → AllStand (declaring_only (xs ++ ys)) hs
+all_after : (xs ys : List (Role × ℕ)) (hs : List (ℕ × List ℕ)) → AreAmong (declaring_only ys) hs → AreAmong (declaring_only (xs ++ ys)) hs
 all_after xs ys hs h =
-    subst (λ all. AllStand all hs) (sym (declaring_only-append xs ys)) (All-weaker (Stands (declaring_only ys)) (Stands (declaring_only xs ++ declaring_only ys)) (stands_after (declaring_only xs) (declaring_only ys)) hs h)
+    subst (λ all. AreAmong all hs) (sym (declaring_only-append xs ys)) (All-weaker (IsAmong (declaring_only ys)) (IsAmong (declaring_only xs ++ declaring_only ys)) (among_after (declaring_only xs) (declaring_only ys)) hs h)
 
-all_before : (xs ys : List (Role × ℕ)) (hs : List (ℕ × List ℕ)) → AllStand (declaring_only xs) hs → AllStand (declaring_only (xs ++ ys)) hs
+all_before : (xs ys : List (Role × ℕ)) (hs : List (ℕ × List ℕ)) → AreAmong (declaring_only xs) hs → AreAmong (declaring_only (xs ++ ys)) hs
 all_before xs ys hs h =
-    subst (λ all. AllStand all hs) (sym (declaring_only-append xs ys)) (All-weaker (Stands (declaring_only xs)) (Stands (declaring_only xs ++ declaring_only ys)) (stands_before (declaring_only xs) (declaring_only ys)) hs h)
+    subst (λ all. AreAmong all hs) (sym (declaring_only-append xs ys)) (All-weaker (IsAmong (declaring_only xs)) (IsAmong (declaring_only xs ++ declaring_only ys)) (among_before (declaring_only xs) (declaring_only ys)) hs h)
 
 mutual
-  block_stands : (b : Tree ℕ block) → AllStand (declaring b) (block_headings b)
-  block_stands (has_body (declares cs ts vs ps) statements) =
+  block_among : (b : Tree ℕ block) → AreAmong (declaring b) (block_headings b)
+  block_among (has_body (declares cs ts vs ps) statements) =
       let C : List (Role × ℕ) = identifiers role.Declaring cs in
       let T : List (Role × ℕ) = identifiers role.Declaring ts in
       let V : List (Role × ℕ) = identifiers role.Declaring vs in
       let P : List (Role × ℕ) = identifiers role.Declaring ps in
       all_before (C ++ (T ++ (V ++ P))) (identifiers role.Declaring statements) (headings ps)
-      (all_after C (T ++ (V ++ P)) (headings ps) (all_after T (V ++ P) (headings ps) (all_after V P (headings ps) (procedures_stand ps))))
+      (all_after C (T ++ (V ++ P)) (headings ps) (all_after T (V ++ P) (headings ps) (all_after V P (headings ps) (procedures_among ps))))
 
-  procedures_stand : (ps : Tree ℕ (items procedure)) → AllStand (declaring ps) (headings ps)
-  procedures_stand end = All-nil (Stands [])
-  procedures_stand (more p rest) =
-      All-append (Stands (declaring (more p rest))) (procedure_headings p) (headings rest)
-      (all_before (identifiers role.Declaring p) (identifiers role.Declaring rest) (procedure_headings p) (procedure_stands p))
-      (all_after (identifiers role.Declaring p) (identifiers role.Declaring rest) (headings rest) (procedures_stand rest))
+  procedures_among : (ps : Tree ℕ (items procedure)) → AreAmong (declaring ps) (headings ps)
+  procedures_among end = All-nil (IsAmong [])
+  procedures_among (more p rest) =
+      All-append (IsAmong (declaring (more p rest))) (procedure_headings p) (headings rest)
+      (all_before (identifiers role.Declaring p) (identifiers role.Declaring rest) (procedure_headings p) (procedure_among p))
+      (all_after (identifiers role.Declaring p) (identifiers role.Declaring rest) (headings rest) (procedures_among rest))
 
-  procedure_stands : (p : Tree ℕ (item procedure)) → AllStand (declaring p) (procedure_headings p)
-  procedure_stands (declares_procedure x fs b closing) =
+  procedure_among : (p : Tree ℕ (item procedure)) → AreAmong (declaring p) (procedure_headings p)
+  procedure_among (declares_procedure x fs b closing) =
       let F : List (Role × ℕ) = identifiers role.Declaring fs in
       let B : List (Role × ℕ) = identifiers role.Declaring b in
       let last : List (Role × ℕ) = (role.ClosingName, closing) ∷ [] in
-      All-cons (Stands (declaring (declares_procedure x fs b closing))) (x, formal_names (formal_sections fs)) (block_headings b)
+      All-cons (IsAmong (declaring (declares_procedure x fs b closing))) (x, formal_names (formal_sections fs)) (block_headings b)
       (record { before = []; after = declaring_only (B ++ last); is = ap (λ ys. x ∷ ys) (declaring_only-append F (B ++ last) ∙ (λ i. formals_declared fs i ++ declaring_only (B ++ last))) })
-      (all_after ((role.Declaring, x) ∷ []) (F ++ (B ++ last)) (block_headings b) (all_after F (B ++ last) (block_headings b) (all_before B last (block_headings b) (block_stands b))))
+      (all_after ((role.Declaring, x) ∷ []) (F ++ (B ++ last)) (block_headings b) (all_after F (B ++ last) (block_headings b) (all_before B last (block_headings b) (block_among b))))
 
-module_stands : (t : Tree ℕ module_text) → AllStand (declaring t) (block_headings (module_block t))
-module_stands (is_module x b closing) = all_before (identifiers role.Declaring b) ((role.ModuleName, closing) ∷ []) (block_headings b) (block_stands b)
+module_among : (t : Tree ℕ module_text) → AreAmong (declaring t) (block_headings (module_block t))
+module_among (is_module x b closing) = all_before (identifiers role.Declaring b) ((role.ModuleName, closing) ∷ []) (block_headings b) (block_among b)
 
 -- ---- what is after it
 
@@ -116,7 +116,7 @@ first_ones : (f : ℕ → List ℕ) (xs ys : List ℕ) → take (length xs) (map
 first_ones f [] ys = refl
 first_ones f (x ∷ xs) ys = ap (λ zs. f x ∷ zs) (first_ones f xs ys)
 
-following : (m : Parsed) (h : ℕ × List ℕ) → Stands (declaring (tree_of m)) h → HasParametersAfter m h
+following : (m : Parsed) (h : ℕ × List ℕ) → IsAmong (declaring (tree_of m)) h → HasParametersAfter m h
 following m h s =
     let all : List ℕ = declaring (tree_of m) in
     let n : ℕ = length s.before in
@@ -134,4 +134,4 @@ following m h s =
     }
 
 pub parameters_are_following-holds : ParametersFollow
-parameters_are_following-holds m = All-weaker (Stands (declaring (tree_of m))) (HasParametersAfter m) (following m) (block_headings (module_block (tree_of m))) (module_stands (tree_of m))
+parameters_are_following-holds m = All-weaker (IsAmong (declaring (tree_of m))) (HasParametersAfter m) (following m) (block_headings (module_block (tree_of m))) (module_among (tree_of m))

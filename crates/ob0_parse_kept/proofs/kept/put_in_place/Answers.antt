@@ -1,7 +1,7 @@
 use Rattle.std.proofs.Common.{refl, sym, ◌∙◌, arith}
 use Rattle.ob0_parse_kept.proofs.Carried.{first_is}
 use Rattle.ob0_parse_kept.proofs.MovedTokens.{placed_moved}
-use Rattle.ob0_parse_kept.proofs.kept.placed.Goals as goal
+use Rattle.ob0_parse_kept.proofs.kept.put_in_place.Goals as goal
 
 pub returns : goal.returns
 returns c = λ ts h.

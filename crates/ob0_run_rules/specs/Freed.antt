@@ -14,14 +14,14 @@ drop_variables n (running s) = running record s { store = take n s.store }
 drop_variables n (stopped e out) = stopped e out
 
 -- calls, of which c more may be open; the store is as long after one that returns as it was before
-unfoldable pub call_giving_up : {N : Type 0} → Naming N → ℕ → ℕ → Activation N → Calls N
+unfoldable pub call_freeing : {N : Type 0} → Naming N → ℕ → ℕ → Activation N → Calls N
 unfolding activate
-call_giving_up naming zero t env x args s = stopped CallBound s.output
-call_giving_up naming (suc c) t env x args s =
+call_freeing naming zero t env x args s = stopped CallBound s.output
+call_freeing naming (suc c) t env x args s =
     drop_variables (length s.store)
-    (activate naming (call_giving_up naming c t) t (from_binding naming env x) args s)
+    (activate naming (call_freeing naming c t) t (from_binding naming env x) args s)
 
 -- the run in which calls that return drop their variables
-unfoldable pub run_giving_up : {N : Type 0} → Naming N → Tree N module_text → List ℤ → ℕ → ℕ → Run
-unfolding run_by call_giving_up
-run_giving_up naming m input c t = run_by naming (call_giving_up naming c t) t m input
+unfoldable pub run_freeing : {N : Type 0} → Naming N → Tree N module_text → List ℤ → ℕ → ℕ → Run
+unfolding run_by call_freeing
+run_freeing naming m input c t = run_by naming (call_freeing naming c t) t m input
