@@ -11,7 +11,7 @@ CODES = (
     "TooLong BadChar OpenComment NumberTooLarge NumberJoinsLetter Syntax TooDeep Duplicate Undeclared EndName WrongKind "
     "TypeMismatch NotConstant ConstFault ArrayLength TypeTooLarge ArgumentCount NotVariable NoField NotArray NotRecord"
 ).split()
-MOST_FAULTS = 100
+MAX_FAULTS = 100
 
 sys.setrecursionlimit(20000)
 
@@ -23,7 +23,7 @@ class Text:
     def __init__(self, text):
         self.text, self.module, self.bound, self.fields = text, None, {}, []
         self.lexemes, scanning = scan(text)
-        self.faults = [(*it, None) for it in scanning[:MOST_FAULTS]]
+        self.faults = [(*it, None) for it in scanning[:MAX_FAULTS]]
         if self.faults:
             return
         self.parser = Parser(text, self.lexemes)
@@ -37,7 +37,7 @@ class Text:
         checked = types.Types(self.module, scopes.bound)
         self.bound, self.fields = scopes.bound, checked.fields
         found = sorted(scopes.faults | checked.faults, key=lambda it: (it[0], it[1], CODES.index(it[2])))
-        self.faults = [(code, start, end, None) for start, end, code in found[:MOST_FAULTS]]
+        self.faults = [(code, start, end, None) for start, end, code in found[:MAX_FAULTS]]
 
     @property
     def is_well_typed(self):

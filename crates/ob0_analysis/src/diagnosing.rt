@@ -1,9 +1,8 @@
 //! What is wrong with a text.
 
-ghost use Rattle.std.specs.Prelude.{◌≡◌, ◌∷◌, [], IfOk, map};
+ghost use Rattle.std.specs.Prelude.{IfOk, map};
 ghost use Rattle.ob0_parse.specs.RefusedBy.{RefusedBy};
 ghost use Rattle.ob0_analysis.specs.Diagnosed.{Reports, complaint_in};
-ghost use Rattle.ob0_analysis.specs.Found.{IsDecided};
 
 use crate::diagnoses::{Diagnosis, of_faults, of_refusal};
 use crate::parts::ModuleParts;

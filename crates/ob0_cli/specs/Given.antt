@@ -8,7 +8,7 @@ use Rattle.clap.specs.declared.error.kind.ErrorKind.TheVariants.{OutOfMemory}
 use Rattle.clap.specs.Lexer.{without_minus}
 use Rattle.clap.specs.Values.{IsSignedIn, IsUnsignedIn}
 use Rattle.clap.specs.Words.{Row, Text, fault_of, first_of, kind_of, one_of, subcommand_of}
-use Rattle.ob0_cli.specs.Lines.{ob0_app}
+use Rattle.ob0_cli.specs.Lines.{max_calls, max_turns, ob0_app}
 use Rattle.ob0_cli.specs.declared.line.CommandLine.{CommandLine}
 use Rattle.ob0_cli.specs.declared.line.CommandLine.TheVariants.{Serve, Check, Run, Rename}
 use Rattle.ob0_cli.specs.declared.line.CommandFault.{CommandFault}
@@ -33,9 +33,9 @@ HoldsValues name rows (Check file) =
 HoldsValues name rows (Run file calls turns) =
     (name ≡ codes "run") × (first_of (codes "file") rows ≡ Some file.now)
     × IsNumber (codes "calls") rows calls
-    × (calls ≤ 64)
+    × (calls ≤ max_calls)
     × IsNumber (codes "turns") rows turns
-    × (turns ≤ 100000)
+    × (turns ≤ max_turns)
 HoldsValues name rows (Rename file position new) =
     (name ≡ codes "rename") × (first_of (codes "file") rows ≡ Some file.now)
     × IsNumber (codes "line") rows position.line
@@ -67,7 +67,7 @@ HasText id rows = (text : Text) × (first_of id rows ≡ Some text)
 
 -- the most that `--calls` and `--turns` take
 abbrev pub most_of : Text → ℕ
-most_of id = if bytes_eq id (codes "calls") then 64 else 100000
+most_of id = if bytes_eq id (codes "calls") then max_calls else max_turns
 
 -- an option has a number within its bounds
 abbrev pub HasBounded : Text → List Row → Type 0

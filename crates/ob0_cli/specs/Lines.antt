@@ -1,6 +1,6 @@
 -- The command line of `ob0`, as clap's definition of a simple command sees it.
 -- Rule: docs/PROTOCOL.md, The program; clap's definition of a command line.
-use Rattle.std.specs.Prelude.{[], ◌∷◌, pos, true, Some, codes}
+use Rattle.std.specs.Prelude.{[], ◌∷◌, ℕ, pos, true, Some, codes}
 use Rattle.clap.specs.Words.{App, Rule, Text, new_app, new_rule, with_rule, with_subcommand}
 use Rattle.clap.specs.declared.builder.ArgAction.TheVariants.{Set, SetTrue}
 use Rattle.clap.specs.declared.builder.value_parser.ValueParser.TheVariants.{Signed, Unsigned}
@@ -13,11 +13,19 @@ word_rule id = record (new_rule id) { action = Some Set; value_names = 1; requir
 abbrev pub number_rule : Text → Rule
 number_rule id = record (word_rule id) { parser = Some (Unsigned 0 18446744073709551615) }
 
+-- the most calls that may be open at a time, of one run
+abbrev pub max_calls : ℕ
+max_calls = 64
+
+-- the most iterations of a loop
+abbrev pub max_turns : ℕ
+max_turns = 100000
+
 -- at most 64, and 64 where it isn't given
 abbrev pub calls_rule : Rule
 calls_rule = record (new_rule (codes "calls")) {
   long = Some (codes "calls");
-  parser = Some (Signed (pos 0) (pos 64));
+  parser = Some (Signed (pos 0) (pos max_calls));
   value_names = 1;
   defaults = codes "64" ∷ [];
 }
@@ -26,7 +34,7 @@ calls_rule = record (new_rule (codes "calls")) {
 abbrev pub turns_rule : Rule
 turns_rule = record (new_rule (codes "turns")) {
   long = Some (codes "turns");
-  parser = Some (Signed (pos 0) (pos 100000));
+  parser = Some (Signed (pos 0) (pos max_turns));
   value_names = 1;
   defaults = codes "100000" ∷ [];
 }

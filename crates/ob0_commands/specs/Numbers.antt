@@ -34,9 +34,13 @@ pub data WritesNumbers : List ℕ → List ℤ → Type 0 where
 abbrev pub IsListOfNumbers : List ℕ → Type 0
 IsListOfNumbers text = (ns : List ℤ) × WritesNumbers text ns
 
+-- the most bytes of an input
+abbrev pub max_input : ℕ
+max_input = 16777216
+
 -- the text of an input writes these numbers, in at most 16,777,216 bytes
 pub record IsInputOf (ns : List ℤ) (text : List ℕ) : Type 0 where
-  pub short : length text ≤ 16777216
+  pub short : length text ≤ max_input
   pub writes : WritesNumbers text ns
 
 -- the text isn't that of an input: it is too long, or not a list of numbers

@@ -10,6 +10,9 @@ ghost use Rattle.ob0_commands.specs.Said.{Says};
 use crate::faults::FileFault;
 use std::io::{self, Write};
 
+/// How many bytes a piece has at most that is read, or that is put together before it is written.
+pub(crate) const PIECE_SIZE: usize = 8192;
+
 /// A writer that knows whether it has been flushed since something was last written to it, and whether it has failed.
 pub trait Output: Write {
     // Whether it has been flushed since then, by a flush that succeeded.

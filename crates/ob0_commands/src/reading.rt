@@ -1,23 +1,25 @@
 //! Reading a file and the input.
 
-ghost use Rattle.std.specs.Prelude.{◌≡◌, ◌≤◌, ◌<◌, ◌||◌, ◌⊎◌, Bool, true, false, is_err, IfOk, OnOk, IfErr, IfSome, length};
+ghost use Rattle.std.specs.Prelude.{◌≡◌, ◌≤◌, ◌<◌, ◌||◌, ◌⊎◌, Bool, true, false, is_err, IfOk, OnOk, IfErr, IfSome, length, suc};
 ghost use Rattle.std.specs.Io.{ReadsAtMost};
 ghost use Rattle.std.specs.Io.KnownBytes.{Consumes, IsAtEnd, ReadConsumes};
+ghost use Rattle.ob0_scan.specs.Scanned.{max_text};
 ghost use Rattle.ob0_commands.specs.Inputs.{TakesAtMost, input_device, input_failed};
+ghost use Rattle.ob0_commands.specs.Numbers.{max_input};
 ghost use Rattle.ob0_commands.specs.Statuses.{StopsFor};
 ghost use Rattle.ob0_commands.specs.declared.faults.FileFault.TheVariants as faults;
 
 use crate::faults::FileFault;
+use crate::printing::PIECE_SIZE;
+use ob0_scan::MAX_TEXT;
 use std::alloc::Global;
 use std::io::{self, Read};
 
 /// How many bytes of a file are read at most: one more than a text may have.
-pub const MAX_FILE: usize = 1_048_577;
+pub const MAX_FILE: usize = MAX_TEXT + 1;
 
 /// How many bytes the input of a run may have.
 const MAX_INPUT: usize = 16_777_216;
-
-const PIECE_SIZE: usize = 8192;
 
 /// A reader that knows whether it has failed.
 pub trait Input: Read {
@@ -81,12 +83,12 @@ impl<R: Read> Input for Watched<R> {
 
 /// Reads a file's bytes, or the first 1,048,577 of them.
 pub fn read_file<R: Input>(alloc: Global, file: &mut R) -> Result<Vec<u8>, FileFault>
-    ensures bound { IfOk result (λ bytes. length bytes.items ≤ 1048577) }
+    ensures bound { IfOk result (λ bytes. length bytes.items ≤ suc max_text) }
     ensures taken { IfOk result
         (λ bytes. Consumes (R.remaining file.old) (R.remaining file.new) bytes.items) }
     ensures end { IfOk result
-        (λ bytes. length bytes.items < 1048577 → IsAtEnd (R.remaining file.new)) }
-    ensures limit { TakesAtMost 1048577 (R.remaining file.old) (R.remaining file.new) }
+        (λ bytes. length bytes.items ≤ max_text → IsAtEnd (R.remaining file.new)) }
+    ensures limit { TakesAtMost (suc max_text) (R.remaining file.old) (R.remaining file.new) }
     ensures unfailed { OnOk result (R.has_failed file.new ≡ R.has_failed file.old) }
     ensures fault { IfErr result (StopsFor faults.File (R.has_failed file.new ≡ true)
         (R.has_failed file.new ≡ R.has_failed file.old)) }
@@ -96,14 +98,14 @@ pub fn read_file<R: Input>(alloc: Global, file: &mut R) -> Result<Vec<u8>, FileF
 
 /// Reads the input's bytes, which are at most 16,777,216. Of a longer input one more is read.
 pub fn read_input<R: Input>(alloc: Global, input: &mut R) -> Result<Vec<u8>, FileFault>
-    ensures bound { IfOk result (λ bytes. length bytes.items ≤ 16777216) }
+    ensures bound { IfOk result (λ bytes. length bytes.items ≤ max_input) }
     ensures taken { IfOk result
         (λ bytes. Consumes (R.remaining input.old) (R.remaining input.new) bytes.items) }
     ensures end { IfOk result (λ bytes. IsAtEnd (R.remaining input.new)) }
-    ensures limit { TakesAtMost 16777217 (R.remaining input.old) (R.remaining input.new) }
+    ensures limit { TakesAtMost (suc max_input) (R.remaining input.old) (R.remaining input.new) }
     ensures unfailed { OnOk result (R.has_failed input.new ≡ R.has_failed input.old) }
     ensures fault { IfErr result (StopsFor faults.Input ((R.has_failed input.new ≡ true)
-        ⊎ IfSome (R.remaining input.old) (λ text. 16777216 < length text))
+        ⊎ IfSome (R.remaining input.old) (λ text. max_input < length text))
         (R.has_failed input.new ≡ R.has_failed input.old)) }
 {
     let bytes = read_up_to(alloc, input, MAX_INPUT + 1, FileFault::Input)?;

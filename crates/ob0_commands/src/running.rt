@@ -1,6 +1,6 @@
 //! Running a file's module: its input, and what a run outputs.
 
-ghost use Rattle.std.specs.Prelude.{◌≡◌, ◌≢◌, ◌+◌, ◌≤◌, ◌++◌, true, false, IfOk, IfErr, IfNone, MatchOption, MatchResult, OnOk, OnErr, length, option_map};
+ghost use Rattle.std.specs.Prelude.{◌≡◌, ◌≢◌, ◌+◌, ◌≤◌, ◌++◌, true, false, IfOk, IfErr, IfNone, MatchOption, MatchResult, OnOk, OnErr, length, option_map, suc};
 ghost use Rattle.std.specs.Io.KnownBytes.{Appends};
 ghost use Rattle.arrayvec.specs.ArrayString.{array_string_len};
 ghost use Rattle.ob0_tree.specs.Parsed.{named_tree_of};
@@ -10,6 +10,7 @@ ghost use Rattle.ob0_run.specs.Outcomes.{run_of};
 ghost use Rattle.ob0_run.specs.Programs as lowered;
 ghost use Rattle.ob0_run.specs.States.{item_of, items_out};
 ghost use Rattle.ob0_commands.specs.Inputs.{TakesAtMost};
+ghost use Rattle.ob0_commands.specs.Numbers.{max_input};
 ghost use Rattle.ob0_commands.specs.Printed.{IsWrittenBut, PrintsFaults, end_line, output_text, written_text};
 ghost use Rattle.ob0_commands.specs.Said.{NamesFault, Says};
 ghost use Rattle.ob0_commands.specs.Statuses.{AllocatesFor, CanNotRun, HasNoText, IsOfInput, IsOfOutput, IsStatus, PrintsNothing, StopsPrinting, StopsRunning, status_at};
@@ -19,7 +20,7 @@ ghost use Rattle.ob0_commands.specs.TextRuns.{IsLoweredTo, PrintsDone, PrintsOth
 use crate::checking::{print_diagnoses, text_of};
 use crate::faults::{FileFault, print_fault};
 use crate::numbers::read_numbers;
-use crate::printing::{Output, print, write};
+use crate::printing::{Output, PIECE_SIZE, print, write};
 use crate::reading::Input;
 use arrayvec::ArrayString;
 use itoa::Buffer;
@@ -65,7 +66,7 @@ pub fn run_text<R: Input, O: Output, E: Output>(
     ensures flushed { result ≤ 1 → O.is_flushed out.new ≡ true }
     ensures statuses { IsStatus result }
     ensures readable { result ≢ 4 → ¬ HasNoText file.now }
-    ensures limit { TakesAtMost 16777217 (R.remaining input.old) (R.remaining input.new) }
+    ensures limit { TakesAtMost (suc max_input) (R.remaining input.old) (R.remaining input.new) }
     ensures read { result ≢ 4 → R.has_failed input.new ≡ R.has_failed input.old }
     ensures unfailed { result ≢ 4 → O.has_failed out.new ≡ O.has_failed out.old }
     ensures unreported { result ≡ 4 → CanNotRun file.now (R.remaining input.old)
@@ -103,7 +104,7 @@ fn run_file<R: Input, O: Output, E: Output>(
     ensures flushed { OnOk result (O.is_flushed out.new ≡ true) }
     ensures ends { IfOk result (λ status. status ≤ 1) }
     ensures readable { OnOk result (¬ HasNoText file.now) }
-    ensures limit { TakesAtMost 16777217 (R.remaining input.old) (R.remaining input.new) }
+    ensures limit { TakesAtMost (suc max_input) (R.remaining input.old) (R.remaining input.new) }
     ensures read { MatchResult result (λ _. R.has_failed input.new ≡ R.has_failed input.old)
         (IsOfInput (R.has_failed input.old) (R.has_failed input.new)) }
     ensures unfailed { OnOk result (O.has_failed out.new ≡ O.has_failed out.old) }
@@ -215,9 +216,6 @@ pub fn print_outcome<O: Output, E: Output>(
         None => Ok(0),
     }
 }
-
-/// How many bytes of text are put together, at most, before they are written.
-const PIECE_SIZE: usize = 8192;
 
 /// A space, a sign and ten digits.
 const LONGEST_ITEM: usize = 12;

@@ -10,7 +10,7 @@ ghost use Rattle.ob0_rpc.specs.Appending.{Appends, AppendsEach, AppendsItem, or_
 use std::alloc::AllocError;
 
 /// No more capacity is reserved at once for the items of a list, in bytes.
-const MOST_ROOM: usize = 1 << 26;
+const MAX_CAPACITY: usize = 1 << 26;
 
 /// What is written as a JSON value.
 pub trait Written {
@@ -128,7 +128,7 @@ fn room_for(count: usize, len: usize) -> usize
     ensures { result ≤ 2 ^ 26 }
 {
     let others = count.saturating_sub(1);
-    others.saturating_mul(len.saturating_add(16)).min(MOST_ROOM)
+    others.saturating_mul(len.saturating_add(16)).min(MAX_CAPACITY)
 }
 
 /// Writes the bracket that opens a list.

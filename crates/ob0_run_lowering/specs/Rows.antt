@@ -38,13 +38,14 @@ or_depth (truth.ComparedToVariable r v w) = 0
 or_depth (truth.Same' pointer left right) = 0
 or_depth (truth.Different' pointer left right) = 0
 
--- the same of the code of an expression, where that is a truth
+-- that of conjunctions in the code of an expression, where that is a truth
 abbrev pub and_depth_of : Lowered → ℕ
 and_depth_of (code.Number n) = 0
 and_depth_of (code.Truth t) = and_depth t
 and_depth_of (code.Block q n) = 0
 and_depth_of code.Nothing = 0
 
+-- that of disjunctions
 abbrev pub or_depth_of : Lowered → ℕ
 or_depth_of (code.Number n) = 0
 or_depth_of (code.Truth t) = or_depth t

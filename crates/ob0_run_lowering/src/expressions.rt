@@ -1,6 +1,6 @@
 //! Lowering of expressions, places and arguments, as they are met in statements.
 
-ghost use Rattle.std.specs.Prelude.{◌≡◌, IfOk};
+ghost use Rattle.std.specs.Prelude.{IfOk};
 ghost use Rattle.ob0_tree.specs.View.{expression_of};
 ghost use Rattle.ob0_tree.specs.declared.tree.Designator.{out-Designator};
 ghost use Rattle.ob0_types_rules.specs.Selected.{selectors_in};

@@ -6,7 +6,7 @@ ghost use Rattle.ob0_tree.specs.View.{compound_of, designator_of, expression_of,
 ghost use Rattle.ob0_tree.specs.declared.tree.Designator.{out-Designator};
 ghost use Rattle.ob0_scope_rules.specs.Names.{label_text};
 ghost use Rattle.ob0_types_table.specs.KnownTables.{shapes_of};
-ghost use Rattle.ob0_types_table.specs.Tables.{object_in, type_shape};
+ghost use Rattle.ob0_types_table.specs.Tables.{type_shape};
 ghost use Rattle.ob0_types_rules.specs.Bindings.{variable_of};
 ghost use Rattle.ob0_types_rules.specs.InLabels.{in_labels, label_in};
 ghost use Rattle.ob0_types_rules.specs.Selected.{selectors_in};

@@ -1,6 +1,6 @@
 //! The types of a module, with how many cells they have.
 
-ghost use Rattle.std.specs.Prelude.{◌≡◌, ◌≤◌, ◌+◌, ◌*◌, ◌^◌, ℕ, ℤ, Some, true, IfOk, IfSome, List, MatchResult, pos, slice_get, slice_index_or};
+ghost use Rattle.std.specs.Prelude.{◌≡◌, ◌≤◌, ◌+◌, ◌*◌, ◌^◌, ℕ, ℤ, Some, true, IfOk, List, MatchResult, slice_index_or};
 ghost use Rattle.ob0_run_cells.specs.Cells.{field_offset, size, step_offset};
 ghost use Rattle.ob0_run_machine.specs.Evaluation as machine;
 ghost use Rattle.ob0_scope_rules.specs.Names.{Name};

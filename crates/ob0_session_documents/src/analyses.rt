@@ -8,7 +8,7 @@ use ob0_analysis::Analysis;
 use std::alloc::{AllocError, Global};
 
 /// How many bytes the analyses that are kept count for together, at most: those of two of the longest texts.
-const MOST_BYTES: usize = 2_099_200;
+const MAX_BYTES: usize = 2_099_200;
 
 /// What an analysis counts for beside the bytes of its text, so that those of empty texts are bounded too.
 const BYTES_PER_ANALYSIS: usize = 1_024;
@@ -54,7 +54,7 @@ impl Analyses {
         ensures { KeepsAlso self.old uri.now analysis self.new }
     {
         let bytes = bytes_of(&analysis);
-        if bytes > MOST_BYTES {
+        if bytes > MAX_BYTES {
             return Ok(());
         }
         self.free(bytes);
@@ -79,7 +79,7 @@ impl Analyses {
         ensures { KeepsOnly self.old self.new }
     {
         let mut counted = self.bytes.saturating_add(bytes);
-        while counted > MOST_BYTES {
+        while counted > MAX_BYTES {
             let Some(oldest) = self.remove_oldest() else {
                 break;
             };

@@ -4,7 +4,7 @@ ghost use Rattle.std.specs.Prelude.{◌≡◌, ◌+◌};
 ghost use Rattle.ob0_tree.specs.Tree.{nesting};
 ghost use Rattle.ob0_tree.specs.Parsed.{tree_of};
 ghost use Rattle.ob0_tree.specs.Depth.{capped};
-ghost use Rattle.ob0_tree.specs.View.{expression_of, compound_of, simple_of, term_of, factor_of, designator_of, selector_of, assignment_of, call_of, statement_of, if_of, elsifs_in, else_in, sequence_in, type_of, record_in, fields_of, section_of, formals_of, constants_of, types_of, variables_of, body_of, procedure_of, block_of};
+ghost use Rattle.ob0_tree.specs.View.{expression_of, compound_of, simple_of, term_of, factor_of, designator_of, selector_of, assignment_of, call_of, statement_of, if_of, elsifs_in, sequence_in, type_of, record_in, fields_of, section_of, formals_of, constants_of, types_of, variables_of, body_of, procedure_of, block_of};
 
 use crate::tree::{
     Assignment, Block, Call, Compound, Constant, Designator, Elsif, Expression, Factor, Fields, If,

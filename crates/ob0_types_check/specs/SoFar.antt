@@ -6,6 +6,7 @@ use Rattle.ob0_scan.specs.declared.fault.Code.TheVariants as code
 use Rattle.ob0_scan.specs.Scanned.{Scanned}
 use Rattle.ob0_scope_rules.specs.Names.{Name, same_name}
 use Rattle.ob0_scope_rules.specs.Resolution.{Resolution, ordinal_in}
+use Rattle.ob0_types_rules.specs.Typing.{max_depth, max_scalars}
 use Rattle.ob0_types_table.specs.declared.types.TypeId.{TypeId}
 use Rattle.ob0_types_table.specs.declared.types.TypeId.TheVariants as type
 use Rattle.ob0_values.specs.Values.{truth}
@@ -152,7 +153,7 @@ size_at made type.Unknown = no_scalar
 
 -- a type has at most 65,536 scalars, and at most 100 arrays and records inside one another
 abbrev pub is_within : Size → Bool
-is_within z = nat_le z.scalars 65536 && nat_le z.depth 100
+is_within z = nat_le z.scalars max_scalars && nat_le z.depth max_depth
 
 -- a type, and what is known after its text
 pub record TypedAfter : Type 0 where

@@ -177,9 +177,17 @@ constant_value meaning e = do
   s ← type_of {P = Unit {0}} (constants_only meaning) e
   given_value (evaluate {P = Unit {0}} (constants_only meaning) [] e)
 
+-- the most scalars of a type, and the most elements of an array
+abbrev pub max_scalars : ℕ
+max_scalars = 65536
+
+-- the most arrays and records inside one another
+abbrev pub max_depth : ℕ
+max_depth = 100
+
 -- an array has 1 to 65,536 elements
 abbrev pub array_length : Value → Option ℕ
-array_length (number (pos (suc n))) = if nat_lt n 65536 then Some (suc n) else None
+array_length (number (pos (suc n))) = if nat_lt n max_scalars then Some (suc n) else None
 array_length _ = None
 
 -- how many scalars a type has; an empty record counts as one
@@ -212,7 +220,7 @@ abbrev mutual
 
 -- a type has at most 65,536 scalars, and at most 100 arrays and records inside one another
 abbrev pub within_limits : Shape → Option Shape
-within_limits s = if nat_le (scalars s) 65536 && nat_le (depth s) 100 then Some s else None
+within_limits s = if nat_le (scalars s) max_scalars && nat_le (depth s) max_depth then Some s else None
 
 -- how many ARRAY and RECORD are in a type's text
 abbrev mutual

@@ -11,10 +11,10 @@ use ob0_values::Scalar;
 use std::marker::Model;
 
 /// The greatest length of an array, and the most scalars that a type may have.
-pub const MOST_SCALARS: usize = 65536;
+pub const MAX_SCALARS: usize = 65536;
 
 /// The most arrays and records that may be inside one another, named types followed.
-pub const MOST_DEPTH: usize = 100;
+pub const MAX_DEPTH: usize = 100;
 
 /// A field of a record.
 #[derive(Drop)]

@@ -12,7 +12,7 @@ mod types;
 pub use entries::add_entry;
 pub use field_table::FieldTable;
 pub use known::{
-    ArrayShape, Field, FieldOf, Formal, Known, MOST_DEPTH, MOST_SCALARS, Object, RecordShape,
+    ArrayShape, Field, FieldOf, Formal, Known, MAX_DEPTH, MAX_SCALARS, Object, RecordShape,
     Standard, TypeEntry,
 };
 pub use numbers::number_at;

@@ -6,7 +6,7 @@ ghost use Rattle.ob0_tree.specs.View.{block_of, body_of, constant_of, constants_
 ghost use Rattle.ob0_types_check.specs.DeclarationFaults.{constant_declared, reported_block, reported_body, reported_constants, reported_procedure, reported_procedures, reported_section, reported_sections, reported_types, reported_variables, type_declared, variables_declared};
 ghost use Rattle.ob0_types_check.specs.Known.{a_variable};
 ghost use Rattle.ob0_types_check.specs.Operations.{ReportsAfter};
-ghost use Rattle.ob0_types_check.specs.SoFar.{define, define_all};
+ghost use Rattle.ob0_types_check.specs.SoFar.{define_all};
 ghost use Rattle.ob0_types_check.specs.SupposedFacts.{heading_in, so_far_in};
 
 use crate::reporting::Reporter;

@@ -1,6 +1,6 @@
 //! What is supposed of types and declarations while faults are reported; each may be unknown, as a whole or in parts.
 
-ghost use Rattle.std.specs.Prelude.{◌≡◌, ◌≤◌, ◌∷◌, [], ◌++◌, ◌+◌, ◌^◌, map, max, length, IfOk, MatchResult, OnOk, option_map, slice_get, slice_index_or, None, Some};
+ghost use Rattle.std.specs.Prelude.{◌≡◌, ◌≤◌, ◌∷◌, [], ◌++◌, ◌+◌, ◌^◌, map, IfOk, MatchResult, OnOk, option_map, slice_get, slice_index_or, None, Some};
 ghost use Rattle.ob0_types_table.specs.declared.types.TypeId.TheVariants as type;
 ghost use Rattle.ob0_tree.specs.Places.{text_at};
 ghost use Rattle.ob0_types_check.specs.Known.{a_procedure};
@@ -12,7 +12,7 @@ ghost use Rattle.ob0_types_check.specs.WrittenTypeFaults.{array_size, beside, or
 use ob0_scan::{Code, Fault, Span};
 use ob0_scope_rules::{Resolved, token_span};
 use ob0_tree::text_at;
-use ob0_types_table::{Formal, MOST_DEPTH, MOST_SCALARS, TypeEntry, TypeId, add_entry};
+use ob0_types_table::{Formal, MAX_DEPTH, MAX_SCALARS, TypeEntry, TypeId, add_entry};
 use ob0_values::Scalar;
 use std::alloc::{AllocError, Global};
 
@@ -109,10 +109,10 @@ impl Size {
     fn is_within(self) -> bool
         ensures { result ≡ is_within (size_of self) }
     {
-        if self.scalars > MOST_SCALARS {
+        if self.scalars > MAX_SCALARS {
             return false;
         }
-        self.depth <= MOST_DEPTH
+        self.depth <= MAX_DEPTH
     }
 }
 

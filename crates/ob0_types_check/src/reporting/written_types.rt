@@ -20,7 +20,7 @@ use crate::reporting::supposed::{Meaning, NOTHING, Size, Supposed, sum};
 use ob0_scan::{Code, Fault};
 use ob0_tree::{ArrayType, FieldGroup, Fields, Names, RecordType, WrittenType};
 use ob0_types_table::{
-    ArrayShape, Field, FieldTable, MOST_SCALARS, RecordShape, TypeEntry, TypeId,
+    ArrayShape, Field, FieldTable, MAX_SCALARS, RecordShape, TypeEntry, TypeId,
 };
 use ob0_values::Scalar;
 use std::alloc::{AllocError, Global};
@@ -35,7 +35,7 @@ fn array_length(value: Scalar) -> Option<usize>
                 return None;
             }
             let length = n as usize;
-            if length <= MOST_SCALARS {
+            if length <= MAX_SCALARS {
                 Some(length)
             } else {
                 None

@@ -1,6 +1,5 @@
 use Rattle.std.proofs.Common.{◌≡◌, Box, Some, refl, sym, ◌∙◌, ap, rules, arith}
 use Rattle.std.specs.declared.alloc.Global.{Global}
-use Rattle.ob0_tree.specs.declared.tree.Statement.{Statement}
 use Rattle.ob0_tree.specs.declared.tree.Statement as statement_module
 use Rattle.ob0_tree.specs.declared.tree.While.{While}
 use Rattle.ob0_tree.specs.declared.tree.Repeat.{Repeat}

@@ -1,7 +1,7 @@
 use Rattle.std.proofs.Common.{◌≡◌, ℕ, ◌+◌, List, [], ◌∷◌, ◌++◌, sym, ap, ◌∙◌, subst}
 use Rattle.ob0_tree.proofs.Viewed as tree
 use Rattle.ob0_tree.specs.Tree as sort
-use Rattle.ob0_tree.specs.Tree.{Tree, branches, repeat_loop, while_loop}
+use Rattle.ob0_tree.specs.Tree.{Tree, branches}
 use Rattle.ob0_tree.specs.View.{assignment_of, else_in, elsif_of, expression_of, if_of, items_of, sequence_listed, statement_of}
 use Rattle.ob0_tree.specs.declared.tree.Elsif.{Elsif}
 use Rattle.ob0_tree.specs.declared.tree.If.{out-If}
