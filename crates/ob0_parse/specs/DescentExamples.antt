@@ -77,7 +77,8 @@ pub record ExpectedRows : Type 0 where
   pub following_end : DescendsKinds (module_begins ++ (module_ends ++ (ident ∷ [])))
       (Expects 6 expected.EndOfText)
   -- MODULE M; BEGIN WriteLn END M
-  pub no_dot : DescendsKinds (module_begins ++ (w reserved.Begin ∷ ident ∷ w reserved.End ∷ ident ∷ []))
+  pub no_dot : DescendsKinds
+      (module_begins ++ (w reserved.Begin ∷ ident ∷ w reserved.End ∷ ident ∷ []))
       (Expects 7 (expected.Token (s symbol.Dot)))
   -- MODULE M; VAR UNTIL: INTEGER; END M.
   pub reserved_name : DescendsKinds (module_begins

@@ -128,7 +128,9 @@ fn room_for(count: usize, len: usize) -> usize
     ensures { result ≤ 2 ^ 26 }
 {
     let others = count.saturating_sub(1);
-    others.saturating_mul(len.saturating_add(16)).min(MAX_CAPACITY)
+    others
+        .saturating_mul(len.saturating_add(16))
+        .min(MAX_CAPACITY)
 }
 
 /// Writes the bracket that opens a list.

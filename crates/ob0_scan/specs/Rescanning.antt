@@ -80,7 +80,8 @@ with_between old new removed added b = record {
       ++ (b.tokens.items ++ map (moved_token removed added) (drop b.following.tokens old.tokens));
   comments =
       take b.front.comments old.comments
-      ++ (b.comments.items ++ map (move_span removed added) (drop b.following.comments old.comments));
+      ++ (b.comments.items
+      ++ map (move_span removed added) (drop b.following.comments old.comments));
 }
 
 -- what lies between the old tokens and comments that a new text goes on to have

@@ -31,7 +31,6 @@ abbrev pub right : {A : Type 0} → A → Reported A
 right x = record { known = x; faults = [] }
 
 infixl 20 ◌>>=◌
-
 -- one after the other: the faults of both, in order
 abbrev pub ◌>>=◌ : {A B : Type 0} → Reported A → (A → Reported B) → Reported B
 t >>= next = preceded_by t.faults (next t.known)

@@ -15,7 +15,9 @@ abbrev pub designator_parts : Designator → ℕ × Tree ℕ (items selector)
 designator_parts d = ((out-Designator d).name, selectors_in d)
 
 -- a designator alone, where no sign and no operator is beside it
-abbrev pub designator_of_factor : {N : Type 0} → Tree N factor → Option (N × Tree N (items selector))
+abbrev pub designator_of_factor : {N : Type 0}
+    → Tree N factor
+    → Option (N × Tree N (items selector))
 designator_of_factor (designator x path) = Some (x, path)
 designator_of_factor _ = None
 
@@ -25,7 +27,9 @@ designator_of_term (product f end) = designator_of_factor f
 designator_of_term _ = None
 
 -- the designator that a simple expression is, alone
-abbrev pub designator_of_simple : {N : Type 0} → Tree N simple → Option (N × Tree N (items selector))
+abbrev pub designator_of_simple : {N : Type 0}
+    → Tree N simple
+    → Option (N × Tree N (items selector))
 designator_of_simple (sum None t end) = designator_of_term t
 designator_of_simple _ = None
 

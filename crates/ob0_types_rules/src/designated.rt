@@ -9,7 +9,8 @@ use ob0_tree::{Compound, Designator, Expression, Factor, Simple, Term};
 
 /// A designator alone, without sign, operators or parentheses.
 pub fn lone_designator(e: &Expression) -> Option<&Designator>
-    ensures { option_map (λ d. designator_parts d.now) result ≡ lone_designator (expression_of e.now) }
+    ensures { option_map (λ d. designator_parts d.now) result
+        ≡ lone_designator (expression_of e.now) }
 {
     match e {
         Expression::Factor(f) => designator_of_factor(f),
@@ -18,7 +19,8 @@ pub fn lone_designator(e: &Expression) -> Option<&Designator>
 }
 
 fn designator_of_compound(c: &Compound) -> Option<&Designator>
-    ensures { option_map (λ d. designator_parts d.now) result ≡ lone_designator (compound_of c.now) }
+    ensures { option_map (λ d. designator_parts d.now) result
+        ≡ lone_designator (compound_of c.now) }
 {
     match &c.compared {
         None => designator_of_simple(&c.left),

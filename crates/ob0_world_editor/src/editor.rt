@@ -289,7 +289,8 @@ impl Editor {
     /// Takes a copy of a document's new text; the content is the notification.
     fn take_text(&mut self, rewritten: &Rewritten) -> Result<Vec<u8>, AllocError>
         requires { rewritten.now.version < 2 ^ 63 }
-        ensures ok { IfOk result (λ content. StoresRewritten self.old rewritten.now content self.new) }
+        ensures ok { IfOk result
+            (λ content. StoresRewritten self.old rewritten.now content self.new) }
         ensures err { OnErr result (self.new ≡ self.old) }
     {
         let uri = rewritten.applied.uri.as_str();

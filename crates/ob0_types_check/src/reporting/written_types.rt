@@ -19,9 +19,7 @@ use crate::reporting::expressions::{Operand, same_type};
 use crate::reporting::supposed::{Meaning, NOTHING, Size, Supposed, sum};
 use ob0_scan::{Code, Fault};
 use ob0_tree::{ArrayType, FieldGroup, Fields, Names, RecordType, WrittenType};
-use ob0_types_table::{
-    ArrayShape, Field, FieldTable, MAX_SCALARS, RecordShape, TypeEntry, TypeId,
-};
+use ob0_types_table::{ArrayShape, Field, FieldTable, MAX_SCALARS, RecordShape, TypeEntry, TypeId};
 use ob0_values::Scalar;
 use std::alloc::{AllocError, Global};
 
