@@ -220,7 +220,8 @@ abbrev mutual
 
 -- a type has at most 65,536 scalars, and at most 100 arrays and records inside one another
 abbrev pub within_limits : Shape → Option Shape
-within_limits s = if nat_le (scalars s) max_scalars && nat_le (depth s) max_depth then Some s else None
+within_limits s =
+    if nat_le (scalars s) max_scalars && nat_le (depth s) max_depth then Some s else None
 
 -- how many ARRAY and RECORD are in a type's text
 abbrev mutual
