@@ -129,8 +129,8 @@ fn converse(alloc: Global, end: &ServeEnd, count: &mut Count) -> Found {
     let result = serve(alloc, &mut reader, &mut writer);
     Found {
         result,
-        read_failed: reader.has_failed(),
-        write_failed: writer.has_failed(),
+        read_failed: reader.failed(),
+        write_failed: writer.failed(),
         flushed: writer.is_flushed(),
     }
 }
@@ -206,16 +206,16 @@ fn is_reader_noted() -> bool {
         calls_left: 1,
     });
     let mut piece = [0; 4];
-    let is_read = is_one(reader.read(&mut piece)) && piece[0] == b'a' && !reader.has_failed();
-    is_read && reader.read(&mut piece).is_err() && reader.has_failed()
+    let is_read = is_one(reader.read(&mut piece)) && piece[0] == b'a' && !reader.failed();
+    is_read && reader.read(&mut piece).is_err() && reader.failed()
 }
 
 /// The same of a writer.
 fn is_writer_noted() -> bool {
     let mut count = Count::new(1, 1);
     let mut writer = Noted::new(Counter { count: &mut count });
-    let is_written = is_one(writer.write(b"ab")) && writer.flush().is_ok() && !writer.has_failed();
-    is_written && writer.write(b"b").is_err() && writer.has_failed()
+    let is_written = is_one(writer.write(b"ab")) && writer.flush().is_ok() && !writer.failed();
+    is_written && writer.write(b"b").is_err() && writer.failed()
 }
 
 #[test]
