@@ -10,7 +10,7 @@ use ob0_scope::FirstCapture;
 use ob0_scope_rules::{Resolved, token_span};
 
 /// Where it is that a capture is: at the identifier that declares the declaration, or at an occurrence.
-pub fn capture_span(names: &Resolved, declaration: usize, capture: FirstCapture) -> Span
+pub(crate) fn capture_span(names: &Resolved, declaration: usize, capture: FirstCapture) -> Span
     ensures { result ≡ capture_span names.now.module_read declaration (place_of capture) }
 {
     match capture {

@@ -7,7 +7,7 @@ ghost use Rattle.ob0_refs.specs.Parts.{capture_at};
 ghost use Rattle.ob0_refs.specs.Captured.{captured_span};
 
 use crate::answers::Capture;
-use crate::capture_span;
+use crate::capture_spans::capture_span;
 use ob0_scope::captures as first_capture;
 use ob0_scope_rules::Resolved;
 use std::alloc::{AllocError, Global};

@@ -10,7 +10,7 @@ use ob0_scope_rules::{Resolved, token_span};
 use std::alloc::{AllocError, Global};
 
 /// Where that is declared which has an ordinal. None for a predeclared name.
-pub fn declared_at(names: &Resolved, ordinal: usize) -> Option<Span>
+pub(crate) fn declared_at(names: &Resolved, ordinal: usize) -> Option<Span>
     ensures { result ≡ declaring_span names.now.module_read ordinal }
 {
     let tokens = names.module().tokens();
@@ -21,7 +21,7 @@ pub fn declared_at(names: &Resolved, ordinal: usize) -> Option<Span>
 }
 
 /// Where a declaration is named, closing names too, in text order: with the identifier that declares it or without.
-pub fn references_to(
+pub(crate) fn references_to(
     alloc: Global,
     names: &Resolved,
     declaration: usize,
@@ -35,7 +35,11 @@ pub fn references_to(
 }
 
 /// Where tokens are.
-pub fn spans_of(alloc: Global, tokens: &Tokens, found: &[usize]) -> Result<Vec<Span>, AllocError>
+pub(crate) fn spans_of(
+    alloc: Global,
+    tokens: &Tokens,
+    found: &[usize],
+) -> Result<Vec<Span>, AllocError>
     ensures { IfOk result (λ spans. spans.items ≡ map (span_at tokens.now) found.now) }
 {
     found

@@ -6,8 +6,8 @@ ghost use Rattle.ob0_refs.specs.Questions.{field_hover, hover_at_place, row_hove
 ghost use Rattle.ob0_types.specs.RowsOfFields.{row_in};
 
 use crate::answers::Hover;
-use crate::field_line;
 use crate::hovering::hover as hover_name;
+use crate::showing::field_line;
 use ob0_scope_rules::{Resolved, token_span};
 use ob0_tree::text_at;
 use ob0_types::{FieldRow, WellTyped, field_row_at};

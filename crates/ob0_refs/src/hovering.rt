@@ -5,7 +5,7 @@ ghost use Rattle.ob0_refs.specs.Parts.{hover_in};
 ghost use Rattle.ob0_refs.specs.Shown.{name_hover_at, hover_of};
 
 use crate::answers::Hover;
-use crate::name_text;
+use crate::showing::name_text;
 use ob0_scope::{Named, name_at};
 use ob0_scope_rules::token_span;
 use ob0_types::WellTyped;

@@ -18,9 +18,6 @@ mod showing;
 mod typing;
 
 pub use answers::{At, Capture, Hover, Of};
-pub use capture_spans::capture_span;
 pub use capturing::captures;
-pub use declaration_spans::{declared_at, references_to, spans_of};
 pub use field_hovers::hover;
 pub use questions::{at, definition, references};
-pub use showing::{field_line, name_text};

@@ -4,8 +4,8 @@ ghost use Rattle.std.specs.Prelude.{◌≡◌, IfOk, Some};
 ghost use Rattle.ob0_refs.specs.Questions.{AreReferencesAt, at_field, definition_at, field_declared, field_named_at, field_references, index_of, identified_at, other_tokens};
 
 use crate::answers::{At, Of};
+use crate::declaration_spans::{declared_at, references_to, spans_of};
 use crate::names::at_name;
-use crate::{declared_at, references_to, spans_of};
 use ob0_scan::Span;
 use ob0_scope::name_at;
 use ob0_scope_rules::token_span;

@@ -25,7 +25,7 @@ use ob0_types_table::{Formal, Known, Object, TypeId};
 use std::alloc::{AllocError, Global};
 
 /// The hover text of a name. None where its declaration is nothing.
-pub fn name_text(
+pub(crate) fn name_text(
     alloc: Global,
     known: &Known,
     names: &Resolved<'_>,
@@ -85,7 +85,7 @@ fn variable_line(alloc: Global, known: &Known, name: &str, of: TypeId) -> Result
 }
 
 /// The hover text of a field of a type.
-pub fn field_line(
+pub(crate) fn field_line(
     alloc: Global,
     known: &Known,
     name: &str,
