@@ -4,4 +4,3 @@ pub mod Passing
 pub mod Tables
 mod Kept
 mod Tabled
-mod Using

@@ -3,7 +3,8 @@
 use Rattle.std.specs.Prelude.{ℕ, ◌+◌, ◌-◌, List, [], ◌∷◌, ◌++◌, Option, Some, None, map, length, drop}
 use Rattle.ob0_tree.specs.declared.tree.Role.{Role}
 use Rattle.ob0_tree.specs.declared.tree.Role.TheVariants as role
-use Rattle.ob0_tree.specs.Tree.{Sort, Tree, block, constant, constants, declares, declares_constant, declares_constants, declares_procedure, declares_type, declares_types, declares_variable, declares_variables, end, formals, further_section, has_body, identifiers, is_module, item, items, maybe, module_text, more, no_formals, none, one, procedure, section, some_formals, then_section, type_name, type_names, value_section, variable, variable_section, variables}
+use Rattle.ob0_tree.specs.Tree.{Sort, Tree, block, constant, constants, declares, declares_constant, declares_constants, declares_procedure, declares_type, declares_types, declares_variable, declares_variables, end, formals, further_section, has_body, is_module, item, items, maybe, module_text, more, no_formals, none, one, procedure, section, some_formals, then_section, type_name, type_names, value_section, variable, variable_section, variables}
+use Rattle.ob0_tree.specs.Visited.{visited, visited_all}
 use Rattle.ob0_scope_numbering.specs.Written.{Writing, name_at}
 use Rattle.ob0_scope_rules.specs.Names.{Name, as_names}
 use Rattle.ob0_scope_rules.specs.Parts.{names_listed}
@@ -73,12 +74,11 @@ module _ {M : Type 0} (put : ℕ → Option ℕ → M → M) where
   found role.ModuleName i v = marked i None v
 
   abbrev pub found_all : List (Role × ℕ) → Visit M → Visit M
-  found_all [] v = v
-  found_all (x ∷ xs) v = found_all xs (found x.0 x.1 v)
+  found_all xs v = visited_all found xs v
 
   -- a part that declares nothing
   abbrev pub used : {s : Sort} → Tree ℕ s → Visit M → Visit M
-  used t v = found_all (identifiers role.Declaring t) v
+  used t v = visited found t v
 
   -- a declaration's names are visible after it
   abbrev pub visit_constant : Tree ℕ (item constant) → Visit M → Visit M

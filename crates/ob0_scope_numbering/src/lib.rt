@@ -3,7 +3,6 @@
 #![tactic(auto)]
 
 mod numbering;
-mod uses;
 mod writing;
 
 pub use numbering::{Numbering, number};

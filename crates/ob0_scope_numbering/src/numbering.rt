@@ -16,8 +16,9 @@ use crate::writing::{Writing, is_renamed};
 use ob0_scan::Tokens;
 use ob0_scope_rules::{OrdinalEntry, PREDECLARED, ordinal_at};
 use ob0_scope_visible::Visible;
+use ob0_tree::walk::{Visitor, body, expression, written_type};
 use ob0_tree::{
-    Block, Constant, Module, Names, Procedure, Section, TypeDeclaration, Variables, text_at,
+    Block, Constant, Module, Names, Procedure, Role, Section, TypeDeclaration, Variables, text_at,
 };
 use std::alloc::{AllocError, Global};
 use std::marker::Model;
@@ -51,6 +52,24 @@ impl<'t> Model for Numbering<'t> {
       uses = n.occurrences.items;
       marks = n.table.items;
     } };
+}
+
+/// In the parts that declare nothing.
+impl<'t> Visitor for Numbering<'t> {
+    ghost use Rattle.ob0_scope_numbering.specs.Tabling.{found};
+
+    ghost seen = { found };
+
+    #[inline(always)]
+    fn see(&mut self, role: Role, token: usize) -> Result<(), AllocError> {
+        match role {
+            Role::LookedUp => self.look_up(token),
+            Role::Declaring => self.pass(token),
+            Role::ClosingName => self.pass(token),
+            Role::FieldName => self.pass(token),
+            Role::ModuleName => self.pass(token),
+        }
+    }
 }
 
 /// The ordinal of a declaration by its index among the declarations of the text.
@@ -157,7 +176,7 @@ impl<'t> Numbering<'t> {
         self.visible.len()
     }
 
-    pub(crate) fn mark(&mut self, token: usize, ordinal: Option<usize>)
+    fn mark(&mut self, token: usize, ordinal: Option<usize>)
         ensures { self.new ≡ marked token ordinal self.old }
     {
         if token < self.table.len() {
@@ -226,9 +245,18 @@ impl<'t> Numbering<'t> {
         }
     }
 
+    /// Passes an identifier that is bound to nothing.
+    #[inline(always)]
+    fn pass(&mut self, token: usize) -> Result<(), AllocError>
+        ensures { OnOk result (self.new ≡ marked token None self.old) }
+    {
+        self.mark(token, None);
+        Ok(())
+    }
+
     /// Looks a name up.
     #[inline(always)]
-    pub(crate) fn look_up(&mut self, token: usize) -> Result<(), AllocError>
+    fn look_up(&mut self, token: usize) -> Result<(), AllocError>
         ensures { OnOk result (self.new ≡ found roles.LookedUp token self.old) }
     {
         let ordinal = self.ordinal_bound(token);
@@ -252,7 +280,7 @@ impl<'t> Numbering<'t> {
     {
         let first = self.declaration_count();
         self.number(c.name)?;
-        self.expression(&c.value)?;
+        expression(self, &c.value)?;
         self.show_from(first)
     }
 
@@ -261,7 +289,7 @@ impl<'t> Numbering<'t> {
     {
         let first = self.declaration_count();
         self.number(t.name)?;
-        self.written_type(&t.written)?;
+        written_type(self, &t.written)?;
         self.show_from(first)
     }
 
@@ -270,7 +298,7 @@ impl<'t> Numbering<'t> {
     {
         let first = self.declaration_count();
         self.names(&v.names)?;
-        self.written_type(&v.written)?;
+        written_type(self, &v.written)?;
         self.show_from(first)
     }
 
@@ -279,7 +307,7 @@ impl<'t> Numbering<'t> {
     {
         let first = self.declaration_count();
         self.names(&s.names)?;
-        self.written_type(&s.written)?;
+        written_type(self, &s.written)?;
         self.show_from(first)
     }
 
@@ -356,6 +384,6 @@ impl<'t> Numbering<'t> {
         for p in &b.procedures {
             self.procedure(p)?;
         }
-        self.body(&b.body)
+        body(self, &b.body)
     }
 }

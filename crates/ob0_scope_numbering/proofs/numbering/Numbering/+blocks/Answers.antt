@@ -15,4 +15,4 @@ block-returns t c =
     let walked = gone_through (λ xs. visit_procedures (items_of procedure_of xs)) c.loop-p.invariant c.loop-p-test.false
     ∙ (ap (λ xs. visit_procedures (items_of procedure_of xs) c.variable_section.new.self) c.deref-p-items.ensures.value
     ∙ ap (visit_procedures (items_of procedure_of b.procedures.items)) declared) in
-    subst (λ v. OnOk c.body.result (c.body.new.self ≡ v)) (ap (used (body_of b.body)) walked ∙ sym (ap (λ t. visit_block t before) (block_parts c.args.b.now))) c.body.ensures
+    subst (λ v. OnOk c.body.result (c.body.new.visitor ≡ v)) (ap (used (body_of b.body)) walked ∙ sym (ap (λ t. visit_block t before) (block_parts c.args.b.now))) c.body.ensures

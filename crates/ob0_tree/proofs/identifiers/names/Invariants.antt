@@ -1,6 +1,0 @@
-use Rattle.ob0_tree.specs.Tree.{then_name}
-use Rattle.ob0_tree.proofs.Walks.{Walking}
-use Rattle.ob0_tree.proofs.identifiers.names.Given as goal
-
-abbrev pub invariant-loop-name : goal.invariant-loop-name
-invariant-loop-name l = Walking then_name l.role l.initial.found.items l.name-items l.name-index l.found.items

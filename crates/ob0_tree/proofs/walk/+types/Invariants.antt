@@ -1,0 +1,7 @@
+use Rattle.ob0_tree.specs.declared.tree.Role.TheVariants as role
+use Rattle.ob0_tree.specs.View.{further_fields_of_group}
+use Rattle.ob0_tree.proofs.Visits.{Visiting}
+use Rattle.ob0_tree.proofs.walk.+types.Given as goal
+
+abbrev pub invariant-record-loop-group : goal.invariant-record-loop-group
+invariant-record-loop-group g l = Visiting g.V.Visitor.seen further_fields_of_group role.Declaring l.initial.visitor l.group-items l.group-index l.visitor
